@@ -1,0 +1,6 @@
+//! Certificates of termination.
+#![tactic(auto)]
+
+mod certificate;
+
+pub use certificate::Certificate;

@@ -1,0 +1,2 @@
+pub mod LinearOrder
+pub mod Interpretations

@@ -1,0 +1,2 @@
+pub mod PathOrder
+pub mod Precedences

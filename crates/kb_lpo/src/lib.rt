@@ -1,0 +1,6 @@
+//! The lexicographic path order and its search.
+#![tactic(auto)]
+
+mod precedence;
+
+pub use precedence::Precedence;

@@ -1,0 +1,2 @@
+mod OverlapRows
+mod TraceRows

@@ -1,0 +1,2 @@
+//! Critical pairs.
+#![tactic(auto)]

@@ -1,0 +1,216 @@
+-- The answer text.
+use Rattle.std.specs.Prelude.{◌≡◌, ℕ, ◌+◌, ◌≤◌, List, [], ◌∷◌, ◌++◌, map, flat_map, length, Bool, true, false, ◌&&◌, nat_eq, nat_le, nat_lt, codes, decimal, IsTrue, All}
+use Rattle.std.specs.List.{list_all, join_with_byte}
+use Rattle.kb_term.specs.Tree.{Tree}
+use Rattle.kb_syntax.specs.Names.{Name}
+use Rattle.kb_syntax.specs.Lines.{line, counted, IsBadLine}
+use Rattle.kb_term.specs.Signature.{SymbolEntry, Signature, Problem, IsSignature, IsWithinLimits, IsEquationWithinLimits}
+use Rattle.kb_term.specs.Pair.{distinct}
+use Rattle.kb_term.specs.Rule.{Rule}
+use Rattle.kb_overlap.specs.Trace.{TraceStep}
+use Rattle.kb_syntax.specs.Terms.{names_of, symbol_text, infix_text, IsPairForm}
+use Rattle.kb_term.specs.declared.origin.RuleRef.{RuleRef}
+use Rattle.kb_term.specs.declared.origin.Origin.{Origin}
+use Rattle.kb_term.specs.declared.origin.Origin.TheVariants.{Input, Rewrite, Overlap}
+use Rattle.kb_cert.specs.declared.certificate.Certificate.{Certificate}
+use Rattle.kb_cert.specs.declared.certificate.Certificate.TheVariants.{Lpo, Linear}
+use Rattle.kb_report.specs.declared.parts.Reason.{Reason}
+use Rattle.kb_report.specs.declared.parts.Reason.TheVariants.{Nodes, Processes, Size, Depth, Variables, Steps}
+use Rattle.kb_report.specs.declared.parts.Reject.{Reject}
+use Rattle.kb_report.specs.declared.parts.Reject.TheVariants.{BadStep, Untraced, NotOriented, PairLarge, PairSteps, NotJoined, EquationLarge, EquationSteps, NotProved}
+use Rattle.kb_report.specs.declared.parts.Checked.{Checked}
+use Rattle.kb_report.specs.declared.parts.Checked.TheVariants.{Accepted, Rejected}
+
+-- a system: rules, each with the step that it cites
+pub record Answer : Type 0 where
+  pub problem : Problem
+  pub rules : List (Rule × ℕ)
+  pub cert : Certificate
+  pub trace : List TraceStep
+
+pub data Report : Type 0 where
+  system : Answer → Report
+  all_failed : ℕ → Report
+  spent_commits : ℕ → ℕ → Report
+  spent_over : Reason → ℕ → Report
+
+-- ---- the lines
+
+abbrev pub entry_text : SymbolEntry → List ℕ
+entry_text e = e.name ++ codes "/" ++ decimal e.arity
+
+abbrev pub symbols_line : Signature → List ℕ
+symbols_line sig = line (codes "SYMBOLS" ∷ map entry_text sig)
+
+abbrev pub equation_line : List Name → Tree × Tree → List ℕ
+equation_line names e = line (infix_text names (codes "=") e.0 e.1)
+
+abbrev pub equation_lines : Problem → List ℕ
+equation_lines p = counted (codes "EQUATIONS") (length p.equations) ++ flat_map (equation_line (names_of p.signature)) p.equations
+
+abbrev pub rule_line : List Name → Rule × ℕ → List ℕ
+rule_line names r = line (infix_text names (codes "->") r.0.left r.0.right ++ codes ":" ∷ decimal r.1 ∷ [])
+
+-- the constant and the coefficients of a symbol
+abbrev pub interp_text : ℕ × List ℕ → List ℕ
+interp_text row = join_with_byte 44 (decimal row.0 ∷ map decimal row.1)
+
+abbrev pub cert_fields : List Name → Certificate → List (List ℕ)
+cert_fields names (Lpo symbols) = codes "LPO" ∷ map (symbol_text names) symbols
+cert_fields names (Linear rows) = codes "LINEAR" ∷ map interp_text rows
+
+abbrev pub cert_text : Signature → Certificate → List ℕ
+cert_text sig c = join_with_byte 32 (cert_fields (names_of sig) c)
+
+-- e for the root, else argument numbers joined by dots
+abbrev pub position_text : List ℕ → List ℕ
+position_text [] = codes "e"
+position_text (n ∷ ns) = join_with_byte 46 (map decimal (n ∷ ns))
+
+abbrev pub origin_fields : Origin → List (List ℕ)
+origin_fields (Input i) = codes "input" ∷ decimal i ∷ []
+origin_fields (Rewrite a w p r) = codes "rewrite" ∷ decimal a ∷ codes "side" ∷ decimal w ∷ codes "at" ∷ position_text p ∷ codes "by" ∷ decimal r.node ∷ codes "dir" ∷ decimal r.dir ∷ []
+origin_fields (Overlap a b p) = codes "overlap" ∷ decimal a.node ∷ codes "dir" ∷ decimal a.dir ∷ codes "with" ∷ decimal b.node ∷ codes "dir" ∷ decimal b.dir ∷ codes "at" ∷ position_text p ∷ []
+
+abbrev pub step_line : List Name → ℕ → TraceStep → List ℕ
+step_line names k s = line (decimal k ∷ (origin_fields s.origin ++ codes ":" ∷ infix_text names (codes "=") s.pair.first s.pair.second))
+
+-- the steps, numbered from k
+abbrev pub step_lines : List Name → ℕ → List TraceStep → List ℕ
+step_lines names k [] = []
+step_lines names k (s ∷ ss) = step_line names k s ++ step_lines names (k + 1) ss
+
+abbrev pub trace_text : Signature → List TraceStep → List ℕ
+trace_text sig t = step_lines (names_of sig) 1 t
+
+-- ---- the texts
+
+abbrev pub head_line : List ℕ
+head_line = line (codes "MKBTT" ∷ codes "1" ∷ [])
+
+abbrev pub end_line : List ℕ
+end_line = line (codes "END" ∷ [])
+
+abbrev pub system_text : Answer → List ℕ
+system_text a = let names = names_of a.problem.signature in
+    head_line ++ symbols_line a.problem.signature ++ equation_lines a.problem
+    ++ counted (codes "RULES") (length a.rules) ++ flat_map (rule_line names) a.rules
+    ++ line (codes "ORDER" ∷ cert_fields names a.cert)
+    ++ counted (codes "TRACE") (length a.trace) ++ trace_text a.problem.signature a.trace
+    ++ end_line
+
+abbrev pub reason_word : Reason → List ℕ
+reason_word Nodes = codes "nodes"
+reason_word Processes = codes "processes"
+reason_word Size = codes "size"
+reason_word Depth = codes "depth"
+reason_word Variables = codes "variables"
+reason_word Steps = codes "steps"
+
+abbrev pub report_text : Report → List ℕ
+report_text (system a) = system_text a
+report_text (all_failed living) = head_line ++ line (codes "FAILED" ∷ decimal living ∷ []) ++ end_line
+report_text (spent_commits commits living) = head_line ++ line (codes "SPENT" ∷ codes "COMMITS" ∷ decimal commits ∷ decimal living ∷ []) ++ end_line
+report_text (spent_over reason living) = head_line ++ line (codes "SPENT" ∷ codes "OVER" ∷ reason_word reason ∷ decimal living ∷ []) ++ end_line
+
+-- ---- their forms
+
+abbrev pub is_between : ℕ → ℕ → ℕ → Bool
+is_between low high n = nat_le low n && nat_le n high
+
+-- a rule's sides are within the limits and numbered by first occurrence; the step that it cites is a number of one
+pub record IsRuleForm (sig : Signature) (r : Rule × ℕ) : Type 0 where
+  pub sides : IsEquationWithinLimits sig (r.0.left, r.0.right)
+  pub cited : IsTrue (is_between 1 4096 r.1)
+
+-- each symbol's number once
+abbrev pub is_precedence : Signature → List ℕ → Bool
+is_precedence sig symbols = nat_eq (length symbols) (length sig) && nat_eq (length (distinct symbols)) (length sig) && list_all (λ f. nat_lt f (length sig)) symbols
+
+abbrev pub is_row : ℕ → ℕ × List ℕ → Bool
+is_row arity row = nat_le row.0 15 && nat_eq (length row.1) arity && list_all (is_between 1 3) row.1
+
+-- a row for each symbol
+abbrev pub are_rows : Signature → List (ℕ × List ℕ) → Bool
+are_rows [] [] = true
+are_rows [] (row ∷ rows) = false
+are_rows (e ∷ sig) [] = false
+are_rows (e ∷ sig) (row ∷ rows) = is_row e.arity row && are_rows sig rows
+
+abbrev pub is_certificate : Signature → Certificate → Bool
+is_certificate sig (Lpo symbols) = is_precedence sig symbols
+is_certificate sig (Linear rows) = are_rows sig rows
+
+abbrev pub is_position : List ℕ → Bool
+is_position p = nat_le (length p) 63 && list_all (is_between 1 8) p
+
+abbrev pub is_cited : RuleRef → Bool
+is_cited r = is_between 1 4096 r.node && nat_le r.dir 1
+
+abbrev pub is_origin : Origin → Bool
+is_origin (Input i) = is_between 1 256 i
+is_origin (Rewrite a w p r) = is_between 1 4096 a && nat_le w 1 && is_position p && is_cited r
+is_origin (Overlap a b p) = is_cited a && is_cited b && is_position p
+
+pub record IsStepForm (sig : Signature) (s : TraceStep) : Type 0 where
+  pub origin : IsTrue (is_origin s.origin)
+  pub pair : IsPairForm sig s.pair
+
+pub record IsTraceForm (sig : Signature) (t : List TraceStep) : Type 0 where
+  pub count : length t ≤ 4096
+  pub steps : All (IsStepForm sig) t
+
+-- a problem within the limits, whose names are different identifiers
+pub record IsProblemForm (p : Problem) : Type 0 where
+  pub signature : IsSignature p.signature
+  pub within : IsWithinLimits p
+
+-- what a system may be, so that it has a text; whether its steps are right is another question
+pub record IsAnswer (a : Answer) : Type 0 where
+  pub problem : IsProblemForm a.problem
+  pub count : length a.rules ≤ 4096
+  pub rules : All (IsRuleForm a.problem.signature) a.rules
+  pub cert : IsTrue (is_certificate a.problem.signature a.cert)
+  pub trace : IsTraceForm a.problem.signature a.trace
+
+abbrev pub IsReport : Report → Type 0
+IsReport (system a) = IsAnswer a
+IsReport (all_failed living) = Unit {0}
+IsReport (spent_commits commits living) = Unit {0}
+IsReport (spent_over reason living) = Unit {0}
+
+pub record AnswerSpelled (bytes : List ℕ) (r : Report) : Type 0 where
+  pub form : IsReport r
+  pub spelling : bytes ≡ report_text r
+
+-- the texts of systems, which alone are read
+abbrev pub IsSystemText : List ℕ → Type 0
+IsSystemText bytes = (a : Answer) × IsAnswer a × (bytes ≡ system_text a)
+
+-- the line of a text of a system that is the first one out of form
+abbrev pub IsBadAnswerLine : List ℕ → ℕ → Type 0
+IsBadAnswerLine bytes n = IsBadLine IsSystemText bytes n
+
+-- the same of the steps alone
+abbrev pub IsBadTraceLine : Signature → List ℕ → ℕ → Type 0
+IsBadTraceLine sig bytes n = IsBadLine (λ text. (t : List TraceStep) × IsTraceForm sig t × (text ≡ trace_text sig t)) bytes n
+
+abbrev pub CertSpelled : Signature → List ℕ → Certificate → Type 0
+CertSpelled sig bytes c = IsTrue (is_certificate sig c) × (bytes ≡ cert_text sig c)
+
+-- ---- what the check of an answer writes
+
+abbrev pub reject_word : Reject → List ℕ
+reject_word BadStep = codes "badstep"
+reject_word Untraced = codes "untraced"
+reject_word NotOriented = codes "notoriented"
+reject_word PairLarge = codes "pairlarge"
+reject_word PairSteps = codes "pairsteps"
+reject_word NotJoined = codes "notjoined"
+reject_word EquationLarge = codes "equationlarge"
+reject_word EquationSteps = codes "equationsteps"
+reject_word NotProved = codes "notproved"
+
+abbrev pub checked_text : Checked → List ℕ
+checked_text Accepted = line (codes "ACCEPTED" ∷ [])
+checked_text (Rejected reason n) = line (codes "REJECTED" ∷ reject_word reason ∷ decimal n ∷ [])

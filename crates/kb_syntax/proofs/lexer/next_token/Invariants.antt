@@ -1,0 +1,12 @@
+use Rattle.std.proofs.Common.{length, ◌-◌, ◌≡◌, ◌≤◌, drop}
+use Rattle.kb_syntax.specs.Tokens.{tokens_from}
+use Rattle.kb_syntax.proofs.lexer.next_token.Given as goal
+
+abbrev pub invariant-loop-at : goal.invariant-loop-at
+invariant-loop-at l = record {
+  within : l.at ≤ length l.bytes;
+  same : tokens_from 0 l.from (drop l.from l.bytes) ≡ tokens_from 0 l.at (drop l.at l.bytes);
+}
+
+abbrev pub decreases-loop-at : goal.decreases-loop-at
+decreases-loop-at l = length l.bytes - l.at

@@ -1,0 +1,11 @@
+pub mod Names
+pub mod Tokens
+pub mod Grammar
+pub mod Fronts
+pub mod Problems
+pub mod Refusals
+pub mod FirstPath
+pub mod Generator
+pub mod Lines
+pub mod Terms
+pub mod Starts

@@ -1,0 +1,7 @@
+pub mod PairRows
+pub mod Trees
+pub mod Sizes
+pub mod Distinct
+pub mod Numbered
+pub mod Compared
+pub mod IdentifierRows

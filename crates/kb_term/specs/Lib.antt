@@ -1,0 +1,12 @@
+pub mod Tree
+pub mod Position
+pub mod Substitution
+pub mod Pair
+pub mod Rule
+pub mod Identifier
+pub mod Signature
+pub mod Proving
+pub mod First
+pub mod View
+pub mod Coding
+pub mod Falls

@@ -1,0 +1,24 @@
+//! Terms, pairs, rules, signatures and problems.
+#![tactic(auto)]
+
+mod limit;
+mod memory;
+mod number;
+mod origin;
+mod pair;
+mod position;
+mod problem;
+mod rule;
+mod signature;
+mod term;
+
+pub use limit::Limit;
+pub use memory::Memory;
+pub use number::canonical_terms;
+pub use origin::{Found, Origin, RuleRef};
+pub use pair::Pair;
+pub use position::Position;
+pub use problem::Problem;
+pub use rule::{Rule, rule_of};
+pub use signature::Signature;
+pub use term::{Symbol, Term, Terms, compare, depth, size};

@@ -1,0 +1,2 @@
+//! Unification.
+#![tactic(auto)]
