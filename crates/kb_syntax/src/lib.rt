@@ -4,8 +4,11 @@
 mod kind;
 mod lexer;
 mod names;
+mod uses;
 mod written;
 
 pub use kind::{Bound, Kind, Refusal};
-pub use lexer::{Form, Found, Mark, next_token};
+pub use lexer::{Form, Found, Mark, Token, next_token, tokens_of};
+pub use names::Names;
+pub use uses::{Use, Uses};
 pub use written::{WrittenTerm, WrittenTerms};
