@@ -9,6 +9,7 @@ pub mod Generator
 pub mod Lines
 pub mod Terms
 pub mod Starts
+pub mod Reading
 pub mod TokenValues
 pub mod Written
 pub mod WrittenSizes

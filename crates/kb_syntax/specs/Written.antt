@@ -1,12 +1,11 @@
 -- Written terms as values of the program: what each is in the grammar, and their arguments as lists.
-use Rattle.std.specs.Prelude.{ℕ, ◌≤◌, ◌≡◌, max, List, [], ◌∷◌, map, length, Bool, cond}
-use Rattle.kb_syntax.specs.Names.{Name}
+use Rattle.std.specs.Prelude.{List, [], ◌∷◌}
 use Rattle.kb_syntax.specs.Grammar.{Written, alone, applied, Arguments, no_arguments, argument, Sign, by_arrow, by_equals, WrittenEquation}
-use Rattle.kb_syntax.specs.Problems.{depth_in}
-use Rattle.kb_syntax.specs.Tokens.{Token, identifier, end_of_input}
-use Rattle.kb_syntax.specs.Starts.{mark_token}
 use Rattle.kb_syntax.specs.declared.written.WrittenTerm.{WrittenTerm}
 use Rattle.kb_syntax.specs.declared.written.WrittenTerm.TheVariants.{Alone, Applied}
+use Rattle.kb_syntax.specs.declared.written.Sign as sign
+use Rattle.kb_syntax.specs.declared.written.WrittenEquation as equation
+use Rattle.kb_syntax.specs.declared.written.Sign.TheVariants.{Arrow, Equals}
 
 -- a list as arguments
 abbrev pub arguments_of : List Written → Arguments
@@ -18,3 +17,11 @@ abbrev pub written_of : WrittenTerm → Written
 written_of (Alone name) = alone name.items
 written_of (Applied name ts) = applied name.items (arguments_of ts)
 
+
+-- a written equation of the program
+abbrev pub sign_of : sign.Sign → Sign
+sign_of Arrow = by_arrow
+sign_of Equals = by_equals
+
+abbrev pub equation_of : equation.WrittenEquation → WrittenEquation
+equation_of e = record { left = written_of e.left; sign = sign_of e.sign; right = written_of e.right }

@@ -4,6 +4,7 @@
 mod kind;
 mod lexer;
 mod names;
+mod parser;
 mod uses;
 mod written;
 
@@ -11,4 +12,4 @@ pub use kind::{Bound, Kind, Refusal};
 pub use lexer::{Form, Found, Mark, Token, next_token, tokens_of};
 pub use names::Names;
 pub use uses::{Use, Uses};
-pub use written::{WrittenTerm, WrittenTerms};
+pub use written::{Sign, WrittenEquation, WrittenTerm, WrittenTerms};

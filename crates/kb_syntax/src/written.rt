@@ -25,6 +25,21 @@ pub struct WrittenTerms {
     pub(crate) items: Vec<WrittenTerm>,
 }
 
+/// How the two sides of an equation are joined.
+#[derive(Clone, Copy, PartialEq, Eq)]
+pub enum Sign {
+    Arrow,
+    Equals,
+}
+
+/// An equation as it is written.
+#[derive(Drop)]
+pub struct WrittenEquation {
+    pub left: WrittenTerm,
+    pub sign: Sign,
+    pub right: WrittenTerm,
+}
+
 impl Model for WrittenTerms {
     ghost use Rattle.std.specs.Prelude.{List, map};
     ghost use Rattle.std.specs.Coded.{coded_list};
