@@ -5,6 +5,7 @@ pub mod Fronts
 pub mod Problems
 pub mod Refusals
 pub mod FirstPath
+pub mod Narrow
 pub mod Generator
 pub mod Lines
 pub mod Terms

@@ -4,7 +4,8 @@ ghost use Rattle.std.specs.Bool.{OnTrue};
 ghost use Rattle.kb_syntax.specs.Tokens.{identifier, end_of_input};
 ghost use Rattle.kb_syntax.specs.Starts.{mark_token};
 ghost use Rattle.kb_syntax.specs.TokenValues.{token_of, tokens_of};
-ghost use Rattle.kb_syntax.specs.Grammar.{sign_token, term_tokens, equation_tokens, section_tokens, variables, rules};
+ghost use Rattle.kb_syntax.specs.Grammar.{sign_token, term_tokens, equation_tokens, section_tokens, text_tokens, variables, rules};
+ghost use Rattle.kb_syntax.specs.Narrow.{one_equation};
 ghost use Rattle.kb_syntax.specs.Written.{written_of, sign_of, equation_of};
 ghost use Rattle.kb_syntax.specs.Reading.{Reads};
 
@@ -45,9 +46,12 @@ fn is_word(tokens: &[Token], at: usize, word: &[u8]) -> bool
     }
 }
 
-fn is_end(tokens: &[Token], at: usize) -> bool
-    ensures { OnTrue result (Reads (tokens_of tokens.now) at (end_of_input ∷ []) (at + 1)) }
+fn is_last(tokens: &[Token], at: usize) -> bool
+    ensures { OnTrue result (drop at (tokens_of tokens.now) ≡ end_of_input ∷ []) }
 {
+    if at >= tokens.len() || tokens.len() - at > 1 {
+        return false;
+    }
     match token_at(tokens, at) {
         Some(Token::End) => true,
         Some(Token::Mark(_)) | Some(Token::Identifier(_)) | None => false,
@@ -185,4 +189,32 @@ fn parse_rules(
         return Ok(None);
     }
     Ok(Some((equation, next + 1)))
+}
+
+/// The parts of a text of one equation: the variables of its section of variables, if it has one, and the equation.
+pub fn parse_text(
+    alloc: Global,
+    tokens: &[Token],
+) -> Result<Option<(Option<Names>, WrittenEquation)>, Memory>
+    ensures { IfOk result (λ found. IfSome found (λ p. tokens_of tokens.now ≡ text_tokens (one_equation p.0 (equation_of p.1)))) }
+{
+    if is_word(tokens, 1, b"VAR") {
+        let Some((names, behind)) = parse_variables(alloc, tokens, 0)? else {
+            return Ok(None);
+        };
+        let Some((equation, next)) = parse_rules(alloc, tokens, behind)? else {
+            return Ok(None);
+        };
+        if !is_last(tokens, next) {
+            return Ok(None);
+        }
+        return Ok(Some((Some(names), equation)));
+    }
+    let Some((equation, next)) = parse_rules(alloc, tokens, 0)? else {
+        return Ok(None);
+    };
+    if !is_last(tokens, next) {
+        return Ok(None);
+    }
+    Ok(Some((None, equation)))
 }
