@@ -5,3 +5,4 @@ pub mod Distinct
 pub mod Numbered
 pub mod Compared
 pub mod IdentifierRows
+pub mod Copies
