@@ -13,7 +13,7 @@ start_is b [] = refl
 start_is b (c ∷ []) = refl
 start_is b (c ∷ d ∷ rest) = refl
 
-start_in_place : (bytes : List ℕ) (at : ℕ) → start_of (get_or bytes at 0) (drop (at + 1) bytes) ≡ start_in bytes at
+pub start_in_place : (bytes : List ℕ) (at : ℕ) → start_of (get_or bytes at 0) (drop (at + 1) bytes) ≡ start_in bytes at
 start_in_place bytes at =
     let one : get_or (drop (at + 1) bytes) 0 0 ≡ get_or bytes (at + 1) 0 = get_or-drop (at + 1) bytes 0 0 ∙ ap (λ (i : ℕ). get_or bytes i 0) (omega arith) in
     let two : get_or (drop (at + 1) bytes) 1 0 ≡ get_or bytes (at + 2) 0 = get_or-drop (at + 1) bytes 1 0 ∙ ap (λ (i : ℕ). get_or bytes i 0) (omega arith) in

@@ -1,5 +1,6 @@
 // One token at a time.
 ghost use Rattle.std.specs.Prelude.{IfOk, map, ◌∷◌, ◌≡◌, ◌+◌, ◌<◌, ◌≤◌, List, length, drop, get_or, slice_index};
+ghost use Rattle.std.specs.Bool.{OnTrue};
 ghost use Rattle.kb_syntax.specs.Tokens.{tokens, tokens_from, letter};
 ghost use Rattle.kb_syntax.specs.Starts.{start_by, start_in, start_view, start_length, mark_length_of, first_and_rest, HasBytes, IsNameTo, IsAhead};
 ghost use Rattle.kb_syntax.specs.TokenValues.{token_of, tokens_of as values_of};
@@ -166,5 +167,16 @@ pub fn tokens_of(alloc: Global, bytes: &[u8]) -> Result<Vec<Token>, Memory>
             }
         }
         at = found.end;
+    }
+}
+
+/// Whether neither white space nor a mark begins at the place.
+pub(crate) fn is_letter(bytes: &[u8], at: usize) -> bool
+    requires { at < length bytes.now }
+    ensures { OnTrue result (start_in bytes.now at ≡ letter) }
+{
+    match start_at(bytes, at) {
+        Start::Letter => true,
+        Start::White | Start::Mark(_) => false,
     }
 }

@@ -1,9 +1,11 @@
 //! The text of problems: tokens, the grammar, and what is written.
 #![tactic(auto)]
 
+mod identifier;
 mod kind;
 mod lexer;
 mod names;
+mod narrow;
 mod parser;
 mod uses;
 mod written;
