@@ -12,6 +12,7 @@ mod written;
 
 pub use kind::{Bound, Kind, Refusal};
 pub use lexer::{Form, Found, Mark, Token, next_token, tokens_of};
+pub use narrow::read_one_equation;
 pub use names::Names;
 pub use uses::{Use, Uses};
 pub use written::{Sign, WrittenEquation, WrittenTerm, WrittenTerms};
