@@ -7,6 +7,7 @@ mod lexer;
 mod names;
 mod narrow;
 mod parser;
+mod text;
 mod uses;
 mod written;
 
@@ -14,5 +15,6 @@ pub use kind::{Bound, Kind, Refusal};
 pub use lexer::{Form, Found, Mark, Token, next_token, tokens_of};
 pub use narrow::read_one_equation;
 pub use names::Names;
+pub use text::{prefix_of, push_number, push_term, term_text};
 pub use uses::{Use, Uses};
 pub use written::{Sign, WrittenEquation, WrittenTerm, WrittenTerms};
