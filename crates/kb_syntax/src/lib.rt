@@ -4,6 +4,7 @@
 mod identifier;
 mod kind;
 mod lexer;
+mod line;
 mod names;
 mod narrow;
 mod parser;
@@ -13,6 +14,7 @@ mod written;
 
 pub use kind::{Bound, Kind, Refusal};
 pub use lexer::{Form, Found, Mark, Token, next_token, tokens_of};
+pub use line::Fields;
 pub use narrow::read_one_equation;
 pub use names::Names;
 pub use text::{prefix_of, push_number, push_term, term_text};
