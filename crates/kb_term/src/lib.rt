@@ -3,6 +3,7 @@
 
 mod limit;
 mod memory;
+mod names;
 mod number;
 mod origin;
 mod pair;
@@ -14,9 +15,8 @@ mod term;
 
 pub use limit::Limit;
 pub use memory::Memory;
-pub use number::canonical_terms;
 pub use origin::{Found, Origin, RuleRef};
-pub use pair::Pair;
+pub use pair::{Pair, canonical};
 pub use position::Position;
 pub use problem::Problem;
 pub use rule::{Rule, rule_of};
