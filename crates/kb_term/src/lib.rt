@@ -2,6 +2,7 @@
 #![tactic(auto)]
 
 mod limit;
+mod limits;
 mod memory;
 mod names;
 mod number;
@@ -14,6 +15,7 @@ mod signature;
 mod term;
 
 pub use limit::Limit;
+pub use limits::{MAX_DEPTH, MAX_SIZE, pair_limit, term_limit};
 pub use memory::Memory;
 pub use origin::{Found, Origin, RuleRef};
 pub use pair::{Pair, canonical};
