@@ -1,2 +1,4 @@
 pub mod PathOrder
 pub mod Precedences
+pub mod Agreeing
+pub mod Known

@@ -1,0 +1,10 @@
+mod Occurs
+mod Equal
+mod Lpo
+mod LpoLaws
+mod LpoDecides
+mod Places
+mod Exact
+mod Answering
+mod First
+mod Nothing
