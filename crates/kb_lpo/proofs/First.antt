@@ -54,12 +54,12 @@ range_more : (a n : ℕ) → range_with_len a (n + 1) ≡ range_with_len a n ++ 
 range_more a zero = let e : a ≡ a + 0 = omega arith in ap (λ z. z ∷ []) e
 range_more a (suc n) = let e : a + 1 + n ≡ a + suc n = omega arith in let q : suc n + 1 ≡ suc (n + 1) = omega arith in ap (range_with_len a) q ∙ ap (a ∷◌) (range_more (a + 1) n ∙ ap (λ z. range_with_len (a + 1) n ++ z ∷ []) e)
 
-range_split : (a n m : ℕ) → n < m → (rest : List ℕ) × range_with_len a m ≡ range_with_len a n ++ (a + n) ∷ rest
+pub range_split : (a n m : ℕ) → n < m → (rest : List ℕ) × range_with_len a m ≡ range_with_len a n ++ (a + n) ∷ rest
 range_split a n zero h = absurd (omega arith)
 range_split a zero (suc m) h = (range_with_len (a + 1) m, let e : a ≡ a + 0 = omega arith in ap (λ z. z ∷ range_with_len (a + 1) m) e)
 range_split a (suc n) (suc m) h = let r = range_split (a + 1) n m (omega arith) in let e : a + 1 + n ≡ a + suc n = omega arith in (r.0, ap (a ∷◌) (r.1 ∙ ap (λ z. range_with_len (a + 1) n ++ z ∷ r.0) e))
 
-abbrev test : List ℕ → ℕ → Bool
+abbrev pub test : List ℕ → ℕ → Bool
 test xs = λ y. not (list_any (λ z. z == y) xs)
 
 drop_one : (p : ℕ → Bool) (y : ℕ) (rest : List ℕ) → p y ≡ false → filter p (y ∷ rest) ≡ filter p rest
@@ -202,7 +202,7 @@ pub listed_or_not : (xs : List ℕ) (y : ℕ) → Contains xs y ⊎ (Contains xs
 listed_or_not [] y = inr (λ c. omega arith)
 listed_or_not (x ∷ xs) y = ⊎_elim (λ e. inl (subst (Contains (x ∷ xs)) e (contains_first x xs))) (λ n. ⊎_elim (λ c. inl (contains_behind x xs y c)) (λ m. inr (λ c. ⊎_elim n m (contains_cases x xs y c))) (listed_or_not xs y)) (cases_eq x y)
 
-outside_all : (ys : List ℕ) → filter (test []) ys ≡ ys
+pub outside_all : (ys : List ℕ) → filter (test []) ys ≡ ys
 outside_all [] = refl
 outside_all (y ∷ ys) = ap (y ∷◌) (outside_all ys)
 

@@ -7,4 +7,5 @@ mod Places
 mod Exact
 mod Answering
 mod First
+mod Ascending
 mod Nothing

@@ -1,5 +1,5 @@
 -- What is known of the precedences that are looked for.
-use Rattle.std.specs.Prelude.{ℕ, ◌<◌, ◌+◌, ◌*◌, ◌≡◌, ◌++◌, ◌∷◌, List, Bool, true, false, slice_get, Some, None, not, filter, map, ◌==◌, All}
+use Rattle.std.specs.Prelude.{ℕ, ◌<◌, ◌+◌, ◌*◌, ◌≡◌, ◌++◌, ◌∷◌, ◌⊎◌, [], cond, List, Bool, true, false, slice_get, Some, None, not, filter, map, Contains, ◌==◌, All}
 use Rattle.std.specs.List.{range_with_len, list_any}
 use Rattle.kb_term.specs.declared.term.Symbol.{Symbol}
 use Rattle.kb_term.specs.Rule.{Rule}
@@ -24,6 +24,23 @@ abbrev pub IsSearched : List Rule → ℕ → ℕ → List ℕ → List ℕ → 
 IsSearched rules count left before now true = (rest : List ℕ) × (now ≡ before ++ rest) × IsFirst (λ rest. LpoOrients (before ++ rest) rules) (arrangements left (outside count before)) (Some rest)
 IsSearched rules count left before now false = (now ≡ before) × IsFirst (λ rest. LpoOrients (before ++ rest) rules) (arrangements left (outside count before)) None
 
--- start is one of the precedences, and none before it orients the rules
-abbrev pub IsBound : List Rule → List (List ℕ) → List ℕ → Type 0
-IsBound rules precs start = (before : List (List ℕ)) × (after : List (List ℕ)) × (precs ≡ before ++ start ∷ after) × All (λ prec. ¬ LpoOrients prec rules) before
+-- the first place at which the lists differ has the smaller number in the first one
+abbrev pub IsEarlier : List ℕ → List ℕ → Type 0
+IsEarlier [] ys = ⊥
+IsEarlier (x ∷ xs) [] = ⊥
+IsEarlier (x ∷ xs) (y ∷ ys) = (x < y) ⊎ ((x ≡ y) × IsEarlier xs ys)
+
+-- the floor's numbers are below count, and no arrangement of the symbols outside that is earlier than the floor orients the rules
+pub record IsFloor (rules : List Rule) (count left : ℕ) (before floor : List ℕ) : Type 0 where
+  pub below : All (λ y. y < count) floor
+  pub refused : (rest : List ℕ) → Contains (arrangements left (outside count before)) rest → IsEarlier rest floor → ¬ LpoOrients (before ++ rest) rules
+
+-- the floor's first number, or 0
+abbrev pub lowest_of : List ℕ → ℕ
+lowest_of [] = 0
+lowest_of (y ∷ ys) = y
+
+-- the floor behind the symbol: empty unless the symbol is its first
+abbrev pub floor_behind : List ℕ → ℕ → List ℕ
+floor_behind [] f = []
+floor_behind (y ∷ ys) f = cond (y == f) ys []

@@ -1,11 +1,11 @@
 // The first precedence that orients given rules.
-ghost use Rattle.std.specs.Prelude.{ℕ, List, ◌≡◌, ◌++◌, IsTrue, ◌↔◌, IfOk, map, ◌+◌, ◌<◌, ◌≤◌, length, Contains, ◌∷◌, true, false};
+ghost use Rattle.std.specs.Prelude.{ℕ, List, ◌≡◌, ◌++◌, IsTrue, ◌↔◌, IfOk, map, ◌+◌, ◌<◌, ◌≤◌, length, Contains, [], ◌∷◌, true, false};
 ghost use Rattle.kb_lpo.specs.PathOrder.{LpoGreater, IsAbove};
 ghost use Rattle.kb_lpo.specs.Precedences.{precedences};
 ghost use Rattle.kb_term.specs.First.{IsFirst};
 ghost use Rattle.kb_term.specs.declared.term.Symbol.{Symbol};
-ghost use Rattle.kb_lpo.specs.Known.{Fits, IsBound, IsSearched, numbers};
-ghost use Rattle.kb_lpo.specs.Precedences.{LpoOrients};
+ghost use Rattle.kb_lpo.specs.Known.{Fits, IsFloor, IsSearched, floor_behind, lowest_of, numbers};
+ghost use Rattle.kb_lpo.specs.Precedences.{IsLowerBound, LpoOrients};
 
 use crate::known::{force, learn};
 use crate::order::greater;
@@ -105,26 +105,50 @@ fn place_next(known: &mut [bool; 576], rules: &[Rule], symbols: &[Symbol], f: Sy
     propagate(known, rules)
 }
 
-/// Puts the symbols that are left behind those of the prefix, as the first arrangement that orients all rules.
+/// The least symbol with which an arrangement that isn't before the floor begins.
+fn lowest(floor: &[Symbol]) -> u8
+    ensures { result ≡ lowest_of (numbers floor.now) }
+{
+    if floor.is_empty() { 0 } else { floor[0].0 }
+}
+
+/// The floor of the search behind `f`.
+fn behind(floor: &[Symbol], f: Symbol) -> &[Symbol]
+    ensures { numbers result.now ≡ floor_behind (numbers floor.now) f.0 }
+{
+    if floor.is_empty() {
+        return floor;
+    }
+    if floor[0] == f {
+        &floor[1..]
+    } else {
+        &floor[..0]
+    }
+}
+
+/// Puts the symbols that are left behind those of the prefix, as the first arrangement that orients all rules. None
+/// before the floor does, so the search begins there; an empty floor lets it begin at the first arrangement.
 fn search_from(
     known: &[bool; 576],
     rules: &[Rule],
     count: u8,
     prefix: &mut Vec<Symbol>,
     left: u8,
+    floor: &[Symbol],
 ) -> Result<bool, Memory>
     requires sound { (rest : List ℕ) → LpoOrients (numbers prefix.old.items ++ rest) rules.now → Fits known.now (numbers prefix.old.items ++ rest) }
+    requires bound { IsFloor rules.now count left (numbers prefix.old.items) (numbers floor.now) }
     ensures { IfOk result (λ found. IsSearched rules.now count left (numbers prefix.old.items) (numbers prefix.new.items) found) }
 {
     if left == 0 {
         return Ok(orients(prefix, rules));
     }
-    for y in 0..count {
+    for y in lowest(floor)..count {
         let f = Symbol(y);
         let mut more = *known;
         if place_next(&mut more, rules, prefix, f) {
             prefix.push(f)?;
-            if search_from(&more, rules, count, prefix, left - 1)? {
+            if search_from(&more, rules, count, prefix, left - 1, behind(floor, f))? {
                 return Ok(true);
             }
             prefix.pop();
@@ -140,13 +164,15 @@ fn nothing_known() -> [bool; 576]
     [false; 576]
 }
 
-/// The first precedence of the signature's symbols that orients all rules; none where none does.
-pub fn search_lpo(
+/// The first precedence that orients all rules, where none before the floor does.
+fn search_above(
     alloc: Global,
     sig: &Signature,
     rules: &[Rule],
+    floor: &[Symbol],
 ) -> Result<Option<Precedence>, Memory>
-    requires { length sig.now ≤ 24 }
+    requires few { length sig.now ≤ 24 }
+    requires bound { IsFloor rules.now (length sig.now) (length sig.now) [] (numbers floor.now) }
     ensures { IfOk result (λ found. IsFirst (λ prec. LpoOrients prec rules.now) (precedences (length sig.now)) found) }
 {
     let count = sig.count() as u8;
@@ -155,13 +181,27 @@ pub fn search_lpo(
         return Ok(None);
     }
     let mut prefix = Vec::new(alloc);
-    if search_from(&known, rules, count, &mut prefix, count)? {
+    if search_from(&known, rules, count, &mut prefix, count, floor)? {
         return Ok(Some(Precedence::new(prefix)));
     }
     Ok(None)
 }
 
-/// The same, where no precedence before `start` orients all rules, as where `start` is the first for some of them.
+/// The first precedence of the signature's symbols, in lexicographic order of their numbers, that orients all rules;
+/// none where none does. Its memory is that of the precedence.
+pub fn search_lpo(
+    alloc: Global,
+    sig: &Signature,
+    rules: &[Rule],
+) -> Result<Option<Precedence>, Memory>
+    requires { length sig.now ≤ 24 }
+    ensures { IfOk result (λ found. IsFirst (λ prec. LpoOrients prec rules.now) (precedences (length sig.now)) found) }
+{
+    search_above(alloc, sig, rules, &[])
+}
+
+/// The same from `start` on, where no precedence before `start` orients all rules, as where `start` is the first for
+/// some of them.
 pub fn search_lpo_from(
     alloc: Global,
     sig: &Signature,
@@ -169,11 +209,11 @@ pub fn search_lpo_from(
     start: Precedence,
 ) -> Result<Option<Precedence>, Memory>
     requires few { length sig.now ≤ 24 }
-    requires bound { IsBound rules.now (precedences (length sig.now)) start }
+    requires bound { IsLowerBound (length sig.now) rules.now start }
     ensures { IfOk result (λ found. IsFirst (λ prec. LpoOrients prec rules.now) (precedences (length sig.now)) found) }
 {
     if orients(start.symbols(), rules) {
         return Ok(Some(start));
     }
-    search_lpo(alloc, sig, rules)
+    search_above(alloc, sig, rules, start.symbols())
 }
