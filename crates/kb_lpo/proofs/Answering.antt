@@ -10,7 +10,7 @@ use Rattle.kb_term.specs.declared.term.Term.{Term}
 use Rattle.kb_term.specs.declared.term.Term.TheVariants.{App}
 use Rattle.kb_lpo.specs.Agreeing.{At, Between}
 use Rattle.kb_lpo.proofs.Places.{at_from, at_smaller, at_argument, between_all}
-use Rattle.kb_lpo.proofs.Occurs.{occurs_from, occurs_to}
+use Rattle.kb_term.proofs.Steps.{occurs_from, occurs_to}
 use Rattle.kb_lpo.proofs.LpoLaws.{occurs_argument, occurs_in_some}
 
 pub yes : {b : Bool} {P : Type 0} → (IsTrue b → P) × (P → IsTrue b) → b ≡ true → P

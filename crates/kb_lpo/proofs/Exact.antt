@@ -4,7 +4,7 @@ use Rattle.std.proofs.lemmas.Bool.{cases_eq, cases_lt}
 use Rattle.kb_term.specs.Tree.{Tree, Trees, variable, apply, trees_of, tree_size, variables_of}
 use Rattle.kb_lpo.specs.PathOrder.{IsAbove, LpoGreater, variable_within}
 use Rattle.kb_lpo.specs.Agreeing.{At, Between, IsAgreement, IsNoWitness}
-use Rattle.kb_lpo.proofs.Occurs.{occurs_to}
+use Rattle.kb_term.proofs.Steps.{occurs_to}
 use Rattle.kb_term.specs.Pair.{place_in}
 use Rattle.kb_lpo.proofs.Lpo.{IsArgument, DifferFirst, PathGreater, has_argument, through_argument, symbol_above, first_greater, path_from_lpo, lpo_from_path}
 use Rattle.kb_lpo.proofs.LpoLaws.{path_trans, no_lesser, lesser_variables}

@@ -14,7 +14,7 @@ use Rattle.kb_lpo.specs.Known.{outside, numbers, IsSearched}
 use Rattle.kb_lpo.specs.Precedences.{LpoOrients}
 use Rattle.kb_term.specs.Rule.{Rule}
 use Rattle.kb_term.specs.declared.term.Symbol.{Symbol}
-use Rattle.kb_lpo.proofs.Occurs.{contains_cases, contains_behind, contains_first}
+use Rattle.kb_term.proofs.Steps.{contains_cases, contains_behind, contains_first}
 
 -- the arrangements of the n + 1 symbols outside that begin with x
 abbrev pub block : ℕ → List ℕ → ℕ → ℕ → List (List ℕ)

@@ -1,8 +1,12 @@
-mod Occurs
-mod Equal
 mod Lpo
 mod LpoLaws
 mod LpoDecides
+mod LpoBelow
+mod LpoBound
+mod WellFormed
+mod Arities
+mod LpoHalting
+mod PathOrderLaws
 mod Places
 mod Exact
 mod Answering

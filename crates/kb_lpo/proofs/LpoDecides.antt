@@ -4,8 +4,8 @@ use Rattle.std.proofs.lemmas.Bool.{cases_lt, cases_eq}
 use Rattle.kb_term.specs.Tree.{Tree, variable, apply, Trees, no_trees, more_trees, tree_size, trees_size}
 use Rattle.kb_term.specs.Pair.{place_in}
 use Rattle.kb_lpo.specs.PathOrder.{IsAbove, LpoGreater}
-use Rattle.kb_lpo.proofs.Occurs.{Occurs, OccursIn, occurs_from, occurs_to}
-use Rattle.kb_lpo.proofs.Equal.{trees_decide}
+use Rattle.kb_term.proofs.Steps.{Occurs, OccursIn, occurs_from, occurs_to}
+use Rattle.kb_term.proofs.Instances.{trees_decide}
 use Rattle.kb_lpo.proofs.Lpo.{IsArgument, DifferFirst, PathGreater, has_variable, has_argument, through_argument, symbol_above, first_greater, path_from_lpo, lpo_from_path}
 use Rattle.kb_lpo.proofs.LpoLaws.{path_trans, no_lesser}
 
