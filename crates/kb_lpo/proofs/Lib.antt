@@ -1,0 +1,15 @@
+mod Lpo
+mod LpoLaws
+mod LpoDecides
+mod LpoBelow
+mod LpoBound
+mod WellFormed
+mod Arities
+mod LpoHalting
+mod PathOrderLaws
+mod Places
+mod Exact
+mod Answering
+mod First
+mod Ascending
+mod Nothing
