@@ -1,14 +1,13 @@
 -- Overlaps of two rules.
 use Rattle.std.specs.Prelude.{ℕ, ◌≡◌, ◌⊎◌, Bool, List, [], ◌∷◌, ◌++◌, map, drop, Contains, Option, Some, None, Result, Ok, Err, cond}
-use Rattle.std.specs.List.{list_any}
 use Rattle.kb_term.specs.Tree.{Tree, variables_of}
 use Rattle.kb_term.specs.Position.{subtree_at, replace_at, function_positions_of}
 use Rattle.kb_term.specs.Substitution.{instance}
-use Rattle.kb_term.specs.Pair.{first_limit, limit_if, is_too_large, is_too_deep, term_limit, pair_limit}
+use Rattle.kb_term.specs.Pair.{first_limit, term_limit, pair_limit}
 use Rattle.kb_term.specs.Rule.{Rule, IsVariantRule}
 use Rattle.kb_unify.specs.Unifier.{IsMostGeneralUnifier, IsUnifiable}
+use Rattle.kb_unify.specs.Answer.{terms_limit}
 use Rattle.kb_term.specs.declared.limit.Limit.{Limit}
-use Rattle.kb_term.specs.declared.limit.Limit.TheVariants.{Size, Depth}
 
 -- a variant of the inner rule that has no variable of the outer rule
 pub record IsRenamedApart (outer inner renamed : Rule) : Type 0 where
@@ -34,10 +33,6 @@ pub record IsOverlap (outer inner : Rule) (p : List ℕ) (s t : Tree) : Type 0 w
   pub renamed_apart : IsRenamedApart outer inner renamed
   pub overlaps : OverlapsAt outer renamed p m
   pub pair : IsCriticalPair outer renamed p m s t
-
--- the limit that one of the terms passes: a size above 512, else a depth above 64
-abbrev pub terms_limit : List Tree → Option Limit
-terms_limit ts = first_limit (limit_if (list_any is_too_large ts) Size ∷ limit_if (list_any is_too_deep ts) Depth ∷ [])
 
 -- the limit that an overlap passes: by a term that m gives to a variable, else by the peak, else by the pair
 abbrev pub overlap_limit : Rule → Rule → (ℕ → Tree) → Tree → Tree → Option Limit

@@ -1,2 +1,13 @@
-//! Unification.
+//! Unification of first-order terms.
 #![tactic(auto)]
+
+mod extent;
+mod fault;
+mod reading;
+mod subst;
+mod table;
+mod unifier;
+
+pub use fault::UnifyFault;
+pub use subst::Subst;
+pub use unifier::unify;
