@@ -1,23 +1,26 @@
 -- The limits that a most general unifier passes.
-use Rattle.std.proofs.Common.{ℕ, zero, suc, ◌≤◌, ◌<◌, ◌≡◌, ◌⊎◌, inl, inr, List, [], ◌∷◌, ◌++◌, length, refl, sym, ap, ◌∙◌, subst, arith, Some, None}
+use Rattle.std.proofs.Common.{ℕ, zero, suc, ◌≤◌, ◌<◌, ◌≡◌, ◌⊎◌, inl, inr, List, [], ◌∷◌, ◌++◌, length, get_or, refl, sym, ap, ◌∙◌, arith, Some, None}
 use Rattle.kb_unify.specs.declared.extent.Extent.{Extent}
-use Rattle.std.specs.Prelude.{Option, Bool, true, false, cond, nat_lt, ◌==◌, ◌||◌, map, Contains, min}
+use Rattle.std.specs.Prelude.{Option, Bool, true, false, cond, nat_lt, ◌||◌, map, Contains, min}
 use Rattle.std.specs.List.{list_any}
-use Rattle.std.proofs.lemmas.Bool.{cases_eq}
-use Rattle.std.proofs.lemmas.List.Elements.{Contains-append_left, Contains-append_right, Contains-append_cases}
-use Rattle.kb_term.specs.Tree.{Tree, Trees, variable, apply, no_trees, more_trees, variables_of, variables_in, tree_size, tree_depth}
-use Rattle.kb_term.specs.Substitution.{instance, instances}
+use Rattle.std.proofs.lemmas.List.Elements.{Contains-append_cases}
+use Rattle.kb_term.specs.Tree.{Tree, variable, variables_of, tree_size, tree_depth}
+use Rattle.kb_term.specs.Substitution.{instance}
 use Rattle.kb_unify.specs.Unifier.{IsMostGeneralUnifier}
 use Rattle.kb_term.specs.Pair.{is_too_large, is_too_deep}
-use Rattle.kb_term.proofs.Trees.{apply≢variable}
 use Rattle.kb_term.specs.declared.limit.Limit.{Limit}
 use Rattle.kb_term.specs.declared.limit.Limit.TheVariants.{Size, Depth, Variables}
 use Rattle.kb_unify.specs.Unifier.{IsUnifiable}
 use Rattle.std.proofs.lemmas.List.{length-replicate}
-use Rattle.kb_unify.specs.Answer.{unifier_limit, IsBounded, IsUnifierWith}
+use Rattle.kb_unify.specs.Answer.{unifier_limit, HasVariablesBelow, IsUnifierWith, IsUnifierList}
+use Rattle.kb_unify.specs.Subst.{substitution_of}
+use Rattle.kb_unify.proofs.Flattening.{cases_le}
+use Rattle.kb_unify.proofs.Solutions.{most_general, solution-solves, bound_other}
+use Rattle.kb_unify.proofs.Instances.{contains_decides}
+use Rattle.kb_unify.proofs.Applied.{outside_variable, list_applied}
 use Rattle.kb_unify.specs.Table.{Solves, Equates, IsClosed}
 use Rattle.kb_unify.specs.Extent.{IsMeasurement}
-use Rattle.kb_unify.specs.Reading.{IsLimitPassed, IsReadable, IsTableOf, size_at, depth_at}
+use Rattle.kb_unify.specs.Reading.{IsLimitPassed, IsReadable, IsTableOf, ListsBelow, ListsBound, size_at, depth_at}
 use Rattle.kb_unify.proofs.ReadingLaws.{size-listed, depth-listed}
 use Rattle.kb_unify.proofs.Unifying.{start, clash_none, unsolved_none, solution_unifies, free-below}
 use Rattle.kb_unify.specs.declared.table.Slot.{Slot}
@@ -36,52 +39,9 @@ any_true p m (x ∷ xs) n (suc k, q, e) h = go (p (m x)) (any_true p m xs n (k, 
     go true r = refl
     go false r = r
 
-contains_decides : (xs : List ℕ) (n : ℕ) → Contains xs n ⊎ (¬ Contains xs n)
-contains_decides [] n = inr (λ c. omega (arith, c.1))
-contains_decides (x ∷ xs) n = go (cases_eq x n) (contains_decides xs n)
-  where
-    go : (x ≡ n) ⊎ (¬ (x ≡ n)) → Contains xs n ⊎ (¬ Contains xs n) → Contains (x ∷ xs) n ⊎ (¬ Contains (x ∷ xs) n)
-    go (inl e) d = inl (0, omega arith, e)
-    go (inr ne) (inl c) = inl (suc c.0, omega (arith, c.1), c.2)
-    go (inr ne) (inr no') = inr (other ne no')
-      where
-        other : ¬ (x ≡ n) → ¬ Contains xs n → ¬ Contains (x ∷ xs) n
-        other ne no' (zero, q, e) = ne e
-        other ne no' (suc k, q, e) = no' (k, omega (arith, q), e)
-
-mutual
-  instance-agree : (k m : ℕ → Tree) (t : Tree) → ((n : ℕ) → Contains (variables_of t) n → k n ≡ m n) → instance k t ≡ instance m t
-  instance-agree k m (variable n) h = h n (0, omega arith, refl)
-  instance-agree k m (apply f ts) h = ap (apply f) (instances-agree k m ts h)
-
-  instances-agree : (k m : ℕ → Tree) (ts : Trees) → ((n : ℕ) → Contains (variables_in ts) n → k n ≡ m n) → instances k ts ≡ instances m ts
-  instances-agree k m no_trees h = refl
-  instances-agree k m (more_trees t ts) h = λ i. more_trees (instance-agree k m t (λ n c. h n (Contains-append_left (variables_of t) (variables_in ts) n c)) i) (instances-agree k m ts (λ n c. h n (Contains-append_right (variables_of t) (variables_in ts) n c)) i)
-
--- m with the variable itself at n
-without : (ℕ → Tree) → ℕ → ℕ → Tree
-without m n i = cond (i == n) (variable n) (m i)
-
-without-at : (m : ℕ → Tree) (n : ℕ) → without m n n ≡ variable n
-unfolding without
-without-at m n = let e : (n == n) ≡ true = grind arith in rw e refl
-
-without-other : (m : ℕ → Tree) (n i : ℕ) → ¬ (i ≡ n) → without m n i ≡ m i
-unfolding without
-without-other m n i ne = let e : (i == n) ≡ false = grind arith in rw e refl
-
-small : (t : Tree) (d : ℕ → Tree) (n : ℕ) → variable n ≡ instance d t → (tree_size t ≡ 1) × (tree_depth t ≡ 1)
-small (variable i) d n e = (refl, refl)
-small (apply f ts) d n e = absurd (apply≢variable (sym e))
-
--- a most general unifier sends a variable of neither term to a variable
+-- a most general unifier sends a variable of neither term to a small term
 outside_small : (m : ℕ → Tree) (s t : Tree) → IsMostGeneralUnifier m s t → (n : ℕ) → ¬ Contains (variables_of s ++ variables_of t) n → (tree_size (m n) ≡ 1) × (tree_depth (m n) ≡ 1)
-outside_small m s t g n outside =
-    let other : (i : ℕ) → Contains (variables_of s ++ variables_of t) i → without m n i ≡ m i = λ i c. without-other m n i (λ e. outside (subst (Contains (variables_of s ++ variables_of t)) e c)) in
-    let a = instance-agree (without m n) m s (λ i c. other i (Contains-append_left (variables_of s) (variables_of t) i c)) in
-    let b = instance-agree (without m n) m t (λ i c. other i (Contains-append_right (variables_of s) (variables_of t) i c)) in
-    let k = g.most_general (without m n) (a ∙ g.unifies ∙ sym b) in
-    small (m n) k.0 n (sym (without-at m n) ∙ k.1 n)
+outside_small m s t g n outside = let x = outside_variable m s t g n outside in (ap tree_size x.1, ap tree_depth x.1)
 
 module _ (m : ℕ → Tree) (s t : Tree) (general : IsMostGeneralUnifier m s t) (below : (n : ℕ) → Contains (variables_of s ++ variables_of t) n → n < 128) where
   inside : (n : ℕ) → (1 < tree_size (m n)) ⊎ (1 < tree_depth (m n)) → Contains (variables_of s ++ variables_of t) n
@@ -125,7 +85,7 @@ restricted-above : (w : ℕ → Tree) (n : ℕ) → 128 ≤ n → restricted w n
 restricted-above w n h = let e : nat_lt n 128 ≡ false = grind arith in rw e refl
 
 -- the whole: from the table of two bounded terms, closed, and its measure
-module _ (s t : Tree) (s_bounded : IsBounded s) (t_bounded : IsBounded t) (two : List Slot) (table : IsTableOf s t two) where
+module _ (s t : Tree) (s_below : HasVariablesBelow 128 s) (t_below : HasVariablesBelow 128 t) (two : List Slot) (table : IsTableOf s t two) where
   pub whole_clash : ((v : ℕ → Tree) → Solves v two → ¬ Equates v ((128, 129) ∷ [])) → ¬ IsUnifiable s t
   whole_clash h = clash_none s t start table.0 two refl table.1 table.2 h
 
@@ -152,8 +112,26 @@ module _ (s t : Tree) (s_bounded : IsBounded s) (t_bounded : IsBounded t) (two :
         let general = solution_unifies s t start table.0 two refl table.1 table.2 three closed h.0 m (h.1).values below above in
         record {
           most_general = general;
-          passes = limit_is m s t general (below_both s t s_bounded.variables t_bounded.variables) es
+          passes = limit_is m s t general (below_both s t s_below t_below) es
               (λ n p. size-listed three es h.0 h.1 n (omega (arith, p, whole_long)) ∙ ap (λ u. min (tree_size u) 513) (sym (below n p)))
               (λ n p. depth-listed three es h.0 h.1 n (omega (arith, p, whole_long)) ∙ ap (λ u. min (tree_depth u) 65) (sym (below n p)))
               limit passed;
+        }
+
+    -- the unifier as a list of the variables of which something is known
+    pub whole_list : (es : List Extent) (h : IsMeasurement three (Some es)) → IsLimitPassed es None → (m : List (ℕ × Tree)) → ListsBelow 128 h.0 m → ListsBound three m → IsUnifierList m s t
+    whole_list es h passed m lists bound =
+        let whole = whole_unifier es h None passed (substitution_of m) lists in
+        let w = h.0 in
+        let below : (n : ℕ) → n < 128 → substitution_of m n ≡ w n = λ n p. lists n ∙ restricted-below w n p in
+        let above : (n : ℕ) → 128 ≤ n → substitution_of m n ≡ variable n = λ n p. lists n ∙ restricted-above w n p in
+        let fixed : (n : ℕ) → n < 128 → w n ≡ instance (substitution_of m) (w n) = λ n p. most_general three closed.table w (h.1).values w (substitution_of m) (solution-solves three w (h.1).values) (λ i q f. sym (below i ((whole_readable es h).free i q f))) n (omega (arith, p, whole_long)) in
+        record {
+          unifier = whole;
+          applied = list_applied m s t bound.in_order whole.most_general
+              (λ n. elim (cases_le 128 n) [
+                | inl p ↦ ap (instance (substitution_of m)) (above n p)
+                | inr p ↦ ap (instance (substitution_of m)) (below n p) ∙ sym (fixed n p) ∙ sym (below n p)
+              ])
+              (λ k d p e. let b = bound.bound k d p in bound_other three closed.table w (h.1).values (get_or m k d).0 b.1 (sym (below (get_or m k d).0 b.0) ∙ e));
         }

@@ -2,12 +2,13 @@
 use Rattle.std.proofs.Common.{ℕ, zero, suc, ◌+◌, ◌*◌, ◌≤◌, ◌<◌, ◌≡◌, ◌⊎◌, inl, inr, List, [], ◌∷◌, ◌++◌, length, get_or, refl, sym, ap, ◌∙◌, subst, arith}
 use Rattle.std.proofs.Math.Nat.{mul-le-mul_right}
 use Rattle.std.proofs.lemmas.Bool.{cases_eq}
-use Rattle.std.specs.Prelude.{map, ⊤, Result, Ok, Err, IfOk, min, cond, nat_lt, true, false, ◌==◌}
+use Rattle.std.proofs.lemmas.List.Quantifiers.{all_pairs_push}
+use Rattle.std.specs.Prelude.{AllPairs, map, ⊤, Result, Ok, Err, IfOk, min, cond, nat_lt, true, false, ◌==◌}
 use Rattle.kb_term.specs.Tree.{Tree, variable, apply, more_trees, trees_of, tree_size, tree_depth, trees_depth}
 use Rattle.kb_term.specs.View.{tree_of}
 use Rattle.kb_term.specs.declared.term.Term.{Term}
 use Rattle.kb_unify.specs.Subst.{substitution_of}
-use Rattle.kb_unify.specs.Table.{slot_at, values_from, IsSlot}
+use Rattle.kb_unify.specs.Table.{slot_at, values_from, IsSlot, IsFree}
 use Rattle.kb_unify.specs.Extent.{value_of, IsSolution}
 use Rattle.kb_unify.specs.Reading.{size_at, depth_at, IsReadable, ListsBelow}
 use Rattle.kb_term.specs.declared.term.Symbol.{Symbol}
@@ -129,6 +130,20 @@ keys_pushed n t es h = keys-push n t es h
 
 pub keys_kept : (n : ℕ) (es : List (ℕ × Tree)) → AreKeysBelow n es → AreKeysBelow (n + 1) es
 keys_kept n es h = keys-more n es h
+
+-- of a link or a node something is known
+pub link_or_node : (s : Slot) → ((j : ℕ) × (s ≡ Link j)) ⊎ ((f : Symbol) × (first : ℕ) × (count : ℕ) × (s ≡ Node f first count)) → ¬ IsFree s
+link_or_node s (inl (j, e)) free = subst IsFree e free
+link_or_node s (inr (f, first, count, e)) free = subst IsFree e free
+
+-- the variables listed are below n, so n goes behind them
+pub order_pushed : (n : ℕ) (t : Tree) (es : List (ℕ × Tree)) → AreKeysBelow n es → AllPairs (λ (d e : ℕ × Tree). d.0 < e.0) es → AllPairs (λ (d e : ℕ × Tree). d.0 < e.0) (es ++ (n, t) ∷ [])
+order_pushed n t es keys order = all_pairs_push (λ (d e : ℕ × Tree). d.0 < e.0) es (n, t) order (below es keys)
+  where
+    below : (es : List (ℕ × Tree)) → AreKeysBelow n es → (k : ℕ) (d : ℕ × Tree) → k < length es → (get_or es k d).0 < n
+    below [] keys k d h = absurd (omega (arith, h))
+    below (e ∷ es) keys zero d h = keys.0
+    below (e ∷ es) keys (suc k) d h = below es keys.1 k d (omega (arith, h))
 
 -- an entry as a variable and a term
 abbrev pub entry_of : ℕ × Term → ℕ × Tree

@@ -1,5 +1,5 @@
 -- What is read off a measured table.
-use Rattle.std.specs.Prelude.{ℕ, ◌≤◌, ◌<◌, ◌≡◌, List, length, replicate, get_or, Option, Some, None, cond, nat_lt}
+use Rattle.std.specs.Prelude.{ℕ, ◌≤◌, ◌<◌, ◌≡◌, List, length, replicate, get_or, Option, Some, None, All, AllPairs, cond, nat_lt}
 use Rattle.kb_term.specs.Tree.{Tree, variable}
 use Rattle.kb_term.specs.declared.limit.Limit.{Limit}
 use Rattle.kb_term.specs.declared.limit.Limit.TheVariants.{Size, Depth, Variables}
@@ -33,6 +33,11 @@ pub record IsReadable (slots : List Slot) (extents : List Extent) : Type 0 where
 -- the list gives to the first n variables what w gives them, and leaves the others
 abbrev pub ListsBelow : ℕ → (ℕ → Tree) → List (ℕ × Tree) → Type 0
 ListsBelow n w es = (i : ℕ) → substitution_of es i ≡ cond (nat_lt i n) (w i) (variable i)
+
+-- the list has variables of which something is known, in their order and each once
+pub record ListsBound (slots : List Slot) (es : List (ℕ × Tree)) : Type 0 where
+  pub in_order : AllPairs (λ (d e : ℕ × Tree). d.0 < e.0) es
+  pub bound : All (λ (e : ℕ × Tree). (e.0 < 128) × ¬ IsFree (slot_at slots e.0)) es
 
 -- the table of two terms, at the places 128 and 129
 abbrev pub IsTableOf : Tree → Tree → List Slot → Type 0

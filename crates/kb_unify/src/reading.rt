@@ -3,7 +3,7 @@ ghost use Rattle.std.specs.Prelude.{ℕ, ◌≡◌, ◌<◌, ◌≤◌, length, 
 ghost use Rattle.kb_term.specs.Tree.{Tree};
 ghost use Rattle.kb_term.specs.View.{tree_of};
 ghost use Rattle.kb_unify.specs.Extent.{IsSolution};
-ghost use Rattle.kb_unify.specs.Reading.{IsLimitPassed, IsReadable, ListsBelow, depth_at};
+ghost use Rattle.kb_unify.specs.Reading.{IsLimitPassed, IsReadable, ListsBelow, ListsBound, depth_at};
 
 use crate::extent::Extent;
 use crate::subst::Subst;
@@ -58,7 +58,8 @@ pub fn build(
 pub fn read_off(alloc: Global, slots: &[Slot], extents: &[Extent]) -> Result<Subst, Memory>
     requires readable { IsReadable slots.now extents.now }
     requires shallow { (i : ℕ) → i < 128 → depth_at extents.now i ≤ 64 }
-    ensures { IfOk result (λ m. (w : ℕ → Tree) → IsSolution slots.now extents.now w → ListsBelow 128 w m) }
+    ensures terms { IfOk result (λ m. (w : ℕ → Tree) → IsSolution slots.now extents.now w → ListsBelow 128 w m) }
+    ensures variables { IfOk result (λ m. ListsBound slots.now m) }
 {
     let mut entries = Vec::new(alloc);
     for n in 0..128 {

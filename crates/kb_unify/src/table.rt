@@ -2,6 +2,7 @@
 ghost use Rattle.std.specs.Prelude.{ℕ, ◌≡◌, ◌<◌, ◌≤◌, ◌+◌, ◌^◌, ◌++◌, length, replicate, IfOk, Contains, true, false};
 ghost use Rattle.kb_term.specs.Tree.{Tree, variables_of, tree_size};
 ghost use Rattle.kb_term.specs.View.{tree_of};
+ghost use Rattle.kb_unify.specs.Answer.{HasVariablesBelow};
 ghost use Rattle.kb_unify.specs.Table.{slot_at, IsTable, IsRoot, Solves, Equates, ArePlaces, IsFlattened, IsJoined, IsClosed, argument_pairs};
 
 use kb_term::{Memory, Symbol, Term};
@@ -30,7 +31,7 @@ pub fn flatten(t: &Term, at: usize, slots: &mut Vec<Slot>) -> Result<(), Memory>
     requires above { 128 ≤ at }
     requires inside { at < length slots.old.items }
     requires free { slot_at slots.old.items at ≡ Slot.Free }
-    requires variables { (n : ℕ) → Contains (variables_of (tree_of t.now)) n → n < 128 }
+    requires variables { HasVariablesBelow 128 (tree_of t.now) }
     ensures { IfOk result (λ _. IsFlattened slots.old.items slots.new.items at (tree_of t.now)) }
 {
     match t {

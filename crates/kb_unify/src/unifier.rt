@@ -4,7 +4,7 @@ ghost use Rattle.kb_term.specs.Tree.{Tree, variables_of};
 ghost use Rattle.kb_term.specs.View.{tree_of};
 ghost use Rattle.kb_unify.specs.Table.{IsTable, IsClosed, Solves, Equates};
 ghost use Rattle.kb_unify.specs.Reading.{IsTableOf};
-ghost use Rattle.kb_unify.specs.Answer.{IsBounded, IsUnified, IsUnifyAnswer};
+ghost use Rattle.kb_unify.specs.Answer.{HasVariablesBelow, IsUnified, IsUnifyAnswer};
 
 use crate::extent::measure;
 use crate::fault::UnifyFault;
@@ -24,8 +24,8 @@ pub enum Unified {
 
 /// The table of both terms.
 pub fn table_of(alloc: Global, a: &Term, b: &Term) -> Result<Vec<Slot>, Memory>
-    requires a_variables { (n : ℕ) → Contains (variables_of (tree_of a.now)) n → n < 128 }
-    requires b_variables { (n : ℕ) → Contains (variables_of (tree_of b.now)) n → n < 128 }
+    requires a_variables { HasVariablesBelow 128 (tree_of a.now) }
+    requires b_variables { HasVariablesBelow 128 (tree_of b.now) }
     ensures { IfOk result (λ v. IsTableOf (tree_of a.now) (tree_of b.now) v.items) }
 {
     let mut slots = Vec::new(alloc);
@@ -49,8 +49,8 @@ pub fn close_table(alloc: Global, slots: &mut Vec<Slot>) -> Result<bool, Memory>
 
 /// The most general unifier, or what stands in its place.
 pub fn solve(alloc: Global, a: &Term, b: &Term) -> Result<Unified, Memory>
-    requires a_bounded { IsBounded (tree_of a.now) }
-    requires b_bounded { IsBounded (tree_of b.now) }
+    requires a_variables { HasVariablesBelow 128 (tree_of a.now) }
+    requires b_variables { HasVariablesBelow 128 (tree_of b.now) }
     ensures { IfOk result (λ u. IsUnified (tree_of a.now) (tree_of b.now) u) }
 {
     let mut slots = table_of(alloc, a, b)?;
@@ -68,8 +68,8 @@ pub fn solve(alloc: Global, a: &Term, b: &Term) -> Result<Unified, Memory>
 
 /// A most general unifier, fully applied; none where there is no unifier.
 pub fn unify(alloc: Global, a: &Term, b: &Term) -> Result<Option<Subst>, UnifyFault>
-    requires a_bounded { IsBounded (tree_of a.now) }
-    requires b_bounded { IsBounded (tree_of b.now) }
+    requires a_variables { HasVariablesBelow 128 (tree_of a.now) }
+    requires b_variables { HasVariablesBelow 128 (tree_of b.now) }
     ensures { IsUnifyAnswer (tree_of a.now) (tree_of b.now) result }
 {
     match solve(alloc, a, b) {
