@@ -3,7 +3,7 @@ use Rattle.std.specs.Prelude.{ℕ, ◌≡◌, ◌⊎◌, Bool, List, [], ◌∷�
 use Rattle.kb_term.specs.Tree.{Tree, variables_of}
 use Rattle.kb_term.specs.Position.{subtree_at, replace_at, function_positions_of}
 use Rattle.kb_term.specs.Substitution.{instance}
-use Rattle.kb_term.specs.Pair.{first_limit, term_limit, pair_limit}
+use Rattle.kb_term.specs.Pair.{Pair, canonical_pair, first_limit, term_limit, pair_limit}
 use Rattle.kb_term.specs.Rule.{Rule, IsVariantRule}
 use Rattle.kb_unify.specs.Unifier.{IsMostGeneralUnifier, IsUnifiable}
 use Rattle.kb_unify.specs.Answer.{terms_limit}
@@ -78,3 +78,12 @@ overlap_positions outer same = cond same (drop 1 (function_positions_of outer.le
 -- all overlaps of the two rules in order; same says that they are one rule
 abbrev pub IsOverlapList : Rule → Rule → Bool → List Overlap → Type 0
 IsOverlapList outer inner same os = ListsOverlaps outer inner (overlap_positions outer same) os
+
+-- what of the sides doesn't depend on the choice of variables: their canonical pair, or the limit
+abbrev pub canonical_sides : Result (Tree × Tree) Limit → Result (Option Pair) Limit
+canonical_sides (Ok e) = Ok (canonical_pair e.0 e.1)
+canonical_sides (Err l) = Err l
+
+-- what of an overlap doesn't: its position, and its canonical pair or the limit
+abbrev pub canonical_overlap : Overlap → List ℕ × Result (Option Pair) Limit
+canonical_overlap o = (o.position, canonical_sides o.sides)
