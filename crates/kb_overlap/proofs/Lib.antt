@@ -4,3 +4,4 @@ pub mod Variants
 pub mod Extents
 pub mod Positions
 pub mod Alike
+pub mod Finding

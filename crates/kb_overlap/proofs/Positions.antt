@@ -4,7 +4,7 @@ use Rattle.std.proofs.lemmas.List.Elements.{Contains-append_left, Contains-appen
 use Rattle.kb_term.specs.Tree.{Tree, Trees, variable, apply, no_trees, more_trees, variables_of, variables_in}
 use Rattle.kb_term.specs.Substitution.{instance, instances}
 use Rattle.kb_term.specs.Position.{argument, with_argument, subtree_at, replace_at, function_positions_of, function_positions_in}
-use Rattle.kb_unify.proofs.Instances.{contains_cases}
+use Rattle.kb_unify.proofs.Instances.{contains_cases, contains_first, contains_behind}
 
 -- the value of a Some
 pub some_same : {X : Type 0} (x y : X) → Some x ≡ Some y → x ≡ y
@@ -80,3 +80,36 @@ subtree_variables (i ∷ p) (apply f ts) u e n c = go (argument ts i) refl (λ a
     go : (o : Option Tree) → argument ts i ≡ o → ((a : Tree) → subtree_at a p ≡ Some u → Contains (variables_of a) n) → option_and_then (λ t. subtree_at t p) o ≡ Some u → Contains (variables_in ts) n
     go None q back e = absurd (cc)
     go (Some a) q back e = argument_variables ts i a q n (back a e)
+
+-- a member of a mapped list is made of one of the list
+pub contains_mapped : {X Y : Type 0} (f : X → Y) (xs : List X) (y : Y) → Contains (map f xs) y → (x : X) × Contains xs x × (f x ≡ y)
+contains_mapped f [] y c = absurd (omega (arith, c.1))
+contains_mapped f (x ∷ xs) y c = elim (contains_cases (f x) (map f xs) y c) [
+  | inl e ↦ (x, contains_first x xs, e)
+  | inr d ↦ let h = contains_mapped f xs y d in (h.0, contains_behind x xs h.0 h.1, h.2)
+]
+
+-- at each position at which no variable stands there is a subterm
+mutual
+  pub position_there : (t : Tree) (p : List ℕ) → Contains (function_positions_of t) p → (u : Tree) × (subtree_at t p ≡ Some u)
+  position_there (variable n) p c = absurd (omega (arith, c.1))
+  position_there (apply f ts) p c = elim (contains_cases [] (function_positions_in ts 1) p c) [
+    | inl e ↦ (apply f ts, ap (subtree_at (apply f ts)) (sym e))
+    | inr d ↦
+        let h = position_in ts 1 p d in
+        let first : 1 + h.0 ≡ suc h.0 = omega arith in
+        (h.3.0, ap (subtree_at (apply f ts)) (h.2 ∙ ap (λ i. i ∷ h.1) first) ∙ h.3.1)
+  ]
+
+  position_in : (ts : Trees) (i : ℕ) (p : List ℕ) → Contains (function_positions_in ts i) p → (j : ℕ) × (q : List ℕ) × (p ≡ (i + j) ∷ q) × ((u : Tree) × (option_and_then (λ t. subtree_at t q) (argument ts (suc j)) ≡ Some u))
+  position_in no_trees i p c = absurd (omega (arith, c.1))
+  position_in (more_trees t ts) i p c = elim (Contains-append_cases (map (i ∷◌) (function_positions_of t)) (function_positions_in ts (suc i)) p c) [
+    | inl d ↦
+        let m = contains_mapped (i ∷◌) (function_positions_of t) p d in
+        let same : i ≡ i + 0 = omega arith in
+        (0, m.0, sym m.2 ∙ ap (λ x. x ∷ m.0) same, position_there t m.0 m.1)
+    | inr d ↦
+        let h = position_in ts (suc i) p d in
+        let next : suc i + h.0 ≡ i + suc h.0 = omega arith in
+        (suc h.0, h.1, h.2 ∙ ap (λ x. x ∷ h.1) next, h.3)
+  ]

@@ -26,11 +26,11 @@ use Rattle.kb_unify.proofs.Unifying.{start, clash_none, unsolved_none, solution_
 use Rattle.kb_unify.specs.declared.table.Slot.{Slot}
 use Rattle.kb_unify.specs.declared.table.Slot.TheVariants.{Free}
 
-any_false : (p : Tree → Bool) (m : ℕ → Tree) (xs : List ℕ) → ((n : ℕ) → Contains xs n → p (m n) ≡ false) → list_any p (map m xs) ≡ false
+pub any_false : (p : Tree → Bool) (m : ℕ → Tree) (xs : List ℕ) → ((n : ℕ) → Contains xs n → p (m n) ≡ false) → list_any p (map m xs) ≡ false
 any_false p m [] h = refl
 any_false p m (x ∷ xs) h = rw (h x (0, omega arith, refl)) (any_false p m xs (λ n c. h n (suc c.0, omega (arith, c.1), c.2)))
 
-any_true : (p : Tree → Bool) (m : ℕ → Tree) (xs : List ℕ) (n : ℕ) → Contains xs n → p (m n) ≡ true → list_any p (map m xs) ≡ true
+pub any_true : (p : Tree → Bool) (m : ℕ → Tree) (xs : List ℕ) (n : ℕ) → Contains xs n → p (m n) ≡ true → list_any p (map m xs) ≡ true
 any_true p m [] n c h = absurd (omega (arith, c.1))
 any_true p m (x ∷ xs) n (zero, q, e) h = let r : p (m x) ≡ true = ap (λ y. p (m y)) e ∙ h in rw r refl
 any_true p m (x ∷ xs) n (suc k, q, e) h = go (p (m x)) (any_true p m xs n (k, omega (arith, q), e) h)
