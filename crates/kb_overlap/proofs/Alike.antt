@@ -14,9 +14,10 @@ use Rattle.kb_term.specs.declared.limit.Limit.TheVariants.{Size, Depth}
 use Rattle.kb_unify.specs.Unifier.{IsUnifier, IsUnifiable, IsMostGeneralUnifier}
 use Rattle.kb_unify.specs.Answer.{terms_limit}
 use Rattle.kb_unify.proofs.Instances.{contains_decides, contains_first, contains_behind, instance-agree, agree-instance, instance-instance, instance-variable}
+use Rattle.kb_unify.proofs.Similar.{AreSimilar, similar_map, similar_limit}
 use Rattle.kb_overlap.specs.Overlap.{IsRenamedApart, OverlapsAt, IsCriticalPair, overlap_limit, pair_or_limit, Overlap, IsOverlapOrLimit, HasNoOverlapAt, ListsOverlaps, IsOverlapList, canonical_sides, canonical_overlap}
 use Rattle.kb_overlap.proofs.Variants.{rename-rename, rename_agree, rename_same, turned_back, map_append, variables_renamed}
-use Rattle.kb_overlap.proofs.Extents.{same_size, same_depth, same_canonical, same_pair_limit, same_term_limit}
+use Rattle.kb_overlap.proofs.Extents.{same_canonical, same_pair_limit, same_term_limit}
 use Rattle.kb_overlap.proofs.Positions.{some_same, replace-instance, subtree_variables}
 
 abbrev pub variables_of_rule : Rule → List ℕ
@@ -71,27 +72,6 @@ module _ (A B R S : Rule) (a : IsRenamedApart A B R) (b : IsRenamedApart A B S) 
   made m n d h t u e =
       instance-instance d m t ∙ instance-agree (λ x. instance d (m x)) (λ x. n (shift A B R S a b x)) t (λ x c. sym (h x))
       ∙ sym (instance-instance n (λ x. variable (shift A B R S a b x)) t) ∙ ap (instance n) e
-
--- terms that are instances of each other, place by place
-abbrev AreSimilar : (d e : ℕ → Tree) → List Tree → List Tree → Type 0
-AreSimilar d e [] us = us ≡ []
-AreSimilar d e (t ∷ ts) us = (u : Tree) × (rest : List Tree) × (us ≡ u ∷ rest) × (instance d t ≡ u) × (instance e u ≡ t) × AreSimilar d e ts rest
-
-similar_any : (p : Tree → Bool) (d e : ℕ → Tree) → ((t u : Tree) → instance d t ≡ u → instance e u ≡ t → p t ≡ p u) → (ts us : List Tree) → AreSimilar d e ts us → list_any p ts ≡ list_any p us
-similar_any p d e h [] us s = ap (list_any p) (sym s)
-similar_any p d e h (t ∷ ts) us (u, rest, is, there, back, s) = rw (h t u there back, similar_any p d e h ts rest s) (ap (list_any p) (sym is))
-
-similar_limit : (d e : ℕ → Tree) (ts us : List Tree) → AreSimilar d e ts us → terms_limit ts ≡ terms_limit us
-similar_limit d e ts us s =
-    let large = similar_any is_too_large d e (λ t u p q. rw (same_size d e t u p q) refl) ts us s in
-    let deep = similar_any is_too_deep d e (λ t u p q. rw (same_depth d e t u p q) refl) ts us s in
-    ap₂ (λ x y. first_limit (limit_if x Size ∷ limit_if y Depth ∷ [])) large deep
-
-similar_map : (d e m n : ℕ → Tree) (f : ℕ → ℕ) (xs : List ℕ) → ((x : ℕ) → Contains xs x → (instance d (m x) ≡ n (f x)) × (instance e (n (f x)) ≡ m x)) → AreSimilar d e (map m xs) (map n (map f xs))
-similar_map d e m n f [] h = refl
-similar_map d e m n f (x ∷ xs) h =
-    let here = h x (contains_first x xs) in
-    (n (f x), map n (map f xs), refl, here.0, here.1, similar_map d e m n f xs (λ y c. h y (contains_behind x xs y c)))
 
 -- one way: the overlap with the variant S is an instance of that with R
 module _ (A B R S : Rule) (a : IsRenamedApart A B R) (b : IsRenamedApart A B S) (p : List ℕ) (m n : ℕ → Tree) (g : OverlapsAt A R p m) (h : OverlapsAt A S p n) where

@@ -11,43 +11,9 @@ use Rattle.kb_term.specs.Pair.{Pair, numbered, canonical, canonical_pair, lesser
 use Rattle.kb_term.specs.declared.limit.Limit.{Limit}
 use Rattle.kb_term.specs.declared.limit.Limit.TheVariants.{Size, Depth, Variables}
 use Rattle.kb_term.proofs.Trees.{apply≢variable, variable-inj}
-use Rattle.kb_unify.specs.Answer.{terms_limit}
+use Rattle.kb_unify.proofs.Similar.{same_size, same_depth}
 use Rattle.kb_unify.proofs.Instances.{instance-agree, agree-instance, instance-instance, instance-variable}
 use Rattle.kb_overlap.proofs.Variants.{numbered_from_variants, apart_renaming, variables_of_pair_renamed}
-
--- no term is empty
-size-pos : (t : Tree) → 1 ≤ tree_size t
-size-pos (variable n) = omega arith
-size-pos (apply f ts) = omega arith
-
-depth-pos : (t : Tree) → 1 ≤ tree_depth t
-depth-pos (variable n) = omega arith
-depth-pos (apply f ts) = omega arith
-
--- an instance is at least as large and as deep
-mutual
-  size-instance : (d : ℕ → Tree) (t : Tree) → tree_size t ≤ tree_size (instance d t)
-  size-instance d (variable n) = size-pos (d n)
-  size-instance d (apply f ts) = omega (arith, sizes-instances d ts)
-
-  sizes-instances : (d : ℕ → Tree) (ts : Trees) → trees_size ts ≤ trees_size (instances d ts)
-  sizes-instances d no_trees = omega arith
-  sizes-instances d (more_trees t ts) = omega (arith, size-instance d t, sizes-instances d ts)
-
-mutual
-  depth-instance : (d : ℕ → Tree) (t : Tree) → tree_depth t ≤ tree_depth (instance d t)
-  depth-instance d (variable n) = depth-pos (d n)
-  depth-instance d (apply f ts) = omega (arith, depths-instances d ts)
-
-  depths-instances : (d : ℕ → Tree) (ts : Trees) → trees_depth ts ≤ trees_depth (instances d ts)
-  depths-instances d no_trees = omega arith
-  depths-instances d (more_trees t ts) = omega (arith, depth-instance d t, depths-instances d ts)
-
-pub same_size : (d e : ℕ → Tree) (t u : Tree) → instance d t ≡ u → instance e u ≡ t → tree_size t ≡ tree_size u
-same_size d e t u p q = omega (arith, size-instance d t, ap tree_size p, size-instance e u, ap tree_size q)
-
-pub same_depth : (d e : ℕ → Tree) (t u : Tree) → instance d t ≡ u → instance e u ≡ t → tree_depth t ≡ tree_depth u
-same_depth d e t u p q = omega (arith, depth-instance d t, ap tree_depth p, depth-instance e u, ap tree_depth q)
 
 -- the number of a variable
 abbrev number_in : Tree → ℕ

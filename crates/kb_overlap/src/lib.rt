@@ -1,2 +1,6 @@
-//! Critical pairs.
+//! Critical pairs: where two rules overlap.
 #![tactic(auto)]
+
+mod overlap;
+
+pub use overlap::overlaps_alike;

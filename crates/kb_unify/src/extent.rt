@@ -5,14 +5,72 @@ ghost use Rattle.kb_unify.specs.Table.{slot_at, IsSlot, IsTable, Solves};
 ghost use Rattle.kb_unify.specs.Extent.{IsArgumentsExtent, IsSlotExtent, IsMeasured, IsMeasuredFurther, IsStuck, IsMeasurement, extent_at, unknown_count};
 
 use crate::table::Slot;
+use kb_term::Limit;
 use kb_term::Memory;
 use std::alloc::Global;
 
-/// The size up to 513 and the depth up to 65.
+/// The size of a term up to 513, and its depth up to 65: just above the limits.
 #[derive(Clone, Copy, Debug, PartialEq, Eq)]
 pub struct Extent {
     pub size: u16,
     pub depth: u16,
+}
+
+impl Extent {
+    ghost use Rattle.std.specs.Prelude.{◌≡◌, ◌+◌, min, max};
+    ghost use Rattle.kb_term.specs.Tree.{Tree};
+    ghost use Rattle.kb_unify.specs.Extent.{IsExtent, extent_limit};
+
+    /// The extent of no terms.
+    pub fn empty() -> Extent
+        ensures size { result.size ≡ 0 }
+        ensures depth { result.depth ≡ 0 }
+    {
+        Extent { size: 0, depth: 0 }
+    }
+
+    /// The extent of a variable.
+    pub fn of_variable() -> Extent
+        ensures size { result.size ≡ 1 }
+        ensures depth { result.depth ≡ 1 }
+    {
+        Extent { size: 1, depth: 1 }
+    }
+
+    /// The extent of these terms and another one.
+    pub fn with(self, term: Extent) -> Extent
+        ensures size { result.size ≡ min (term.size + self.size) 513 }
+        ensures depth { result.depth ≡ max term.depth self.depth }
+    {
+        Extent {
+            size: term.size.saturating_add(self.size).min(513),
+            depth: term.depth.max(self.depth),
+        }
+    }
+
+    /// The extent of a symbol applied to these terms.
+    pub fn applied(self) -> Extent
+        ensures size { result.size ≡ min (self.size + 1) 513 }
+        ensures depth { result.depth ≡ min (self.depth + 1) 65 }
+    {
+        Extent {
+            size: self.size.saturating_add(1).min(513),
+            depth: self.depth.saturating_add(1).min(65),
+        }
+    }
+
+    /// The limit that a term of this extent passes.
+    pub fn limit(self) -> Option<Limit>
+        ensures { result ≡ extent_limit self }
+    {
+        if self.size > 512 {
+            Some(Limit::Size)
+        } else if self.depth > 64 {
+            Some(Limit::Depth)
+        } else {
+            None
+        }
+    }
 }
 
 /// The extent of the arguments together, where all are known.
@@ -20,16 +78,14 @@ pub fn arguments_extent(first: usize, count: usize, known: &[Option<Extent>]) ->
     requires { first + count ≤ length known.now }
     ensures { IsArgumentsExtent known.now first count result }
 {
-    let mut size = 0;
-    let mut depth = 0;
+    let mut together = Extent::empty();
     for k in 0..count {
         let Some(extent) = known[first + k] else {
             return None;
         };
-        size = extent.size.saturating_add(size).min(513);
-        depth = extent.depth.max(depth);
+        together = together.with(extent);
     }
-    Some(Extent { size, depth })
+    Some(together)
 }
 
 /// The extent of the term that the slot of a place makes, where those of the places that it names are known.
@@ -39,14 +95,11 @@ pub fn slot_extent(place: usize, slot: Slot, known: &[Option<Extent>]) -> Option
     ensures { IsSlotExtent known.now place slot result }
 {
     match slot {
-        Slot::Free => Some(Extent { size: 1, depth: 1 }),
+        Slot::Free => Some(Extent::of_variable()),
         Slot::Link(next) => known[next],
         Slot::Node(_, first, count) => match arguments_extent(first, count, known) {
             None => None,
-            Some(extent) => Some(Extent {
-                size: extent.size.saturating_add(1).min(513),
-                depth: extent.depth.saturating_add(1).min(65),
-            }),
+            Some(extent) => Some(extent.applied()),
         },
     }
 }

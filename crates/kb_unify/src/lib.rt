@@ -8,6 +8,7 @@ mod subst;
 mod table;
 mod unifier;
 
+pub use extent::Extent;
 pub use fault::UnifyFault;
 pub use subst::Subst;
-pub use unifier::unify;
+pub use unifier::{unifiers_alike, unify};

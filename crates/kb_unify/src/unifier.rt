@@ -2,9 +2,10 @@
 ghost use Rattle.std.specs.Prelude.{ℕ, ◌≡◌, ◌<◌, length, IfOk, Ok, true, false, Contains, [], ◌∷◌};
 ghost use Rattle.kb_term.specs.Tree.{Tree, variables_of};
 ghost use Rattle.kb_term.specs.View.{tree_of};
+ghost use Rattle.kb_unify.specs.Unifier.{IsMostGeneralUnifier};
 ghost use Rattle.kb_unify.specs.Table.{IsTable, IsClosed, Solves, Equates};
 ghost use Rattle.kb_unify.specs.Reading.{IsTableOf};
-ghost use Rattle.kb_unify.specs.Answer.{HasVariablesBelow, IsUnified, IsUnifyAnswer};
+ghost use Rattle.kb_unify.specs.Answer.{HasVariablesBelow, unifier_limit, IsUnified, IsUnifyAnswer};
 
 use crate::extent::measure;
 use crate::fault::UnifyFault;
@@ -78,4 +79,11 @@ pub fn unify(alloc: Global, a: &Term, b: &Term) -> Result<Option<Subst>, UnifyFa
         Ok(Unified::Above(limit)) => Err(UnifyFault::Large(limit)),
         Ok(Unified::Unifier(m)) => Ok(Some(m)),
     }
+}
+
+/// Most general unifiers are one up to renaming, so any two of the same terms pass one limit: no answer of `unify`
+/// depends on which of them is found.
+pub fn unifiers_alike()
+    ensures { (m k : ℕ → Tree) (s t : Tree) → IsMostGeneralUnifier m s t → IsMostGeneralUnifier k s t → unifier_limit m s t ≡ unifier_limit k s t }
+{
 }
