@@ -5,3 +5,14 @@ pub mod Distinct
 pub mod Numbered
 pub mod Compared
 pub mod IdentifierRows
+pub mod Copies
+pub mod Relation
+pub mod Chains
+pub mod Steps
+pub mod Subterms
+pub mod Bridge
+pub mod Instances
+pub mod StepsInside
+pub mod Arguments
+pub mod Variants
+pub mod CanonicalPairs
