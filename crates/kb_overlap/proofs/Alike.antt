@@ -13,7 +13,9 @@ use Rattle.kb_term.specs.declared.limit.Limit.{Limit}
 use Rattle.kb_term.specs.declared.limit.Limit.TheVariants.{Size, Depth}
 use Rattle.kb_unify.specs.Unifier.{IsUnifier, IsUnifiable, IsMostGeneralUnifier}
 use Rattle.kb_unify.specs.Answer.{terms_limit}
-use Rattle.kb_unify.proofs.Instances.{contains_decides, contains_first, contains_behind, instance-agree, agree-instance, instance-instance, instance-variable}
+use Rattle.kb_term.proofs.Steps.{contains_first, contains_behind}
+use Rattle.kb_term.proofs.Instances.{instance-instance, instance-variable}
+use Rattle.kb_unify.proofs.Instances.{contains_decides, instance-agree, agree-instance}
 use Rattle.kb_unify.proofs.Similar.{AreSimilar, similar_map, similar_limit}
 use Rattle.kb_overlap.specs.Overlap.{IsRenamedApart, OverlapsAt, IsCriticalPair, overlap_limit, pair_or_limit, Overlap, IsOverlapOrLimit, HasNoOverlapAt, ListsOverlaps, IsOverlapList, canonical_sides, canonical_overlap}
 use Rattle.kb_overlap.proofs.Variants.{rename-rename, rename_agree, rename_same, turned_back, map_append, variables_renamed}

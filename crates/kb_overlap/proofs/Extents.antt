@@ -12,7 +12,8 @@ use Rattle.kb_term.specs.declared.limit.Limit.{Limit}
 use Rattle.kb_term.specs.declared.limit.Limit.TheVariants.{Size, Depth, Variables}
 use Rattle.kb_term.proofs.Trees.{apply≢variable, variable-inj}
 use Rattle.kb_unify.proofs.Similar.{same_size, same_depth}
-use Rattle.kb_unify.proofs.Instances.{instance-agree, agree-instance, instance-instance, instance-variable}
+use Rattle.kb_term.proofs.Instances.{instance-instance, instance-variable}
+use Rattle.kb_unify.proofs.Instances.{instance-agree, agree-instance}
 use Rattle.kb_overlap.proofs.Variants.{numbered_from_variants, apart_renaming, variables_of_pair_renamed}
 
 -- the number of a variable

@@ -12,7 +12,8 @@ use Rattle.kb_term.specs.declared.limit.Limit.{Limit}
 use Rattle.kb_term.specs.declared.limit.Limit.TheVariants.{Size, Depth}
 use Rattle.kb_unify.specs.Unifier.{IsUnifier, IsUnifiable, IsMostGeneralUnifier}
 use Rattle.kb_unify.specs.Answer.{terms_limit, unifier_limit, IsUnifierWith}
-use Rattle.kb_unify.proofs.Instances.{contains_decides, contains_first, contains_behind, contains_cases}
+use Rattle.kb_term.proofs.Steps.{contains_first, contains_behind, contains_cases}
+use Rattle.kb_unify.proofs.Instances.{contains_decides}
 use Rattle.kb_unify.proofs.Applied.{outside_variable}
 use Rattle.kb_unify.proofs.Limits.{any_true}
 use Rattle.kb_overlap.specs.Overlap.{IsRenamedApart, OverlapsAt, IsCriticalPair, overlap_limit, pair_or_limit, Overlap, IsOverlapOrLimit, HasNoOverlapAt}

@@ -4,7 +4,7 @@ use Rattle.std.proofs.lemmas.List.Elements.{Contains-append_left, Contains-appen
 use Rattle.kb_term.specs.Tree.{Tree, Trees, variable, apply, no_trees, more_trees, variables_of, variables_in}
 use Rattle.kb_term.specs.Substitution.{instance, instances}
 use Rattle.kb_term.specs.Position.{argument, with_argument, subtree_at, replace_at, function_positions_of, function_positions_in}
-use Rattle.kb_unify.proofs.Instances.{contains_cases, contains_first, contains_behind}
+use Rattle.kb_term.proofs.Steps.{contains_cases, contains_first, contains_behind}
 
 -- the value of a Some
 pub some_same : {X : Type 0} (x y : X) → Some x ≡ Some y → x ≡ y

@@ -5,7 +5,9 @@ use Rattle.std.proofs.lemmas.Bool.{cases_eq, cond-true, cond-false, eq-eqb, ne_e
 use Rattle.kb_term.specs.Tree.{Tree, variable, apply, Trees, no_trees, more_trees, variables_of, variables_in}
 use Rattle.kb_term.specs.Substitution.{instances, rename, IsRenaming}
 use Rattle.kb_term.specs.Pair.{distinct, place_in, variables_of_pair, numbered}
-use Rattle.kb_unify.proofs.Instances.{contains_cases, contains_behind, contains_first, instance-agree, agree-instance, instance-instance, instance-variable}
+use Rattle.kb_term.proofs.Steps.{contains_cases, contains_behind, contains_first}
+use Rattle.kb_term.proofs.Instances.{instance-instance, instance-variable}
+use Rattle.kb_unify.proofs.Instances.{instance-agree, agree-instance}
 
 pub rename-rename : (f g : ℕ → ℕ) (t : Tree) → rename f (rename g t) ≡ rename (λ x. f (g x)) t
 rename-rename f g t = instance-instance (λ x. variable (f x)) (λ x. variable (g x)) t

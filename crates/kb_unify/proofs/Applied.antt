@@ -9,7 +9,8 @@ use Rattle.kb_term.specs.Substitution.{instance}
 use Rattle.kb_term.proofs.Trees.{apply≢variable}
 use Rattle.kb_unify.specs.Unifier.{IsUnifier, IsMostGeneralUnifier}
 use Rattle.kb_unify.specs.Answer.{variables_of_both, IsApplied}
-use Rattle.kb_unify.proofs.Instances.{contains_decides, instance-agree, agree-instance, instance-variable, instance-instance}
+use Rattle.kb_term.proofs.Instances.{instance-variable, instance-instance}
+use Rattle.kb_unify.proofs.Instances.{contains_decides, instance-agree, agree-instance}
 
 -- m with another term at n
 pub changed : (ℕ → Tree) → ℕ → Tree → ℕ → Tree

@@ -8,7 +8,7 @@ use Rattle.kb_term.specs.Pair.{is_too_large, is_too_deep, first_limit, limit_if}
 use Rattle.kb_term.specs.declared.limit.Limit.TheVariants.{Size, Depth}
 use Rattle.kb_unify.specs.Unifier.{IsMostGeneralUnifier}
 use Rattle.kb_unify.specs.Answer.{terms_limit, unifier_limit, variables_of_both}
-use Rattle.kb_unify.proofs.Instances.{contains_first, contains_behind}
+use Rattle.kb_term.proofs.Steps.{contains_first, contains_behind}
 
 -- no term is empty
 size-pos : (t : Tree) → 1 ≤ tree_size t
