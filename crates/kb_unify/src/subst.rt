@@ -1,4 +1,9 @@
 // Substitutions.
+ghost use Rattle.std.specs.Prelude.{◌≡◌, MatchOption};
+ghost use Rattle.kb_term.specs.Tree.{variable};
+ghost use Rattle.kb_term.specs.View.{tree_of};
+ghost use Rattle.kb_unify.specs.Subst.{substitution_of};
+
 use kb_term::Term;
 use std::marker::Model;
 
@@ -21,4 +26,18 @@ impl Model for Subst {
     ghost use Rattle.kb_term.specs.View.{tree_of};
 
     ghost view = { λ a. map (λ e. (e.0, tree_of e.1)) a.entries.items };
+}
+
+impl Subst {
+    /// The term that the variable gets; none where it stays.
+    pub fn get(&self, n: u16) -> Option<&Term>
+        ensures { MatchOption result (substitution_of self.now n ≡ variable n) (λ t. tree_of t.now ≡ substitution_of self.now n) }
+    {
+        for i in 0..self.entries.len() {
+            if self.entries[i].0 == n {
+                return Some(&self.entries[i].1);
+            }
+        }
+        None
+    }
 }
