@@ -5,3 +5,4 @@ pub mod Extents
 pub mod Positions
 pub mod Alike
 pub mod Finding
+pub mod Measures
