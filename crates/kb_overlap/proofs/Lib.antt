@@ -6,3 +6,4 @@ pub mod Positions
 pub mod Alike
 pub mod Finding
 pub mod Measures
+pub mod Sides
