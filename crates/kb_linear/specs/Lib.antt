@@ -1,2 +1,4 @@
 pub mod LinearOrder
 pub mod Interpretations
+pub mod Limits
+pub mod Forms
