@@ -9,6 +9,7 @@ mod LpoHalting
 mod PathOrderLaws
 mod Places
 mod Exact
+mod Cases
 mod Answering
 mod First
 mod Ascending

@@ -1,22 +1,23 @@
-use Rattle.std.proofs.Common.{◌+◌, ℕ, List}
-use Rattle.kb_term.specs.Tree.{tree_size}
+use Rattle.std.proofs.Common.{map, length, ◌+◌, ◌*◌, ℕ, List}
+use Rattle.kb_term.specs.Tree.{tree_size, trees_size, trees_of}
 use Rattle.kb_term.specs.View.{tree_of}
 use Rattle.kb_lpo.specs.PathOrder.{LpoGreater}
+use Rattle.kb_lpo.specs.Agreeing.{Between}
 use Rattle.kb_lpo.specs.Known.{Fits}
 use Rattle.kb_lpo.proofs.known.+force.Given as goal
 
 abbrev pub decreases-force : goal.decreases-force
-decreases-force l = tree_size (tree_of l.s.now) + tree_size (tree_of l.t.now)
+decreases-force l = 2 * (tree_size (tree_of l.s.now) + tree_size (tree_of l.t.now))
 
--- the precedences that have s above t and fitted still fit
-abbrev pub invariant-rest : goal.invariant-rest
-invariant-rest l = (prec : List ℕ) → Fits l.initial.known prec → LpoGreater prec (tree_of l.s) (tree_of l.t) → Fits l.known prec
+abbrev pub decreases-force_each : goal.decreases-force_each
+decreases-force_each l = 2 * (tree_size (tree_of l.s.now) + trees_size (trees_of (map tree_of l.ts.now))) + 1
 
-abbrev pub invariant-behind : goal.invariant-behind
-invariant-behind l = (prec : List ℕ) → Fits l.initial.known prec → LpoGreater prec (tree_of l.s) (tree_of l.t) → Fits l.known prec
+abbrev pub decreases-force_difference : goal.decreases-force_difference
+decreases-force_difference l = 2 * (trees_size (trees_of (map tree_of l.ss.now)) + trees_size (trees_of (map tree_of l.ts.now))) + 1
 
-abbrev pub invariant-some : goal.invariant-some
-invariant-some l = (prec : List ℕ) → Fits l.initial.known prec → LpoGreater prec (tree_of l.s) (tree_of l.t) → Fits l.known prec
+abbrev pub decreases-force_witness : goal.decreases-force_witness
+decreases-force_witness l = 2 * (trees_size (trees_of (map tree_of l.ss.now)) + tree_size (tree_of l.t.now)) + 1
 
-abbrev pub invariant-all : goal.invariant-all
-invariant-all l = (prec : List ℕ) → Fits l.initial.known prec → LpoGreater prec (tree_of l.s) (tree_of l.t) → Fits l.known prec
+-- the precedences that have s above each and fitted still fit
+abbrev pub invariant-force_each-loop-j : goal.invariant-force_each-loop-j
+invariant-force_each-loop-j l = (prec : List ℕ) → Fits l.initial.known prec → Between (λ u. LpoGreater prec (tree_of l.s) u) (map tree_of l.ts) l.from (length l.ts) → Fits l.known prec
