@@ -3,6 +3,7 @@
 
 mod known;
 mod laws;
+mod needs;
 mod order;
 mod precedence;
 mod search;

@@ -5,7 +5,7 @@ ghost use Rattle.kb_term.specs.View.{tree_of};
 ghost use Rattle.kb_lpo.specs.PathOrder.{LpoGreater, IsAbove};
 ghost use Rattle.kb_term.specs.declared.term.Symbol.{Symbol};
 ghost use Rattle.kb_lpo.specs.Agreeing.{Between, HasWitness, IsAgreement};
-ghost use Rattle.kb_lpo.specs.Known.{numbers};
+ghost use Rattle.kb_lpo.specs.Search.{numbers};
 
 use crate::precedence::Precedence;
 use kb_term::{Symbol, Term, compare};

@@ -5,7 +5,7 @@ use Rattle.kb_term.specs.Tree.{trees_of}
 use Rattle.kb_term.specs.View.{tree_of}
 use Rattle.kb_lpo.specs.PathOrder.{LpoGreater}
 use Rattle.kb_lpo.specs.Agreeing.{IsNoWitness}
-use Rattle.kb_lpo.specs.Known.{numbers}
+use Rattle.kb_lpo.specs.Search.{numbers}
 use Rattle.kb_lpo.proofs.Places.{at_from, between_more}
 use Rattle.kb_lpo.proofs.Exact.{above_variable, variable_above, not_both_ways}
 use Rattle.kb_lpo.proofs.Cases.{each_above, above_by_symbol, above_by_witness, witness_needed, above_by_difference, witness_after_difference, witness_after_end}

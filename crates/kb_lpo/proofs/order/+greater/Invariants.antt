@@ -3,7 +3,7 @@ use Rattle.kb_term.specs.Tree.{tree_size, trees_size, trees_of}
 use Rattle.kb_term.specs.View.{tree_of}
 use Rattle.kb_lpo.specs.PathOrder.{LpoGreater}
 use Rattle.kb_lpo.specs.Agreeing.{Between, IsNoWitness}
-use Rattle.kb_lpo.specs.Known.{numbers}
+use Rattle.kb_lpo.specs.Search.{numbers}
 use Rattle.kb_lpo.proofs.order.+greater.Given as goal
 
 abbrev pub decreases-greater : goal.decreases-greater

@@ -3,8 +3,8 @@ use Rattle.kb_term.specs.Tree.{tree_size, trees_size, trees_of}
 use Rattle.kb_term.specs.View.{tree_of}
 use Rattle.kb_lpo.specs.PathOrder.{LpoGreater}
 use Rattle.kb_lpo.specs.Agreeing.{Between}
-use Rattle.kb_lpo.specs.Known.{Fits}
-use Rattle.kb_lpo.proofs.known.+force.Given as goal
+use Rattle.kb_lpo.specs.Search.{Fits}
+use Rattle.kb_lpo.proofs.needs.+force.Given as goal
 
 abbrev pub decreases-force : goal.decreases-force
 decreases-force l = 2 * (tree_size (tree_of l.s.now) + tree_size (tree_of l.t.now))

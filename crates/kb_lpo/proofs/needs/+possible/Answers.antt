@@ -8,7 +8,7 @@ use Rattle.kb_lpo.proofs.Places.{at_from, at_within, between_more}
 use Rattle.kb_lpo.proofs.Exact.{variable_above}
 use Rattle.kb_lpo.proofs.Cases.{each_above, witness_needed, witness_after_difference, witness_after_end, witness_before}
 use Rattle.kb_lpo.proofs.Answering.{ends, form, impossible, member_size, no, part_smaller, same_index}
-use Rattle.kb_lpo.proofs.known.+possible.Goals as goal
+use Rattle.kb_lpo.proofs.needs.+possible.Goals as goal
 
 pub possible-possible-requires : goal.possible-possible-requires
 possible-possible-requires t c =
@@ -51,26 +51,26 @@ possible-returns-else-n-ss t c =
     let h = witness_before prec (tree_of c.args.t.now) ss n c.first_witness-then-eq.result w (c.first_witness-then-eq.ensures prec fit) in
     grind (arith, h)
 
-pub possible-returns-then-is_known : goal.possible-returns-then-is_known
-possible-returns-then-is_known t c =
+pub possible-returns-then-is_above : goal.possible-returns-then-is_above
+possible-returns-then-is_above t c =
     let ss = c.items-ss.result.now in
     let ts = c.items-ts.result.now in
     let es = form c.args.s.now c.in-App-App.f c.in-App-App.front ss c.in-App-App.is-0 c.items-ss.ensures in
     let et = form c.args.t.now c.in-App-App.g c.in-App-App.back ts c.in-App-App.is-1 c.items-ts.ensures in
     let d : ¬ (c.in-App-App.f.0 ≡ c.in-App-App.g.0) = λ q. false≢true (grind arith) in
     λ prec fit l.
-    let up = c.is_known.ensures c.if-is_known.true prec fit in
+    let up = c.is_above.ensures c.if-is_above.true prec fit in
     let w = witness_needed prec (tree_of c.args.s.now) (tree_of c.args.t.now) c.in-App-App.f.0 c.in-App-App.g.0 (map tree_of ss) (map tree_of ts) es et d (λ a. omega (arith, a, up)) l in
-    let h = witness_before prec (tree_of c.args.t.now) ss 0 c.first_witness-then-is_known.result w (c.first_witness-then-is_known.ensures prec fit) in
+    let h = witness_before prec (tree_of c.args.t.now) ss 0 c.first_witness-then-is_above.result w (c.first_witness-then-is_above.ensures prec fit) in
     grind (arith, h)
 
-pub possible-returns-else-is_known : goal.possible-returns-else-is_known
-possible-returns-else-is_known t c =
+pub possible-returns-else-is_above : goal.possible-returns-else-is_above
+possible-returns-else-is_above t c =
     let ss = c.items-ss.result.now in
     let ts = c.items-ts.result.now in
     let es = form c.args.s.now c.in-App-App.f c.in-App-App.front ss c.in-App-App.is-0 c.items-ss.ensures in
     let et = form c.args.t.now c.in-App-App.g c.in-App-App.back ts c.in-App-App.is-1 c.items-ts.ensures in
-    λ prec fit l. c.possible_each-else-is_known.ensures prec fit (each_above prec (tree_of c.args.s.now) (tree_of c.args.t.now) c.in-App-App.f.0 c.in-App-App.g.0 (map tree_of ss) (map tree_of ts) es et 0 (length ts) l)
+    λ prec fit l. c.possible_each-else-is_above.ensures prec fit (each_above prec (tree_of c.args.s.now) (tree_of c.args.t.now) c.in-App-App.f.0 c.in-App-App.g.0 (map tree_of ss) (map tree_of ts) es et 0 (length ts) l)
 
 pub possible-returns-in-App-Var : goal.possible-returns-in-App-Var
 possible-returns-in-App-Var t c =

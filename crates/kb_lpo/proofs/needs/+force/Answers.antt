@@ -8,7 +8,7 @@ use Rattle.kb_lpo.proofs.Places.{at_from}
 use Rattle.kb_lpo.proofs.Exact.{variable_above, only_at}
 use Rattle.kb_lpo.proofs.Cases.{each_above, witness_needed, symbol_needed, difference_needed, witness_after_end, witness_before}
 use Rattle.kb_lpo.proofs.Answering.{ends, form, member_size, no, same_index}
-use Rattle.kb_lpo.proofs.known.+force.Goals as goal
+use Rattle.kb_lpo.proofs.needs.+force.Goals as goal
 
 pub force-returns-in-App-Var : goal.force-returns-in-App-Var
 force-returns-in-App-Var t c =
@@ -52,15 +52,15 @@ force-returns-else-n-ss t c =
     let h = witness_before prec (tree_of c.args.t.now) ss n c.first_witness.result w (c.first_witness.ensures prec fit) in
     (grind (arith, h), fit)
 
-pub force-returns-then-is_known : goal.force-returns-then-is_known
-force-returns-then-is_known t c =
+pub force-returns-then-is_above : goal.force-returns-then-is_above
+force-returns-then-is_above t c =
     let ss = c.items-ss.result.now in
     let ts = c.items-ts.result.now in
     let es = form c.args.s.now c.in-App-App.f c.in-App-App.front ss c.in-App-App.is-0 c.items-ss.ensures in
     let et = form c.args.t.now c.in-App-App.g c.in-App-App.back ts c.in-App-App.is-1 c.items-ts.ensures in
     let d : ¬ (c.in-App-App.f.0 ≡ c.in-App-App.g.0) = λ q. false≢true (grind arith) in
     λ prec fit l.
-    let up = c.is_known.ensures c.if-is_known.true prec fit in
+    let up = c.is_above.ensures c.if-is_above.true prec fit in
     c.force_witness.ensures prec fit (witness_needed prec (tree_of c.args.s.now) (tree_of c.args.t.now) c.in-App-App.f.0 c.in-App-App.g.0 (map tree_of ss) (map tree_of ts) es et d (λ a. omega (arith, a, up)) l)
 
 pub force-returns-then-not-force_symbol : goal.force-returns-then-not-force_symbol
@@ -81,7 +81,7 @@ force-returns-else-not-force_symbol t c =
     let d : ¬ (c.in-App-App.f.0 ≡ c.in-App-App.g.0) = λ q. false≢true (grind arith) in
     λ prec fit l.
     let more = (c.force_symbol.ensures prec fit (λ b. symbol_needed prec (tree_of c.args.s.now) (tree_of c.args.t.now) c.in-App-App.f.0 c.in-App-App.g.0 (map tree_of ss) (map tree_of ts) es et d l (subst (Between (IsNoWitness prec (tree_of c.args.t.now)) (map tree_of ss) 0) (sym (length-map ss tree_of)) b))).1 in
-    c.force_each-else-is_known.ensures prec more (each_above prec (tree_of c.args.s.now) (tree_of c.args.t.now) c.in-App-App.f.0 c.in-App-App.g.0 (map tree_of ss) (map tree_of ts) es et 0 (length ts) l)
+    c.force_each-else-is_above.ensures prec more (each_above prec (tree_of c.args.s.now) (tree_of c.args.t.now) c.in-App-App.f.0 c.in-App-App.g.0 (map tree_of ss) (map tree_of ts) es et 0 (length ts) l)
 
 pub force_each-force-requires : goal.force_each-force-requires
 force_each-force-requires t c =

@@ -1,15 +1,16 @@
--- What is known of the precedences that are looked for.
+-- The search for a precedence: what is known of it, and what is found.
 use Rattle.std.specs.Prelude.{ℕ, ◌<◌, ◌+◌, ◌*◌, ◌≡◌, ◌++◌, ◌∷◌, ◌⊎◌, [], cond, List, Bool, true, false, slice_get, Some, None, not, filter, map, Contains, ◌==◌, All}
 use Rattle.std.specs.List.{range_with_len, list_any}
 use Rattle.kb_term.specs.declared.term.Symbol.{Symbol}
+use Rattle.kb_lpo.specs.declared.known.Known.{Known}
 use Rattle.kb_term.specs.Rule.{Rule}
 use Rattle.kb_lpo.specs.PathOrder.{IsAbove}
 use Rattle.kb_lpo.specs.Precedences.{arrangements, LpoOrients}
 use Rattle.kb_term.specs.First.{IsFirst}
 
--- the precedence has f above g wherever the table of 24 times 24 answers says so
-abbrev pub Fits : List Bool → List ℕ → Type 0
-Fits known prec = (f g : ℕ) → f < 24 → g < 24 → slice_get known (24 * f + g) ≡ Some true → IsAbove prec f g
+-- the precedence has f above g wherever this is known
+abbrev pub Fits : Known → List ℕ → Type 0
+Fits known prec = (f g : ℕ) → f < 24 → g < 24 → slice_get known.above (24 * f + g) ≡ Some true → IsAbove prec f g
 
 -- the symbols by number
 abbrev pub numbers : List Symbol → List ℕ
