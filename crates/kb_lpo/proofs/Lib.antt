@@ -14,3 +14,4 @@ mod Answering
 pub mod First
 mod Ascending
 mod Nothing
+mod ThreeSymbols
