@@ -3,6 +3,7 @@ ghost use Rattle.std.specs.Prelude.{◌≡◌, map};
 ghost use Rattle.kb_term.specs.declared.term.Symbol.{Symbol};
 
 use kb_term::Symbol;
+use std::alloc::AllocError;
 use std::marker::Model;
 
 /// All symbols, the greatest first.
@@ -34,5 +35,14 @@ impl Precedence {
         ensures { map (λ (f : Symbol). f.0) result.now ≡ self.now }
     {
         &self.symbols
+    }
+}
+
+impl Clone for Precedence {
+    ghost is_clone = { λ a b. b ≡ a };
+
+    fn clone(&self) -> Result<Precedence, AllocError> {
+        let symbols = self.symbols.clone()?;
+        Ok(Precedence { symbols })
     }
 }

@@ -11,18 +11,18 @@ flip Less = Greater
 flip Equal = Equal
 flip Greater = Less
 
-nat_flip : (x y : ℕ) → nat_cmp y x ≡ flip (nat_cmp x y)
+pub nat_flip : (x y : ℕ) → nat_cmp y x ≡ flip (nat_cmp x y)
 nat_flip x y = grind (arith, nat_tests)
 
-nat_equal : (x y : ℕ) → nat_cmp x y ≡ Equal → x ≡ y
+pub nat_equal : (x y : ℕ) → nat_cmp x y ≡ Equal → x ≡ y
 nat_equal x y e = grind (arith, nat_tests)
 
-then_flip : (a b : Ordering) → ordering_then (flip a) (flip b) ≡ flip (ordering_then a b)
+pub then_flip : (a b : Ordering) → ordering_then (flip a) (flip b) ≡ flip (ordering_then a b)
 then_flip Less b = refl
 then_flip Equal b = refl
 then_flip Greater b = refl
 
-then_equal : (a b : Ordering) → ordering_then a b ≡ Equal → (a ≡ Equal) × (b ≡ Equal)
+pub then_equal : (a b : Ordering) → ordering_then a b ≡ Equal → (a ≡ Equal) × (b ≡ Equal)
 then_equal Less b e = absurd (cc)
 then_equal Equal b e = (refl, e)
 then_equal Greater b e = absurd (cc)
@@ -34,7 +34,7 @@ mutual
   tree_flip (apply f ts) (variable n) = refl
   tree_flip (apply f ts) (apply g us) = ap₂ ordering_then (nat_flip f g) (trees_flip ts us) ∙ then_flip (nat_cmp f g) (trees_cmp ts us)
 
-  trees_flip : (ss ts : Trees) → trees_cmp ts ss ≡ flip (trees_cmp ss ts)
+  pub trees_flip : (ss ts : Trees) → trees_cmp ts ss ≡ flip (trees_cmp ss ts)
   trees_flip no_trees no_trees = refl
   trees_flip no_trees (more_trees t ts) = refl
   trees_flip (more_trees s ss) no_trees = refl
@@ -47,7 +47,7 @@ mutual
   tree_equal (apply f ts) (variable n) e = absurd (cc)
   tree_equal (apply f ts) (apply g us) e = let h = then_equal (nat_cmp f g) (trees_cmp ts us) e in ap₂ apply (nat_equal f g h.0) (trees_equal ts us h.1)
 
-  trees_equal : (ss ts : Trees) → trees_cmp ss ts ≡ Equal → ss ≡ ts
+  pub trees_equal : (ss ts : Trees) → trees_cmp ss ts ≡ Equal → ss ≡ ts
   trees_equal no_trees no_trees e = refl
   trees_equal no_trees (more_trees t ts) e = absurd (cc)
   trees_equal (more_trees s ss) no_trees e = absurd (cc)

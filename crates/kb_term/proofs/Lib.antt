@@ -16,3 +16,5 @@ pub mod StepsInside
 pub mod Arguments
 pub mod Variants
 pub mod CanonicalPairs
+pub mod NameList
+pub mod OwnPair

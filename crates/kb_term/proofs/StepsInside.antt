@@ -1,5 +1,5 @@
 -- Steps in arguments, and steps under a substitution.
-use Rattle.std.proofs.Common.{ℕ, ◌≡◌, refl, ap, ◌∙◌}
+use Rattle.std.proofs.Common.{ℕ, ap, ◌∙◌}
 use Rattle.kb_term.specs.Tree.{Tree, variable, apply, Trees, no_trees, more_trees}
 use Rattle.kb_term.specs.Substitution.{instance, instances}
 use Rattle.kb_term.specs.Rule.{Rule}

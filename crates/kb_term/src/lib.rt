@@ -2,7 +2,9 @@
 #![tactic(auto)]
 
 mod limit;
+mod limits;
 mod memory;
+mod names;
 mod number;
 mod origin;
 mod pair;
@@ -13,10 +15,10 @@ mod signature;
 mod term;
 
 pub use limit::Limit;
+pub use limits::{MAX_DEPTH, MAX_SIZE, pair_limit, term_limit};
 pub use memory::Memory;
-pub use number::canonical_terms;
 pub use origin::{Found, Origin, RuleRef};
-pub use pair::Pair;
+pub use pair::{Pair, canonical};
 pub use position::Position;
 pub use problem::Problem;
 pub use rule::{Rule, rule_of};

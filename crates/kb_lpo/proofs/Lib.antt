@@ -1,0 +1,17 @@
+pub mod Lpo
+pub mod LpoLaws
+pub mod LpoDecides
+mod LpoBelow
+mod LpoBound
+pub mod WellFormed
+pub mod Arities
+mod LpoHalting
+pub mod PathOrderLaws
+mod Places
+mod Exact
+mod Cases
+mod Answering
+pub mod First
+mod Ascending
+mod Nothing
+mod ThreeSymbols

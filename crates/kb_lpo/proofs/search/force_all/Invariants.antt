@@ -1,0 +1,7 @@
+use Rattle.std.proofs.Common.{ℕ, List}
+use Rattle.kb_lpo.specs.Search.{Fits}
+use Rattle.kb_lpo.specs.Precedences.{LpoOrients}
+use Rattle.kb_lpo.proofs.search.force_all.Given as goal
+
+abbrev pub invariant-loop-i : goal.invariant-loop-i
+invariant-loop-i l = (prec : List ℕ) → Fits l.initial.known prec → LpoOrients prec l.rules → Fits l.known prec

@@ -1,0 +1,35 @@
+use Rattle.std.proofs.Common.{◌≡◌, ℕ, ◌<◌, ◌≤◌, arith, length, refl, ap, true, false}
+use Rattle.std.specs.Prelude.{nat_lt}
+use Rattle.std.proofs.lemmas.List.{length-take}
+use Rattle.kb_term.specs.Tree.{tree_size, tree_depth}
+use Rattle.kb_term.specs.Pair.{variables_of_pair}
+use Rattle.kb_term.specs.View.{tree_of}
+use Rattle.kb_term.proofs.limits.pair_limit.Goals as goal
+
+less : (m n : ℕ) → m < n → nat_lt m n ≡ true
+less m n h = grind arith
+
+not_less : (m n : ℕ) → n ≤ m → nat_lt m n ≡ false
+not_less m n h = grind arith
+
+pub returns-then-len-gt64 : goal.returns-then-len-gt64
+returns-then-len-gt64 c =
+    let s = tree_of c.args.a.now in
+    let t = tree_of c.args.b.now in
+    let a = not_less 512 (tree_size s) (omega (arith, c.size_up_to.ensures, c.if-size_up_to-gt512.false)) in
+    let b = not_less 512 (tree_size t) (omega (arith, c.size_up_to-else-size_up_to-gt512.ensures, c.if-size_up_to-gt512-2.false)) in
+    let d = not_less 64 (tree_depth s) (omega (arith, c.depth_up_to.ensures, c.if-depth_up_to-gt64.false)) in
+    let e = not_less 64 (tree_depth t) (omega (arith, c.depth_up_to-else-depth_up_to-gt64.ensures, c.if-depth_up_to-gt64-2.false)) in
+    let many = less 64 (length (variables_of_pair s t)) (omega (arith, c.if-len-gt64.true, c.len.ensures.count, ap (length {A = ℕ}) c.of.ensures, length-take 65 (variables_of_pair s t))) in
+    rw (a, b, d, e, many) refl
+
+pub returns : goal.returns
+returns c =
+    let s = tree_of c.args.a.now in
+    let t = tree_of c.args.b.now in
+    let a = not_less 512 (tree_size s) (omega (arith, c.size_up_to.ensures, c.if-size_up_to-gt512.false)) in
+    let b = not_less 512 (tree_size t) (omega (arith, c.size_up_to-else-size_up_to-gt512.ensures, c.if-size_up_to-gt512-2.false)) in
+    let d = not_less 64 (tree_depth s) (omega (arith, c.depth_up_to.ensures, c.if-depth_up_to-gt64.false)) in
+    let e = not_less 64 (tree_depth t) (omega (arith, c.depth_up_to-else-depth_up_to-gt64.ensures, c.if-depth_up_to-gt64-2.false)) in
+    let few = not_less 64 (length (variables_of_pair s t)) (omega (arith, c.if-len-gt64.false, c.len.ensures.count, ap (length {A = ℕ}) c.of.ensures, length-take 65 (variables_of_pair s t))) in
+    rw (a, b, d, e, few) refl

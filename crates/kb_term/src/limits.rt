@@ -1,0 +1,82 @@
+// Which limit a term or a pair passes.
+ghost use Rattle.std.specs.Prelude.{◌≡◌, min};
+ghost use Rattle.kb_term.specs.Pair.{term_limit as limit_of_term, pair_limit as limit_of_pair};
+ghost use Rattle.kb_term.specs.Tree.{tree_size, tree_depth};
+ghost use Rattle.kb_term.specs.View.{tree_of};
+
+use crate::limit::Limit;
+use crate::names::Names;
+use crate::term::Term;
+
+/// The greatest size of a term.
+pub const MAX_SIZE: u32 = 512;
+
+/// The greatest depth of a term.
+pub const MAX_DEPTH: u32 = 64;
+
+/// The limit that a term passes: a size above 512, else a depth above 64.
+pub fn term_limit(t: &Term) -> Option<Limit>
+    ensures { result ≡ limit_of_term (tree_of t.now) }
+{
+    if size_up_to(t, 513) > 512 {
+        Some(Limit::Size)
+    } else if depth_up_to(t, 65) > 64 {
+        Some(Limit::Depth)
+    } else {
+        None
+    }
+}
+
+/// The limit that a pair passes: a side of a size above 512, else a side of a depth above 64, else more than 64 variables.
+pub fn pair_limit(a: &Term, b: &Term) -> Option<Limit>
+    ensures { result ≡ limit_of_pair (tree_of a.now) (tree_of b.now) }
+{
+    if size_up_to(a, 513) > 512 || size_up_to(b, 513) > 512 {
+        return Some(Limit::Size);
+    }
+    if depth_up_to(a, 65) > 64 || depth_up_to(b, 65) > 64 {
+        return Some(Limit::Depth);
+    }
+    if Names::of(a, b).len() > 64 {
+        return Some(Limit::Variables);
+    }
+    None
+}
+
+/// The size, or the cap where the size is greater. It looks no further than the cap asks.
+fn size_up_to(t: &Term, cap: u32) -> u32
+    ensures { result ≡ min (tree_size (tree_of t.now)) cap }
+{
+    if cap == 0 {
+        return 0;
+    }
+    match t {
+        Term::Var(_) => 1,
+        Term::App(_, arguments) => {
+            let mut total = 1;
+            for argument in &arguments.items {
+                total += size_up_to(argument, cap - total);
+            }
+            total
+        }
+    }
+}
+
+/// The depth, or the cap where the depth is greater.
+fn depth_up_to(t: &Term, cap: u32) -> u32
+    ensures { result ≡ min (tree_depth (tree_of t.now)) cap }
+{
+    if cap == 0 {
+        return 0;
+    }
+    match t {
+        Term::Var(_) => 1,
+        Term::App(_, arguments) => {
+            let mut deepest = 0;
+            for argument in &arguments.items {
+                deepest = depth_up_to(argument, cap - 1).max(deepest);
+            }
+            deepest + 1
+        }
+    }
+}
