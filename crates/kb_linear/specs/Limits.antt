@@ -2,6 +2,7 @@
 use Rattle.std.specs.Prelude.{ℕ, ◌≤◌, ◌<◌, List, map, All, Vec}
 use Rattle.std.specs.declared.alloc.Global.{Global}
 use Rattle.kb_term.specs.Tree.{Tree, tree_size, tree_depth, variables_of}
+use Rattle.kb_term.specs.Rule.{Rule}
 use Rattle.kb_linear.specs.LinearOrder.{Interpretation}
 
 -- a constant of at most 15, and coefficients from 1 to 3
@@ -22,3 +23,7 @@ pub record IsMeasurable (t : Tree) : Type 0 where
 -- the interpretation that rows of the program are
 abbrev pub interpretation_of : List (ℕ × Vec ℕ Global) → Interpretation
 interpretation_of rows = map (λ (row : ℕ × Vec ℕ Global). (row.0, row.1.items)) rows
+
+-- both sides of each rule are measurable
+abbrev pub AreMeasurable : List Rule → Type 0
+AreMeasurable rules = All (λ (rule : Rule). IsMeasurable rule.left × IsMeasurable rule.right) rules

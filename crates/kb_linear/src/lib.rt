@@ -3,7 +3,10 @@
 
 mod form;
 mod interp;
+mod numbers;
 mod order;
+mod search;
 
 pub use interp::Interp;
 pub use order::linear_greater;
+pub use search::{search_linear, search_linear_from};

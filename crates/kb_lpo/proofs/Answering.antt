@@ -2,7 +2,7 @@
 use Rattle.std.proofs.Common.{ap₂, ◌+◌, Contains, ◌&&◌, ◌==◌, ℕ, zero, suc, [], ◌∷◌, ◌≤◌, ◌⊎◌, inl, inr, ⊎_elim, ◌≡◌, ◌<◌, refl, sym, ap, ◌∙◌, arith, List, length, get_or, map, Bool, true, false, IsTrue}
 use Rattle.std.proofs.lemmas.Bool.{false≢true, cases_lt}
 use Rattle.std.proofs.lemmas.List.{length-map}
-use Rattle.kb_term.specs.Tree.{Tree, Trees, variable, apply, no_trees, more_trees, trees_of, tree_size, variables_of, tree_eq, trees_eq}
+use Rattle.kb_term.specs.Tree.{Tree, Trees, variable, apply, no_trees, more_trees, trees_of, tree_size, trees_size, variables_of, tree_eq, trees_eq}
 use Rattle.kb_term.specs.Pair.{place_in}
 use Rattle.kb_term.specs.View.{tree_of}
 use Rattle.kb_term.specs.declared.term.Symbol.{Symbol}
@@ -109,3 +109,14 @@ other_number h e = false≢true (grind (arith, h, e))
 
 pub impossible : {b : Bool} {Q : Type 0} → (Q → IsTrue b) → b ≡ false → ¬ Q
 impossible h e q = false≢true (sym e ∙ h q)
+
+-- what a test of P answers of Q, where they hold together
+pub answers : (b : Bool) {P Q : Type 0} → (IsTrue b → P) × (P → IsTrue b) → (P → Q) → (Q → P) → (IsTrue b → Q) × (Q → IsTrue b)
+answers b h f g = (λ e. f (h.0 e), λ q. h.1 (g q))
+
+-- the members of a list of terms are no larger than the list
+pub member_size : (items : List Term) (k : ℕ) (d : Term) → k < length items → d ≡ get_or items k d → tree_size (tree_of d) ≤ trees_size (trees_of (map tree_of items))
+member_size items k d h i = let l = at_smaller (map tree_of items) k 0 (tree_of d) (at_from items k d h i) in omega arith
+
+pub arguments_size : (t : Term) (f : Symbol) (ts : List Tree) (items : List Term) → t ≡ App f ts → map tree_of items ≡ ts → trees_size (trees_of (map tree_of items)) < tree_size (tree_of t)
+arguments_size t f ts items e q = let z : tree_size (tree_of t) ≡ tree_size (apply f.0 (trees_of (map tree_of items))) = ap tree_size (form t f ts items e q) in omega arith

@@ -4,7 +4,7 @@ use Rattle.std.specs.Prelude.{not, All, None, slice_index_or}
 use Rattle.std.specs.List.{range_with_len, flat_map}
 use Rattle.kb_term.specs.Rule.{Rule}
 use Rattle.kb_lpo.specs.Precedences.{arrangements, precedences, LpoOrients, IsLowerBound}
-use Rattle.kb_lpo.specs.Known.{IsEarlier, IsFloor, outside, lowest_of, floor_behind}
+use Rattle.kb_lpo.specs.Search.{IsEarlier, IsFloor, outside, lowest_of, floor_behind}
 use Rattle.kb_term.specs.First.{IsFirst}
 use Rattle.kb_term.proofs.Steps.{contains_cases, contains_behind, contains_first}
 use Rattle.std.proofs.lemmas.List.Elements.{All-contains, All-contains_itself, Contains-append_left, Contains-append_right, filter-append}

@@ -3,8 +3,9 @@ use Rattle.std.proofs.Common.{ℕ, zero, suc, ◌≡◌, ◌<◌, ◌≤◌, ◌
 use Rattle.std.proofs.lemmas.Bool.{cases_eq, cases_lt}
 use Rattle.kb_term.specs.Tree.{Tree, Trees, variable, apply, trees_of, tree_size, variables_of}
 use Rattle.kb_lpo.specs.PathOrder.{IsAbove, LpoGreater, variable_within}
-use Rattle.kb_lpo.specs.Agreeing.{At, Between, IsAgreement, IsNoWitness}
+use Rattle.kb_lpo.specs.Agreeing.{At, Between, HasWitness, IsAgreement, IsNoWitness}
 use Rattle.kb_term.proofs.Steps.{occurs_to}
+use Rattle.kb_term.proofs.Instances.{trees_decide}
 use Rattle.kb_term.specs.Pair.{place_in}
 use Rattle.kb_lpo.proofs.Lpo.{IsArgument, DifferFirst, PathGreater, has_argument, through_argument, symbol_above, first_greater, path_from_lpo, lpo_from_path}
 use Rattle.kb_lpo.proofs.LpoLaws.{path_trans, no_lesser, lesser_variables}
@@ -145,3 +146,49 @@ only_witness p f g k i ss ts u d n a e h before behind l = ⊎_elim (λ m. m) (�
   where
     all : ¬ LpoGreater p u (apply g (trees_of ts)) → Between (IsNoWitness p (apply g (trees_of ts))) ss 0 i
     all m j v x y b = ⊎_elim (λ q. before j v x q b) (λ q. ⊎_elim (λ z. subst (IsNoWitness p (apply g (trees_of ts))) (at_same ss k u v a (subst (λ w. At ss w v) z b)) (e, m)) (λ z. behind j v (omega (arith, z)) y b) (cases_eq j k)) (cases_lt j k)
+
+-- some member from a place on is t or greater, or none is
+pub witness_or_none : (p : List ℕ) (t : Tree) (xs : List Tree) (n : ℕ) → HasWitness p t xs n ⊎ Between (IsNoWitness p t) xs n (length xs)
+witness_or_none p t [] n = inr (λ k u a b c. absurd c)
+witness_or_none p t (x ∷ xs) (suc n) = ⊎_elim (λ w. inl (suc w.0, w.1, (omega arith), w.3, w.4)) (λ b. inr (later b)) (witness_or_none p t xs n)
+  where
+    later : Between (IsNoWitness p t) xs n (length xs) → Between (IsNoWitness p t) (x ∷ xs) (suc n) (length (x ∷ xs))
+    later b zero u h i a = absurd (omega arith)
+    later b (suc k) u h i a = b k u (omega arith) (omega arith) a
+witness_or_none p t (x ∷ xs) zero = ⊎_elim (λ e. inl (0, x, omega arith, refl, inl e)) (λ d. ⊎_elim (λ l. inl (0, x, omega arith, refl, inr l)) (λ m. ⊎_elim (λ w. inl (suc w.0, w.1, omega arith, w.3, w.4)) (λ b. inr (all d m b)) (witness_or_none p t xs zero)) (lpo_decides p x t)) (trees_decide x t)
+  where
+    all : ¬ (x ≡ t) → ¬ LpoGreater p x t → Between (IsNoWitness p t) xs zero (length xs) → Between (IsNoWitness p t) (x ∷ xs) zero (length (x ∷ xs))
+    all d m b zero u h i a = subst (IsNoWitness p t) a (d, m)
+    all d m b (suc k) u h i a = b k u (omega arith) (omega arith) a
+
+pub not_both_ways : (p : List ℕ) (t : Tree) (xs : List Tree) (n i : ℕ) → length xs ≤ i → HasWitness p t xs n → Between (IsNoWitness p t) xs n i → ⊥
+not_both_ways p t xs n i h (k, u, q, a, w) b = let l = at_within xs k u a in let m = b k u q (omega arith) a in ⊎_elim m.0 m.1 w
+
+pub by_witness : (p : List ℕ) (f n : ℕ) (ss : List Tree) (t : Tree) → HasWitness p t ss n → LpoGreater p (apply f (trees_of ss)) t
+by_witness p f n ss t (k, u, h, a, w) = by_argument p f k ss u t a w
+
+-- which case decides
+pub witness_by_symbol : (p : List ℕ) (f g : ℕ) (ss ts : List Tree) → ¬ (f ≡ g) → ¬ IsAbove p f g → LpoGreater p (apply f (trees_of ss)) (apply g (trees_of ts)) → HasWitness p (apply g (trees_of ts)) ss 0
+witness_by_symbol p f g ss ts d n l = ⊎_elim (λ w. w) (λ b. absurd (not_by_symbol p f g (length ss) ss ts d n (omega arith) b l)) (witness_or_none p (apply g (trees_of ts)) ss 0)
+
+pub witness_behind : (p : List ℕ) (f n : ℕ) (ss ts : List Tree) (u v : Tree) → IsAgreement ss ts n → At ss n u → At ts n v → ¬ LpoGreater p u v → LpoGreater p (apply f (trees_of ss)) (apply f (trees_of ts)) → HasWitness p (apply f (trees_of ts)) ss (n + 1)
+witness_behind p f n ss ts u v g a b m l = ⊎_elim (λ w. w) (λ h. absurd (not_behind_difference p f n (length ss) ss ts u v g a b m (omega arith) h l)) (witness_or_none p (apply f (trees_of ts)) ss (n + 1))
+
+pub witness_at_end : (p : List ℕ) (f n : ℕ) (ss ts : List Tree) → IsAgreement ss ts n → (length ss ≤ n) ⊎ (length ts ≤ n) → LpoGreater p (apply f (trees_of ss)) (apply f (trees_of ts)) → HasWitness p (apply f (trees_of ts)) ss n
+witness_at_end p f n ss ts g e l = ⊎_elim (λ w. w) (λ h. absurd (not_behind_end p f n (length ss) ss ts g e (omega arith) h l)) (witness_or_none p (apply f (trees_of ts)) ss n)
+
+pub each_below : (p : List ℕ) (g n i : ℕ) (s : Tree) (ts : List Tree) → LpoGreater p s (apply g (trees_of ts)) → Between (λ u. LpoGreater p s u) ts n i
+each_below p g n i s ts l k u h j a = part_below p g k s ts u a l
+
+-- a symbol that is not above needs a witness
+pub only_at : (p : List ℕ) (t : Tree) (xs : List Tree) (k i : ℕ) (u : Tree) → At xs k u → ¬ (u ≡ t) → length xs ≤ i → Between (IsNoWitness p t) xs 0 k → Between (IsNoWitness p t) xs (k + 1) i → HasWitness p t xs 0 → LpoGreater p u t
+only_at p t xs k i u a d h before behind (j, v, q, b, w) = go (cases_lt j k) (cases_eq j k) w
+  where
+    l : j < length xs
+    l = at_within xs j v b
+
+    go : (j < k) ⊎ (k ≤ j) → (j ≡ k) ⊎ (j ≡ k → ⊥) → (v ≡ t) ⊎ LpoGreater p v t → LpoGreater p u t
+    go (inl m) e w = let n = before j v q m b in absurd (⊎_elim n.0 n.1 w)
+    go (inr m) (inl e) (inl y) = absurd (d (at_same xs k u v a (subst (λ z. At xs z v) e b) ∙ y))
+    go (inr m) (inl e) (inr y) = subst (λ z. LpoGreater p z t) (sym (at_same xs k u v a (subst (λ z. At xs z v) e b))) y
+    go (inr m) (inr e) w = let n = behind j v (omega (arith, e)) (omega (arith, l)) b in absurd (⊎_elim n.0 n.1 w)

@@ -10,7 +10,7 @@ use Rattle.std.proofs.lemmas.Grind.{flat_map-append}
 use Rattle.kb_lpo.specs.PathOrder.{IsAbove}
 use Rattle.kb_lpo.specs.Precedences.{arrangements, precedences}
 use Rattle.kb_term.specs.First.{IsFirst}
-use Rattle.kb_lpo.specs.Known.{outside, numbers, IsSearched}
+use Rattle.kb_lpo.specs.Search.{outside, numbers, IsSearched}
 use Rattle.kb_lpo.specs.Precedences.{LpoOrients}
 use Rattle.kb_term.specs.Rule.{Rule}
 use Rattle.kb_term.specs.declared.term.Symbol.{Symbol}

@@ -1,15 +1,17 @@
-mod Lpo
-mod LpoLaws
-mod LpoDecides
+pub mod Lpo
+pub mod LpoLaws
+pub mod LpoDecides
 mod LpoBelow
 mod LpoBound
-mod WellFormed
-mod Arities
+pub mod WellFormed
+pub mod Arities
 mod LpoHalting
-mod PathOrderLaws
+pub mod PathOrderLaws
 mod Places
 mod Exact
+mod Cases
 mod Answering
-mod First
+pub mod First
 mod Ascending
 mod Nothing
+mod ThreeSymbols

@@ -3,13 +3,13 @@ use Rattle.std.proofs.Common.{ℕ, List, length, All, Contains}
 use Rattle.std.specs.Prelude.{slice_index_or}
 use Rattle.std.proofs.lemmas.List.Elements.{All-contains}
 use Rattle.kb_term.specs.Rule.{Rule}
-use Rattle.kb_term.proofs.Bridge.{halts_to}
+use Rattle.kb_term.proofs.Bridge.{halts_to, step_from_position}
 use Rattle.kb_term.proofs.Steps.{occurs_from, occurs_to}
 use Rattle.kb_lpo.specs.PathOrder.{LpoGreater}
 use Rattle.kb_lpo.specs.Precedences.{precedences, LpoOrients}
-use Rattle.kb_lpo.specs.PathOrderLaws.{IsClosedUnderSubstitutions, IsClosedUnderContexts, OrientsRulesOnly, HaltsWhatItOrients, FirstBoundsMore, NoneForMore}
+use Rattle.kb_lpo.specs.PathOrderLaws.{IsClosedUnderSubstitutions, IsClosedUnderContexts, OrientsRulesOnly, RewritingDescends, HaltsWhatItOrients, FirstBoundsMore, NoneForMore}
 use Rattle.kb_lpo.proofs.Lpo.{path_from_lpo, lpo_from_path}
-use Rattle.kb_lpo.proofs.LpoLaws.{path-instance, path_at, lesser_variables, no_lesser}
+use Rattle.kb_lpo.proofs.LpoLaws.{path-instance, path_at, step_greater, lesser_variables, no_lesser}
 use Rattle.kb_lpo.proofs.LpoHalting.{lpo_halts}
 use Rattle.kb_lpo.proofs.Arities.{arity_at, below, sound_from, well_from}
 
@@ -18,6 +18,9 @@ lpo-instance p m s t h = lpo_from_path p (path-instance p m (path_from_lpo p h))
 
 pub lpo_at : (p : List ℕ) → IsClosedUnderContexts (LpoGreater p)
 lpo_at p u q s t v w h e d = lpo_from_path p (path_at p u q s t v w (path_from_lpo p h) e d)
+
+pub lpo_step : (p : List ℕ) → RewritingDescends p
+lpo_step p rules all s t h = lpo_from_path p (step_greater p (Contains rules) (λ r i. path_from_lpo p (All-contains (λ (r : Rule). LpoGreater p r.left r.right) rules r all i)) (step_from_position (Contains rules) s t h))
 
 pub lpo_rule : (p : List ℕ) → OrientsRulesOnly p
 lpo_rule p rule h = record {

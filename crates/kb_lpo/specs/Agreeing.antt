@@ -1,5 +1,5 @@
 -- Lists of terms by the places of their members.
-use Rattle.std.specs.Prelude.{ℕ, zero, suc, ◌<◌, ◌≤◌, ◌≡◌, List, [], ◌∷◌, length}
+use Rattle.std.specs.Prelude.{ℕ, zero, suc, ◌<◌, ◌≤◌, ◌≡◌, ◌⊎◌, List, [], ◌∷◌, length}
 use Rattle.kb_term.specs.Tree.{Tree}
 use Rattle.kb_lpo.specs.PathOrder.{LpoGreater}
 
@@ -23,3 +23,7 @@ pub record IsAgreement (ss ts : List Tree) (n : ℕ) : Type 0 where
 -- the term is neither t nor greater than t
 abbrev pub IsNoWitness : List ℕ → Tree → Tree → Type 0
 IsNoWitness p t u = ¬ (u ≡ t) × ¬ (LpoGreater p u t)
+
+-- some member from place n on is t or greater than t
+abbrev pub HasWitness : List ℕ → Tree → List Tree → ℕ → Type 0
+HasWitness p t xs n = (k : ℕ) × (u : Tree) × (n ≤ k) × At xs k u × ((u ≡ t) ⊎ LpoGreater p u t)

@@ -2,4 +2,4 @@ pub mod PathOrder
 pub mod Precedences
 pub mod PathOrderLaws
 pub mod Agreeing
-pub mod Known
+pub mod Search

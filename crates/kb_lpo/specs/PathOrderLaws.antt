@@ -5,7 +5,7 @@ use Rattle.kb_term.specs.Substitution.{instance}
 use Rattle.kb_term.specs.Position.{replace_at}
 use Rattle.kb_term.specs.Rule.{Rule, IsRule}
 use Rattle.kb_term.specs.Signature.{Signature, IsRuleOver}
-use Rattle.kb_term.specs.Proving.{IsTerminating}
+use Rattle.kb_term.specs.Proving.{Step, IsTerminating}
 use Rattle.kb_term.specs.First.{IsFirst}
 use Rattle.kb_lpo.specs.PathOrder.{LpoGreater}
 use Rattle.kb_lpo.specs.Precedences.{precedences, LpoOrients, IsLowerBound}
@@ -29,6 +29,10 @@ IsClosedUnderSubstitutions R = (m : ℕ → Tree) (s t : Tree) → R s t → R (
 -- terms stay in order when both are put at one position of one term
 abbrev pub IsClosedUnderContexts : (Tree → Tree → Type 0) → Type 0
 IsClosedUnderContexts R = (u : Tree) (p : List ℕ) (s t v w : Tree) → R s t → replace_at u p s ≡ Some v → replace_at u p t ≡ Some w → R v w
+
+-- what rules rewrite becomes smaller, where the path order orients them
+abbrev pub RewritingDescends : List ℕ → Type 0
+RewritingDescends prec = (rules : List Rule) → LpoOrients prec rules → (s t : Tree) → Step rules s t → LpoGreater prec s t
 
 -- what the path order orients is a rule
 abbrev pub OrientsRulesOnly : List ℕ → Type 0

@@ -1,7 +1,7 @@
 // What holds of the path order. Each function has an empty body: its clauses are theorems over the definitions.
 ghost use Rattle.std.specs.Prelude.{ℕ, List};
 ghost use Rattle.kb_lpo.specs.PathOrder.{LpoGreater};
-ghost use Rattle.kb_lpo.specs.PathOrderLaws.{IsTransitive, IsIrreflexive, IsDecided, IsClosedUnderSubstitutions, IsClosedUnderContexts, OrientsRulesOnly, HaltsWhatItOrients, FirstBoundsMore, NoneForMore};
+ghost use Rattle.kb_lpo.specs.PathOrderLaws.{IsTransitive, IsIrreflexive, IsDecided, IsClosedUnderSubstitutions, IsClosedUnderContexts, OrientsRulesOnly, RewritingDescends, HaltsWhatItOrients, FirstBoundsMore, NoneForMore};
 
 /// The path order over any list of symbols is transitive, irreflexive and decided.
 pub fn lpo_is_strict_order()
@@ -10,10 +10,11 @@ pub fn lpo_is_strict_order()
     ensures decided { (prec : List ℕ) → IsDecided (LpoGreater prec) }
 {}
 
-/// The path order is kept under substitutions and in contexts.
+/// The path order is kept under substitutions and in contexts, so what oriented rules rewrite becomes smaller.
 pub fn lpo_is_rewrite_order()
     ensures substitutions { (prec : List ℕ) → IsClosedUnderSubstitutions (LpoGreater prec) }
     ensures contexts { (prec : List ℕ) → IsClosedUnderContexts (LpoGreater prec) }
+    ensures steps { (prec : List ℕ) → RewritingDescends prec }
 {}
 
 /// What the path order orients is a rule, and such rules halt: a number bounds the steps of every chain from each term

@@ -3,6 +3,7 @@
 
 mod known;
 mod laws;
+mod needs;
 mod order;
 mod precedence;
 mod search;
@@ -13,3 +14,6 @@ pub use laws::{
 pub use order::lpo_greater;
 pub use precedence::Precedence;
 pub use search::{search_lpo, search_lpo_from};
+
+#[cfg(test)]
+mod tests;

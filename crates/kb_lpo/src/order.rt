@@ -4,7 +4,8 @@ ghost use Rattle.kb_term.specs.Tree.{variables_of};
 ghost use Rattle.kb_term.specs.View.{tree_of};
 ghost use Rattle.kb_lpo.specs.PathOrder.{LpoGreater, IsAbove};
 ghost use Rattle.kb_term.specs.declared.term.Symbol.{Symbol};
-ghost use Rattle.kb_lpo.specs.Agreeing.{IsAgreement};
+ghost use Rattle.kb_lpo.specs.Agreeing.{Between, HasWitness, IsAgreement};
+ghost use Rattle.kb_lpo.specs.Search.{numbers};
 
 use crate::precedence::Precedence;
 use kb_term::{Symbol, Term, compare};
@@ -50,7 +51,7 @@ pub(crate) fn agreement(ss: &[Term], ts: &[Term]) -> usize
 
 /// Whether `f` stands before `g` in the precedence.
 fn is_above(symbols: &[Symbol], f: Symbol, g: Symbol) -> bool
-    ensures { IsTrue result ↔ IsAbove (map (λ (h : Symbol). h.0) symbols.now) f.0 g.0 }
+    ensures { IsTrue result ↔ IsAbove (numbers symbols.now) f.0 g.0 }
 {
     for i in 0..symbols.len() {
         if symbols[i] == g {
@@ -63,9 +64,11 @@ fn is_above(symbols: &[Symbol], f: Symbol, g: Symbol) -> bool
     false
 }
 
-/// Whether `s` is above `t` in the lexicographic path order.
+/// Whether `s` is above `t` in the lexicographic path order. Since `s` is above the arguments of all that it is above,
+/// one case of the definition decides, so at most each subterm of `s` meets each subterm of `t` once.
+#[cycle(greater)]
 pub(crate) fn greater(symbols: &[Symbol], s: &Term, t: &Term) -> bool
-    ensures { IsTrue result ↔ LpoGreater (map (λ (h : Symbol). h.0) symbols.now) (tree_of s.now) (tree_of t.now) }
+    ensures { IsTrue result ↔ LpoGreater (numbers symbols.now) (tree_of s.now) (tree_of t.now) }
 {
     match (s, t) {
         (Term::Var(_), _) => false,
@@ -77,55 +80,51 @@ pub(crate) fn greater(symbols: &[Symbol], s: &Term, t: &Term) -> bool
                 let n = agreement(ss, ts);
                 if n < ss.len() && n < ts.len() {
                     if greater(symbols, &ss[n], &ts[n]) {
-                        'rest: for j in n + 1..ts.len() {
-                            if !greater(symbols, s, &ts[j]) {
-                                return false;
-                            }
-                        }
-                        return true;
+                        return is_above_each(symbols, s, ts, n + 1);
                     }
-                    'behind: for k in n + 1..ss.len() {
-                        if is_same(&ss[k], t) {
-                            return true;
-                        }
-                        if greater(symbols, &ss[k], t) {
-                            return true;
-                        }
-                    }
-                    return false;
+                    return is_reached(symbols, ss, n + 1, t);
                 }
-                'further: for k in n..ss.len() {
-                    if is_same(&ss[k], t) {
-                        return true;
-                    }
-                    if greater(symbols, &ss[k], t) {
-                        return true;
-                    }
-                }
-                false
+                is_reached(symbols, ss, n, t)
             } else if is_above(symbols, *f, *g) {
-                'all: for j in 0..ts.len() {
-                    if !greater(symbols, s, &ts[j]) {
-                        return false;
-                    }
-                }
-                true
+                is_above_each(symbols, s, ts, 0)
             } else {
-                'some: for k in 0..ss.len() {
-                    if is_same(&ss[k], t) {
-                        return true;
-                    }
-                    if greater(symbols, &ss[k], t) {
-                        return true;
-                    }
-                }
-                false
+                is_reached(symbols, ss, 0, t)
             }
         }
     }
 }
 
-/// Whether `s` is above `t` in the lexicographic path order over the precedence.
+/// Whether `s` is above each of the terms from the place on.
+#[cycle(greater)]
+fn is_above_each(symbols: &[Symbol], s: &Term, ts: &[Term], from: usize) -> bool
+    ensures { IsTrue result ↔ Between (λ u. LpoGreater (numbers symbols.now) (tree_of s.now) u) (map tree_of ts.now) from (length ts.now) }
+{
+    for j in from..ts.len() {
+        if !greater(symbols, s, &ts[j]) {
+            return false;
+        }
+    }
+    true
+}
+
+/// Whether one of the terms from the place on is `t` or above it.
+#[cycle(greater)]
+fn is_reached(symbols: &[Symbol], ss: &[Term], from: usize, t: &Term) -> bool
+    ensures { IsTrue result ↔ HasWitness (numbers symbols.now) (tree_of t.now) (map tree_of ss.now) from }
+{
+    for k in from..ss.len() {
+        if is_same(&ss[k], t) {
+            return true;
+        }
+        if greater(symbols, &ss[k], t) {
+            return true;
+        }
+    }
+    false
+}
+
+/// Whether `s` is above `t` in the lexicographic path order over the precedence, in at most as many comparisons of
+/// subterms as the product of the sizes of `s` and `t`.
 pub fn lpo_greater(prec: &Precedence, s: &Term, t: &Term) -> bool
     ensures { IsTrue result ↔ LpoGreater prec.now (tree_of s.now) (tree_of t.now) }
 {

@@ -4,10 +4,11 @@ ghost use Rattle.kb_lpo.specs.PathOrder.{LpoGreater, IsAbove};
 ghost use Rattle.kb_lpo.specs.Precedences.{precedences};
 ghost use Rattle.kb_term.specs.First.{IsFirst};
 ghost use Rattle.kb_term.specs.declared.term.Symbol.{Symbol};
-ghost use Rattle.kb_lpo.specs.Known.{Fits, IsFloor, IsSearched, floor_behind, lowest_of, numbers};
+ghost use Rattle.kb_lpo.specs.Search.{Fits, IsFloor, IsSearched, floor_behind, lowest_of, numbers};
 ghost use Rattle.kb_lpo.specs.Precedences.{IsLowerBound, LpoOrients};
 
-use crate::known::{force, learn};
+use crate::known::Known;
+use crate::needs::force;
 use crate::order::greater;
 use crate::precedence::Precedence;
 use kb_term::{Memory, Rule, Signature, Symbol};
@@ -26,7 +27,7 @@ fn orients(symbols: &[Symbol], rules: &[Rule]) -> bool
 }
 
 /// Records what each rule needs: false where no precedence that fits orients all.
-fn force_all(known: &mut [bool; 576], rules: &[Rule]) -> bool
+fn force_all(known: &mut Known, rules: &[Rule]) -> bool
     ensures { (prec : List ℕ) → Fits known.old prec → LpoOrients prec rules.now → IsTrue result × Fits known.new prec }
 {
     for i in 0..rules.len() {
@@ -39,7 +40,7 @@ fn force_all(known: &mut [bool; 576], rules: &[Rule]) -> bool
 }
 
 /// Records what the rules need until nothing new is learnt: false where no precedence that fits orients all.
-fn propagate(known: &mut [bool; 576], rules: &[Rule]) -> bool
+fn propagate(known: &mut Known, rules: &[Rule]) -> bool
     ensures { (prec : List ℕ) → Fits known.old prec → LpoOrients prec rules.now → IsTrue result × Fits known.new prec }
 {
     for _ in 0..576 {
@@ -67,7 +68,7 @@ fn is_listed(symbols: &[Symbol], f: Symbol) -> bool
 }
 
 /// Records that `f` is above `g`, if `g` is another symbol and is not listed: false where this cannot be.
-fn put_above(known: &mut [bool; 576], symbols: &[Symbol], f: Symbol, g: Symbol) -> bool
+fn put_above(known: &mut Known, symbols: &[Symbol], f: Symbol, g: Symbol) -> bool
     ensures { (prec : List ℕ) → Fits known.old prec → (¬ Contains (numbers symbols.now) g.0 → ¬ (f.0 ≡ g.0) → IsAbove prec f.0 g.0) → IsTrue result × Fits known.new prec }
 {
     if f == g {
@@ -76,11 +77,11 @@ fn put_above(known: &mut [bool; 576], symbols: &[Symbol], f: Symbol, g: Symbol) 
     if is_listed(symbols, g) {
         return true;
     }
-    learn(known, f, g)
+    known.learn(f, g)
 }
 
 /// Records that `f` is above each symbol that is not listed: false where this cannot be.
-fn put_next(known: &mut [bool; 576], symbols: &[Symbol], f: Symbol) -> bool
+fn put_next(known: &mut Known, symbols: &[Symbol], f: Symbol) -> bool
     ensures { (prec : List ℕ) → Fits known.old prec → ((g : ℕ) → ¬ Contains (numbers symbols.now) g → ¬ (f.0 ≡ g) → IsAbove prec f.0 g) → IsTrue result × Fits known.new prec }
 {
     for y in 0..24u8 {
@@ -92,7 +93,7 @@ fn put_next(known: &mut [bool; 576], symbols: &[Symbol], f: Symbol) -> bool
 }
 
 /// Puts `f` behind the listed symbols, and records what the rules then need: false where it is listed, or no precedence orients all.
-fn place_next(known: &mut [bool; 576], rules: &[Rule], symbols: &[Symbol], f: Symbol) -> bool
+fn place_next(known: &mut Known, rules: &[Rule], symbols: &[Symbol], f: Symbol) -> bool
     ensures unlisted { result ≡ true → ¬ Contains (numbers symbols.now) f.0 }
     ensures sound { (rest : List ℕ) → ¬ Contains (numbers symbols.now) f.0 → Fits known.old (numbers symbols.now ++ f.0 ∷ rest) → LpoOrients (numbers symbols.now ++ f.0 ∷ rest) rules.now → IsTrue result × Fits known.new (numbers symbols.now ++ f.0 ∷ rest) }
 {
@@ -129,7 +130,7 @@ fn behind(floor: &[Symbol], f: Symbol) -> &[Symbol]
 /// Puts the symbols that are left behind those of the prefix, as the first arrangement that orients all rules. None
 /// before the floor does, so the search begins there; an empty floor lets it begin at the first arrangement.
 fn search_from(
-    known: &[bool; 576],
+    known: &Known,
     rules: &[Rule],
     count: u8,
     prefix: &mut Vec<Symbol>,
@@ -157,13 +158,6 @@ fn search_from(
     Ok(false)
 }
 
-/// The table in which nothing is known.
-fn nothing_known() -> [bool; 576]
-    ensures { (prec : List ℕ) → Fits result prec }
-{
-    [false; 576]
-}
-
 /// The first precedence that orients all rules, where none before the floor does.
 fn search_above(
     alloc: Global,
@@ -176,7 +170,7 @@ fn search_above(
     ensures { IfOk result (λ found. IsFirst (λ prec. LpoOrients prec rules.now) (precedences (length sig.now)) found) }
 {
     let count = sig.count() as u8;
-    let mut known = nothing_known();
+    let mut known = Known::new();
     if !propagate(&mut known, rules) {
         return Ok(None);
     }

@@ -4,7 +4,7 @@ use Rattle.kb_lpo.specs.Precedences.{arrangements}
 use Rattle.kb_term.specs.First.{IsFirst}
 use Rattle.std.proofs.lemmas.Bool.{false≢true}
 use Rattle.std.proofs.lemmas.List.{append_assoc}
-use Rattle.kb_lpo.specs.Known.{numbers, Fits, IsSearched, outside}
+use Rattle.kb_lpo.specs.Search.{numbers, Fits, IsSearched, outside}
 use Rattle.kb_lpo.specs.Precedences.{LpoOrients}
 use Rattle.kb_lpo.proofs.First.{leaf, numbers_push, found_next, none_next, none_refused, listed_or_not, popped, tried}
 use Rattle.kb_lpo.proofs.Ascending.{floor_next, lowest_refused, lowest_within}

@@ -1,7 +1,7 @@
 use Rattle.std.proofs.Common.{◌≡◌, ◌++◌, ◌-◌}
 use Rattle.kb_term.specs.First.{IsFirst}
 use Rattle.std.specs.Prelude.{None}
-use Rattle.kb_lpo.specs.Known.{numbers}
+use Rattle.kb_lpo.specs.Search.{numbers}
 use Rattle.kb_lpo.specs.Precedences.{LpoOrients}
 use Rattle.kb_lpo.proofs.First.{tried}
 use Rattle.kb_lpo.proofs.search.+search_from.Given as goal

@@ -1,5 +1,5 @@
 use Rattle.std.proofs.Common.{ℕ, List}
-use Rattle.kb_lpo.specs.Known.{Fits}
+use Rattle.kb_lpo.specs.Search.{Fits}
 use Rattle.kb_lpo.specs.Precedences.{LpoOrients}
 use Rattle.kb_lpo.proofs.search.force_all.Given as goal
 

@@ -1,7 +1,7 @@
 use Rattle.std.proofs.Common.{ℕ, ◌<◌, slice_index_or}
 use Rattle.kb_term.specs.Rule.{Rule}
 use Rattle.kb_lpo.specs.PathOrder.{LpoGreater}
-use Rattle.kb_lpo.specs.Known.{numbers}
+use Rattle.kb_lpo.specs.Search.{numbers}
 use Rattle.kb_lpo.proofs.search.orients.Given as goal
 
 -- the rules so far are oriented

@@ -1,6 +1,6 @@
 use Rattle.std.proofs.Common.{ℕ, List, Contains, ◌≡◌}
 use Rattle.kb_lpo.specs.PathOrder.{IsAbove}
-use Rattle.kb_lpo.specs.Known.{Fits, numbers}
+use Rattle.kb_lpo.specs.Search.{Fits, numbers}
 use Rattle.kb_lpo.proofs.search.put_next.Given as goal
 
 abbrev pub invariant-loop-y : goal.invariant-loop-y

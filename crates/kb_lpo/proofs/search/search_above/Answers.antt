@@ -3,14 +3,14 @@ use Rattle.std.proofs.lemmas.Bool.{false≢true}
 use Rattle.std.specs.Prelude.{Some, None}
 use Rattle.kb_lpo.specs.Precedences.{precedences}
 use Rattle.kb_term.specs.First.{IsFirst}
-use Rattle.kb_lpo.specs.Known.{numbers, IsFloor, IsSearched}
+use Rattle.kb_lpo.specs.Search.{numbers, IsFloor, IsSearched}
 use Rattle.kb_lpo.specs.Precedences.{LpoOrients}
 use Rattle.kb_lpo.proofs.First.{whole_found, whole_none}
 use Rattle.kb_lpo.proofs.search.search_above.Goals as goal
 
 pub search_from-requires : goal.search_from-requires
 search_from-requires c = record {
-  sound = λ rest o. (c.propagate.ensures (numbers c.new-prefix.result.items ++ rest) (c.nothing_known-known.ensures (numbers c.new-prefix.result.items ++ rest)) o).1;
+  sound = λ rest o. (c.propagate.ensures (numbers c.new-prefix.result.items ++ rest) (c.new-known.ensures (numbers c.new-prefix.result.items ++ rest)) o).1;
   bound = subst₂ (λ k xs. IsFloor c.args.rules.now k k xs (numbers c.args.floor.now)) (sym c.count-count.ensures) (sym (ap numbers c.new-prefix.ensures.items)) c.requires.bound;
 }
 
@@ -29,4 +29,4 @@ returns c =
     subst (λ z. IsFirst (λ prec. LpoOrients prec rules) (precedences z) None) c.count-count.ensures (whole_none rules n (numbers c.new-prefix.result.items) (numbers c.search_from.new.prefix.items) (ap numbers c.new-prefix.ensures.items) s)
 
 pub returns-then-not-propagate : goal.returns-then-not-propagate
-returns-then-not-propagate c = λ k d i o. let p = slice_index_or (precedences (length c.args.sig.now)) k d in false≢true (sym c.if-not-propagate.true ∙ (c.propagate.ensures p (c.nothing_known-known.ensures p) o).0)
+returns-then-not-propagate c = λ k d i o. let p = slice_index_or (precedences (length c.args.sig.now)) k d in false≢true (sym c.if-not-propagate.true ∙ (c.propagate.ensures p (c.new-known.ensures p) o).0)

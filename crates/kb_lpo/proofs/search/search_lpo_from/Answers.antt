@@ -1,6 +1,6 @@
 use Rattle.std.proofs.Common.{subst, sym, refl, length, []}
 use Rattle.kb_lpo.specs.Precedences.{LpoOrients}
-use Rattle.kb_lpo.specs.Known.{IsFloor}
+use Rattle.kb_lpo.specs.Search.{IsFloor}
 use Rattle.kb_lpo.proofs.Answering.{yes}
 use Rattle.kb_lpo.proofs.Ascending.{floor_from_bound}
 use Rattle.kb_lpo.proofs.search.search_lpo_from.Goals as goal
