@@ -7,6 +7,7 @@ use Rattle.std.specs.declared.cmp.Ordering.TheVariants.{Less, Equal, Greater}
 use Rattle.std.specs.Ordering.{nat_cmp, ordering_then, ordering_reverse, is_eq}
 use Rattle.std.specs.Cmp.{IsTotalOrder}
 use Rattle.kb_term.specs.Tree.{Tree, Trees, variable, apply, no_trees, more_trees, tree_cmp, trees_cmp}
+use Rattle.kb_term.specs.Pair.{Pair, pair_cmp}
 use Rattle.kb_term.specs.View.{tree_of}
 use Rattle.kb_term.specs.declared.term.Term.{Term}
 
@@ -112,4 +113,25 @@ term_cmp-total = record {
   antisymm = λ s t. tree_flip (tree_of s) (tree_of t);
   trans = λ s t u. tree_less (tree_of s) (tree_of t) (tree_of u);
   congr = λ s t u e. ap (λ k. tree_cmp k (tree_of u)) (tree_cmp-equal (tree_of s) (tree_of t) e);
+}
+
+pub tree_cmp-total : IsTotalOrder tree_cmp
+tree_cmp-total = record {
+  antisymm = tree_flip;
+  trans = tree_less;
+  congr = λ s t u e. ap (λ k. tree_cmp k u) (tree_cmp-equal s t e);
+}
+
+-- whether two pairs are one
+abbrev pub pair_eq : Pair → Pair → Bool
+pair_eq d e = is_eq (pair_cmp d e)
+
+pub pair_cmp-total : IsTotalOrder pair_cmp
+pair_cmp-total = record {
+  antisymm = λ d e. ap₂ ordering_then (tree_flip d.first e.first) (tree_flip d.second e.second) ∙ then_flip (tree_cmp e.first d.first) (tree_cmp e.second d.second);
+  trans = λ d e f.
+      then_trans (tree_cmp d.first e.first) (tree_cmp d.second e.second) (tree_cmp e.first f.first) (tree_cmp e.second f.second) (tree_cmp d.first f.first) (tree_cmp d.second f.second) (tree_less d.first e.first f.first) (λ x. ap (λ k. tree_cmp k f.first) (tree_cmp-equal d.first e.first x)) (λ x. ap (tree_cmp d.first) (sym (tree_cmp-equal e.first f.first x))) (tree_less d.second e.second f.second);
+  congr = λ d e f x.
+      let h = then_equal (tree_cmp d.first e.first) (tree_cmp d.second e.second) x in
+      ap₂ ordering_then (ap (λ k. tree_cmp k f.first) (tree_cmp-equal d.first e.first h.0)) (ap (λ k. tree_cmp k f.second) (tree_cmp-equal d.second e.second h.1));
 }
