@@ -2,6 +2,7 @@
 #![tactic(auto)]
 
 mod fault;
+mod laws;
 mod limit;
 mod limits;
 mod memory;
@@ -16,8 +17,11 @@ mod rule;
 mod signature;
 mod subst;
 mod term;
+mod variables;
+mod variant;
 
 pub use fault::TermFault;
+pub use laws::canonical_pairs_tell_equations;
 pub use limit::Limit;
 pub use limits::{MAX_DEPTH, MAX_SIZE, pair_limit, term_limit};
 pub use memory::Memory;
@@ -29,4 +33,6 @@ pub use replacement::replace;
 pub use rule::{Rule, numbered_rule, rule_of};
 pub use signature::Signature;
 pub use subst::{Subst, apply};
-pub use term::{Symbol, Term, Terms, compare, depth, size};
+pub use term::{Symbol, Term, Terms, compare, depth, size, total_size};
+pub use variables::{apart, has_variables_below, variable_bound};
+pub use variant::is_variant;

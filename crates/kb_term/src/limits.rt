@@ -1,6 +1,6 @@
 // Which limit a term or a pair passes.
-ghost use Rattle.std.specs.Prelude.{◌≡◌, min};
-ghost use Rattle.kb_term.specs.Pair.{term_limit as limit_of_term, pair_limit as limit_of_pair};
+ghost use Rattle.std.specs.Prelude.{◌≡◌, ◌↔◌, min, IsNone};
+ghost use Rattle.kb_term.specs.Pair.{term_limit as limit_of_term, pair_limit as limit_of_pair, IsWithin, ArePairWithin};
 ghost use Rattle.kb_term.specs.Tree.{tree_size, tree_depth};
 ghost use Rattle.kb_term.specs.View.{tree_of};
 
@@ -16,7 +16,8 @@ pub const MAX_DEPTH: u32 = 64;
 
 /// The limit that a term passes: a size above 512, else a depth above 64.
 pub fn term_limit(t: &Term) -> Option<Limit>
-    ensures { result ≡ limit_of_term (tree_of t.now) }
+    ensures limit { result ≡ limit_of_term (tree_of t.now) }
+    ensures within { IsNone result ↔ IsWithin (tree_of t.now) }
 {
     if size_up_to(t, MAX_SIZE + 1) > MAX_SIZE {
         Some(Limit::Size)
@@ -29,7 +30,8 @@ pub fn term_limit(t: &Term) -> Option<Limit>
 
 /// The limit that a pair passes: a side of a size above 512, else a side of a depth above 64, else more than 64 variables.
 pub fn pair_limit(a: &Term, b: &Term) -> Option<Limit>
-    ensures { result ≡ limit_of_pair (tree_of a.now) (tree_of b.now) }
+    ensures limit { result ≡ limit_of_pair (tree_of a.now) (tree_of b.now) }
+    ensures within { IsNone result ↔ ArePairWithin (tree_of a.now) (tree_of b.now) }
 {
     if size_up_to(a, MAX_SIZE + 1) > MAX_SIZE || size_up_to(b, MAX_SIZE + 1) > MAX_SIZE {
         return Some(Limit::Size);
