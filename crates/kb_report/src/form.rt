@@ -1,11 +1,14 @@
 // Which terms, equations and problems are within the limits.
-ghost use Rattle.std.specs.Prelude.{◌≡◌, ◌≤◌, IfOk, length, All};
+ghost use Rattle.std.specs.Prelude.{◌≡◌, ◌≤◌, IfOk, length, true, All};
+ghost use Rattle.std.specs.List.{list_all};
 ghost use Rattle.std.specs.Bool.{OnTrue};
 ghost use Rattle.kb_term.specs.View.{tree_of, pair_of, equations_of_list};
 ghost use Rattle.kb_term.specs.Pair.{numbered, variables_of_pair};
 ghost use Rattle.kb_term.specs.Signature.{HasArity, IsWellFormed, IsTermWithinLimits, IsEquationWithinLimits, symbols_of_list, SymbolEntry};
-ghost use Rattle.kb_report.specs.Answers.{IsProblemForm};
+ghost use Rattle.kb_report.specs.Answers.{IsProblemForm, is_between, is_row as is_row_of, are_rows as are_rows_of};
+ghost use Rattle.kb_linear.specs.Limits.{interpretation_of};
 
+use kb_linear::Interp;
 use kb_term::{Memory, Problem, Signature, Symbol, Term, compare, numbered_rule, pair_limit, term_limit};
 use std::alloc::Global;
 use std::cmp::Ordering;
@@ -13,6 +16,8 @@ use std::cmp::Ordering;
 const SYMBOLS: usize = 24;
 const ARITY: u8 = 8;
 const EQUATIONS: usize = 256;
+const CONSTANT: u8 = 15;
+const COEFFICIENT: u8 = 3;
 
 fn has_arity(signature: &Signature, f: Symbol, n: usize) -> bool
     ensures { OnTrue result (HasArity signature.now f.0 n) }
@@ -121,4 +126,37 @@ pub fn is_problem_within_limits(alloc: Global, problem: &Problem) -> Result<bool
         return Ok(false);
     }
     are_equations_within_limits(alloc, signature, problem.equations())
+}
+
+fn is_row(arity: u8, row: &(u8, Vec<u8>)) -> bool
+    ensures { result ≡ is_row_of arity (row.now.0, row.now.1.items) }
+{
+    row.0 <= CONSTANT && row.1.len() == arity as usize && are_coefficients(&row.1)
+}
+
+fn are_coefficients(numbers: &[u8]) -> bool
+    ensures { result ≡ list_all (is_between 1 3) numbers.now }
+{
+    numbers.iter().all(|n| *n >= 1 && *n <= COEFFICIENT)
+}
+
+fn are_rows(symbols: &[(Vec<u8>, u8)], rows: &[(u8, Vec<u8>)]) -> bool
+    ensures { OnTrue result (are_rows_of (symbols_of_list symbols.now) (interpretation_of rows.now) ≡ true) }
+{
+    if symbols.len() != rows.len() {
+        return false;
+    }
+    for i in 0..rows.len() {
+        if !is_row(symbols[i].1, &rows[i]) {
+            return false;
+        }
+    }
+    true
+}
+
+/// Whether the interpretation has a row for each symbol, with one coefficient for each argument.
+pub fn is_interpretation(signature: &Signature, i: &Interp) -> bool
+    ensures { OnTrue result (are_rows_of signature.now i.now ≡ true) }
+{
+    are_rows(signature.symbols(), i.rows())
 }

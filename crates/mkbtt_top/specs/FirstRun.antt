@@ -11,13 +11,17 @@ use Rattle.kb_overlap.specs.Trace.{IsRightTrace}
 use Rattle.kb_syntax.specs.Problems.{Spells}
 use Rattle.kb_report.specs.Answers.{Answer, AnswerSpelled, one_rule_answer}
 
+-- the pair is the canonical pair of the one equation of the problem
+pub record IsEquationOf (problem : Problem) (pair : Pair) : Type 0 where
+  pub equation : Tree × Tree
+  pub one : problem.equations ≡ equation ∷ []
+  pub of_equation : canonical_pair equation.0 equation.1 ≡ Some pair
+
 -- The answer has this problem, which has one equation; as its only rule that equation's canonical pair in one direction,
 -- which an interpretation of the family orders by value under every assignment; and a right trace of one input step.
 pub record IsOneRuleAnswer (problem : Problem) (answer : Answer) : Type 0 where
-  pub equation : Tree × Tree
-  pub one : problem.equations ≡ equation ∷ []
   pub pair : Pair
-  pub of_equation : canonical_pair equation.0 equation.1 ≡ Some pair
+  pub equation : IsEquationOf problem pair
   pub direction : ℕ
   pub forth_or_back : direction ≤ 1
   pub order : Interpretation
@@ -26,13 +30,17 @@ pub record IsOneRuleAnswer (problem : Problem) (answer : Answer) : Type 0 where
   pub answer_is : answer ≡ one_rule_answer problem (rule_of pair direction) order pair
   pub right : IsRightTrace problem.equations answer.trace
 
--- the text is the spelling of such an answer to the problem of one equation that the bytes spell
-pub record IsAnswerTo (bytes text : List ℕ) : Type 0 where
-  pub problem : Problem
+-- the text is the spelling of such an answer to the problem
+pub record IsAnswerOf (problem : Problem) (text : List ℕ) : Type 0 where
   pub answer : Answer
-  pub spelled : Spells bytes problem
   pub one_rule : IsOneRuleAnswer problem answer
   pub spelling : AnswerSpelled text answer
+
+-- the text is the spelling of an answer to the problem that the bytes spell
+pub record IsAnswerTo (bytes text : List ℕ) : Type 0 where
+  pub problem : Problem
+  pub spelled : Spells bytes problem
+  pub answer : IsAnswerOf problem text
 
 -- the source was read to its end, and the sink gained the answer to what was read
 pub record Answers (left_old left_new written_old written_new : Option (List ℕ)) : Type 0 where

@@ -1,6 +1,7 @@
 //! The top call: from words and bytes to bytes and a status.
 #![tactic(auto)]
 
+mod complete;
 mod status;
 
 pub use status::{Status, status_code, status_line};
