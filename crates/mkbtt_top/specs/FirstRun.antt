@@ -1,5 +1,5 @@
 -- What a run on one equation comes to.
-use Rattle.std.specs.Prelude.{ℕ, ◌≡◌, ◌≤◌, List, [], ◌∷◌, length, map, Option, Some, codes, Contains}
+use Rattle.std.specs.Prelude.{ℕ, ◌≡◌, ◌≤◌, List, [], ◌∷◌, length, Option, Some, codes, Contains, ⊤}
 use Rattle.kb_io.specs.Bytes.{TakesAll, Appends, AppendsPart}
 use Rattle.kb_term.specs.Pair.{Pair, canonical_pair}
 use Rattle.kb_term.specs.Rule.{Rule, rule_of}
@@ -10,6 +10,9 @@ use Rattle.kb_linear.specs.Interpretations.{interpretations}
 use Rattle.kb_overlap.specs.Trace.{IsRightTrace}
 use Rattle.kb_syntax.specs.Problems.{Spells}
 use Rattle.kb_report.specs.Answers.{Answer, AnswerSpelled, one_rule_answer}
+use Rattle.kb_syntax.specs.declared.kind.Kind.TheVariants.{NotBuilt}
+use Rattle.mkbtt_top.specs.declared.status.Status.{Status}
+use Rattle.mkbtt_top.specs.declared.status.Status.TheVariants.{Done, Refused, ReadFault, WriteFault, Memory, Words}
 
 -- the pair is the canonical pair of the one equation of the problem
 pub record IsEquationOf (problem : Problem) (pair : Pair) : Type 0 where
@@ -61,3 +64,21 @@ pub record AnswersInPart (left_old left_new written_old written_new : Option (Li
 -- the one word that is accepted
 abbrev pub complete_words : List (List ℕ)
 complete_words = codes "complete" ∷ []
+
+-- what is refused is refused as not built, at place 0
+abbrev pub IsNotBuilt : Status → Type 0
+IsNotBuilt Done = ⊤
+IsNotBuilt (Refused kind at) = (kind ≡ NotBuilt) × (at ≡ 0)
+IsNotBuilt ReadFault = ⊤
+IsNotBuilt WriteFault = ⊤
+IsNotBuilt Memory = ⊤
+IsNotBuilt Words = ⊤
+
+-- unless the answer was written, whole or in part, nothing is
+abbrev pub WritesNothing : Status → Option (List ℕ) → Option (List ℕ) → Type 0
+WritesNothing Done old new = ⊤
+WritesNothing (Refused kind at) old new = new ≡ old
+WritesNothing ReadFault old new = new ≡ old
+WritesNothing WriteFault old new = ⊤
+WritesNothing Memory old new = new ≡ old
+WritesNothing Words old new = new ≡ old

@@ -3,5 +3,7 @@
 
 mod complete;
 mod status;
+mod top;
 
 pub use status::{Status, status_code, status_line};
+pub use top::{Outcome, run};
