@@ -7,3 +7,6 @@ mod top;
 
 pub use status::{Status, status_code, status_line};
 pub use top::{Outcome, run};
+
+#[cfg(test)]
+mod tests;
