@@ -1,2 +1,5 @@
 pub mod LinearOrder
 pub mod Interpretations
+pub mod Limits
+pub mod Forms
+pub mod Numbers

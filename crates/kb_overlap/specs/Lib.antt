@@ -1,2 +1,3 @@
 pub mod Overlap
 pub mod Trace
+pub mod Instance

@@ -1,2 +1,7 @@
-//! Critical pairs.
+//! Critical pairs: where two rules overlap.
 #![tactic(auto)]
+
+mod instance;
+mod overlap;
+
+pub use overlap::overlaps_alike;

@@ -5,7 +5,8 @@ use Rattle.kb_term.specs.Tree.{Tree}
 use Rattle.kb_syntax.specs.Names.{Name}
 use Rattle.kb_syntax.specs.Lines.{line, counted, IsBadLine}
 use Rattle.kb_term.specs.Signature.{SymbolEntry, Signature, Problem, IsSignature, IsWithinLimits, IsEquationWithinLimits}
-use Rattle.kb_term.specs.Pair.{distinct}
+use Rattle.kb_term.specs.Pair.{Pair, distinct}
+use Rattle.kb_linear.specs.LinearOrder.{Interpretation}
 use Rattle.kb_term.specs.Rule.{Rule}
 use Rattle.kb_overlap.specs.Trace.{TraceStep}
 use Rattle.kb_syntax.specs.Terms.{names_of, symbol_text, infix_text, IsPairForm}
@@ -14,12 +15,6 @@ use Rattle.kb_term.specs.declared.origin.Origin.{Origin}
 use Rattle.kb_term.specs.declared.origin.Origin.TheVariants.{Input, Rewrite, Overlap}
 use Rattle.kb_cert.specs.declared.certificate.Certificate.{Certificate}
 use Rattle.kb_cert.specs.declared.certificate.Certificate.TheVariants.{Lpo, Linear}
-use Rattle.kb_report.specs.declared.parts.Reason.{Reason}
-use Rattle.kb_report.specs.declared.parts.Reason.TheVariants.{Nodes, Processes, Size, Depth, Variables, Steps}
-use Rattle.kb_report.specs.declared.parts.Reject.{Reject}
-use Rattle.kb_report.specs.declared.parts.Reject.TheVariants.{BadStep, Untraced, NotOriented, PairLarge, PairSteps, NotJoined, EquationLarge, EquationSteps, NotProved}
-use Rattle.kb_report.specs.declared.parts.Checked.{Checked}
-use Rattle.kb_report.specs.declared.parts.Checked.TheVariants.{Accepted, Rejected}
 
 -- a system: rules, each with the step that it cites
 pub record Answer : Type 0 where
@@ -27,12 +22,6 @@ pub record Answer : Type 0 where
   pub rules : List (Rule × ℕ)
   pub cert : Certificate
   pub trace : List TraceStep
-
-pub data Report : Type 0 where
-  system : Answer → Report
-  all_failed : ℕ → Report
-  spent_commits : ℕ → ℕ → Report
-  spent_over : Reason → ℕ → Report
 
 -- ---- the lines
 
@@ -99,20 +88,6 @@ system_text a = let names = names_of a.problem.signature in
     ++ counted (codes "TRACE") (length a.trace) ++ trace_text a.problem.signature a.trace
     ++ end_line
 
-abbrev pub reason_word : Reason → List ℕ
-reason_word Nodes = codes "nodes"
-reason_word Processes = codes "processes"
-reason_word Size = codes "size"
-reason_word Depth = codes "depth"
-reason_word Variables = codes "variables"
-reason_word Steps = codes "steps"
-
-abbrev pub report_text : Report → List ℕ
-report_text (system a) = system_text a
-report_text (all_failed living) = head_line ++ line (codes "FAILED" ∷ decimal living ∷ []) ++ end_line
-report_text (spent_commits commits living) = head_line ++ line (codes "SPENT" ∷ codes "COMMITS" ∷ decimal commits ∷ decimal living ∷ []) ++ end_line
-report_text (spent_over reason living) = head_line ++ line (codes "SPENT" ∷ codes "OVER" ∷ reason_word reason ∷ decimal living ∷ []) ++ end_line
-
 -- ---- their forms
 
 abbrev pub is_between : ℕ → ℕ → ℕ → Bool
@@ -173,15 +148,10 @@ pub record IsAnswer (a : Answer) : Type 0 where
   pub cert : IsTrue (is_certificate a.problem.signature a.cert)
   pub trace : IsTraceForm a.problem.signature a.trace
 
-abbrev pub IsReport : Report → Type 0
-IsReport (system a) = IsAnswer a
-IsReport (all_failed living) = Unit {0}
-IsReport (spent_commits commits living) = Unit {0}
-IsReport (spent_over reason living) = Unit {0}
-
-pub record AnswerSpelled (bytes : List ℕ) (r : Report) : Type 0 where
-  pub form : IsReport r
-  pub spelling : bytes ≡ report_text r
+-- the bytes are the text of the system
+pub record AnswerSpelled (bytes : List ℕ) (a : Answer) : Type 0 where
+  pub form : IsAnswer a
+  pub spelling : bytes ≡ system_text a
 
 -- the texts of systems, which alone are read
 abbrev pub IsSystemText : List ℕ → Type 0
@@ -198,19 +168,13 @@ IsBadTraceLine sig bytes n = IsBadLine (λ text. (t : List TraceStep) × IsTrace
 abbrev pub CertSpelled : Signature → List ℕ → Certificate → Type 0
 CertSpelled sig bytes c = IsTrue (is_certificate sig c) × (bytes ≡ cert_text sig c)
 
--- ---- what the check of an answer writes
+-- ---- answers with one rule
 
-abbrev pub reject_word : Reject → List ℕ
-reject_word BadStep = codes "badstep"
-reject_word Untraced = codes "untraced"
-reject_word NotOriented = codes "notoriented"
-reject_word PairLarge = codes "pairlarge"
-reject_word PairSteps = codes "pairsteps"
-reject_word NotJoined = codes "notjoined"
-reject_word EquationLarge = codes "equationlarge"
-reject_word EquationSteps = codes "equationsteps"
-reject_word NotProved = codes "notproved"
-
-abbrev pub checked_text : Checked → List ℕ
-checked_text Accepted = line (codes "ACCEPTED" ∷ [])
-checked_text (Rejected reason n) = line (codes "REJECTED" ∷ reject_word reason ∷ decimal n ∷ [])
+-- the system of this one rule, which an interpretation orders, from the pair of the first equation
+abbrev pub one_rule_answer : Problem → Rule → Interpretation → Pair → Answer
+one_rule_answer problem rule i pair = record {
+  problem = problem;
+  rules = (rule, 1) ∷ [];
+  cert = Linear i;
+  trace = record { origin = Input 1; pair = pair } ∷ [];
+}

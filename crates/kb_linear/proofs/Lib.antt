@@ -1,0 +1,9 @@
+pub mod Weights
+pub mod Values
+pub mod Places
+pub mod Within
+pub mod Between
+pub mod Searching
+pub mod Sorted
+pub mod Members
+pub mod Ready

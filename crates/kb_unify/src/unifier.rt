@@ -1,0 +1,89 @@
+// Unification.
+ghost use Rattle.std.specs.Prelude.{ℕ, ◌≡◌, ◌<◌, length, IfOk, Ok, true, false, Contains, [], ◌∷◌};
+ghost use Rattle.kb_term.specs.Tree.{Tree, variables_of};
+ghost use Rattle.kb_term.specs.View.{tree_of};
+ghost use Rattle.kb_unify.specs.Unifier.{IsMostGeneralUnifier};
+ghost use Rattle.kb_unify.specs.Table.{IsTable, IsClosed, Solves, Equates};
+ghost use Rattle.kb_unify.specs.Reading.{IsTableOf};
+ghost use Rattle.kb_unify.specs.Answer.{HasVariablesBelow, unifier_limit, IsUnified, IsUnifyAnswer};
+
+use crate::extent::measure;
+use crate::fault::UnifyFault;
+use crate::reading::{limit_passed, read_off};
+use crate::subst::Subst;
+use crate::table::{Slot, close, flatten, reserve};
+use kb_term::{Limit, Memory, Term};
+use std::alloc::Global;
+
+/// What is found of two terms: that nothing unifies them, a limit that the most general unifier passes, or the unifier.
+#[derive(Drop)]
+pub enum Unified {
+    Clash,
+    Above(Limit),
+    Unifier(Subst),
+}
+
+/// The table of both terms.
+pub fn table_of(alloc: Global, a: &Term, b: &Term) -> Result<Vec<Slot>, Memory>
+    requires a_variables { HasVariablesBelow 128 (tree_of a.now) }
+    requires b_variables { HasVariablesBelow 128 (tree_of b.now) }
+    ensures { IfOk result (λ v. IsTableOf (tree_of a.now) (tree_of b.now) v.items) }
+{
+    let mut slots = Vec::new(alloc);
+    reserve(130, &mut slots)?;
+    flatten(a, 128, &mut slots)?;
+    flatten(b, 129, &mut slots)?;
+    Ok(slots)
+}
+
+/// Adds the equation of both terms: whether there is no clash.
+pub fn close_table(alloc: Global, slots: &mut Vec<Slot>) -> Result<bool, Memory>
+    requires table { IsTable slots.old.items }
+    requires long { 129 < length slots.old.items }
+    ensures closed { result ≡ Ok true → IsClosed slots.old.items slots.new.items ((128, 129) ∷ []) }
+    ensures clash { result ≡ Ok false → (v : ℕ → Tree) → Solves v slots.old.items → ¬ Equates v ((128, 129) ∷ []) }
+{
+    let mut pairs = Vec::new(alloc);
+    pairs.push((128, 129))?;
+    close(slots, &mut pairs)
+}
+
+/// The most general unifier, or what stands in its place.
+pub fn solve(alloc: Global, a: &Term, b: &Term) -> Result<Unified, Memory>
+    requires a_variables { HasVariablesBelow 128 (tree_of a.now) }
+    requires b_variables { HasVariablesBelow 128 (tree_of b.now) }
+    ensures { IfOk result (λ u. IsUnified (tree_of a.now) (tree_of b.now) u) }
+{
+    let mut slots = table_of(alloc, a, b)?;
+    if !close_table(alloc, &mut slots)? {
+        return Ok(Unified::Clash);
+    }
+    match measure(alloc, &slots)? {
+        None => Ok(Unified::Clash),
+        Some(extents) => match limit_passed(&extents) {
+            Some(limit) => Ok(Unified::Above(limit)),
+            None => Ok(Unified::Unifier(read_off(alloc, &slots, &extents)?)),
+        },
+    }
+}
+
+/// A most general unifier, fully applied; none where there is no unifier.
+pub fn unify(alloc: Global, a: &Term, b: &Term) -> Result<Option<Subst>, UnifyFault>
+    requires a_variables { HasVariablesBelow 128 (tree_of a.now) }
+    requires b_variables { HasVariablesBelow 128 (tree_of b.now) }
+    ensures { IsUnifyAnswer (tree_of a.now) (tree_of b.now) result }
+{
+    match solve(alloc, a, b) {
+        Err(_) => Err(UnifyFault::Memory),
+        Ok(Unified::Clash) => Ok(None),
+        Ok(Unified::Above(limit)) => Err(UnifyFault::Large(limit)),
+        Ok(Unified::Unifier(m)) => Ok(Some(m)),
+    }
+}
+
+/// Most general unifiers are one up to renaming, so any two of the same terms pass one limit: no answer of `unify`
+/// depends on which of them is found.
+pub fn unifiers_alike()
+    ensures { (m k : ℕ → Tree) (s t : Tree) → IsMostGeneralUnifier m s t → IsMostGeneralUnifier k s t → unifier_limit m s t ≡ unifier_limit k s t }
+{
+}
