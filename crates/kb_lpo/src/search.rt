@@ -44,11 +44,11 @@ fn propagate(known: &mut Known, rules: &[Rule]) -> bool
     ensures { (prec : List ℕ) → Fits known.old prec → LpoOrients prec rules.now → IsTrue result × Fits known.new prec }
 {
     for _ in 0..576 {
-        let before = *known;
+        let before = known.records;
         if !force_all(known, rules) {
             return false;
         }
-        if before == *known {
+        if known.records == before {
             return true;
         }
     }
@@ -77,7 +77,7 @@ fn put_above(known: &mut Known, symbols: &[Symbol], f: Symbol, g: Symbol) -> boo
     if is_listed(symbols, g) {
         return true;
     }
-    known.learn(f, g)
+    known.record(f, g)
 }
 
 /// Records that `f` is above each symbol that is not listed: false where this cannot be.
@@ -100,8 +100,12 @@ fn place_next(known: &mut Known, rules: &[Rule], symbols: &[Symbol], f: Symbol) 
     if is_listed(symbols, f) {
         return false;
     }
+    let before = known.records;
     if !put_next(known, symbols, f) {
         return false;
+    }
+    if known.records == before {
+        return true;
     }
     propagate(known, rules)
 }
