@@ -1,1 +1,2 @@
 mod OrderRows
+pub mod Parts
