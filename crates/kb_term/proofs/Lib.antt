@@ -18,3 +18,8 @@ pub mod Variants
 pub mod CanonicalPairs
 pub mod NameList
 pub mod OwnPair
+pub mod Replaced
+pub mod Limited
+pub mod Both
+pub mod VariantTests
+pub mod Bounded

@@ -10,3 +10,6 @@ pub mod First
 pub mod View
 pub mod Coding
 pub mod Falls
+pub mod Made
+pub mod Paired
+pub mod TermOrder

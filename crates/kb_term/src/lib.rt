@@ -1,6 +1,8 @@
 //! Terms, pairs, rules, signatures and problems.
 #![tactic(auto)]
 
+mod fault;
+mod laws;
 mod limit;
 mod limits;
 mod memory;
@@ -10,17 +12,27 @@ mod origin;
 mod pair;
 mod position;
 mod problem;
+mod replacement;
 mod rule;
 mod signature;
+mod subst;
 mod term;
+mod variables;
+mod variant;
 
+pub use fault::TermFault;
+pub use laws::canonical_pairs_tell_equations;
 pub use limit::Limit;
 pub use limits::{MAX_DEPTH, MAX_SIZE, pair_limit, term_limit};
 pub use memory::Memory;
 pub use origin::{Found, Origin, RuleRef};
 pub use pair::{Pair, canonical};
-pub use position::Position;
+pub use position::{Position, subterm};
 pub use problem::Problem;
+pub use replacement::replace;
 pub use rule::{Rule, rule_of};
 pub use signature::Signature;
-pub use term::{Symbol, Term, Terms, compare, depth, size};
+pub use subst::{Subst, apply};
+pub use term::{Symbol, Term, Terms, compare, depth, size, total_size};
+pub use variables::{apart, has_variables_below, variable_bound};
+pub use variant::is_variant;
