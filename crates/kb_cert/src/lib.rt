@@ -3,6 +3,8 @@
 
 mod certificate;
 mod order;
+mod text;
 
 pub use certificate::Certificate;
 pub use order::{orients, search, search_from};
+pub use text::cert_text;
