@@ -1,1 +1,3 @@
 mod OrderRows
+pub mod Parts
+pub mod Texts

@@ -1,5 +1,5 @@
 -- The family of orders of a signature, and its first member that orients given rules.
-use Rattle.std.specs.Prelude.{List, map, length, ◌++◌, Contains, All, Option}
+use Rattle.std.specs.Prelude.{List, ◌∷◌, map, length, ◌++◌, ◌≡◌, Contains, All, Option}
 use Rattle.kb_term.specs.First.{IsFirst}
 use Rattle.kb_term.specs.Tree.{Tree}
 use Rattle.kb_term.specs.Rule.{Rule}
@@ -31,3 +31,8 @@ IsOrderable signature rules = (c : Certificate) × Contains (family signature) c
 -- the earliest member of the family that orders the rules
 abbrev pub IsFirstOrder : Signature → List Rule → Option Certificate → Type 0
 IsFirstOrder signature rules = IsFirst (λ c. Orders c rules) (family signature)
+
+-- start is a member of the family, and none before it orders the rules
+abbrev pub IsLowerBound : Signature → List Rule → Certificate → Type 0
+IsLowerBound signature rules start =
+    (before : List Certificate) × (after : List Certificate) × (family signature ≡ before ++ start ∷ after) × All (λ c. ¬ Orders c rules) before

@@ -7,3 +7,4 @@ pub mod Searching
 pub mod Sorted
 pub mod Members
 pub mod Ready
+pub mod TwoSymbols

@@ -16,8 +16,8 @@ use Rattle.std.specs.Prelude.{Vec}
 use Rattle.std.specs.declared.alloc.Global.{Global}
 use Rattle.kb_linear.specs.Limits.{interpretation_of}
 use Rattle.kb_linear.specs.LinearOrder.{Interpretation}
-use Rattle.kb_linear.specs.Interpretations.{interpretations_to, LinearOrients, top_constant, interpretations, interpretations_up_to}
-use Rattle.kb_linear.specs.Numbers.{numbers_of, shape_of, uniform, IsWithin, IsMember, AreBounds, low_of, high_of, IsAt, IsStartAt, IsSearched, NoneLess, IsStart}
+use Rattle.kb_linear.specs.Interpretations.{interpretations_to, LinearOrients, IsLowerBound, top_constant, interpretations, interpretations_up_to}
+use Rattle.kb_linear.specs.Numbers.{numbers_of, shape_of, uniform, IsWithin, IsMember, AreBounds, low_of, high_of, IsAt, IsStartAt, IsSearched, NoneLess}
 use Rattle.kb_linear.specs.declared.search.Bounds.{Bounds}
 use Rattle.kb_linear.specs.declared.search.Space.{Space}
 use Rattle.kb_linear.proofs.Members.{IsTried, length-replicate, within_append, tried_to, tried_small, first_tried_of, none_tried_of, tried_from, none_less}
@@ -173,20 +173,20 @@ is_for sig top bounds space lows highs s l h ls hs b m = record {
 }
 
 -- a start is one of what is tried, and nothing before it by its numbers orients the rules
-start_contained : (sig : Signature) (rules : List Rule) (start : Interpretation) → IsStart sig rules start → Contains (interpretations sig) start
+start_contained : (sig : Signature) (rules : List Rule) (start : Interpretation) → IsLowerBound sig rules start → Contains (interpretations sig) start
 start_contained sig rules start (before, after, e, n) = subst (λ z. Contains z start) (sym e) (Contains-append_right before (start ∷ after) start (contains_first start after))
 
-pub start_length : (sig : Signature) (rules : List Rule) (start : Interpretation) → IsStart sig rules start → length (numbers_of start) ≡ length sig + sum_by (λ (f : SymbolEntry). f.arity) sig
+pub start_length : (sig : Signature) (rules : List Rule) (start : Interpretation) → IsLowerBound sig rules start → length (numbers_of start) ≡ length sig + sum_by (λ (f : SymbolEntry). f.arity) sig
 start_length sig rules start s = go (top_constant sig) (start_contained sig rules start s)
   where
     go : (top : Option ℕ) → Contains (interpretations_up_to sig top) start → length (numbers_of start) ≡ length sig + sum_by (λ (f : SymbolEntry). f.arity) sig
     go None c = absurd (omega arith)
     go (Some top) c = sym (within_lengths (numbers_of (uniform sig 0 1)) (numbers_of (uniform sig top 2)) (numbers_of start) (tried_from sig top start c).within).0 ∙ numbers_count sig 0 1
 
-pub start_tried : (sig : Signature) (rules : List Rule) (start : Interpretation) (top : ℕ) → Some top ≡ top_constant sig → IsStart sig rules start → IsTried sig top start
+pub start_tried : (sig : Signature) (rules : List Rule) (start : Interpretation) (top : ℕ) → Some top ≡ top_constant sig → IsLowerBound sig rules start → IsTried sig top start
 start_tried sig rules start top e s = tried_from sig top start (subst (λ t. Contains (interpretations_up_to sig t) start) (sym e) (start_contained sig rules start s))
 
-pub start_first : (sig : Signature) (rules : List Rule) (start : Interpretation) (top : ℕ) → Some top ≡ top_constant sig → IsStart sig rules start → NoneLess rules sig top (numbers_of start)
+pub start_first : (sig : Signature) (rules : List Rule) (start : Interpretation) (top : ℕ) → Some top ≡ top_constant sig → IsLowerBound sig rules start → NoneLess rules sig top (numbers_of start)
 start_first sig rules start top e s =
     let d : interpretations_to sig top ≡ s.0 ++ start ∷ s.1 = ap (interpretations_up_to sig) e ∙ s.2 in
     λ j c l. none_less sig top rules start s.0 s.1 d s.3 (start_tried sig rules start top e s) j (tried_from sig top j c) l

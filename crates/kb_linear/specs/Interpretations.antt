@@ -1,5 +1,5 @@
 -- The linear interpretations that are tried, and the first one that orients given rules.
-use Rattle.std.specs.Prelude.{ℕ, ◌+◌, ◌*◌, ◌^◌, cond, nat_le, List, [], ◌∷◌, map, length, replicate, sum_by, All, Option, Some, None}
+use Rattle.std.specs.Prelude.{ℕ, ◌+◌, ◌*◌, ◌^◌, cond, nat_le, List, [], ◌∷◌, ◌++◌, ◌≡◌, map, length, replicate, sum_by, All, Option, Some, None}
 use Rattle.std.specs.List.{flat_map, range_with_len}
 use Rattle.kb_term.specs.Rule.{Rule}
 use Rattle.kb_term.specs.Signature.{Signature, SymbolEntry}
@@ -37,3 +37,8 @@ interpretations signature = interpretations_up_to signature (top_constant signat
 -- the interpretation makes left greater than right in each rule
 abbrev pub LinearOrients : Interpretation → List Rule → Type 0
 LinearOrients i rules = All (λ (rule : Rule). LinearGreater i rule.left rule.right) rules
+
+-- start is one of the interpretations that are tried, and none before it orients the rules
+abbrev pub IsLowerBound : Signature → List Rule → Interpretation → Type 0
+IsLowerBound signature rules start =
+    (before : List Interpretation) × (after : List Interpretation) × (interpretations signature ≡ before ++ start ∷ after) × All (λ i. ¬ LinearOrients i rules) before

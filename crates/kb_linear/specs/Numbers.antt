@@ -3,7 +3,7 @@ use Rattle.std.specs.Prelude.{ℕ, ◌≤◌, ◌<◌, ◌≡◌, ◌⊎◌, Boo
 use Rattle.kb_term.specs.Rule.{Rule}
 use Rattle.kb_term.specs.Signature.{Signature, SymbolEntry}
 use Rattle.kb_linear.specs.LinearOrder.{Interpretation}
-use Rattle.kb_linear.specs.Interpretations.{LinearOrients, interpretations, interpretations_to}
+use Rattle.kb_linear.specs.Interpretations.{LinearOrients, interpretations_to}
 use Rattle.kb_linear.specs.Limits.{IsSmall, interpretation_of}
 use Rattle.kb_linear.specs.declared.search.Bounds.{Bounds}
 use Rattle.kb_linear.specs.declared.search.Space.{Space}
@@ -88,8 +88,3 @@ IsSearched rules shape bounds k old new false =
 abbrev pub NoneLess : List Rule → Signature → ℕ → List ℕ → Type 0
 NoneLess rules signature top list =
     (i : Interpretation) → Contains (interpretations_to signature top) i → IsLess (numbers_of i) list → ¬ LinearOrients i rules
-
--- start is tried, and nothing that is tried before it orients the rules
-abbrev pub IsStart : Signature → List Rule → Interpretation → Type 0
-IsStart signature rules start =
-    (before : List Interpretation) × (after : List Interpretation) × (interpretations signature ≡ before ++ start ∷ after) × All (λ i. ¬ LinearOrients i rules) before

@@ -2,9 +2,9 @@
 ghost use Rattle.std.specs.Prelude.{ℕ, ◌≡◌, ◌≤◌, ◌<◌, ◌+◌, length, true, false, IfOk, slice_index, sum_by};
 ghost use Rattle.kb_term.specs.First.{IsFirst};
 ghost use Rattle.kb_term.specs.Signature.{SymbolEntry};
-ghost use Rattle.kb_linear.specs.Interpretations.{LinearOrients, interpretations, interpretations_to, top_constant as top_constant_of};
+ghost use Rattle.kb_linear.specs.Interpretations.{LinearOrients, IsLowerBound, interpretations, interpretations_to, top_constant as top_constant_of};
 ghost use Rattle.kb_linear.specs.Limits.{AreMeasurable, interpretation_of};
-ghost use Rattle.kb_linear.specs.Numbers.{shape_of, numbers_of, uniform, low_of, IsWithin, NoneLess, AreBounds, IsAt, IsStartAt, IsSearched, IsStart};
+ghost use Rattle.kb_linear.specs.Numbers.{shape_of, numbers_of, uniform, low_of, IsWithin, NoneLess, AreBounds, IsAt, IsStartAt, IsSearched};
 
 use crate::interp::Interp;
 use crate::numbers::{numbers, set_number, uniform_rows};
@@ -142,11 +142,11 @@ pub fn search_linear_from(
     alloc: Global,
     sig: &Signature,
     rules: &[Rule],
-    start: &Interp,
+    start: Interp,
 ) -> Result<Option<Interp>, Memory>
     requires few { length sig.now ≤ 24 }
     requires measurable { AreMeasurable rules.now }
-    requires start { IsStart sig.now rules.now start.now }
+    requires start { IsLowerBound sig.now rules.now start }
     ensures { IfOk result (λ found. IsFirst (λ i. LinearOrients i rules.now) (interpretations sig.now) found) }
 {
     let low = uniform_rows(alloc, sig, 0, 1)?;

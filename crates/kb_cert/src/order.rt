@@ -1,0 +1,77 @@
+// The order of a certificate, and the search of the family.
+ghost use Rattle.std.specs.Prelude.{◌≡◌, ◌≤◌, length, option_map, IfOk, IsTrue, ◌↔◌};
+ghost use Rattle.kb_linear.specs.Limits.{IsMeasurable, AreMeasurable};
+ghost use Rattle.kb_cert.specs.Family.{IsGreater, Orders, IsFirstOrder, IsLowerBound};
+
+use crate::certificate::Certificate;
+use kb_linear::{Interp, linear_greater, search_linear, search_linear_from};
+use kb_lpo::{lpo_greater, search_lpo, search_lpo_from};
+use kb_term::{Memory, Rule, Signature};
+use std::alloc::Global;
+
+/// Whether the certificate makes the left side of the rule greater than its right side.
+fn is_greater(c: &Certificate, rule: &Rule) -> bool
+    requires left { IsMeasurable rule.now.left }
+    requires right { IsMeasurable rule.now.right }
+    ensures { IsTrue result ↔ IsGreater c.now rule.now.left rule.now.right }
+{
+    match c {
+        Certificate::Lpo(prec) => lpo_greater(prec, rule.left(), rule.right()),
+        Certificate::Linear(i) => linear_greater(i, rule.left(), rule.right()),
+    }
+}
+
+/// Whether the certificate makes the left side of each rule greater than its right side.
+pub fn orients(c: &Certificate, rules: &[Rule]) -> bool
+    requires { AreMeasurable rules.now }
+    ensures { IsTrue result ↔ Orders c.now rules.now }
+{
+    for rule in rules {
+        if !is_greater(c, rule) {
+            return false;
+        }
+    }
+    true
+}
+
+fn linear(found: Option<Interp>) -> Option<Certificate>
+    ensures { result ≡ option_map Certificate.Linear found }
+{
+    match found {
+        Some(i) => Some(Certificate::Linear(i)),
+        None => None,
+    }
+}
+
+/// The first member of the family that orders all rules; none where none does.
+pub fn search(alloc: Global, sig: &Signature, rules: &[Rule]) -> Result<Option<Certificate>, Memory>
+    requires few { length sig.now ≤ 24 }
+    requires measurable { AreMeasurable rules.now }
+    ensures { IfOk result (λ found. IsFirstOrder sig.now rules.now found) }
+{
+    match search_lpo(alloc, sig, rules)? {
+        Some(prec) => Ok(Some(Certificate::Lpo(prec))),
+        None => Ok(linear(search_linear(alloc, sig, rules)?)),
+    }
+}
+
+/// The same, where no member of the family before `start` orders all rules, as where `start` is the first for some of them.
+pub fn search_from(
+    alloc: Global,
+    sig: &Signature,
+    rules: &[Rule],
+    start: Certificate,
+) -> Result<Option<Certificate>, Memory>
+    requires few { length sig.now ≤ 24 }
+    requires measurable { AreMeasurable rules.now }
+    requires start { IsLowerBound sig.now rules.now start }
+    ensures { IfOk result (λ found. IsFirstOrder sig.now rules.now found) }
+{
+    match start {
+        Certificate::Lpo(least) => match search_lpo_from(alloc, sig, rules, least)? {
+            Some(prec) => Ok(Some(Certificate::Lpo(prec))),
+            None => Ok(linear(search_linear(alloc, sig, rules)?)),
+        },
+        Certificate::Linear(least) => Ok(linear(search_linear_from(alloc, sig, rules, least)?)),
+    }
+}

@@ -1,0 +1,73 @@
+// The text of a certificate.
+ghost use Rattle.std.specs.Prelude.{◌≡◌, ◌++◌, ℕ, OnOk, IfOk, IsTrue, length, map, decimal, All, ◌<◌};
+ghost use Rattle.kb_term.specs.Signature.{SymbolEntry};
+ghost use Rattle.kb_term.specs.declared.term.Symbol.{Symbol};
+ghost use Rattle.kb_linear.specs.Limits.{interpretation_of};
+ghost use Rattle.kb_cert.specs.CertificateText.{cert_text as text_of, is_certificate, each_behind, name_at, interp_text};
+
+use crate::certificate::Certificate;
+use kb_term::{Memory, Signature, Symbol};
+use std::alloc::Global;
+
+fn push_number(alloc: Global, out: &mut Vec<u8>, n: u8) -> Result<(), Memory>
+    ensures { OnOk result (out.new.items ≡ out.old.items ++ decimal n) }
+{
+    let text = format!(in alloc; "{n}")?;
+    out.extend_from_slice(text.as_bytes())?;
+    Ok(())
+}
+
+/// Adds the constant and the coefficients, parted by commas.
+fn push_row(alloc: Global, out: &mut Vec<u8>, row: &(u8, Vec<u8>)) -> Result<(), Memory>
+    ensures { OnOk result (out.new.items ≡ out.old.items ++ interp_text (row.now.0, row.now.1.items)) }
+{
+    push_number(alloc, out, row.0)?;
+    for coefficient in &row.1 {
+        out.push(b',')?;
+        push_number(alloc, out, *coefficient)?;
+    }
+    Ok(())
+}
+
+/// Adds each row behind a space.
+fn push_rows(alloc: Global, out: &mut Vec<u8>, rows: &[(u8, Vec<u8>)]) -> Result<(), Memory>
+    ensures { OnOk result (out.new.items ≡ out.old.items ++ each_behind 32 (map interp_text (interpretation_of rows.now))) }
+{
+    for row in rows {
+        out.push(b' ')?;
+        push_row(alloc, out, row)?;
+    }
+    Ok(())
+}
+
+/// Adds the name of each symbol behind a space.
+fn push_names(out: &mut Vec<u8>, sig: &Signature, symbols: &[Symbol]) -> Result<(), Memory>
+    requires { All (λ (f : Symbol). f.0 < length sig.now) symbols.now }
+    ensures { OnOk result (out.new.items ≡ out.old.items ++ each_behind 32 (map (λ (f : Symbol). name_at (map (λ (e : SymbolEntry). e.name) sig.now) f.0) symbols.now)) }
+{
+    for f in symbols {
+        out.push(b' ')?;
+        out.extend_from_slice(sig.name(*f))?;
+    }
+    Ok(())
+}
+
+/// The certificate as one line without its line feed: `LPO` and the symbols' names, the greatest first, or `LINEAR` and each
+/// symbol's constant and coefficients.
+pub fn cert_text(alloc: Global, c: &Certificate, sig: &Signature) -> Result<Vec<u8>, Memory>
+    requires { IsTrue (is_certificate sig.now c.now) }
+    ensures { IfOk result (λ text. text.items ≡ text_of sig.now c.now) }
+{
+    match c {
+        Certificate::Lpo(prec) => {
+            let mut out = Vec::from_slice(alloc, b"LPO")?;
+            push_names(&mut out, sig, prec.symbols())?;
+            Ok(out)
+        }
+        Certificate::Linear(i) => {
+            let mut out = Vec::from_slice(alloc, b"LINEAR")?;
+            push_rows(alloc, &mut out, i.rows())?;
+            Ok(out)
+        }
+    }
+}
