@@ -1,7 +1,10 @@
 -- Instances of terms: one substitution after another, and substitutions that agree on a term's variables.
-use Rattle.std.proofs.Common.{ℕ, ◌≡◌, ◌⊎◌, inl, inr, refl, ap, ap₂, subst, ⊎_elim}
+use Rattle.std.proofs.Common.{ℕ, List, [], ◌∷◌, ◌≡◌, ◌⊎◌, inl, inr, refl, ap, ap₂, subst, ⊎_elim}
+use Rattle.std.specs.Prelude.{map}
 use Rattle.std.proofs.lemmas.Bool.{cases_eq}
-use Rattle.kb_term.specs.Tree.{Tree, variable, apply, Trees, no_trees, more_trees}
+use Rattle.kb_term.specs.Tree.{Tree, variable, apply, Trees, no_trees, more_trees, trees_of}
+use Rattle.kb_term.specs.View.{tree_of}
+use Rattle.kb_term.specs.declared.term.Term.{Term}
 use Rattle.kb_term.specs.Substitution.{instance, instances}
 use Rattle.kb_term.specs.Rule.{Rule}
 use Rattle.kb_term.proofs.Steps.{Occurs, OccursIn}
@@ -78,3 +81,7 @@ rules_decide A B = both (trees_decide A.left B.left) (trees_decide A.right B.rig
     both (inl p) (inl q) = inl (rule_eq A B p q)
     both (inl p) (inr q) = inr (λ e. q (ap (λ r. r.right) e))
     both (inr p) q = inr (λ e. p (ap (λ r. r.left) e))
+
+pub instances-map : (m : ℕ → Tree) (ts : List Term) → instances m (trees_of (map tree_of ts)) ≡ trees_of (map (λ u. instance m (tree_of u)) ts)
+instances-map m [] = refl
+instances-map m (t ∷ ts) = ap (more_trees (instance m (tree_of t))) (instances-map m ts)

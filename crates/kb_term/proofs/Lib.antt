@@ -18,3 +18,5 @@ pub mod Variants
 pub mod CanonicalPairs
 pub mod NameList
 pub mod OwnPair
+pub mod Replaced
+pub mod Limited

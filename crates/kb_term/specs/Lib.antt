@@ -10,3 +10,4 @@ pub mod First
 pub mod View
 pub mod Coding
 pub mod Falls
+pub mod Made

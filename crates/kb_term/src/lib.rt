@@ -1,6 +1,7 @@
 //! Terms, pairs, rules, signatures and problems.
 #![tactic(auto)]
 
+mod fault;
 mod limit;
 mod limits;
 mod memory;
@@ -10,17 +11,22 @@ mod origin;
 mod pair;
 mod position;
 mod problem;
+mod replacement;
 mod rule;
 mod signature;
+mod subst;
 mod term;
 
+pub use fault::TermFault;
 pub use limit::Limit;
 pub use limits::{MAX_DEPTH, MAX_SIZE, pair_limit, term_limit};
 pub use memory::Memory;
 pub use origin::{Found, Origin, RuleRef};
 pub use pair::{Pair, canonical};
-pub use position::Position;
+pub use position::{Position, subterm};
 pub use problem::Problem;
+pub use replacement::replace;
 pub use rule::{Rule, rule_of};
 pub use signature::Signature;
+pub use subst::{Subst, apply};
 pub use term::{Symbol, Term, Terms, compare, depth, size};

@@ -18,9 +18,9 @@ pub const MAX_DEPTH: u32 = 64;
 pub fn term_limit(t: &Term) -> Option<Limit>
     ensures { result ≡ limit_of_term (tree_of t.now) }
 {
-    if size_up_to(t, 513) > 512 {
+    if size_up_to(t, MAX_SIZE + 1) > MAX_SIZE {
         Some(Limit::Size)
-    } else if depth_up_to(t, 65) > 64 {
+    } else if depth_up_to(t, MAX_DEPTH + 1) > MAX_DEPTH {
         Some(Limit::Depth)
     } else {
         None
@@ -31,10 +31,10 @@ pub fn term_limit(t: &Term) -> Option<Limit>
 pub fn pair_limit(a: &Term, b: &Term) -> Option<Limit>
     ensures { result ≡ limit_of_pair (tree_of a.now) (tree_of b.now) }
 {
-    if size_up_to(a, 513) > 512 || size_up_to(b, 513) > 512 {
+    if size_up_to(a, MAX_SIZE + 1) > MAX_SIZE || size_up_to(b, MAX_SIZE + 1) > MAX_SIZE {
         return Some(Limit::Size);
     }
-    if depth_up_to(a, 65) > 64 || depth_up_to(b, 65) > 64 {
+    if depth_up_to(a, MAX_DEPTH + 1) > MAX_DEPTH || depth_up_to(b, MAX_DEPTH + 1) > MAX_DEPTH {
         return Some(Limit::Depth);
     }
     if Names::of(a, b).len() > 64 {
@@ -44,7 +44,7 @@ pub fn pair_limit(a: &Term, b: &Term) -> Option<Limit>
 }
 
 /// The size, or the cap where the size is greater. It looks no further than the cap asks.
-fn size_up_to(t: &Term, cap: u32) -> u32
+pub(crate) fn size_up_to(t: &Term, cap: u32) -> u32
     ensures { result ≡ min (tree_size (tree_of t.now)) cap }
 {
     if cap == 0 {
@@ -63,7 +63,7 @@ fn size_up_to(t: &Term, cap: u32) -> u32
 }
 
 /// The depth, or the cap where the depth is greater.
-fn depth_up_to(t: &Term, cap: u32) -> u32
+pub(crate) fn depth_up_to(t: &Term, cap: u32) -> u32
     ensures { result ≡ min (tree_depth (tree_of t.now)) cap }
 {
     if cap == 0 {

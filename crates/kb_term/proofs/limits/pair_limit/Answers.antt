@@ -16,10 +16,10 @@ pub returns-then-len-gt64 : goal.returns-then-len-gt64
 returns-then-len-gt64 c =
     let s = tree_of c.args.a.now in
     let t = tree_of c.args.b.now in
-    let a = not_less 512 (tree_size s) (omega (arith, c.size_up_to.ensures, c.if-size_up_to-gt512.false)) in
-    let b = not_less 512 (tree_size t) (omega (arith, c.size_up_to-else-size_up_to-gt512.ensures, c.if-size_up_to-gt512-2.false)) in
-    let d = not_less 64 (tree_depth s) (omega (arith, c.depth_up_to.ensures, c.if-depth_up_to-gt64.false)) in
-    let e = not_less 64 (tree_depth t) (omega (arith, c.depth_up_to-else-depth_up_to-gt64.ensures, c.if-depth_up_to-gt64-2.false)) in
+    let a = not_less 512 (tree_size s) (omega (arith, c.size_up_to.ensures, c.if-size_up_to-gt-MAX_SIZE.false)) in
+    let b = not_less 512 (tree_size t) (omega (arith, c.size_up_to-else-size_up_to-gt-MAX_SIZE.ensures, c.if-size_up_to-gt-MAX_SIZE-2.false)) in
+    let d = not_less 64 (tree_depth s) (omega (arith, c.depth_up_to.ensures, c.if-depth_up_to-gt-MAX_DEPTH.false)) in
+    let e = not_less 64 (tree_depth t) (omega (arith, c.depth_up_to-else-depth_up_to-gt-MAX_DEPTH.ensures, c.if-depth_up_to-gt-MAX_DEPTH-2.false)) in
     let many = less 64 (length (variables_of_pair s t)) (omega (arith, c.if-len-gt64.true, c.len.ensures.count, ap (length {A = ℕ}) c.of.ensures, length-take 65 (variables_of_pair s t))) in
     rw (a, b, d, e, many) refl
 
@@ -27,9 +27,9 @@ pub returns : goal.returns
 returns c =
     let s = tree_of c.args.a.now in
     let t = tree_of c.args.b.now in
-    let a = not_less 512 (tree_size s) (omega (arith, c.size_up_to.ensures, c.if-size_up_to-gt512.false)) in
-    let b = not_less 512 (tree_size t) (omega (arith, c.size_up_to-else-size_up_to-gt512.ensures, c.if-size_up_to-gt512-2.false)) in
-    let d = not_less 64 (tree_depth s) (omega (arith, c.depth_up_to.ensures, c.if-depth_up_to-gt64.false)) in
-    let e = not_less 64 (tree_depth t) (omega (arith, c.depth_up_to-else-depth_up_to-gt64.ensures, c.if-depth_up_to-gt64-2.false)) in
+    let a = not_less 512 (tree_size s) (omega (arith, c.size_up_to.ensures, c.if-size_up_to-gt-MAX_SIZE.false)) in
+    let b = not_less 512 (tree_size t) (omega (arith, c.size_up_to-else-size_up_to-gt-MAX_SIZE.ensures, c.if-size_up_to-gt-MAX_SIZE-2.false)) in
+    let d = not_less 64 (tree_depth s) (omega (arith, c.depth_up_to.ensures, c.if-depth_up_to-gt-MAX_DEPTH.false)) in
+    let e = not_less 64 (tree_depth t) (omega (arith, c.depth_up_to-else-depth_up_to-gt-MAX_DEPTH.ensures, c.if-depth_up_to-gt-MAX_DEPTH-2.false)) in
     let few = not_less 64 (length (variables_of_pair s t)) (omega (arith, c.if-len-gt64.false, c.len.ensures.count, ap (length {A = ℕ}) c.of.ensures, length-take 65 (variables_of_pair s t))) in
     rw (a, b, d, e, few) refl
