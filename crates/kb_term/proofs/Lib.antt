@@ -20,3 +20,6 @@ pub mod NameList
 pub mod OwnPair
 pub mod Replaced
 pub mod Limited
+pub mod Both
+pub mod VariantTests
+pub mod Bounded

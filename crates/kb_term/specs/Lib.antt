@@ -11,3 +11,5 @@ pub mod View
 pub mod Coding
 pub mod Falls
 pub mod Made
+pub mod Paired
+pub mod TermOrder

@@ -16,6 +16,8 @@ mod rule;
 mod signature;
 mod subst;
 mod term;
+mod variables;
+mod variant;
 
 pub use fault::TermFault;
 pub use limit::Limit;
@@ -30,3 +32,5 @@ pub use rule::{Rule, rule_of};
 pub use signature::Signature;
 pub use subst::{Subst, apply};
 pub use term::{Symbol, Term, Terms, compare, depth, size};
+pub use variables::{apart, has_variables_below, variable_bound};
+pub use variant::is_variant;

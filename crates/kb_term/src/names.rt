@@ -38,6 +38,18 @@ impl Names {
         names
     }
 
+    /// The names of the variables of the term.
+    pub(crate) fn of_term(t: &Term) -> Names
+        ensures { result ≡ take 65 (distinct (variables_of (tree_of t.now))) }
+    {
+        let mut names = Names {
+            items: [0; 65],
+            count: 0,
+        };
+        see(t, &mut names);
+        names
+    }
+
     /// How many names there are.
     pub(crate) fn len(&self) -> usize
         ensures count { result ≡ length self.now }

@@ -1,0 +1,12 @@
+use Rattle.std.proofs.Common.{◌≡◌, drop, length}
+use Rattle.kb_term.specs.Paired.{is_paired}
+use Rattle.kb_term.specs.View.{tree_of}
+use Rattle.kb_term.proofs.Both.{both}
+use Rattle.kb_term.proofs.variant.+paired.Given as goal
+
+-- the arguments so far are alike, so the rest decide
+abbrev pub invariant-loop-i : goal.invariant-loop-i
+invariant-loop-i l = record {
+  long : length l.ts-inside.items.items ≡ length l.us-inside.items.items;
+  rest : is_paired (tree_of l.a) (tree_of l.b) (tree_of l.s) (tree_of l.t) ≡ both (is_paired (tree_of l.a) (tree_of l.b)) (drop l.i l.ts-inside.items.items) (drop l.i l.us-inside.items.items);
+}
