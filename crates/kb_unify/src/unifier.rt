@@ -5,14 +5,14 @@ ghost use Rattle.kb_term.specs.View.{tree_of};
 ghost use Rattle.kb_unify.specs.Unifier.{IsMostGeneralUnifier};
 ghost use Rattle.kb_unify.specs.Table.{IsTable, IsClosed, Solves, Equates};
 ghost use Rattle.kb_unify.specs.Reading.{IsTableOf};
-ghost use Rattle.kb_unify.specs.Answer.{HasVariablesBelow, unifier_limit, IsUnified, IsUnifyAnswer};
+ghost use Rattle.kb_unify.specs.Answer.{unifier_limit, IsUnified, IsUnifyAnswer};
+ghost use Rattle.kb_term.specs.Tree.{HasVariablesBelow};
 
 use crate::extent::measure;
 use crate::fault::UnifyFault;
 use crate::reading::{limit_passed, read_off};
-use crate::subst::Subst;
 use crate::table::{Slot, close, flatten, reserve};
-use kb_term::{Limit, Memory, Term};
+use kb_term::{Limit, Memory, Subst, Term};
 use std::alloc::Global;
 
 /// What is found of two terms: that nothing unifies them, a limit that the most general unifier passes, or the unifier.
