@@ -67,17 +67,24 @@ pub fn solve(alloc: Global, a: &Term, b: &Term) -> Result<Unified, Memory>
     }
 }
 
-/// A most general unifier, fully applied; none where there is no unifier.
+/// A most general unifier of the two terms, fully applied: no variable that gets a term occurs in one. None where nothing
+/// makes the terms equal.
+///
+/// `Large(Size)` where the most general unifier gives a variable a term larger than 512, else `Large(Depth)` where it gives
+/// one a term deeper than 64. Sizes and depths are decided before any term is built, so the answer takes memory for
+/// the two terms and for what it gives, never for a term above the limits.
+///
+/// The terms are put as flat equations between places into one table, and equal places are united (Baader and Nipkow,
+/// Term Rewriting and All That, 4.8, unification of term graphs); each union takes one place or one node off the table.
 pub fn unify(alloc: Global, a: &Term, b: &Term) -> Result<Option<Subst>, UnifyFault>
     requires a_variables { HasVariablesBelow 128 (tree_of a.now) }
     requires b_variables { HasVariablesBelow 128 (tree_of b.now) }
     ensures { IsUnifyAnswer (tree_of a.now) (tree_of b.now) result }
 {
-    match solve(alloc, a, b) {
-        Err(_) => Err(UnifyFault::Memory),
-        Ok(Unified::Clash) => Ok(None),
-        Ok(Unified::Above(limit)) => Err(UnifyFault::Large(limit)),
-        Ok(Unified::Unifier(m)) => Ok(Some(m)),
+    match solve(alloc, a, b)? {
+        Unified::Clash => Ok(None),
+        Unified::Above(limit) => Err(UnifyFault::Large(limit)),
+        Unified::Unifier(m) => Ok(Some(m)),
     }
 }
 
