@@ -14,7 +14,8 @@ use Rattle.kb_term.proofs.Trees.{apply≢variable, variable-inj}
 use Rattle.kb_unify.proofs.Similar.{same_size, same_depth}
 use Rattle.kb_term.proofs.Instances.{instance-instance, instance-variable}
 use Rattle.kb_unify.proofs.Instances.{instance-agree, agree-instance}
-use Rattle.kb_overlap.proofs.Variants.{numbered_from_variants, apart_renaming, variables_of_pair_renamed}
+use Rattle.kb_term.proofs.Variants.{numbered_from_variants}
+use Rattle.kb_overlap.proofs.Variants.{apart_renaming, variables_of_pair_renamed}
 
 -- the number of a variable
 abbrev number_in : Tree → ℕ
@@ -41,10 +42,10 @@ module _ (d e : ℕ → Tree) (s t u v : Tree) (su : instance d s ≡ u) (us : i
   right = record { there = renames d e t v tv vt; back_again = renames e d v t vt tv }
 
   pub same_numbered : numbered s t ≡ numbered u v
-  same_numbered = numbered_from_variants s t u v (there d) (there e) left right
+  same_numbered = numbered_from_variants s t u v ((there d), (there e), left, right)
 
   pub same_canonical : canonical s t ≡ canonical u v
-  same_canonical = ap₂ lesser same_numbered (numbered_from_variants t s v u (there d) (there e) right left)
+  same_canonical = ap₂ lesser same_numbered (numbered_from_variants t s v u ((there d), (there e), right, left))
 
   same_count : length (variables_of_pair s t) ≡ length (variables_of_pair u v)
   same_count = sym (length-map (variables_of_pair s t) (there d)) ∙ ap length (sym (variables_of_pair_renamed (there d) s t (apart_renaming s t u v (there d) (there e) left right)) ∙ ap₂ variables_of_pair left.there right.there)

@@ -90,3 +90,8 @@ listed_position A false k d h = (k, h, get_or_any (function_positions_of A.left)
 -- the same, in a list of these positions
 pub listed_at : (A : Rule) (same : Bool) (ps : List (List ℕ)) → ps ≡ overlap_positions A same → (k : ℕ) (d : List ℕ) → k < length ps → Contains (function_positions_of A.left) (get_or ps k d)
 listed_at A same ps e k d h = subst (λ qs. k < length qs → Contains (function_positions_of A.left) (get_or qs k d)) (sym e) (listed_position A same k d) h
+
+-- few arguments of each argument
+pub all_few_arguments : (us : List Tree) → ((j : ℕ) → j < length us → HasFewArguments (get_or us j (variable 0))) → HaveFewArguments (trees_of us)
+all_few_arguments [] h = tt
+all_few_arguments (u ∷ us) h = (h 0 (omega arith), all_few_arguments us (λ j p. h (suc j) (omega (arith, p))))

@@ -18,7 +18,7 @@ use Rattle.kb_term.proofs.Instances.{instance-instance, instance-variable}
 use Rattle.kb_unify.proofs.Instances.{contains_decides, instance-agree, agree-instance}
 use Rattle.kb_unify.proofs.Similar.{AreSimilar, similar_map, similar_limit}
 use Rattle.kb_overlap.specs.Overlap.{IsRenamedApart, OverlapsAt, IsCriticalPair, overlap_limit, pair_or_limit, Overlap, IsOverlapOrLimit, HasNoOverlapAt, ListsOverlaps, IsOverlapList, canonical_sides, canonical_overlap}
-use Rattle.kb_overlap.proofs.Variants.{rename-rename, rename_agree, rename_same, turned_back, map_append, variables_renamed}
+use Rattle.kb_term.proofs.Variants.{rename-rename, rename_agree, rename_same, turned_back, map_append, variables_renamed}
 use Rattle.kb_overlap.proofs.Extents.{same_canonical, same_pair_limit, same_term_limit}
 use Rattle.kb_overlap.proofs.Subtrees.{some_same, replace-instance, subtree_variables}
 

@@ -8,3 +8,4 @@ mod positions;
 
 pub use alike::overlaps_alike;
 pub use overlap::{Overlap, overlaps};
+pub use positions::has_few_arguments;

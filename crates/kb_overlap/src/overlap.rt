@@ -1,5 +1,5 @@
 // Overlaps of two rules.
-ghost use Rattle.std.specs.Prelude.{ℕ, List, Option, Result, map, ◌≡◌, ◌+◌, ◌<◌, ◌≤◌, ◌^◌, Some, None, IfOk, IsSome, Contains, option_map};
+ghost use Rattle.std.specs.Prelude.{ℕ, List, Option, Result, map, ◌≡◌, ◌+◌, ◌<◌, ◌≤◌, ◌^◌, Some, None, IfOk, IsSome, IsTrue, Contains, option_map};
 ghost use Rattle.kb_term.specs.Tree.{Tree, tree_size};
 ghost use Rattle.kb_term.specs.View.{tree_of};
 ghost use Rattle.kb_term.specs.Position.{replace_at, subtree_at, function_positions_of};
@@ -139,4 +139,98 @@ pub fn overlaps(
         }
     }
     Ok(found)
+}
+
+#[cfg(test)]
+mod tests {
+    use super::*;
+    use crate::positions::has_few_arguments;
+    use kb_term::{Symbol, Terms, compare, has_variables_below};
+    use std::cmp::Ordering;
+
+    fn once(alloc: Global, f: u8, a: Term) -> Result<Term, Memory> {
+        let mut items = Vec::new(alloc);
+        items.push(a)?;
+        Ok(Term::App(Symbol(f), Terms::new(items)))
+    }
+
+    fn constant(alloc: Global, f: u8) -> Term {
+        Term::App(Symbol(f), Terms::new(Vec::new(alloc)))
+    }
+
+    /// The rule f(..f(x1)) -> a with f applied so many times.
+    fn nested(alloc: Global, times: u32) -> Result<Rule, Memory> {
+        let mut left = Term::Var(0);
+        for k in 0..times {
+            left = once(alloc, 0, left)?;
+        }
+        Ok(Rule::new(left, constant(alloc, 1)))
+    }
+
+    fn is_ready(rule: &Rule) -> bool
+        ensures variables { IsTrue result → AreVariablesBelow 64 rule.now }
+        ensures arguments { IsTrue result → HasFewArguments rule.now.left }
+    {
+        has_variables_below(64, rule.left())
+            && has_variables_below(64, rule.right())
+            && has_few_arguments(rule.left())
+    }
+
+    fn listed(
+        alloc: Global,
+        outer: &Rule,
+        inner: &Rule,
+        same: bool,
+    ) -> Result<Vec<Overlap>, Memory> {
+        if is_ready(outer) {
+            if is_ready(inner) {
+                return overlaps(alloc, outer, inner, same);
+            }
+        }
+        Err(Memory)
+    }
+
+    #[test]
+    fn a_rule_overlaps_itself_below_the_root(rt: HostRuntime) {
+        let alloc = rt.alloc();
+        let rule = nested(alloc, 2).expect(&rt, "memory");
+        let second = once(alloc, 0, constant(alloc, 1)).expect(&rt, "memory");
+        let found = listed(alloc, &rule, &rule, true).expect(&rt, "memory");
+        assert_eq!(rt; found.len(), 1);
+        for overlap in &found {
+            assert_eq!(rt; overlap.position.steps().len(), 1);
+            for step in overlap.position.steps() {
+                assert_eq!(rt; *step, 1);
+            }
+            assert!(rt; matches!(&overlap.sides, Ok(_)));
+            if let Ok((a, b)) = &overlap.sides {
+                assert!(rt; compare(a, rule.right()) == Ordering::Equal);
+                assert!(rt; compare(b, &second) == Ordering::Equal);
+            }
+        }
+    }
+
+    #[test]
+    fn two_rules_overlap_at_the_root_too(rt: HostRuntime) {
+        let alloc = rt.alloc();
+        let outer = nested(alloc, 2).expect(&rt, "memory");
+        let inner = nested(alloc, 1).expect(&rt, "memory");
+        let found = listed(alloc, &outer, &inner, false).expect(&rt, "memory");
+        assert_eq!(rt; found.len(), 2);
+    }
+
+    #[test]
+    fn a_peak_of_depth_65_is_too_deep(rt: HostRuntime) {
+        let alloc = rt.alloc();
+        let rule = nested(alloc, 40).expect(&rt, "memory");
+        let found = listed(alloc, &rule, &rule, true).expect(&rt, "memory");
+        assert_eq!(rt; found.len(), 39);
+        for overlap in &found {
+            if overlap.position.steps().len() < 24 {
+                assert!(rt; matches!(&overlap.sides, Ok(_)));
+            } else {
+                assert!(rt; matches!(&overlap.sides, Err(Limit::Depth)));
+            }
+        }
+    }
 }
