@@ -1,16 +1,10 @@
 -- Terms that are instances of each other are equally large and deep, have as many variables, and one numbered pair.
-use Rattle.std.proofs.Common.{ℕ, suc, ◌+◌, ◌≤◌, ◌≡◌, refl, sym, ap, ap₂, ◌∙◌, subst, arith, List, [], ◌∷◌, ◌++◌, map, length, Contains, Option, Some, None}
+use Rattle.std.proofs.Common.{ℕ, ◌≡◌, refl, sym, ap, ap₂, ◌∙◌, length}
 use Rattle.std.proofs.lemmas.List.{length-map}
-use Rattle.std.proofs.lemmas.List.Elements.{Contains-append_left, Contains-append_right}
-use Rattle.std.proofs.lemmas.Bool.{cases_eq}
-use Rattle.std.specs.Prelude.{Bool, true, false, cond, ◌||◌, max, nat_lt}
-use Rattle.std.specs.List.{list_any}
-use Rattle.kb_term.specs.Tree.{Tree, Trees, variable, apply, no_trees, more_trees, variables_of, variables_in, tree_size, trees_size, tree_depth, trees_depth, tree_eq}
-use Rattle.kb_term.specs.Substitution.{instance, instances, rename, IsRenaming}
-use Rattle.kb_term.specs.Pair.{Pair, numbered, canonical, canonical_pair, lesser, variables_of_pair, distinct, is_too_large, is_too_deep, term_limit, pair_limit, first_limit, limit_if}
-use Rattle.kb_term.specs.declared.limit.Limit.{Limit}
-use Rattle.kb_term.specs.declared.limit.Limit.TheVariants.{Size, Depth, Variables}
-use Rattle.kb_term.proofs.Trees.{apply≢variable, variable-inj}
+use Rattle.kb_term.specs.Tree.{Tree, variable, apply}
+use Rattle.kb_term.specs.Substitution.{instance, rename, IsRenaming}
+use Rattle.kb_term.specs.Pair.{numbered, canonical, lesser, variables_of_pair, term_limit, pair_limit}
+use Rattle.kb_term.proofs.Trees.{apply≢variable}
 use Rattle.kb_unify.proofs.Similar.{same_size, same_depth}
 use Rattle.kb_term.proofs.Instances.{instance-instance, instance-variable}
 use Rattle.kb_unify.proofs.Instances.{instance-agree, agree-instance}

@@ -1,10 +1,10 @@
 -- What unification says of the overlaps at one position.
-use Rattle.std.proofs.Common.{ℕ, ◌+◌, ◌-◌, ◌≤◌, ◌<◌, ◌≡◌, ◌⊎◌, inl, inr, refl, sym, ap, ap₂, ◌∙◌, subst, arith, List, [], ◌∷◌, ◌++◌, map, Contains, Option, Some, None, Result, Ok, Err, Bool, true, false, cond}
+use Rattle.std.proofs.Common.{ℕ, ◌+◌, ◌-◌, ◌≤◌, ◌<◌, ◌≡◌, inl, inr, refl, sym, ap, ap₂, ◌∙◌, subst, arith, List, [], ◌∷◌, ◌++◌, map, Contains, Option, Some, None, Result, Ok, Err, Bool, true, false}
 use Rattle.std.proofs.lemmas.List.Elements.{Contains-append_left, Contains-append_right, Contains-append_cases}
 use Rattle.std.specs.Prelude.{◌||◌}
 use Rattle.std.specs.List.{list_any}
 use Rattle.kb_term.specs.Tree.{Tree, variable, variables_of, tree_size, tree_depth}
-use Rattle.kb_term.specs.Substitution.{instance, rename, IsRenaming}
+use Rattle.kb_term.specs.Substitution.{instance, rename}
 use Rattle.kb_term.specs.Position.{subtree_at, replace_at, function_positions_of}
 use Rattle.kb_term.specs.Pair.{is_too_large, is_too_deep, first_limit, limit_if, term_limit, pair_limit}
 use Rattle.kb_term.specs.Rule.{Rule, apart}
@@ -12,17 +12,17 @@ use Rattle.kb_term.specs.declared.limit.Limit.{Limit}
 use Rattle.kb_term.specs.declared.limit.Limit.TheVariants.{Size, Depth}
 use Rattle.kb_unify.specs.Unifier.{IsUnifier, IsUnifiable, IsMostGeneralUnifier}
 use Rattle.kb_unify.specs.Answer.{terms_limit, unifier_limit, IsUnifierWith}
-use Rattle.kb_term.proofs.Steps.{contains_first, contains_behind, contains_cases}
+use Rattle.kb_term.proofs.Steps.{contains_first, contains_behind}
 use Rattle.kb_unify.proofs.Instances.{contains_decides}
 use Rattle.kb_unify.proofs.Applied.{outside_variable}
 use Rattle.kb_unify.proofs.Limits.{any_true}
-use Rattle.kb_overlap.specs.Overlap.{IsRenamedApart, OverlapsAt, IsCriticalPair, overlap_limit, pair_or_limit, Overlap, IsOverlapOrLimit, HasNoOverlapAt}
+use Rattle.kb_overlap.specs.Overlap.{IsRenamedApart, pair_or_limit, IsOverlapOrLimit, HasNoOverlapAt}
 use Rattle.kb_term.specs.declared.term.Term.{Term}
 use Rattle.kb_overlap.specs.Found.{built_limit, IsPairAnswer, AreVariablesBelow}
 use Rattle.kb_overlap.specs.Instance.{IsSmall}
 use Rattle.kb_overlap.specs.View.{sides_of}
 use Rattle.kb_term.proofs.Variants.{rename-rename, rename_same, variables_renamed}
-use Rattle.kb_overlap.proofs.Subtrees.{some_same, subtree-instance, replace-there, subtree_variables, position_there, contains_mapped}
+use Rattle.kb_overlap.proofs.Subtrees.{some_same, subtree-instance, replace-there, subtree_variables, contains_mapped}
 use Rattle.kb_overlap.proofs.Uniqueness.{variables_of_rule, shift, shifted_unifies}
 
 -- 64 added to each variable, and taken off

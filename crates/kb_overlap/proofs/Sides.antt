@@ -1,9 +1,9 @@
 -- The limit that the two sides of an overlap pass, from sizes and depths of their parts.
-use Rattle.std.proofs.Common.{ℕ, zero, suc, ◌+◌, ◌-◌, ◌≤◌, ◌<◌, ◌≡◌, refl, sym, ap, ap₂, ◌∙◌, subst, arith, List, [], ◌∷◌, length, Option, Some, None, option_map, option_and_then, Bool, true, false, cond}
-use Rattle.std.specs.Prelude.{min, max, nat_lt, ◌||◌}
+use Rattle.std.proofs.Common.{ℕ, zero, suc, ◌+◌, ◌≤◌, ◌≡◌, refl, sym, ap, ap₂, ◌∙◌, arith, List, [], ◌∷◌, length, Option, Some, None, option_map, option_and_then, Bool, true, false}
+use Rattle.std.specs.Prelude.{min, nat_lt, ◌||◌}
 use Rattle.kb_term.specs.Tree.{Tree, Trees, variable, apply, no_trees, more_trees, tree_size, trees_size, tree_depth, trees_depth}
 use Rattle.kb_term.specs.Position.{argument, with_argument, subtree_at, replace_at}
-use Rattle.kb_term.specs.Pair.{first_limit, limit_if, is_too_large, is_too_deep, term_limit, pair_limit, variables_of_pair}
+use Rattle.kb_term.specs.Pair.{first_limit, limit_if, term_limit, pair_limit, variables_of_pair}
 use Rattle.kb_term.specs.declared.limit.Limit.{Limit}
 use Rattle.kb_term.specs.declared.limit.Limit.TheVariants.{Size, Depth, Variables}
 use Rattle.kb_unify.specs.Extent.{IsExtent}

@@ -1,5 +1,5 @@
 -- The overlap that a value of the program is.
-use Rattle.std.specs.Prelude.{ℕ, List, Result, Ok, Err}
+use Rattle.std.specs.Prelude.{Result, Ok, Err}
 use Rattle.kb_term.specs.Tree.{Tree}
 use Rattle.kb_term.specs.View.{tree_of}
 use Rattle.kb_term.specs.declared.term.Term.{Term}

@@ -8,5 +8,4 @@ ghost use Rattle.kb_overlap.specs.Overlap.{Overlap, IsOverlapList, IsOverlapOrLi
 pub fn overlaps_alike()
     ensures lists { (outer inner : Rule) (same : Bool) (xs ys : List Overlap) → IsOverlapList outer inner same xs → IsOverlapList outer inner same ys → map canonical_overlap xs ≡ map canonical_overlap ys }
     ensures overlaps { (outer inner : Rule) (x y : Overlap) → x.position ≡ y.position → IsOverlapOrLimit outer inner x → IsOverlapOrLimit outer inner y → canonical_sides x.sides ≡ canonical_sides y.sides }
-{
-}
+{}

@@ -13,7 +13,8 @@ ghost use Rattle.kb_overlap.specs.View.{overlap_of};
 use crate::instance::instance_extent;
 use crate::positions::positions_for;
 use kb_term::{
-    Limit, Memory, Position, Rule, Subst, Term, TermFault, apart, apply, pair_limit, replace, size, subterm,
+    Limit, Memory, Position, Rule, Subst, Term, TermFault, apart, apply, pair_limit, replace, size,
+    subterm,
 };
 use kb_unify::{Extent, UnifyFault, unify};
 use std::alloc::Global;
@@ -171,9 +172,12 @@ mod tests {
         ensures variables { IsTrue result → AreVariablesBelow 64 rule.now }
         ensures arguments { IsTrue result → HasFewArguments rule.now.left }
     {
-        has_variables_below(64, rule.left())
-            && has_variables_below(64, rule.right())
-            && has_few_arguments(rule.left())
+        if has_variables_below(64, rule.left()) {
+            if has_variables_below(64, rule.right()) {
+                return has_few_arguments(rule.left());
+            }
+        }
+        false
     }
 
     fn listed(

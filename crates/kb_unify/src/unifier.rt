@@ -92,8 +92,7 @@ pub fn unify(alloc: Global, a: &Term, b: &Term) -> Result<Option<Subst>, UnifyFa
 /// depends on which of them is found.
 pub fn unifiers_alike()
     ensures { (m k : ℕ → Tree) (s t : Tree) → IsMostGeneralUnifier m s t → IsMostGeneralUnifier k s t → unifier_limit m s t ≡ unifier_limit k s t }
-{
-}
+{}
 
 #[cfg(test)]
 mod tests {

@@ -1,6 +1,6 @@
-use Rattle.std.proofs.Common.{arith, ◌≡◌, ◌<◌, ◌∙◌, sym, ap, subst, length, get_or, refl}
+use Rattle.std.proofs.Common.{arith, ◌≡◌, ◌<◌, ◌∙◌, sym, ap, subst, length, refl}
 use Rattle.std.specs.Prelude.{map}
-use Rattle.kb_term.specs.Tree.{tree_depth, trees_of, variable, apply}
+use Rattle.kb_term.specs.Tree.{tree_depth, trees_of, apply}
 use Rattle.kb_term.specs.Substitution.{instance}
 use Rattle.kb_term.specs.View.{tree_of}
 use Rattle.kb_term.proofs.Arguments.{argument-is, argument-depth, arguments-length}

@@ -21,7 +21,7 @@ returns-in-Some c t made =
     let inserted : IsExtent c.instance_extent-inside.result (instance m c.args.renamed.now.right) = subst (λ u. IsExtent c.instance_extent-inside.result (instance m u)) c.right-2.ensures c.instance_extent-inside.ensures in
     let none : term_limit (instance m c.args.outer.now.left) ≡ None = ap (λ u. term_limit (instance m u)) (sym c.left.ensures) ∙ c.in_ok-peak.ensures.1 in
     let pair = parts_passed c.instance_extent-extent.result c.instance_extent-inside.result c.size_without-rest.result p (instance m c.args.outer.now.right) (instance m c.args.renamed.now.right) (tree_of c.in_ok-peak.peak) (instance m redex.0) t
-        first inserted (c.size_without-rest.ensures.rest (instance m redex.0) there) there (ap (λ u. replace_at u p (instance m c.args.renamed.now.right)) peak ∙ made) c.in-Some.limit (sym c.extents_limit.ensures ∙ c.in-Some.is) in
+    first inserted (c.size_without-rest.ensures.rest (instance m redex.0) there) there (ap (λ u. replace_at u p (instance m c.args.renamed.now.right)) peak ∙ made) c.in-Some.limit (sym c.extents_limit.ensures ∙ c.in-Some.is) in
     ap (λ l. first_limit (l ∷ pair_limit (instance m c.args.outer.now.right) t ∷ [])) none ∙ ap (λ l. first_limit (l ∷ [])) pair
 
 pub replace-requires : goal.replace-requires

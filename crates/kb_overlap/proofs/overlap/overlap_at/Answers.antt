@@ -1,4 +1,4 @@
-use Rattle.std.proofs.Common.{ℕ, ◌≡◌, ◌∙◌, ap, sym, subst, subst₂, Some, None, Ok, Err}
+use Rattle.std.proofs.Common.{ℕ, ◌≡◌, ◌∙◌, ap, sym, subst, Some, None, Ok, Err}
 use Rattle.std.specs.Prelude.{option_map}
 use Rattle.kb_term.specs.Position.{subtree_at}
 use Rattle.kb_term.specs.Rule.{Rule}

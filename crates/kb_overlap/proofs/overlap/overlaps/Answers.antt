@@ -1,12 +1,11 @@
-use Rattle.std.proofs.Common.{arith, ◌≡◌, ◌<◌, ◌+◌, ◌∙◌, sym, ap, subst, subst₂, length, get_or, take, List, ℕ, [], ◌∷◌, ◌++◌, Contains, Some, None}
+use Rattle.std.proofs.Common.{◌≡◌, ◌∙◌, sym, ap, subst, subst₂, take, [], ◌∷◌, ◌++◌, Contains, Some}
 use Rattle.std.specs.Prelude.{map, option_map}
 use Rattle.std.proofs.lemmas.List.{take_more, map-append}
 use Rattle.kb_term.specs.Tree.{Tree}
 use Rattle.kb_term.specs.Position.{subtree_at, function_positions_of}
 use Rattle.kb_unify.specs.Unifier.{IsUnifiable}
-use Rattle.kb_term.specs.Rule.{Rule, apart}
 use Rattle.kb_overlap.specs.Found.{IsFoundAt, AreVariablesBelow}
-use Rattle.kb_overlap.specs.Overlap.{IsRenamedApart, ListsOverlaps, overlap_positions}
+use Rattle.kb_overlap.specs.Overlap.{IsRenamedApart, ListsOverlaps}
 use Rattle.kb_overlap.specs.View.{overlap_of}
 use Rattle.kb_overlap.proofs.Finding.{apart_is, below_more, below_apart, none_there}
 use Rattle.kb_overlap.proofs.Preorder.{listed_at, lists_none, lists_some}

@@ -1,6 +1,6 @@
-use Rattle.std.proofs.Common.{arith, ℕ, ◌≡◌, ◌+◌, ◌≤◌, ◌∙◌, sym, ap, Some}
+use Rattle.std.proofs.Common.{arith, ◌∙◌, sym, ap}
 use Rattle.std.specs.Prelude.{option_map}
-use Rattle.kb_term.specs.Tree.{Tree, tree_size}
+use Rattle.kb_term.specs.Tree.{tree_size}
 use Rattle.kb_term.specs.View.{tree_of}
 use Rattle.kb_overlap.proofs.Subtrees.{some_same}
 use Rattle.kb_overlap.proofs.Sides.{size-subtree}
