@@ -1,9 +1,11 @@
 -- The positions of a term in preorder, argument by argument, and lists of overlaps that grow with them.
-use Rattle.std.proofs.Common.{ℕ, zero, suc, ◌+◌, ◌<◌, ◌≡◌, inl, inr, refl, sym, ap, ap₂, ◌∙◌, subst, arith, List, [], ◌∷◌, ◌++◌, length, get_or, take, append_assoc, Contains}
-use Rattle.std.specs.Prelude.{map, drop, remove, Bool, true, false}
+use Rattle.std.proofs.Common.{ℕ, zero, suc, ◌+◌, ◌<◌, ◌≤◌, ◌≡◌, inl, inr, refl, sym, ap, ap₂, ◌∙◌, subst, arith, List, [], ◌∷◌, ◌++◌, length, get_or, take, append_assoc, Contains}
+use Rattle.std.specs.Prelude.{All, map, drop, remove, Bool, true, false}
 use Rattle.std.proofs.lemmas.List.{append-nil, map-append}
-use Rattle.kb_term.specs.Tree.{Tree, variable, trees_of, list_of}
+use Rattle.kb_term.specs.Tree.{Tree, Trees, variable, apply, no_trees, more_trees, trees_of, list_of}
 use Rattle.kb_term.specs.Position.{function_positions_of, function_positions_in}
+use Rattle.kb_term.specs.Signature.{Signature, SymbolEntry, HasArity, IsWellFormed, AreWellFormed}
+use Rattle.kb_overlap.proofs.Subtrees.{some_same}
 use Rattle.kb_term.specs.Rule.{Rule}
 use Rattle.kb_overlap.specs.Found.{HasFewArguments, HaveFewArguments}
 use Rattle.kb_overlap.specs.Overlap.{Overlap, ListsOverlaps, HasNoOverlapAt, IsOverlapOrLimit, overlap_positions}
@@ -95,3 +97,19 @@ listed_at A same ps e k d h = subst (λ qs. k < length qs → Contains (function
 pub all_few_arguments : (us : List Tree) → ((j : ℕ) → j < length us → HasFewArguments (get_or us j (variable 0))) → HaveFewArguments (trees_of us)
 all_few_arguments [] h = tt
 all_few_arguments (u ∷ us) h = (h 0 (omega arith), all_few_arguments us (λ j p. h (suc j) (omega (arith, p))))
+
+-- an arity of the signature
+few_arity : (signature : Signature) → All (λ (f : SymbolEntry). f.arity ≤ 255) signature → (f n : ℕ) → HasArity signature f n → n ≤ 255
+few_arity [] small f n h = absurd (cc)
+few_arity (g ∷ gs) small zero n h = let e : g.arity ≡ n = some_same g.arity n h in omega (arith, e, small 0 g (omega arith))
+few_arity (g ∷ gs) small (suc f) n h = few_arity gs (λ k d p. small (suc k) d (omega (arith, p))) f n h
+
+-- terms over a signature have few arguments where its arities are small
+mutual
+  pub few_from_arities : (signature : Signature) → All (λ (f : SymbolEntry). f.arity ≤ 255) signature → (t : Tree) → IsWellFormed signature t → HasFewArguments t
+  few_from_arities signature small (variable n) well = tt
+  few_from_arities signature small (apply f ts) well = (few_arity signature small f (length (list_of ts)) well.0, few_from_arities_in signature small ts well.1)
+
+  few_from_arities_in : (signature : Signature) → All (λ (f : SymbolEntry). f.arity ≤ 255) signature → (ts : Trees) → AreWellFormed signature ts → HaveFewArguments ts
+  few_from_arities_in signature small no_trees well = tt
+  few_from_arities_in signature small (more_trees t ts) well = (few_from_arities signature small t well.0, few_from_arities_in signature small ts well.1)
