@@ -1,20 +1,15 @@
 -- Terms that are instances of each other are equally large and deep, have as many variables, and one numbered pair.
-use Rattle.std.proofs.Common.{ℕ, suc, ◌+◌, ◌≤◌, ◌≡◌, refl, sym, ap, ap₂, ◌∙◌, subst, arith, List, [], ◌∷◌, ◌++◌, map, length, Contains, Option, Some, None}
+use Rattle.std.proofs.Common.{ℕ, ◌≡◌, refl, sym, ap, ap₂, ◌∙◌, length}
 use Rattle.std.proofs.lemmas.List.{length-map}
-use Rattle.std.proofs.lemmas.List.Elements.{Contains-append_left, Contains-append_right}
-use Rattle.std.proofs.lemmas.Bool.{cases_eq}
-use Rattle.std.specs.Prelude.{Bool, true, false, cond, ◌||◌, max, nat_lt}
-use Rattle.std.specs.List.{list_any}
-use Rattle.kb_term.specs.Tree.{Tree, Trees, variable, apply, no_trees, more_trees, variables_of, variables_in, tree_size, trees_size, tree_depth, trees_depth, tree_eq}
-use Rattle.kb_term.specs.Substitution.{instance, instances, rename, IsRenaming}
-use Rattle.kb_term.specs.Pair.{Pair, numbered, canonical, canonical_pair, lesser, variables_of_pair, distinct, is_too_large, is_too_deep, term_limit, pair_limit, first_limit, limit_if}
-use Rattle.kb_term.specs.declared.limit.Limit.{Limit}
-use Rattle.kb_term.specs.declared.limit.Limit.TheVariants.{Size, Depth, Variables}
-use Rattle.kb_term.proofs.Trees.{apply≢variable, variable-inj}
+use Rattle.kb_term.specs.Tree.{Tree, variable, apply}
+use Rattle.kb_term.specs.Substitution.{instance, rename, IsRenaming}
+use Rattle.kb_term.specs.Pair.{numbered, canonical, lesser, variables_of_pair, term_limit, pair_limit}
+use Rattle.kb_term.proofs.Trees.{apply≢variable}
 use Rattle.kb_unify.proofs.Similar.{same_size, same_depth}
 use Rattle.kb_term.proofs.Instances.{instance-instance, instance-variable}
 use Rattle.kb_unify.proofs.Instances.{instance-agree, agree-instance}
-use Rattle.kb_overlap.proofs.Variants.{numbered_from_variants, apart_renaming, variables_of_pair_renamed}
+use Rattle.kb_term.proofs.Variants.{numbered_from_variants}
+use Rattle.kb_overlap.proofs.Variants.{apart_renaming, variables_of_pair_renamed}
 
 -- the number of a variable
 abbrev number_in : Tree → ℕ
@@ -41,10 +36,10 @@ module _ (d e : ℕ → Tree) (s t u v : Tree) (su : instance d s ≡ u) (us : i
   right = record { there = renames d e t v tv vt; back_again = renames e d v t vt tv }
 
   pub same_numbered : numbered s t ≡ numbered u v
-  same_numbered = numbered_from_variants s t u v (there d) (there e) left right
+  same_numbered = numbered_from_variants s t u v ((there d), (there e), left, right)
 
   pub same_canonical : canonical s t ≡ canonical u v
-  same_canonical = ap₂ lesser same_numbered (numbered_from_variants t s v u (there d) (there e) right left)
+  same_canonical = ap₂ lesser same_numbered (numbered_from_variants t s v u ((there d), (there e), right, left))
 
   same_count : length (variables_of_pair s t) ≡ length (variables_of_pair u v)
   same_count = sym (length-map (variables_of_pair s t) (there d)) ∙ ap length (sym (variables_of_pair_renamed (there d) s t (apart_renaming s t u v (there d) (there e) left right)) ∙ ap₂ variables_of_pair left.there right.there)

@@ -1,10 +1,10 @@
 -- What unification says of the overlaps at one position.
-use Rattle.std.proofs.Common.{ℕ, ◌+◌, ◌-◌, ◌≤◌, ◌<◌, ◌≡◌, ◌⊎◌, inl, inr, refl, sym, ap, ap₂, ◌∙◌, subst, arith, List, [], ◌∷◌, ◌++◌, map, Contains, Option, Some, None, Result, Ok, Err, Bool, true, false, cond}
+use Rattle.std.proofs.Common.{ℕ, ◌+◌, ◌-◌, ◌≤◌, ◌<◌, ◌≡◌, inl, inr, refl, sym, ap, ap₂, ◌∙◌, subst, arith, List, [], ◌∷◌, ◌++◌, map, Contains, Option, Some, None, Result, Ok, Err, Bool, true, false}
 use Rattle.std.proofs.lemmas.List.Elements.{Contains-append_left, Contains-append_right, Contains-append_cases}
 use Rattle.std.specs.Prelude.{◌||◌}
 use Rattle.std.specs.List.{list_any}
 use Rattle.kb_term.specs.Tree.{Tree, variable, variables_of, tree_size, tree_depth}
-use Rattle.kb_term.specs.Substitution.{instance, rename, IsRenaming}
+use Rattle.kb_term.specs.Substitution.{instance, rename}
 use Rattle.kb_term.specs.Position.{subtree_at, replace_at, function_positions_of}
 use Rattle.kb_term.specs.Pair.{is_too_large, is_too_deep, first_limit, limit_if, term_limit, pair_limit}
 use Rattle.kb_term.specs.Rule.{Rule, apart}
@@ -12,14 +12,18 @@ use Rattle.kb_term.specs.declared.limit.Limit.{Limit}
 use Rattle.kb_term.specs.declared.limit.Limit.TheVariants.{Size, Depth}
 use Rattle.kb_unify.specs.Unifier.{IsUnifier, IsUnifiable, IsMostGeneralUnifier}
 use Rattle.kb_unify.specs.Answer.{terms_limit, unifier_limit, IsUnifierWith}
-use Rattle.kb_term.proofs.Steps.{contains_first, contains_behind, contains_cases}
+use Rattle.kb_term.proofs.Steps.{contains_first, contains_behind}
 use Rattle.kb_unify.proofs.Instances.{contains_decides}
 use Rattle.kb_unify.proofs.Applied.{outside_variable}
 use Rattle.kb_unify.proofs.Limits.{any_true}
-use Rattle.kb_overlap.specs.Overlap.{IsRenamedApart, OverlapsAt, IsCriticalPair, overlap_limit, pair_or_limit, Overlap, IsOverlapOrLimit, HasNoOverlapAt}
-use Rattle.kb_overlap.proofs.Variants.{rename-rename, rename_same, variables_renamed}
-use Rattle.kb_overlap.proofs.Positions.{some_same, subtree-instance, replace-there, subtree_variables, position_there, contains_mapped}
-use Rattle.kb_overlap.proofs.Alike.{variables_of_rule, shift, shifted_unifies}
+use Rattle.kb_overlap.specs.Overlap.{IsRenamedApart, pair_or_limit, IsOverlapOrLimit, HasNoOverlapAt}
+use Rattle.kb_term.specs.declared.term.Term.{Term}
+use Rattle.kb_overlap.specs.Found.{built_limit, IsPairAnswer, AreVariablesBelow}
+use Rattle.kb_overlap.specs.Instance.{IsSmall}
+use Rattle.kb_overlap.specs.View.{sides_of}
+use Rattle.kb_term.proofs.Variants.{rename-rename, rename_same, variables_renamed}
+use Rattle.kb_overlap.proofs.Subtrees.{some_same, subtree-instance, replace-there, subtree_variables, contains_mapped}
+use Rattle.kb_overlap.proofs.Uniqueness.{variables_of_rule, shift, shifted_unifies}
 
 -- 64 added to each variable, and taken off
 add_64 : ℕ → ℕ
@@ -34,13 +38,16 @@ renamed_above t n c =
     let e : h.0 + 64 ≡ n = h.2 in
     omega (arith, e)
 
+below_rule : (A : Rule) (bound : ℕ) → AreVariablesBelow bound A → (n : ℕ) → Contains (variables_of_rule A) n → n < bound
+below_rule A bound below n c = elim (Contains-append_cases (variables_of A.left) (variables_of A.right) n c) [ inl l ↦ below.0 n l | inr r ↦ below.1 n r ]
+
 -- a rule whose variables are below 64 is apart from the other one with 64 added to its variables
-pub apart_is : (A B : Rule) → ((n : ℕ) → Contains (variables_of_rule A) n → n < 64) → IsRenamedApart A B (apart B)
+pub apart_is : (A B : Rule) → AreVariablesBelow 64 A → IsRenamedApart A B (apart B)
 apart_is A B below = record {
   variant = ((λ n. n + 64), (λ n. n - 64), record { there = refl; back_again = renamed_back B.left }, record { there = refl; back_again = renamed_back B.right });
   apart = λ n c d. elim (Contains-append_cases (variables_of (rename (λ n. n + 64) B.left)) (variables_of (rename (λ n. n + 64) B.right)) n d) [
-    | inl l ↦ omega (arith, below n c, renamed_above B.left n l)
-    | inr r ↦ omega (arith, below n c, renamed_above B.right n r)
+    | inl l ↦ omega (arith, below_rule A 64 below n c, renamed_above B.left n l)
+    | inr r ↦ omega (arith, below_rule A 64 below n c, renamed_above B.right n r)
   ];
 }
 
@@ -120,3 +127,66 @@ module _ (A B R : Rule) (a : IsRenamedApart A B R) (p : List ℕ) (u : Tree) (at
         pair = record { by_outer = refl; by_inner = second };
         sides = is ∙ sym (ap (λ l. pair_or_limit (first_limit (l ∷ term_limit (instance m A.left) ∷ pair_limit (instance m A.right) t ∷ [])) (instance m A.right) t) (left_limit A R p u at m with_limit.most_general ∙ with_limit.passes));
       }
+
+-- the same, whichever term is the second side
+pub found_pair : (A R : Rule) (p : List ℕ) (u : Tree) → subtree_at A.left p ≡ Some u → Contains (function_positions_of A.left) p → (m : ℕ → Tree) → IsUnifierWith None m u R.left → (sides : Result (Tree × Tree) Limit)
+    → ((t : Tree) → replace_at (instance m A.left) p (instance m R.right) ≡ Some t → sides ≡ pair_or_limit (built_limit A m t) (instance m A.right) t)
+    → (B : Rule) → IsRenamedApart A B R → IsOverlapOrLimit A B (record { position = p; sides = sides })
+found_pair A R p u at here m unifies sides h B a = let t = second_side A R p u at m in pair_there A B R a p u at here m unifies t.0 t.1 sides (h t.0 t.1)
+
+-- two terms or a limit, as the answer says
+pub answered_pair : (limit : Option Limit) (s t : Tree) (e : Term × Term) → IsPairAnswer limit s t (Ok e) → sides_of (Ok e) ≡ pair_or_limit limit s t
+answered_pair limit s t e h = (λ i. Ok (h.1 i, h.2 i)) ∙ ap (λ l. pair_or_limit l s t) (sym h.0)
+
+pub answered_limit : (limit : Option Limit) (s t : Tree) (l : Limit) → limit ≡ Some l → sides_of (Err l) ≡ pair_or_limit limit s t
+answered_limit limit s t l h = ap (λ k. pair_or_limit k s t) (sym h)
+
+no_limit : (x y : Bool) → first_limit (limit_if x Size ∷ limit_if y Depth ∷ []) ≡ None → (x ≡ false) × (y ≡ false)
+no_limit true y e = absurd (cc)
+no_limit false true e = absurd (cc)
+no_limit false false e = (refl, refl)
+
+any_none : (p : Tree → Bool) (m : ℕ → Tree) (xs : List ℕ) → list_any p (map m xs) ≡ false → (n : ℕ) → Contains xs n → p (m n) ≡ false
+any_none p m xs h n c = go (p (m n)) refl
+  where
+    go : (b : Bool) → p (m n) ≡ b → p (m n) ≡ false
+    go true e = absurd (let q : true ≡ false = sym (any_true p m xs n c e) ∙ h in cc)
+    go false e = e
+
+not_large : (t : Tree) → is_too_large t ≡ false → tree_size t ≤ 512
+not_large t h = grind arith
+
+not_deep : (t : Tree) → is_too_deep t ≡ false → tree_depth t ≤ 64
+not_deep t h = grind arith
+
+-- all terms of a most general unifier that passes no limit are within the limits
+pub unifier_small : (m : ℕ → Tree) (s t : Tree) → IsUnifierWith None m s t → IsSmall m
+unifier_small m s t h = record {
+  sizes = λ n. elim (contains_decides (variables_of s ++ variables_of t) n) [
+    | inl c ↦ not_large (m n) (any_none is_too_large m (variables_of s ++ variables_of t) none.0 n c)
+    | inr outside ↦ let v = outside_variable m s t h.most_general n outside in omega (arith, ap tree_size v.1)
+  ];
+  depths = λ n. elim (contains_decides (variables_of s ++ variables_of t) n) [
+    | inl c ↦ not_deep (m n) (any_none is_too_deep m (variables_of s ++ variables_of t) none.1 n c)
+    | inr outside ↦ let v = outside_variable m s t h.most_general n outside in omega (arith, ap tree_depth v.1)
+  ];
+}
+  where
+    none : (list_any is_too_large (map m (variables_of s ++ variables_of t)) ≡ false) × (list_any is_too_deep (map m (variables_of s ++ variables_of t)) ≡ false)
+    none = no_limit (list_any is_too_large (map m (variables_of s ++ variables_of t))) (list_any is_too_deep (map m (variables_of s ++ variables_of t))) h.passes
+
+-- the variables of a subterm and of the renamed left side
+pub below_subterm : (A : Rule) (bound : ℕ) → AreVariablesBelow bound A → (p : List ℕ) (u : Tree) → subtree_at A.left p ≡ Some u → (n : ℕ) → Contains (variables_of u) n → n < bound
+below_subterm A bound below p u at n c = below.0 n (subtree_variables p A.left u at n c)
+
+pub below_more : (A : Rule) → AreVariablesBelow 64 A → AreVariablesBelow 128 A
+below_more A below = ((λ n c. omega (arith, below.0 n c)), (λ n c. omega (arith, below.1 n c)))
+
+pub below_apart : (A : Rule) → AreVariablesBelow 64 A → AreVariablesBelow 128 (apart A)
+below_apart A below = (renamed_below A.left below.0, renamed_below A.right below.1)
+  where
+    renamed_below : (t : Tree) → ((x : ℕ) → Contains (variables_of t) x → x < 64) → (n : ℕ) → Contains (variables_of (rename (λ n. n + 64) t)) n → n < 128
+    renamed_below t h n c =
+        let m = contains_mapped (λ x. x + 64) (variables_of t) n (subst (λ xs. Contains xs n) (variables_renamed (λ x. x + 64) t) c) in
+        let e : m.0 + 64 ≡ n = m.2 in
+        omega (arith, e, h m.0 m.1)

@@ -2,8 +2,9 @@ pub mod OverlapRows
 pub mod TraceRows
 pub mod Variants
 pub mod Extents
-pub mod Positions
-pub mod Alike
+pub mod Subtrees
+pub mod Uniqueness
 pub mod Finding
 pub mod Measures
 pub mod Sides
+pub mod Preorder

@@ -1,5 +1,5 @@
 -- Extents of instances, argument by argument.
-use Rattle.std.proofs.Common.{ℕ, zero, suc, ◌+◌, ◌<◌, ◌≡◌, List, [], ◌∷◌, length, get_or, take, refl, subst, arith}
+use Rattle.std.proofs.Common.{ℕ, zero, suc, ◌+◌, ◌<◌, ◌≡◌, List, [], ◌∷◌, length, get_or, take, subst, arith}
 use Rattle.std.specs.Prelude.{min, max}
 use Rattle.kb_term.specs.Tree.{Tree, variable, trees_of, tree_size, trees_size, tree_depth, trees_depth}
 use Rattle.kb_term.specs.Substitution.{instance, instances}

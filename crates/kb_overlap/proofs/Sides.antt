@@ -1,12 +1,15 @@
 -- The limit that the two sides of an overlap pass, from sizes and depths of their parts.
-use Rattle.std.proofs.Common.{ℕ, zero, suc, ◌+◌, ◌-◌, ◌≤◌, ◌<◌, ◌≡◌, refl, sym, ap, ap₂, ◌∙◌, subst, arith, List, [], ◌∷◌, length, Option, Some, None, option_map, option_and_then, Bool, true, false, cond}
-use Rattle.std.specs.Prelude.{max, nat_lt, ◌||◌}
+use Rattle.std.proofs.Common.{ℕ, zero, suc, ◌+◌, ◌≤◌, ◌≡◌, refl, sym, ap, ap₂, ◌∙◌, arith, List, [], ◌∷◌, length, Option, Some, None, option_map, option_and_then, Bool, true, false}
+use Rattle.std.specs.Prelude.{min, nat_lt, ◌||◌}
 use Rattle.kb_term.specs.Tree.{Tree, Trees, variable, apply, no_trees, more_trees, tree_size, trees_size, tree_depth, trees_depth}
 use Rattle.kb_term.specs.Position.{argument, with_argument, subtree_at, replace_at}
-use Rattle.kb_term.specs.Pair.{first_limit, limit_if, is_too_large, is_too_deep, term_limit, pair_limit, variables_of_pair}
+use Rattle.kb_term.specs.Pair.{first_limit, limit_if, term_limit, pair_limit, variables_of_pair}
 use Rattle.kb_term.specs.declared.limit.Limit.{Limit}
 use Rattle.kb_term.specs.declared.limit.Limit.TheVariants.{Size, Depth, Variables}
-use Rattle.kb_overlap.proofs.Positions.{some_same}
+use Rattle.kb_unify.specs.Extent.{IsExtent}
+use Rattle.kb_unify.specs.declared.extent.Extent.{Extent}
+use Rattle.kb_overlap.specs.Found.{parts_limit}
+use Rattle.kb_overlap.proofs.Subtrees.{some_same}
 
 size-with_argument : (ts : Trees) (i : ℕ) (a x : Tree) → argument ts i ≡ Some a → trees_size (with_argument ts i x) + tree_size a ≡ trees_size ts + tree_size x
 size-with_argument no_trees zero a x e = absurd (cc)
@@ -90,3 +93,42 @@ pair_limit-second s t limit h k e =
     go true y e = e
     go false true e = e
     go false false e = absurd (cc)
+
+-- tests of capped numbers
+cap-size : (n m : ℕ) → m ≡ min n 513 → nat_lt 512 m ≡ nat_lt 512 n
+cap-size n m e = grind arith
+
+cap-depth : (n m : ℕ) → m ≡ min n 65 → nat_lt 64 m ≡ nat_lt 64 n
+cap-depth n m e = grind arith
+
+cap-rest : (n m r s : ℕ) → m ≡ min n 513 → r + n ≡ s → nat_lt 512 (r + m) ≡ nat_lt 512 s
+cap-rest n m r s e f = grind arith
+
+or_right : (a b c : Bool) → (b ≡ true → c ≡ true) → (a || b) ≡ true → (a || c) ≡ true
+or_right true b c h e = refl
+or_right false b c h e = h e
+
+deeper : (m n : ℕ) → m ≤ n → nat_lt 64 m ≡ true → nat_lt 64 n ≡ true
+deeper m n h e = grind arith
+
+-- the pair of s and of a peak with v at a position, whose rest has a size
+module _ (first inserted : Extent) (rest : ℕ) (p : List ℕ) (s v peak u w : Tree) (s_is : IsExtent first s) (v_is : IsExtent inserted v) (rest_is : rest + tree_size u ≡ tree_size peak) (there : subtree_at peak p ≡ Some u) (made : replace_at peak p v ≡ Some w) where
+  size_is : rest + tree_size v ≡ tree_size w
+  size_is = omega (arith, rest_is, size-replace p peak u v w there made)
+
+  large_is : (nat_lt 512 first.size || nat_lt 512 (rest + inserted.size)) ≡ (nat_lt 512 (tree_size s) || nat_lt 512 (tree_size w))
+  large_is = ap₂ (λ x y. x || y) (cap-size (tree_size s) first.size s_is.size) (cap-rest (tree_size v) inserted.size rest (tree_size w) v_is.size size_is)
+
+  deep_is : (nat_lt 64 first.depth || nat_lt 64 inserted.depth) ≡ (nat_lt 64 (tree_depth s) || nat_lt 64 (tree_depth v))
+  deep_is = ap₂ (λ x y. x || y) (cap-depth (tree_depth s) first.depth s_is.depth) (cap-depth (tree_depth v) inserted.depth v_is.depth)
+
+  -- the limit that the parts pass is that of the pair
+  pub parts_passed : (limit : Limit) → parts_limit first inserted rest ≡ Some limit → pair_limit s w ≡ Some limit
+  parts_passed limit e = go (nat_lt 512 (tree_size s) || nat_lt 512 (tree_size w)) (nat_lt 64 (tree_depth s) || nat_lt 64 (tree_depth v)) refl refl (ap₂ (λ x y. first_limit (limit_if x Size ∷ limit_if y Depth ∷ [])) (sym large_is) (sym deep_is) ∙ e)
+    where
+      go : (x y : Bool) → (nat_lt 512 (tree_size s) || nat_lt 512 (tree_size w)) ≡ x → (nat_lt 64 (tree_depth s) || nat_lt 64 (tree_depth v)) ≡ y → first_limit (limit_if (nat_lt 512 (tree_size s) || nat_lt 512 (tree_size w)) Size ∷ limit_if (nat_lt 64 (tree_depth s) || nat_lt 64 (tree_depth v)) Depth ∷ []) ≡ Some limit → pair_limit s w ≡ Some limit
+      go true y a b e = let q : Some Size ≡ Some limit = sym (ap (λ z. first_limit (limit_if z Size ∷ limit_if (nat_lt 64 (tree_depth s) || nat_lt 64 (tree_depth v)) Depth ∷ [])) a) ∙ e in pair_limit-size s w a ∙ q
+      go false true a b e =
+          let q : Some Depth ≡ Some limit = sym (ap₂ (λ z y. first_limit (limit_if z Size ∷ limit_if y Depth ∷ [])) a b) ∙ e in
+          pair_limit-depth s w a (or_right (nat_lt 64 (tree_depth s)) (nat_lt 64 (tree_depth v)) (nat_lt 64 (tree_depth w)) (deeper (tree_depth v) (tree_depth w) (depth-replace p peak v w made)) b) ∙ q
+      go false false a b e = let q : None ≡ Some limit = sym (ap₂ (λ z y. first_limit (limit_if z Size ∷ limit_if y Depth ∷ [])) a b) ∙ e in absurd (cc)

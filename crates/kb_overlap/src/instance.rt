@@ -4,11 +4,11 @@ ghost use Rattle.kb_term.specs.Tree.{tree_size, tree_depth};
 ghost use Rattle.kb_term.specs.Substitution.{instance};
 ghost use Rattle.kb_term.specs.View.{tree_of};
 ghost use Rattle.kb_unify.specs.Extent.{IsExtent};
-ghost use Rattle.kb_unify.specs.Subst.{substitution_of};
+ghost use Rattle.kb_term.specs.Substitution.{substitution_of};
 ghost use Rattle.kb_overlap.specs.Instance.{IsSmall};
 
-use kb_term::{Term, depth, size};
-use kb_unify::{Extent, Subst};
+use kb_term::{Subst, Term, depth, size};
+use kb_unify::Extent;
 
 /// The extent of what the variable gets.
 fn variable_extent(m: &Subst, n: u16) -> Extent

@@ -2,7 +2,7 @@
 use Rattle.std.proofs.Common.{zero, suc, ◌<◌, subst₂, List, [], ◌∷◌, get_or, length, ℕ, ◌≡◌, inl, inr, refl, sym, ap, ◌∙◌, subst, arith, Contains}
 use Rattle.std.specs.Prelude.{All, AllPairs, true, false, cond, ◌==◌}
 use Rattle.std.proofs.lemmas.Bool.{cases_eq}
-use Rattle.kb_unify.specs.Subst.{substitution_of}
+use Rattle.kb_term.specs.Substitution.{substitution_of}
 use Rattle.std.proofs.lemmas.List.Elements.{Contains-append_left, Contains-append_right}
 use Rattle.kb_term.specs.Tree.{Tree, variable, apply, no_trees, variables_of}
 use Rattle.kb_term.specs.Substitution.{instance}

@@ -12,8 +12,9 @@ use Rattle.kb_term.specs.declared.limit.Limit.{Limit}
 use Rattle.kb_term.specs.declared.limit.Limit.TheVariants.{Size, Depth, Variables}
 use Rattle.kb_unify.specs.Unifier.{IsUnifiable}
 use Rattle.std.proofs.lemmas.List.{length-replicate}
-use Rattle.kb_unify.specs.Answer.{unifier_limit, HasVariablesBelow, IsUnifierWith, IsUnifierList}
-use Rattle.kb_unify.specs.Subst.{substitution_of}
+use Rattle.kb_unify.specs.Answer.{unifier_limit, IsUnifierWith, IsUnifierList}
+use Rattle.kb_term.specs.Tree.{HasVariablesBelow}
+use Rattle.kb_term.specs.Substitution.{substitution_of}
 use Rattle.kb_unify.proofs.Flattening.{cases_le}
 use Rattle.kb_unify.proofs.Solutions.{most_general, solution-solves, bound_other}
 use Rattle.kb_unify.proofs.Instances.{contains_decides}

@@ -7,7 +7,7 @@ use Rattle.std.specs.Prelude.{AllPairs, map, ⊤, Result, Ok, Err, IfOk, min, co
 use Rattle.kb_term.specs.Tree.{Tree, variable, apply, more_trees, trees_of, tree_size, tree_depth, trees_depth}
 use Rattle.kb_term.specs.View.{tree_of}
 use Rattle.kb_term.specs.declared.term.Term.{Term}
-use Rattle.kb_unify.specs.Subst.{substitution_of}
+use Rattle.kb_term.specs.Substitution.{substitution_of}
 use Rattle.kb_unify.specs.Table.{slot_at, values_from, IsSlot, IsFree}
 use Rattle.kb_unify.specs.Extent.{value_of, IsSolution}
 use Rattle.kb_unify.specs.Reading.{size_at, depth_at, IsReadable, ListsBelow}

@@ -6,15 +6,11 @@ use Rattle.kb_term.specs.Pair.{first_limit, limit_if, is_too_large, is_too_deep}
 use Rattle.kb_term.specs.declared.limit.Limit.{Limit}
 use Rattle.kb_term.specs.declared.limit.Limit.TheVariants.{Size, Depth}
 use Rattle.kb_unify.specs.Unifier.{IsMostGeneralUnifier, IsUnifiable}
-use Rattle.kb_unify.specs.Subst.{substitution_of}
+use Rattle.kb_term.specs.Substitution.{substitution_of}
 use Rattle.kb_unify.specs.declared.unifier.Unified.{Unified}
 use Rattle.kb_unify.specs.declared.unifier.Unified.TheVariants.{Clash, Above, Unifier}
 use Rattle.kb_unify.specs.declared.fault.UnifyFault.{UnifyFault}
 use Rattle.kb_unify.specs.declared.fault.UnifyFault.TheVariants.{Large, Memory}
-
--- each variable of the term is below the bound
-abbrev pub HasVariablesBelow : ℕ → Tree → Type 0
-HasVariablesBelow bound t = (n : ℕ) → Contains (variables_of t) n → n < bound
 
 -- the variables of both terms
 abbrev pub variables_of_both : Tree → Tree → List ℕ

@@ -1,5 +1,4 @@
 pub mod Unifier
-pub mod Subst
 pub mod Answer
 pub mod Table
 pub mod Extent

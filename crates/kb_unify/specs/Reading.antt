@@ -3,7 +3,7 @@ use Rattle.std.specs.Prelude.{ℕ, ◌≤◌, ◌<◌, ◌≡◌, List, length, 
 use Rattle.kb_term.specs.Tree.{Tree, variable}
 use Rattle.kb_term.specs.declared.limit.Limit.{Limit}
 use Rattle.kb_term.specs.declared.limit.Limit.TheVariants.{Size, Depth, Variables}
-use Rattle.kb_unify.specs.Subst.{substitution_of}
+use Rattle.kb_term.specs.Substitution.{substitution_of}
 use Rattle.kb_unify.specs.Table.{slot_at, IsTable, IsFree, IsFlattened}
 use Rattle.kb_unify.specs.Extent.{IsSolution}
 use Rattle.kb_unify.specs.declared.table.Slot.{Slot}

@@ -5,8 +5,7 @@ ghost use Rattle.kb_unify.specs.Table.{slot_at, IsSlot, IsTable, Solves};
 ghost use Rattle.kb_unify.specs.Extent.{IsArgumentsExtent, IsSlotExtent, IsMeasured, IsMeasuredFurther, IsStuck, IsMeasurement, extent_at, unknown_count};
 
 use crate::table::Slot;
-use kb_term::Limit;
-use kb_term::Memory;
+use kb_term::{Limit, Memory};
 use std::alloc::Global;
 
 /// The size of a term up to 513, and its depth up to 65: just above the limits.

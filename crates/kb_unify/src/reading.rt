@@ -6,9 +6,8 @@ ghost use Rattle.kb_unify.specs.Extent.{IsSolution};
 ghost use Rattle.kb_unify.specs.Reading.{IsLimitPassed, IsReadable, ListsBelow, ListsBound, depth_at};
 
 use crate::extent::Extent;
-use crate::subst::Subst;
 use crate::table::Slot;
-use kb_term::{Limit, Memory, Term, Terms};
+use kb_term::{Limit, Memory, Subst, Term, Terms};
 use std::alloc::Global;
 
 /// The limit that the term of a variable passes.
@@ -70,5 +69,5 @@ pub fn read_off(alloc: Global, slots: &[Slot], extents: &[Extent]) -> Result<Sub
             }
         }
     }
-    Ok(Subst { entries })
+    Ok(Subst::new(entries))
 }

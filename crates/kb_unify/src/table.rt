@@ -2,7 +2,7 @@
 ghost use Rattle.std.specs.Prelude.{ℕ, ◌≡◌, ◌<◌, ◌≤◌, ◌+◌, ◌^◌, ◌++◌, length, replicate, IfOk, Contains, true, false};
 ghost use Rattle.kb_term.specs.Tree.{Tree, variables_of, tree_size};
 ghost use Rattle.kb_term.specs.View.{tree_of};
-ghost use Rattle.kb_unify.specs.Answer.{HasVariablesBelow};
+ghost use Rattle.kb_term.specs.Tree.{HasVariablesBelow};
 ghost use Rattle.kb_unify.specs.Table.{slot_at, IsTable, IsRoot, Solves, Equates, ArePlaces, IsFlattened, IsJoined, IsClosed, argument_pairs};
 
 use kb_term::{Memory, Symbol, Term};

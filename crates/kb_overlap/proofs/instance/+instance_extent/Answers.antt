@@ -1,11 +1,11 @@
-use Rattle.std.proofs.Common.{arith, ◌≡◌, ◌<◌, ◌∙◌, sym, ap, subst, length, get_or, refl}
+use Rattle.std.proofs.Common.{arith, ◌≡◌, ◌<◌, ◌∙◌, sym, ap, subst, length, refl}
 use Rattle.std.specs.Prelude.{map}
-use Rattle.kb_term.specs.Tree.{tree_depth, trees_of, variable, apply}
+use Rattle.kb_term.specs.Tree.{tree_depth, trees_of, apply}
 use Rattle.kb_term.specs.Substitution.{instance}
 use Rattle.kb_term.specs.View.{tree_of}
 use Rattle.kb_term.proofs.Arguments.{argument-is, argument-depth, arguments-length}
 use Rattle.kb_unify.specs.Extent.{IsExtent}
-use Rattle.kb_unify.specs.Subst.{substitution_of}
+use Rattle.kb_term.specs.Substitution.{substitution_of}
 use Rattle.kb_overlap.proofs.Measures.{extent_more}
 use Rattle.kb_overlap.proofs.instance.+instance_extent.Goals as goal
 

@@ -4,7 +4,7 @@ use Rattle.kb_term.specs.Tree.{tree_depth, trees_of}
 use Rattle.kb_term.specs.Substitution.{instances}
 use Rattle.kb_term.specs.View.{tree_of}
 use Rattle.kb_unify.specs.Extent.{IsExtentOfAll}
-use Rattle.kb_unify.specs.Subst.{substitution_of}
+use Rattle.kb_term.specs.Substitution.{substitution_of}
 use Rattle.kb_overlap.proofs.instance.+instance_extent.Given as goal
 
 abbrev pub decreases-instance_extent : goal.decreases-instance_extent

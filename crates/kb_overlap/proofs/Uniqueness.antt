@@ -1,26 +1,23 @@
 -- The overlaps of two rules are one up to renaming, whichever variant of the inner rule and whichever most general unifier is taken.
-use Rattle.std.proofs.Common.{ℕ, ◌≡◌, ◌⊎◌, inl, inr, refl, sym, ap, ap₂, ◌∙◌, subst, arith, List, [], ◌∷◌, ◌++◌, map, Contains, Option, Some, None, Result, Ok, Err, Bool, true, false, cond, ◌==◌, eqb-true}
+use Rattle.std.proofs.Common.{ℕ, ◌≡◌, ◌⊎◌, inl, inr, refl, sym, ap, ap₂, ◌∙◌, subst, List, [], ◌∷◌, ◌++◌, map, Contains, Option, Some, None, Ok, Bool, true, false, cond, ◌==◌, eqb-true}
 use Rattle.std.specs.Prelude.{◌&&◌}
 use Rattle.std.proofs.lemmas.Bool.{eq-eqb}
 use Rattle.std.proofs.lemmas.List.Elements.{Contains-append_left, Contains-append_right, Contains-append_cases}
-use Rattle.std.specs.List.{list_any}
 use Rattle.kb_term.specs.Tree.{Tree, Trees, variable, apply, no_trees, more_trees, variables_of, tree_eq, trees_eq}
 use Rattle.kb_term.specs.Substitution.{instance, rename}
-use Rattle.kb_term.specs.Position.{subtree_at, replace_at}
-use Rattle.kb_term.specs.Pair.{is_too_large, is_too_deep, canonical_pair, first_limit, limit_if, term_limit, pair_limit}
+use Rattle.kb_term.specs.Position.{replace_at}
+use Rattle.kb_term.specs.Pair.{canonical_pair, first_limit}
 use Rattle.kb_term.specs.Rule.{Rule}
 use Rattle.kb_term.specs.declared.limit.Limit.{Limit}
-use Rattle.kb_term.specs.declared.limit.Limit.TheVariants.{Size, Depth}
-use Rattle.kb_unify.specs.Unifier.{IsUnifier, IsUnifiable, IsMostGeneralUnifier}
+use Rattle.kb_unify.specs.Unifier.{IsUnifier}
 use Rattle.kb_unify.specs.Answer.{terms_limit}
-use Rattle.kb_term.proofs.Steps.{contains_first, contains_behind}
-use Rattle.kb_term.proofs.Instances.{instance-instance, instance-variable}
-use Rattle.kb_unify.proofs.Instances.{contains_decides, instance-agree, agree-instance}
-use Rattle.kb_unify.proofs.Similar.{AreSimilar, similar_map, similar_limit}
-use Rattle.kb_overlap.specs.Overlap.{IsRenamedApart, OverlapsAt, IsCriticalPair, overlap_limit, pair_or_limit, Overlap, IsOverlapOrLimit, HasNoOverlapAt, ListsOverlaps, IsOverlapList, canonical_sides, canonical_overlap}
-use Rattle.kb_overlap.proofs.Variants.{rename-rename, rename_agree, rename_same, turned_back, map_append, variables_renamed}
+use Rattle.kb_term.proofs.Instances.{instance-instance}
+use Rattle.kb_unify.proofs.Instances.{contains_decides, instance-agree}
+use Rattle.kb_unify.proofs.Similar.{similar_map, similar_limit}
+use Rattle.kb_overlap.specs.Overlap.{IsRenamedApart, OverlapsAt, IsCriticalPair, overlap_limit, pair_or_limit, Overlap, IsOverlapOrLimit, HasNoOverlapAt, ListsOverlaps, canonical_sides, canonical_overlap}
+use Rattle.kb_term.proofs.Variants.{rename-rename, rename_agree, rename_same, turned_back, map_append, variables_renamed}
 use Rattle.kb_overlap.proofs.Extents.{same_canonical, same_pair_limit, same_term_limit}
-use Rattle.kb_overlap.proofs.Positions.{some_same, replace-instance, subtree_variables}
+use Rattle.kb_overlap.proofs.Subtrees.{some_same, replace-instance, subtree_variables}
 
 abbrev pub variables_of_rule : Rule → List ℕ
 variables_of_rule A = variables_of A.left ++ variables_of A.right

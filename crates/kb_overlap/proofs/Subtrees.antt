@@ -1,5 +1,7 @@
 -- Subterms and replacements, and what substitutions do to them.
-use Rattle.std.proofs.Common.{ℕ, zero, suc, ◌+◌, ◌≡◌, inl, inr, refl, sym, ap, ap₂, ◌∙◌, subst, arith, List, [], ◌∷◌, ◌++◌, map, Contains, Option, Some, None, option_map, option_and_then}
+use Rattle.std.proofs.Common.{ℕ, zero, suc, ◌+◌, ◌≡◌, inl, inr, refl, sym, ap, ◌∙◌, subst, arith, List, [], ◌∷◌, map, Contains, Option, Some, None, option_map, option_and_then}
+use Rattle.std.specs.Prelude.{IsSome}
+use Rattle.std.proofs.lemmas.Bool.{false≢true}
 use Rattle.std.proofs.lemmas.List.Elements.{Contains-append_left, Contains-append_right, Contains-append_cases}
 use Rattle.kb_term.specs.Tree.{Tree, Trees, variable, apply, no_trees, more_trees, variables_of, variables_in}
 use Rattle.kb_term.specs.Substitution.{instance, instances}
@@ -113,3 +115,7 @@ mutual
         let next : suc i + h.0 ≡ i + suc h.0 = omega arith in
         (suc h.0, h.1, h.2 ∙ ap (λ x. x ∷ h.1) next, h.3)
   ]
+
+pub some_value : {X : Type 0} (o : Option X) → IsSome o → (x : X) × (o ≡ Some x)
+some_value None h = absurd (false≢true h)
+some_value (Some x) h = (x, refl)
