@@ -7,16 +7,17 @@ use Rattle.kb_term.specs.First.{IsFirst}
 use Rattle.kb_term.specs.Tree.{Tree, HasVariablesBelow, variables_of}
 use Rattle.kb_term.specs.Signature.{Signature, IsTermWithinLimits}
 use Rattle.kb_term.specs.Pair.{Pair}
-use Rattle.kb_term.specs.Rule.{Rule, rule_of}
-use Rattle.kb_term.specs.Signature.{Problem, IsEquationWithinLimits}
+use Rattle.kb_term.specs.Rule.{Rule}
+use Rattle.kb_term.specs.Signature.{Problem}
 use Rattle.kb_term.specs.declared.origin.Origin.TheVariants.{Input}
 use Rattle.kb_linear.specs.Limits.{IsMeasurable}
 use Rattle.kb_linear.specs.LinearOrder.{LinearGreater, Interpretation}
 use Rattle.kb_linear.specs.Interpretations.{interpretations}
 use Rattle.kb_overlap.specs.Trace.{IsRightInput}
 use Rattle.kb_syntax.specs.Terms.{IsPairForm}
-use Rattle.kb_report.specs.Answers.{Answer, IsProblemForm, IsRuleForm, IsStepForm, are_rows, one_rule_answer, system_text}
-use Rattle.mkbtt_top.specs.FirstRun.{IsEquationOf, IsAnswerOf}
+use Rattle.kb_report.specs.Answers.{Answer, IsProblemForm, IsRuleForm, IsStepForm, one_rule_answer, system_text}
+use Rattle.mkbtt_top.specs.FirstRun.{IsEquationOf, IsOrderedIn, IsAnswerOf}
+use Rattle.kb_overlap.specs.Overlap.{IsOverlapList}
 
 pub measurable : (sig : Signature) (t : Tree) → HasVariablesBelow 64 t → IsTermWithinLimits sig t → IsMeasurable t
 measurable sig t below within = record {
@@ -53,38 +54,33 @@ first-of P x xs h = h 0 x (omega arith)
 
 -- a text that is made of such parts is an answer's
 pub answer_of : (problem : Problem) (pair : Pair) (direction : ℕ) (rule : Rule) (order : Interpretation) (text : List ℕ)
-    → direction ≤ 1 → IsProblemForm problem → IsEquationOf problem pair → rule ≡ rule_of pair direction
-    → IsEquationWithinLimits problem.signature (rule.left, rule.right) → IsPairForm problem.signature pair
-    → Contains (interpretations problem.signature) order → LinearGreater order rule.left rule.right → are_rows problem.signature order ≡ true
+    → direction ≤ 1 → IsProblemForm problem → IsEquationOf problem pair → IsOrderedIn problem pair direction rule order → IsOverlapList rule rule true []
     → text ≡ system_text (one_rule_answer problem rule order pair) → IsAnswerOf problem text
-answer_of problem pair direction rule order text d form equation is sides pair_form member ordered rows spelled = record {
+answer_of problem pair direction rule order text d form equation ordered no_overlap spelled = record {
   answer = one_rule_answer problem rule order pair;
   one_rule = record {
     pair = pair;
     equation = equation;
     direction = direction;
     forth_or_back = d;
+    rule = rule;
     order = order;
-    member = member;
-    ordered = subst (λ (r : Rule). LinearGreater order r.left r.right) is ordered;
-    answer_is = ap (λ (r : Rule). one_rule_answer problem r order pair) is;
+    ordered = ordered;
+    no_overlap = no_overlap;
+    answer_is = refl;
     right = (subst (λ (es : List (Tree × Tree)). IsRightInput es 1 pair) (sym equation.one) (equation.equation, refl, equation.of_equation), tt);
   };
   spelling = record {
     form = record {
       problem = form;
       count = omega arith;
-      rules = all-one (IsRuleForm problem.signature) (rule, 1) (record { sides = sides; cited = refl });
-      cert = rows;
+      rules = all-one (IsRuleForm problem.signature) (rule, 1) (record { sides = ordered.sides; cited = refl });
+      cert = ordered.rows;
       trace = record {
         count = omega arith;
-        steps = all-one (IsStepForm problem.signature) (record { origin = Input 1; pair = pair }) (record { origin = refl; pair = pair_form });
+        steps = all-one (IsStepForm problem.signature) (record { origin = Input 1; pair = pair }) (record { origin = refl; pair = ordered.pair_form });
       };
     };
     spelling = spelled;
   };
 }
-
-pub answer_if : {E : Type 0} (r : Result (Vec ℕ Global) E) (problem : Problem) (answer : Answer) → IfOk r (λ text. text.items ≡ system_text answer) → ((text : List ℕ) → text ≡ system_text answer → IsAnswerOf problem text) → IfOk r (λ text. IsAnswerOf problem text.items)
-answer_if (Ok text) problem answer h f = f text.items h
-answer_if (Err e) problem answer h f = tt

@@ -1,15 +1,17 @@
 -- What a run on one equation comes to.
-use Rattle.std.specs.Prelude.{ℕ, ◌≡◌, ◌≤◌, List, [], ◌∷◌, length, Option, Some, codes, Contains, ⊤}
+use Rattle.std.specs.Prelude.{ℕ, ◌≡◌, ◌≤◌, List, [], ◌∷◌, length, Option, Some, codes, Contains, true, IsTrue, ⊤}
 use Rattle.kb_io.specs.Bytes.{TakesAll, Appends, AppendsPart}
 use Rattle.kb_term.specs.Pair.{Pair, canonical_pair}
 use Rattle.kb_term.specs.Rule.{Rule, rule_of}
 use Rattle.kb_term.specs.Tree.{Tree}
-use Rattle.kb_term.specs.Signature.{Problem}
+use Rattle.kb_term.specs.Signature.{Problem, IsEquationWithinLimits}
 use Rattle.kb_linear.specs.LinearOrder.{LinearGreater, Interpretation}
 use Rattle.kb_linear.specs.Interpretations.{interpretations}
+use Rattle.kb_overlap.specs.Overlap.{IsOverlapList}
 use Rattle.kb_overlap.specs.Trace.{IsRightTrace}
+use Rattle.kb_syntax.specs.Terms.{IsPairForm}
 use Rattle.kb_syntax.specs.Problems.{Spells}
-use Rattle.kb_report.specs.Answers.{Answer, AnswerSpelled, one_rule_answer}
+use Rattle.kb_report.specs.Answers.{Answer, AnswerSpelled, are_rows, one_rule_answer}
 use Rattle.kb_syntax.specs.declared.kind.Kind.TheVariants.{NotBuilt}
 use Rattle.mkbtt_top.specs.declared.status.Status.{Status}
 use Rattle.mkbtt_top.specs.declared.status.Status.TheVariants.{Done, Refused, ReadFault, WriteFault, Memory, Words}
@@ -20,17 +22,27 @@ pub record IsEquationOf (problem : Problem) (pair : Pair) : Type 0 where
   pub one : problem.equations ≡ equation ∷ []
   pub of_equation : canonical_pair equation.0 equation.1 ≡ Some pair
 
+-- the rule is the pair's in this direction, and the interpretation is one of the family that orders it by value under every assignment
+pub record IsOrderedIn (problem : Problem) (pair : Pair) (direction : ℕ) (rule : Rule) (order : Interpretation) : Type 0 where
+  pub rule_is : rule ≡ rule_of pair direction
+  pub sides : IsEquationWithinLimits problem.signature (rule.left, rule.right)
+  pub pair_form : IsPairForm problem.signature pair
+  pub member : Contains (interpretations problem.signature) order
+  pub rows : IsTrue (are_rows problem.signature order)
+  pub ordered : LinearGreater order rule.left rule.right
+
 -- The answer has this problem, which has one equation; as its only rule that equation's canonical pair in one direction,
--- which an interpretation of the family orders by value under every assignment; and a right trace of one input step.
+-- which an interpretation of the family orders, and which doesn't overlap itself; and a right trace of one input step.
 pub record IsOneRuleAnswer (problem : Problem) (answer : Answer) : Type 0 where
   pub pair : Pair
   pub equation : IsEquationOf problem pair
   pub direction : ℕ
   pub forth_or_back : direction ≤ 1
+  pub rule : Rule
   pub order : Interpretation
-  pub member : Contains (interpretations problem.signature) order
-  pub ordered : LinearGreater order (rule_of pair direction).left (rule_of pair direction).right
-  pub answer_is : answer ≡ one_rule_answer problem (rule_of pair direction) order pair
+  pub ordered : IsOrderedIn problem pair direction rule order
+  pub no_overlap : IsOverlapList rule rule true []
+  pub answer_is : answer ≡ one_rule_answer problem rule order pair
   pub right : IsRightTrace problem.equations answer.trace
 
 -- the text is the spelling of such an answer to the problem

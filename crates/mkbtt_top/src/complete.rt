@@ -2,22 +2,22 @@
 ghost use Rattle.std.specs.Prelude.{◌≡◌, ◌≤◌, ◌∷◌, [], length, IfOk, IfSome, Contains, true};
 ghost use Rattle.std.specs.Bool.{OnTrue};
 ghost use Rattle.kb_term.specs.View.{tree_of};
-ghost use Rattle.kb_term.specs.Rule.{Rule, rule_of as rule_in};
-ghost use Rattle.kb_term.specs.Signature.{IsEquationWithinLimits};
 ghost use Rattle.kb_linear.specs.Limits.{IsMeasurable};
 ghost use Rattle.kb_linear.specs.LinearOrder.{LinearGreater};
 ghost use Rattle.kb_linear.specs.Interpretations.{interpretations};
 ghost use Rattle.kb_syntax.specs.Terms.{IsPairForm};
-ghost use Rattle.kb_report.specs.Answers.{IsProblemForm, are_rows};
-ghost use Rattle.mkbtt_top.specs.FirstRun.{IsEquationOf, IsAnswerOf, IsAnswerTo};
+ghost use Rattle.kb_report.specs.Answers.{IsProblemForm};
+ghost use Rattle.mkbtt_top.specs.FirstRun.{IsEquationOf, IsOrderedIn, IsAnswerOf, IsAnswerTo};
+ghost use Rattle.kb_overlap.specs.Overlap.{IsOverlapList};
 
 use kb_linear::{Interp, search_linear};
+use kb_overlap::{has_few_arguments, overlaps};
 use kb_report::{
     is_equation_within_limits, is_interpretation, is_problem_within_limits, is_term_within_limits, one_rule_text,
 };
 use kb_syntax::read_one_equation;
 use kb_term::{
-    Memory, Pair, Problem, Rule, Signature, Term, canonical, has_variables_below, rule_of,
+    Memory, Pair, Problem, Rule, Signature, Term, canonical, has_variables_below, is_rule_below, rule_of,
 };
 use std::alloc::Global;
 
@@ -55,40 +55,23 @@ fn order_of(
     search_linear(alloc, signature, &rules)
 }
 
-// The text of the answer with the pair in this direction as its rule, which the interpretation orders.
-fn print(
-    alloc: Global,
-    problem: &Problem,
-    pair: &Pair,
-    direction: u8,
-    rule: &Rule,
-    order: &Interp,
-) -> Result<Vec<u8>, Memory>
-    requires direction { direction ≤ 1 }
-    requires problem { IsProblemForm problem.now }
-    requires equation { IsEquationOf problem.now pair.now }
-    requires rule { rule.now ≡ rule_in pair.now direction }
-    requires sides { IsEquationWithinLimits problem.now.signature (rule.now.left, rule.now.right) }
-    requires pair { IsPairForm problem.now.signature pair.now }
-    requires member { Contains (interpretations problem.now.signature) order.now }
-    requires ordered { LinearGreater order.now rule.now.left rule.now.right }
-    requires rows { are_rows problem.now.signature order.now ≡ true }
-    ensures { IfOk result (λ text. IsAnswerOf problem.now text.items) }
-{
-    one_rule_text(alloc, problem, rule, order, pair)
+// A rule, and an interpretation that orders it.
+#[derive(Drop)]
+struct OrderedRule {
+    rule: Rule,
+    order: Interp,
 }
 
-// The text of the answer with the pair in this direction as its rule, where some interpretation orders it.
-fn answer_in(
+// The pair's rule in this direction with the first interpretation of the family that orders it, where one does.
+fn ordered_rule(
     alloc: Global,
     problem: &Problem,
     pair: &Pair,
     direction: u8,
-) -> Result<Option<Vec<u8>>, Memory>
+) -> Result<Option<OrderedRule>, Memory>
     requires direction { direction ≤ 1 }
     requires problem { IsProblemForm problem.now }
-    requires equation { IsEquationOf problem.now pair.now }
-    ensures { IfOk result (λ found. IfSome found (λ text. IsAnswerOf problem.now text.items)) }
+    ensures { IfOk result (λ found. IfSome found (λ o. IsOrderedIn problem.now pair.now direction o.rule o.order)) }
 {
     let signature = problem.signature();
     let rule = rule_of(alloc, pair, direction)?;
@@ -107,7 +90,38 @@ fn answer_in(
     if !is_interpretation(signature, &order) {
         return Ok(None);
     }
-    let text = print(alloc, problem, pair, direction, &rule, &order)?;
+    Ok(Some(OrderedRule { rule, order }))
+}
+
+// Whether the rule doesn't overlap itself.
+fn is_without_overlap(alloc: Global, rule: &Rule) -> Result<bool, Memory>
+    ensures { IfOk result (λ holds. OnTrue holds (IsOverlapList rule.now rule.now true [])) }
+{
+    if !is_rule_below(64, rule) || !has_few_arguments(rule.left()) {
+        return Ok(false);
+    }
+    let found = overlaps(alloc, rule, rule, true)?;
+    Ok(found.is_empty())
+}
+
+// The text of the answer with this ordered rule, where it doesn't overlap itself.
+fn answer_by(
+    alloc: Global,
+    problem: &Problem,
+    pair: &Pair,
+    direction: u8,
+    ordered: &OrderedRule,
+) -> Result<Option<Vec<u8>>, Memory>
+    requires direction { direction ≤ 1 }
+    requires problem { IsProblemForm problem.now }
+    requires equation { IsEquationOf problem.now pair.now }
+    requires ordered { IsOrderedIn problem.now pair.now direction ordered.now.rule ordered.now.order }
+    ensures { IfOk result (λ found. IfSome found (λ text. IsAnswerOf problem.now text.items)) }
+{
+    if !is_without_overlap(alloc, &ordered.rule)? {
+        return Ok(None);
+    }
+    let text = one_rule_text(alloc, problem, &ordered.rule, &ordered.order, pair)?;
     Ok(Some(text))
 }
 
@@ -118,7 +132,8 @@ fn only_equation(problem: &Problem) -> &(Term, Term)
     &problem.equations()[0]
 }
 
-// The text of an answer to the problem of one equation, where one of its directions is ordered by some interpretation.
+// The text of an answer to the problem of one equation, where just one of its directions is ordered by some interpretation,
+// and that rule doesn't overlap itself.
 fn answer(alloc: Global, problem: &Problem) -> Result<Option<Vec<u8>>, Memory>
     requires { length problem.now.equations ≡ 1 }
     ensures { IfOk result (λ found. IfSome found (λ text. IsAnswerOf problem.now text.items)) }
@@ -130,14 +145,17 @@ fn answer(alloc: Global, problem: &Problem) -> Result<Option<Vec<u8>>, Memory>
     let Some(pair) = canonical(alloc, &equation.0, &equation.1)? else {
         return Ok(None);
     };
-    match answer_in(alloc, problem, &pair, 0)? {
-        Some(text) => Ok(Some(text)),
-        None => answer_in(alloc, problem, &pair, 1),
+    let forth = ordered_rule(alloc, problem, &pair, 0)?;
+    let back = ordered_rule(alloc, problem, &pair, 1)?;
+    match (forth, back) {
+        (Some(ordered), None) => answer_by(alloc, problem, &pair, 0, &ordered),
+        (None, Some(ordered)) => answer_by(alloc, problem, &pair, 1, &ordered),
+        (None, None) | (Some(_), Some(_)) => Ok(None),
     }
 }
 
-/// The text of an answer to the problem that the bytes spell, where it has one equation that isn't trivial, and one of its
-/// directions is ordered by an interpretation.
+/// The text of an answer to the problem that the bytes spell, where it has one equation that isn't trivial, just one of its
+/// directions is ordered by an interpretation, and the rule in this direction doesn't overlap itself.
 pub fn complete(alloc: Global, bytes: &[u8]) -> Result<Option<Vec<u8>>, Memory>
     requires { length bytes.now ≤ 1048576 }
     ensures { IfOk result (λ found. IfSome found (λ text. IsAnswerTo bytes.now text.items)) }
