@@ -45,11 +45,7 @@ fn entry_field(alloc: Global, symbol: &(Vec<u8>, u8)) -> Result<Vec<u8>, Memory>
     Ok(field)
 }
 
-fn push_entries(
-    alloc: Global,
-    line: &mut Fields,
-    symbols: &[(Vec<u8>, u8)],
-) -> Result<(), Memory>
+fn push_entries(alloc: Global, line: &mut Fields, symbols: &[(Vec<u8>, u8)]) -> Result<(), Memory>
     ensures { OnOk result (line.new ≡ line.old ++ map entry_text (symbols_of_list symbols.now)) }
 {
     for symbol in symbols {
@@ -76,7 +72,13 @@ fn push_equation(
     ensures { OnOk result (out.new.items ≡ out.old.items ++ equation_line (names_of signature.now) (tree_of equation.now.0, tree_of equation.now.1)) }
 {
     let mut line = Fields::new(alloc);
-    push_infix(alloc, &mut line, signature, b"=", (&equation.0, &equation.1))?;
+    push_infix(
+        alloc,
+        &mut line,
+        signature,
+        b"=",
+        (&equation.0, &equation.1),
+    )?;
     line.line_to(out)
 }
 
@@ -111,7 +113,13 @@ fn push_rule(
     ensures { OnOk result (out.new.items ≡ out.old.items ++ rule_line (names_of signature.now) (rule.now, step)) }
 {
     let mut line = Fields::new(alloc);
-    push_infix(alloc, &mut line, signature, b"->", (rule.left(), rule.right()))?;
+    push_infix(
+        alloc,
+        &mut line,
+        signature,
+        b"->",
+        (rule.left(), rule.right()),
+    )?;
     line.word(alloc, b":")?;
     line.number(alloc, step)?;
     line.line_to(out)
@@ -169,7 +177,13 @@ fn push_input(
     line.word(alloc, b"input")?;
     line.number(alloc, 1)?;
     line.word(alloc, b":")?;
-    push_infix(alloc, &mut line, signature, b"=", (pair.first(), pair.second()))?;
+    push_infix(
+        alloc,
+        &mut line,
+        signature,
+        b"=",
+        (pair.first(), pair.second()),
+    )?;
     line.line_to(out)
 }
 

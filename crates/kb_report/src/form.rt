@@ -9,14 +9,20 @@ ghost use Rattle.kb_report.specs.Answers.{IsProblemForm, is_between, is_row as i
 ghost use Rattle.kb_linear.specs.Limits.{interpretation_of};
 
 use kb_linear::Interp;
-use kb_term::{Memory, Problem, Signature, Symbol, Term, compare, numbered_rule, pair_limit, term_limit};
+use kb_term::{
+    Memory, Problem, Signature, Symbol, Term, compare, numbered_rule, pair_limit, term_limit,
+};
 use std::alloc::Global;
 use std::cmp::Ordering;
 
 const SYMBOLS: usize = 24;
+
 const ARITY: u8 = 8;
+
 const EQUATIONS: usize = 256;
+
 const CONSTANT: u8 = 15;
+
 const COEFFICIENT: u8 = 3;
 
 fn has_arity(signature: &Signature, f: Symbol, n: usize) -> bool

@@ -5,4 +5,7 @@ mod answer;
 mod form;
 
 pub use answer::one_rule_text;
-pub use form::{is_equation_within_limits, is_interpretation, is_problem_within_limits, is_term_within_limits, is_well_formed};
+pub use form::{
+    is_equation_within_limits, is_interpretation, is_problem_within_limits, is_term_within_limits,
+    is_well_formed,
+};

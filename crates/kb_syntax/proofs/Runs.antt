@@ -39,8 +39,8 @@ pub after_mark : (bytes : List ℕ) (at : ℕ) (t : Token) (size : ℕ) → at <
 after_mark bytes at t size h some fits m =
     from_place bytes at at h ∙ ap (λ (s : Start). tokens_by s at (get_or bytes at 0) (λ k. tokens_from k (at + 1) (drop (at + 1) bytes))) m
     ∙ ap (λ (ts : List Placed). record { at = at; token = t } ∷ ts) (passed (size - 1) (at + 1) (drop (at + 1) bytes) (omega (arith, length-drop (at + 1) bytes))
-      ∙ ap (λ (l : List ℕ). tokens_from 0 (at + 1 + (size - 1)) l) (drop-drop (size - 1) (at + 1) bytes)
-      ∙ (let e : at + 1 + (size - 1) ≡ at + size = omega arith in ap (λ (m : ℕ). tokens_from 0 m (drop m bytes)) e))
+    ∙ ap (λ (l : List ℕ). tokens_from 0 (at + 1 + (size - 1)) l) (drop-drop (size - 1) (at + 1) bytes)
+    ∙ (let e : at + 1 + (size - 1) ≡ at + size = omega arith in ap (λ (m : ℕ). tokens_from 0 m (drop m bytes)) e))
 
 -- ---- identifiers
 

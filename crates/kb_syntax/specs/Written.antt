@@ -17,7 +17,6 @@ abbrev pub written_of : WrittenTerm → Written
 written_of (Alone name) = alone name.items
 written_of (Applied name ts) = applied name.items (arguments_of ts)
 
-
 -- a written equation of the program
 abbrev pub sign_of : sign.Sign → Sign
 sign_of Arrow = by_arrow

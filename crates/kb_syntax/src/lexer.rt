@@ -50,8 +50,16 @@ fn start_at(bytes: &[u8], at: usize) -> Start
     ensures fits { at + start_length result ≤ length bytes.now }
 {
     let b = bytes[at];
-    let c = if bytes.len() - at > 1 { bytes[at + 1] } else { 0 };
-    let d = if bytes.len() - at > 2 { bytes[at + 2] } else { 0 };
+    let c = if bytes.len() - at > 1 {
+        bytes[at + 1]
+    } else {
+        0
+    };
+    let d = if bytes.len() - at > 2 {
+        bytes[at + 2]
+    } else {
+        0
+    };
     start_of(b, c, d)
 }
 
@@ -63,7 +71,11 @@ fn start_of(b: u8, c: u8, d: u8) -> Start
         return Start::White;
     }
     if b == b'-' && c == b'>' {
-        return Start::Mark(if d == b'=' { Mark::ArrowEquals } else { Mark::Arrow });
+        return Start::Mark(if d == b'=' {
+            Mark::ArrowEquals
+        } else {
+            Mark::Arrow
+        });
     }
     if b == b'=' && c == b'=' {
         return Start::Mark(Mark::Equals);

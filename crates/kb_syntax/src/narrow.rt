@@ -19,9 +19,13 @@ use kb_term::{Memory, Problem, Signature, Term};
 use std::alloc::Global;
 
 const SIZE: usize = 512;
+
 const DEPTH: usize = 64;
+
 const ARITY: usize = 8;
+
 const SYMBOLS: usize = 24;
+
 const VARIABLES: usize = 64;
 
 fn are_short(names: &Names) -> bool
@@ -42,7 +46,11 @@ fn all_are_short(names: &[Vec<u8>]) -> bool
 }
 
 // The symbols with the arities of their first uses.
-fn entries(alloc: Global, names: &[Vec<u8>], uses: &Uses) -> Result<Option<Vec<(Vec<u8>, u8)>>, Memory>
+fn entries(
+    alloc: Global,
+    names: &[Vec<u8>],
+    uses: &Uses,
+) -> Result<Option<Vec<(Vec<u8>, u8)>>, Memory>
     ensures { IfOk result (λ found. IfSome found (λ v. symbols_of_list v.items ≡ map (entry_of uses.now) (map (λ n. n.items) names.now))) }
 {
     let mut symbols = Vec::new(alloc);

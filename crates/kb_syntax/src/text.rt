@@ -21,7 +21,6 @@ fn push_letters(out: &mut Vec<u8>, n: usize) -> Result<(), Memory>
     ensures { OnOk result (out.new.items ≡ out.old.items ++ replicate n 120) }
 {
     for i in 0..n {
-
         out.push(b'x')?;
     }
     Ok(())

@@ -13,11 +13,13 @@ ghost use Rattle.kb_overlap.specs.Overlap.{IsOverlapList};
 use kb_linear::{Interp, search_linear};
 use kb_overlap::{has_few_arguments, overlaps};
 use kb_report::{
-    is_equation_within_limits, is_interpretation, is_problem_within_limits, is_term_within_limits, one_rule_text,
+    is_equation_within_limits, is_interpretation, is_problem_within_limits, is_term_within_limits,
+    one_rule_text,
 };
 use kb_syntax::read_one_equation;
 use kb_term::{
-    Memory, Pair, Problem, Rule, Signature, Term, canonical, has_variables_below, is_rule_below, rule_of,
+    Memory, Pair, Problem, Rule, Signature, Term, canonical, has_variables_below, is_rule_below,
+    rule_of,
 };
 use std::alloc::Global;
 
@@ -39,11 +41,7 @@ fn is_measurable(signature: &Signature, t: &Term) -> bool
 }
 
 // The first interpretation of the family that orders the rule.
-fn order_of(
-    alloc: Global,
-    signature: &Signature,
-    rule: Rule,
-) -> Result<Option<Interp>, Memory>
+fn order_of(alloc: Global, signature: &Signature, rule: Rule) -> Result<Option<Interp>, Memory>
     requires few { length signature.now ≤ 24 }
     requires left { IsMeasurable rule.left }
     requires right { IsMeasurable rule.right }

@@ -6,7 +6,8 @@ use std::test::Fail;
 
 const IDENTITY: &str = "(VAR x)(RULES f(x) == x)";
 
-const ANSWER: &str = "MKBTT 1\nSYMBOLS f/1\nEQUATIONS 1\nf(x1) = x1\nRULES 1\nf(x1) -> x1 : 1\nORDER LINEAR 1,1\nTRACE 1\n1 input 1 : x1 = f(x1)\nEND\n";
+const ANSWER: &str =
+    "MKBTT 1\nSYMBOLS f/1\nEQUATIONS 1\nf(x1) = x1\nRULES 1\nf(x1) -> x1 : 1\nORDER LINEAR 1,1\nTRACE 1\n1 input 1 : x1 = f(x1)\nEND\n";
 
 fn failing_at(alloc: Global, call: u64) -> Result<Vec<u64>, AllocError> {
     let mut fails = Vec::new(alloc);
@@ -39,7 +40,10 @@ fn an_equation_without_an_order_is_not_built(rt: HostRuntime) -> Result<(), Fail
     assert_eq!(rt; outcome.status, Status::Refused(Kind::NotBuilt, 0));
     assert!(rt; sink.bytes().is_empty());
     let line = status_line(alloc, &outcome.status).map_err(|_| AllocError)?;
-    assert_eq!(rt; line.as_slice(), b"mkbtt: refused notbuilt at 0\n".as_slice());
+    assert_eq!(rt;
+        line.as_slice(),
+        b"mkbtt: refused notbuilt at 0\n".as_slice()
+    );
     Ok(())
 }
 
@@ -62,7 +66,10 @@ fn a_sink_that_fails_has_the_front_of_the_answer(rt: HostRuntime) -> Result<(), 
     let mut sink = MemorySink::new(alloc, 1000, failing_at(alloc, 3)?, 16)?;
     let outcome = run(&rt, alloc, &["complete"], &mut source, &mut sink, &OpenGate);
     assert_eq!(rt; status_code(&outcome.status), 5);
-    assert_eq!(rt; sink.bytes(), b"MKBTT 1\nSYMBOLS f/1\nEQUATIONS 1\n".as_slice());
+    assert_eq!(rt;
+        sink.bytes(),
+        b"MKBTT 1\nSYMBOLS f/1\nEQUATIONS 1\n".as_slice()
+    );
     Ok(())
 }
 

@@ -22,10 +22,10 @@ loop-i-preserved t c =
     let items = c.items-arguments.result.now in
     let before = opened_text names (trees (take c.loop-i.i items)) in record {
       added = c.in_ok-push_term-in-App.ensures
-        ∙ ap (λ bytes. bytes ++ term_text names (tree_of c.index-arguments-i.result)) (c.in_ok-push-in-App.ensures.items ∙ ap (λ b. c.loop-i.out.items ++ b ∷ []) c.separator_before.ensures ∙ ap (λ bytes. bytes ++ separator c.loop-i.i ∷ []) c.loop-i.invariant.added)
-        ∙ append_assoc (c.push_symbol.new.out.items ++ before) (separator c.loop-i.i ∷ []) (term_text names (tree_of c.index-arguments-i.result))
-        ∙ append_assoc c.push_symbol.new.out.items before (separator c.loop-i.i ∷ term_text names (tree_of c.index-arguments-i.result))
-        ∙ ap (c.push_symbol.new.out.items ++◌) (ap (λ u. before ++ separator c.loop-i.i ∷ term_text names (tree_of u)) c.index-arguments-i.is ∙ sym (opened_more names items c.loop-i.i c.index-arguments-i.result c.loop-i-test.true));
+          ∙ ap (λ bytes. bytes ++ term_text names (tree_of c.index-arguments-i.result)) (c.in_ok-push-in-App.ensures.items ∙ ap (λ b. c.loop-i.out.items ++ b ∷ []) c.separator_before.ensures ∙ ap (λ bytes. bytes ++ separator c.loop-i.i ∷ []) c.loop-i.invariant.added)
+          ∙ append_assoc (c.push_symbol.new.out.items ++ before) (separator c.loop-i.i ∷ []) (term_text names (tree_of c.index-arguments-i.result))
+          ∙ append_assoc c.push_symbol.new.out.items before (separator c.loop-i.i ∷ term_text names (tree_of c.index-arguments-i.result))
+          ∙ ap (c.push_symbol.new.out.items ++◌) (ap (λ u. before ++ separator c.loop-i.i ∷ term_text names (tree_of u)) c.index-arguments-i.is ∙ sym (opened_more names items c.loop-i.i c.index-arguments-i.result c.loop-i-test.true));
       all = c.loop-i.invariant.all;
     }
 
