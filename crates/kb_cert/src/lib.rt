@@ -8,3 +8,6 @@ mod text;
 pub use certificate::Certificate;
 pub use order::{orients, search, search_from};
 pub use text::cert_text;
+
+#[cfg(test)]
+mod tests;
