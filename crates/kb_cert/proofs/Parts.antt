@@ -8,6 +8,10 @@ use Rattle.kb_term.specs.Signature.{Signature}
 use Rattle.kb_lpo.specs.Precedences.{precedences, LpoOrients, IsLowerBound as IsLpoBound}
 use Rattle.kb_linear.specs.LinearOrder.{Interpretation}
 use Rattle.kb_linear.specs.Interpretations.{interpretations, LinearOrients, IsLowerBound as IsLinearBound}
+use Rattle.std.specs.Option.{IfSome}
+use Rattle.std.specs.Bool.{IsTrue}
+use Rattle.kb_cert.specs.CertificateText.{is_certificate}
+use Rattle.kb_cert.proofs.Members.{first_text}
 use Rattle.kb_cert.specs.Family.{Orders, IsFirstOrder, IsLowerBound}
 use Rattle.kb_cert.specs.declared.certificate.Certificate.{Certificate}
 use Rattle.kb_cert.specs.declared.certificate.Certificate.TheVariants.{Lpo, Linear}
@@ -120,7 +124,12 @@ no_precedence_orders sig rules i (before, after, e, n) =
 pub precedence_found : (sig : Signature) (rules : List Rule) (found : Option (List ℕ)) (prec : List ℕ) → found ≡ Some prec → IsFirst (λ p. LpoOrients p rules) (precedences (length sig)) found → IsFirstOrder sig rules (Some (Lpo prec))
 precedence_found sig rules found prec e h = first_precedence sig rules prec (subst (IsFirst (λ p. LpoOrients p rules) (precedences (length sig))) e h)
 
-pub interpretation_found : (sig : Signature) (rules : List Rule) (none : Option (List ℕ)) (found : Option Interpretation) (result : Option Certificate) → none ≡ None → IsFirst (λ p. LpoOrients p rules) (precedences (length sig)) none → IsFirst (λ i. LinearOrients i rules) (interpretations sig) found
+pub interpretation_found : (sig : Signature) (rules : List Rule) (before : Option (List ℕ)) (found : Option Interpretation) (result : Option Certificate) → before ≡ None → IsFirst (λ p. LpoOrients p rules) (precedences (length sig)) before → IsFirst (λ i. LinearOrients i rules) (interpretations sig) found
     → result ≡ option_map Linear found → IsFirstOrder sig rules result
-interpretation_found sig rules none found result e n h r =
+interpretation_found sig rules before found result e n h r =
     subst (IsFirstOrder sig rules) (sym r) (first_interpretation sig rules found (subst (IsFirst (λ p. LpoOrients p rules) (precedences (length sig))) e n) h)
+
+-- a first member, if there is one, has a text
+pub found_text : (sig : Signature) (rules : List Rule) (result : Option Certificate) → IsFirstOrder sig rules result → IfSome result (λ c. IsTrue (is_certificate sig c))
+found_text sig rules None h = tt
+found_text sig rules (Some c) h = first_text sig rules c h
