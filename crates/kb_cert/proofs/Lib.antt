@@ -1,3 +1,4 @@
 mod OrderRows
 pub mod Parts
 pub mod Texts
+pub mod Members

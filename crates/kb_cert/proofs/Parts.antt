@@ -1,5 +1,5 @@
 -- The first member of the family, part by part.
-use Rattle.std.proofs.Common.{ℕ, zero, suc, ◌≡◌, refl, sym, ap, ap₂, ◌∙◌, subst, arith, List, [], ◌∷◌, ◌++◌, length, map, All, append_assoc}
+use Rattle.std.proofs.Common.{ℕ, zero, suc, ◌≡◌, refl, sym, ap, ap₂, ◌∙◌, subst, arith, List, [], ◌∷◌, ◌++◌, length, map, All, Contains, slice_index_or, append_assoc}
 use Rattle.std.specs.Prelude.{Option, Some, None, option_map}
 use Rattle.std.proofs.lemmas.List.Elements.{All-append}
 use Rattle.kb_term.specs.First.{IsFirst}
@@ -8,7 +8,11 @@ use Rattle.kb_term.specs.Signature.{Signature}
 use Rattle.kb_lpo.specs.Precedences.{precedences, LpoOrients, IsLowerBound as IsLpoBound}
 use Rattle.kb_linear.specs.LinearOrder.{Interpretation}
 use Rattle.kb_linear.specs.Interpretations.{interpretations, LinearOrients, IsLowerBound as IsLinearBound}
-use Rattle.kb_cert.specs.Family.{Orders, IsFirstOrder, IsLowerBound}
+use Rattle.std.specs.Option.{IfSome}
+use Rattle.std.specs.Bool.{IsTrue}
+use Rattle.kb_cert.specs.CertificateText.{is_certificate}
+use Rattle.kb_cert.proofs.Members.{first_text}
+use Rattle.kb_cert.specs.Family.{family, IsGreater, Orders, IsFirstOrder, IsLowerBound, FirstBoundsMore, NoneForMore}
 use Rattle.kb_cert.specs.declared.certificate.Certificate.{Certificate}
 use Rattle.kb_cert.specs.declared.certificate.Certificate.TheVariants.{Lpo, Linear}
 
@@ -120,7 +124,28 @@ no_precedence_orders sig rules i (before, after, e, n) =
 pub precedence_found : (sig : Signature) (rules : List Rule) (found : Option (List ℕ)) (prec : List ℕ) → found ≡ Some prec → IsFirst (λ p. LpoOrients p rules) (precedences (length sig)) found → IsFirstOrder sig rules (Some (Lpo prec))
 precedence_found sig rules found prec e h = first_precedence sig rules prec (subst (IsFirst (λ p. LpoOrients p rules) (precedences (length sig))) e h)
 
-pub interpretation_found : (sig : Signature) (rules : List Rule) (none : Option (List ℕ)) (found : Option Interpretation) (result : Option Certificate) → none ≡ None → IsFirst (λ p. LpoOrients p rules) (precedences (length sig)) none → IsFirst (λ i. LinearOrients i rules) (interpretations sig) found
+pub interpretation_found : (sig : Signature) (rules : List Rule) (before : Option (List ℕ)) (found : Option Interpretation) (result : Option Certificate) → before ≡ None → IsFirst (λ p. LpoOrients p rules) (precedences (length sig)) before → IsFirst (λ i. LinearOrients i rules) (interpretations sig) found
     → result ≡ option_map Linear found → IsFirstOrder sig rules result
-interpretation_found sig rules none found result e n h r =
+interpretation_found sig rules before found result e n h r =
     subst (IsFirstOrder sig rules) (sym r) (first_interpretation sig rules found (subst (IsFirst (λ p. LpoOrients p rules) (precedences (length sig))) e n) h)
+
+-- a first member, if there is one, has a text
+pub found_text : (sig : Signature) (rules : List Rule) (result : Option Certificate) → IsFirstOrder sig rules result → IfSome result (λ c. IsTrue (is_certificate sig c))
+found_text sig rules None h = tt
+found_text sig rules (Some c) h = first_text sig rules c h
+
+-- what orders all rules orders some of them
+some_ordered : (c : Certificate) (some rules : List Rule) → All (Contains rules) some → Orders c rules → Orders c some
+some_ordered c some rules h o k d p =
+    let r : Rule = slice_index_or some k d in
+    let m = h k d p in
+    subst (λ (z : Rule). IsGreater c z.left z.right) m.2 (o m.0 r m.1)
+
+pub bounds_more : (sig : Signature) → FirstBoundsMore sig
+bounds_more sig some rules start h (o, before, after, e, n) = (before, after, e, λ k d p q. n k d p (some_ordered (slice_index_or before k d) some rules h q))
+
+pub none_more : (sig : Signature) → NoneForMore sig
+none_more sig some rules h n k d p q = n k d p (some_ordered (slice_index_or (family sig) k d) some rules h q)
+
+pub first_bounds : (sig : Signature) (rules : List Rule) (start : Certificate) → IsFirstOrder sig rules (Some start) → IsLowerBound sig rules start
+first_bounds sig rules start (o, before, after, e, n) = (before, after, e, n)

@@ -1,5 +1,5 @@
 -- The family of orders of a signature, and its first member that orients given rules.
-use Rattle.std.specs.Prelude.{List, ◌∷◌, map, length, ◌++◌, ◌≡◌, Contains, All, Option}
+use Rattle.std.specs.Prelude.{List, ◌∷◌, map, length, ◌++◌, ◌≡◌, Contains, All, Option, Some, None}
 use Rattle.kb_term.specs.First.{IsFirst}
 use Rattle.kb_term.specs.Tree.{Tree}
 use Rattle.kb_term.specs.Rule.{Rule}
@@ -36,3 +36,11 @@ IsFirstOrder signature rules = IsFirst (λ c. Orders c rules) (family signature)
 abbrev pub IsLowerBound : Signature → List Rule → Certificate → Type 0
 IsLowerBound signature rules start =
     (before : List Certificate) × (after : List Certificate) × (family signature ≡ before ++ start ∷ after) × All (λ c. ¬ Orders c rules) before
+
+-- with more rules the first member is never earlier: the first for some of the rules is a lower bound for all
+abbrev pub FirstBoundsMore : Signature → Type 0
+FirstBoundsMore signature = (some rules : List Rule) (start : Certificate) → All (Contains rules) some → IsFirstOrder signature some (Some start) → IsLowerBound signature rules start
+
+-- where no member orders some of the rules, none orders all
+abbrev pub NoneForMore : Signature → Type 0
+NoneForMore signature = (some rules : List Rule) → All (Contains rules) some → IsFirstOrder signature some None → IsFirstOrder signature rules None

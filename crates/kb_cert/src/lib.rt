@@ -2,9 +2,14 @@
 #![tactic(auto)]
 
 mod certificate;
+mod laws;
 mod order;
 mod text;
 
 pub use certificate::Certificate;
+pub use laws::more_rules_are_never_earlier;
 pub use order::{orients, search, search_from};
 pub use text::cert_text;
+
+#[cfg(test)]
+mod tests;

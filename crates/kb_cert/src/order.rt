@@ -1,6 +1,7 @@
 // The order of a certificate, and the search of the family.
-ghost use Rattle.std.specs.Prelude.{◌≡◌, ◌≤◌, length, option_map, IfOk, IsTrue, ◌↔◌};
+ghost use Rattle.std.specs.Prelude.{◌≡◌, ◌≤◌, length, option_map, IfOk, IfSome, IsTrue, ◌↔◌};
 ghost use Rattle.kb_linear.specs.Limits.{IsMeasurable, AreMeasurable};
+ghost use Rattle.kb_cert.specs.CertificateText.{is_certificate};
 ghost use Rattle.kb_cert.specs.Family.{IsGreater, Orders, IsFirstOrder, IsLowerBound};
 
 use crate::certificate::Certificate;
@@ -47,7 +48,8 @@ fn linear(found: Option<Interp>) -> Option<Certificate>
 pub fn search(alloc: Global, sig: &Signature, rules: &[Rule]) -> Result<Option<Certificate>, Memory>
     requires few { length sig.now ≤ 24 }
     requires measurable { AreMeasurable rules.now }
-    ensures { IfOk result (λ found. IsFirstOrder sig.now rules.now found) }
+    ensures first { IfOk result (λ found. IsFirstOrder sig.now rules.now found) }
+    ensures text { IfOk result (λ found. IfSome found (λ c. IsTrue (is_certificate sig.now c))) }
 {
     match search_lpo(alloc, sig, rules)? {
         Some(prec) => Ok(Some(Certificate::Lpo(prec))),
@@ -65,7 +67,8 @@ pub fn search_from(
     requires few { length sig.now ≤ 24 }
     requires measurable { AreMeasurable rules.now }
     requires start { IsLowerBound sig.now rules.now start }
-    ensures { IfOk result (λ found. IsFirstOrder sig.now rules.now found) }
+    ensures first { IfOk result (λ found. IsFirstOrder sig.now rules.now found) }
+    ensures text { IfOk result (λ found. IfSome found (λ c. IsTrue (is_certificate sig.now c))) }
 {
     match start {
         Certificate::Lpo(least) => match search_lpo_from(alloc, sig, rules, least)? {

@@ -8,7 +8,7 @@ use Rattle.kb_term.specs.First.{IsFirst}
 use Rattle.kb_term.specs.Rule.{Rule}
 use Rattle.kb_term.specs.Signature.{Signature, SymbolEntry}
 use Rattle.kb_term.proofs.Steps.{contains_cases, contains_behind}
-use Rattle.kb_linear.specs.LinearOrder.{Interpretation}
+use Rattle.kb_linear.specs.LinearOrder.{Interpretation, IsInterpretationOf}
 use Rattle.kb_linear.specs.Interpretations.{choices, rows, interpretations_to, LinearOrients}
 use Rattle.kb_linear.specs.Limits.{IsSmall}
 use Rattle.kb_linear.specs.Numbers.{numbers_of, shape_of, uniform, IsWithin, IsLess}
@@ -155,13 +155,13 @@ head_of (x ∷ xs) = x
 head_length : (f : SymbolEntry) (sig : Signature) (row : ℕ × List ℕ) (i : Interpretation) (x : ℕ) → shape_of (row ∷ i) ≡ shape_of (uniform (f ∷ sig) 0 1) → length (replicate f.arity x) ≡ length row.1
 head_length f sig row i x s = let e : length row.1 ≡ length (replicate {A = ℕ} f.arity 1) = ap head_of s in omega (arith, length-replicate f.arity 1, length-replicate f.arity x)
 
-first_tried : (f : SymbolEntry) (sig : Signature) (top : ℕ) (row : ℕ × List ℕ) (i : Interpretation) → IsTried (f ∷ sig) top (row ∷ i) → IsTriedRow top f.arity row
+pub first_tried : (f : SymbolEntry) (sig : Signature) (top : ℕ) (row : ℕ × List ℕ) (i : Interpretation) → IsTried (f ∷ sig) top (row ∷ i) → IsTriedRow top f.arity row
 first_tried f sig top row i t = record {
   constant = t.within.1;
   within = within_front (replicate f.arity 1) (replicate f.arity 2) row.1 (numbers_of (uniform sig 0 1)) (numbers_of (uniform sig top 2)) (numbers_of i) (head_length f sig row i 1 t.shape_is) (head_length f sig row i 2 t.shape_is) t.within.2;
 }
 
-others_tried : (f : SymbolEntry) (sig : Signature) (top : ℕ) (row : ℕ × List ℕ) (i : Interpretation) → IsTried (f ∷ sig) top (row ∷ i) → IsTried sig top i
+pub others_tried : (f : SymbolEntry) (sig : Signature) (top : ℕ) (row : ℕ × List ℕ) (i : Interpretation) → IsTried (f ∷ sig) top (row ∷ i) → IsTried sig top i
 others_tried f sig top row i t = record {
   shape_is = ap tail_of t.shape_is;
   within = within_behind (replicate f.arity 1) (replicate f.arity 2) row.1 (numbers_of (uniform sig 0 1)) (numbers_of (uniform sig top 2)) (numbers_of i) (head_length f sig row i 1 t.shape_is) (head_length f sig row i 2 t.shape_is) t.within.2;
@@ -224,3 +224,13 @@ none_less sig top rules start before after e n t j m l o =
     ⊎_elim (λ d. n d.0 j d.1 (subst (λ z. LinearOrients z rules) (sym d.2) o))
     (λ d. ⊎_elim (λ q. less_self (numbers_of j) (subst (λ z. IsLess (numbers_of j) (numbers_of z)) q l)) (λ q. less_both (numbers_of j) (numbers_of start) l (numbers_less start j (t.shape_is ∙ sym m.shape_is) (sorted_after (IsListLess IsRowLess) before after start j s q))) (contains_cases start after j d))
     (Contains-append_cases before (start ∷ after) j c)
+
+-- what is tried interprets the signature: a coefficient of at least 1 for each argument
+pub tried_fits : (sig : Signature) (top : ℕ) (i : Interpretation) → IsTried sig top i → IsInterpretationOf sig i
+tried_fits [] top [] t = tt
+tried_fits [] top (row ∷ i) t = absurd (let e = t.shape_is in cc)
+tried_fits (f ∷ sig) top [] t = absurd (let e = t.shape_is in cc)
+tried_fits (f ∷ sig) top (row ∷ i) t =
+    let r = first_tried f sig top row i t in
+    let n = within_lengths (replicate f.arity 1) (replicate f.arity 2) row.1 r.within in
+    ((sym n.0 ∙ length-replicate f.arity 1, λ k d p. (small_coefficients f.arity row.1 r.within k d p).0), tried_fits sig top i (others_tried f sig top row i t))

@@ -15,12 +15,12 @@ use Rattle.kb_term.specs.Signature.{Signature, SymbolEntry}
 use Rattle.std.specs.Prelude.{Vec}
 use Rattle.std.specs.declared.alloc.Global.{Global}
 use Rattle.kb_linear.specs.Limits.{interpretation_of}
-use Rattle.kb_linear.specs.LinearOrder.{Interpretation}
+use Rattle.kb_linear.specs.LinearOrder.{Interpretation, IsInterpretationOf}
 use Rattle.kb_linear.specs.Interpretations.{interpretations_to, LinearOrients, IsLowerBound, top_constant, interpretations, interpretations_up_to}
 use Rattle.kb_linear.specs.Numbers.{numbers_of, shape_of, uniform, IsWithin, IsMember, AreBounds, low_of, high_of, IsAt, IsStartAt, IsSearched, NoneLess}
 use Rattle.kb_linear.specs.declared.search.Bounds.{Bounds}
 use Rattle.kb_linear.specs.declared.search.Space.{Space}
-use Rattle.kb_linear.proofs.Members.{IsTried, length-replicate, within_append, tried_to, tried_small, first_tried_of, none_tried_of, tried_from, none_less}
+use Rattle.kb_linear.proofs.Members.{IsTried, length-replicate, within_append, tried_to, tried_small, first_tried_of, none_tried_of, tried_from, none_less, tried_fits}
 use Rattle.kb_linear.proofs.Within.{within_lengths}
 use Rattle.kb_term.proofs.Steps.{contains_first}
 
@@ -190,3 +190,15 @@ pub start_first : (sig : Signature) (rules : List Rule) (start : Interpretation)
 start_first sig rules start top e s =
     let d : interpretations_to sig top ≡ s.0 ++ start ∷ s.1 = ap (interpretations_up_to sig) e ∙ s.2 in
     λ j c l. none_less sig top rules start s.0 s.1 d s.3 (start_tried sig rules start top e s) j (tried_from sig top j c) l
+
+-- each interpretation that is tried has constants up to 3, and interprets the signature
+pub tried_to_three : (sig : Signature) (i : Interpretation) → Contains (interpretations sig) i → (top : ℕ) × (top ≤ 3) × IsTried sig top i
+tried_to_three sig i c = go (nat_le (4 ^ length sig * 2 ^ sum_by (λ (f : SymbolEntry). f.arity) sig) 65536) (nat_le (2 ^ (length sig + sum_by (λ (f : SymbolEntry). f.arity) sig)) 65536) (subst (λ t. Contains (interpretations_up_to sig t) i) (chosen sig _ _ refl refl) c)
+  where
+    go : (x y : Bool) → Contains (interpretations_up_to sig (cond x (Some 3) (cond y (Some 1) None))) i → (top : ℕ) × (top ≤ 3) × IsTried sig top i
+    go true y d = (3, omega arith, tried_from sig 3 i d)
+    go false true d = (1, omega arith, tried_from sig 1 i d)
+    go false false d = absurd (omega arith)
+
+pub interpretation_fits : (sig : Signature) (i : Interpretation) → Contains (interpretations sig) i → IsInterpretationOf sig i
+interpretation_fits sig i c = let r = tried_to_three sig i c in tried_fits sig r.0 i r.2
