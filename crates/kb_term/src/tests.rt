@@ -172,3 +172,12 @@ fn one_too_deep(rt: HostRuntime) -> Result<(), Fail> {
     );
     Ok(())
 }
+
+#[test]
+fn a_position_grows(rt: HostRuntime) -> Result<(), Fail> {
+    let alloc = rt.alloc();
+    let mut position = Position::root(alloc);
+    position.push(1)?;
+    assert_eq!(rt; position.steps(), [1].as_slice());
+    Ok(())
+}
