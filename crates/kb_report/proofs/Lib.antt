@@ -1,1 +1,2 @@
 mod FormLaws
+mod AnswerLaws

@@ -6,15 +6,14 @@ use Rattle.kb_syntax.specs.Names.{Name}
 use Rattle.kb_syntax.specs.Lines.{line, counted, IsBadLine}
 use Rattle.kb_term.specs.Signature.{SymbolEntry, Signature, Problem, IsSignature, IsWithinLimits, IsEquationWithinLimits}
 use Rattle.kb_term.specs.Pair.{Pair, distinct}
-use Rattle.kb_linear.specs.LinearOrder.{Interpretation}
 use Rattle.kb_term.specs.Rule.{Rule}
 use Rattle.kb_overlap.specs.Trace.{TraceStep}
 use Rattle.kb_syntax.specs.Terms.{names_of, symbol_text, infix_text, IsPairForm}
 use Rattle.kb_term.specs.declared.origin.RuleRef.{RuleRef}
 use Rattle.kb_term.specs.declared.origin.Origin.{Origin}
 use Rattle.kb_term.specs.declared.origin.Origin.TheVariants.{Input, Rewrite, Overlap}
+use Rattle.kb_cert.specs.CertificateText.{cert_fields, is_between, is_certificate}
 use Rattle.kb_cert.specs.declared.certificate.Certificate.{Certificate}
-use Rattle.kb_cert.specs.declared.certificate.Certificate.TheVariants.{Lpo, Linear}
 
 -- a system: rules, each with the step that it cites
 pub record Answer : Type 0 where
@@ -39,17 +38,6 @@ equation_lines p = counted (codes "EQUATIONS") (length p.equations) ++ flat_map 
 
 abbrev pub rule_line : List Name → Rule × ℕ → List ℕ
 rule_line names r = line (infix_text names (codes "->") r.0.left r.0.right ++ codes ":" ∷ decimal r.1 ∷ [])
-
--- the constant and the coefficients of a symbol
-abbrev pub interp_text : ℕ × List ℕ → List ℕ
-interp_text row = join_with_byte 44 (decimal row.0 ∷ map decimal row.1)
-
-abbrev pub cert_fields : List Name → Certificate → List (List ℕ)
-cert_fields names (Lpo symbols) = codes "LPO" ∷ map (symbol_text names) symbols
-cert_fields names (Linear rows) = codes "LINEAR" ∷ map interp_text rows
-
-abbrev pub cert_text : Signature → Certificate → List ℕ
-cert_text sig c = join_with_byte 32 (cert_fields (names_of sig) c)
 
 -- e for the root, else argument numbers joined by dots
 abbrev pub position_text : List ℕ → List ℕ
@@ -90,31 +78,10 @@ system_text a = let names = names_of a.problem.signature in
 
 -- ---- their forms
 
-abbrev pub is_between : ℕ → ℕ → ℕ → Bool
-is_between low high n = nat_le low n && nat_le n high
-
 -- a rule's sides are within the limits and numbered by first occurrence; the step that it cites is a number of one
 pub record IsRuleForm (sig : Signature) (r : Rule × ℕ) : Type 0 where
   pub sides : IsEquationWithinLimits sig (r.0.left, r.0.right)
   pub cited : IsTrue (is_between 1 4096 r.1)
-
--- each symbol's number once
-abbrev pub is_precedence : Signature → List ℕ → Bool
-is_precedence sig symbols = nat_eq (length symbols) (length sig) && nat_eq (length (distinct symbols)) (length sig) && list_all (λ f. nat_lt f (length sig)) symbols
-
-abbrev pub is_row : ℕ → ℕ × List ℕ → Bool
-is_row arity row = nat_le row.0 15 && nat_eq (length row.1) arity && list_all (is_between 1 3) row.1
-
--- a row for each symbol
-abbrev pub are_rows : Signature → List (ℕ × List ℕ) → Bool
-are_rows [] [] = true
-are_rows [] (row ∷ rows) = false
-are_rows (e ∷ sig) [] = false
-are_rows (e ∷ sig) (row ∷ rows) = is_row e.arity row && are_rows sig rows
-
-abbrev pub is_certificate : Signature → Certificate → Bool
-is_certificate sig (Lpo symbols) = is_precedence sig symbols
-is_certificate sig (Linear rows) = are_rows sig rows
 
 abbrev pub is_position : List ℕ → Bool
 is_position p = nat_le (length p) 63 && list_all (is_between 1 8) p
@@ -165,16 +132,13 @@ IsBadAnswerLine bytes n = IsBadLine IsSystemText bytes n
 abbrev pub IsBadTraceLine : Signature → List ℕ → ℕ → Type 0
 IsBadTraceLine sig bytes n = IsBadLine (λ text. (t : List TraceStep) × IsTraceForm sig t × (text ≡ trace_text sig t)) bytes n
 
-abbrev pub CertSpelled : Signature → List ℕ → Certificate → Type 0
-CertSpelled sig bytes c = IsTrue (is_certificate sig c) × (bytes ≡ cert_text sig c)
-
 -- ---- answers with one rule
 
--- the system of this one rule, which an interpretation orders, from the pair of the first equation
-abbrev pub one_rule_answer : Problem → Rule → Interpretation → Pair → Answer
-one_rule_answer problem rule i pair = record {
+-- the system of this one rule, from the pair of the first equation, with this certificate
+abbrev pub one_rule_answer : Problem → Rule → Certificate → Pair → Answer
+one_rule_answer problem rule cert pair = record {
   problem = problem;
   rules = (rule, 1) ∷ [];
-  cert = Linear i;
+  cert = cert;
   trace = record { origin = Input 1; pair = pair } ∷ [];
 }

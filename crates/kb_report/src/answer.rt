@@ -1,14 +1,14 @@
 // The text of an answer.
-ghost use Rattle.std.specs.Prelude.{◌≡◌, ◌<◌, ◌++◌, ◌∷◌, [], OnOk, IfOk, decimal, map, flat_map, length, codes};
+ghost use Rattle.std.specs.Prelude.{◌≡◌, ◌<◌, ◌++◌, ◌∷◌, [], OnOk, IfOk, IsTrue, map, flat_map, length, codes};
 ghost use Rattle.kb_term.specs.View.{tree_of, equations_of_list};
 ghost use Rattle.kb_term.specs.Signature.{symbols_of_list};
-ghost use Rattle.kb_linear.specs.Limits.{interpretation_of};
+ghost use Rattle.kb_cert.specs.CertificateText.{cert_fields, is_certificate};
 ghost use Rattle.kb_syntax.specs.Lines.{line, counted};
 ghost use Rattle.kb_term.specs.declared.origin.Origin.TheVariants.{Input};
 ghost use Rattle.kb_syntax.specs.Terms.{names_of, infix_text};
-ghost use Rattle.kb_report.specs.Answers.{entry_text, symbols_line, equation_line, equation_lines, rule_line, interp_text, cert_fields, step_line, system_text, one_rule_answer};
+ghost use Rattle.kb_report.specs.Answers.{entry_text, symbols_line, equation_line, equation_lines, rule_line, step_line, system_text, one_rule_answer};
 
-use kb_linear::Interp;
+use kb_cert::{Certificate, cert_text};
 use kb_syntax::{Fields, push_number, term_text};
 use kb_term::{Memory, Pair, Problem, Rule, Signature, Term};
 use std::alloc::Global;
@@ -125,43 +125,20 @@ fn push_rule(
     line.line_to(out)
 }
 
-fn push_numbers(alloc: Global, line: &mut Fields, numbers: &[u8]) -> Result<(), Memory>
-    ensures { OnOk result (line.new ≡ line.old ++ map decimal numbers.now) }
+// The line of the certificate.
+fn push_order(
+    alloc: Global,
+    out: &mut Vec<u8>,
+    signature: &Signature,
+    cert: &Certificate,
+) -> Result<(), Memory>
+    requires { IsTrue (is_certificate signature.now cert.now) }
+    ensures { OnOk result (out.new.items ≡ out.old.items ++ line (codes "ORDER" ∷ cert_fields (names_of signature.now) cert.now)) }
 {
-    for n in numbers {
-        line.number(alloc, *n as u64)?;
-    }
+    out.extend_from_slice(b"ORDER ")?;
+    out.extend_from_slice(&cert_text(alloc, cert, signature)?)?;
+    out.push(b'\n')?;
     Ok(())
-}
-
-fn row_field(alloc: Global, row: &(u8, Vec<u8>)) -> Result<Vec<u8>, Memory>
-    ensures { IfOk result (λ field. field.items ≡ interp_text (row.now.0, row.now.1.items)) }
-{
-    let mut numbers = Fields::new(alloc);
-    numbers.number(alloc, row.0 as u64)?;
-    push_numbers(alloc, &mut numbers, &row.1)?;
-    let mut field = Vec::new(alloc);
-    numbers.join_to(&mut field, b',')?;
-    Ok(field)
-}
-
-fn push_rows(alloc: Global, line: &mut Fields, rows: &[(u8, Vec<u8>)]) -> Result<(), Memory>
-    ensures { OnOk result (line.new ≡ line.old ++ map interp_text (interpretation_of rows.now)) }
-{
-    for row in rows {
-        line.push(row_field(alloc, row)?)?;
-    }
-    Ok(())
-}
-
-fn push_order(alloc: Global, out: &mut Vec<u8>, i: &Interp) -> Result<(), Memory>
-    ensures { OnOk result (out.new.items ≡ out.old.items ++ line (codes "ORDER" ∷ codes "LINEAR" ∷ map interp_text i.now)) }
-{
-    let mut line = Fields::new(alloc);
-    line.word(alloc, b"ORDER")?;
-    line.word(alloc, b"LINEAR")?;
-    push_rows(alloc, &mut line, i.rows())?;
-    line.line_to(out)
 }
 
 fn push_input(
@@ -187,15 +164,16 @@ fn push_input(
     line.line_to(out)
 }
 
-/// The text of a system of one rule, which an interpretation orders and which comes from the first equation.
+/// The text of a system of one rule with its certificate, where the rule comes from the first equation.
 pub fn one_rule_text(
     alloc: Global,
     problem: &Problem,
     rule: &Rule,
-    i: &Interp,
+    cert: &Certificate,
     pair: &Pair,
 ) -> Result<Vec<u8>, Memory>
-    ensures { IfOk result (λ text. text.items ≡ system_text (one_rule_answer problem.now rule.now i.now pair.now)) }
+    requires { IsTrue (is_certificate problem.now.signature cert.now) }
+    ensures { IfOk result (λ text. text.items ≡ system_text (one_rule_answer problem.now rule.now cert.now pair.now)) }
 {
     let signature = problem.signature();
     let mut out = Vec::from_slice(alloc, b"MKBTT 1\n")?;
@@ -203,7 +181,7 @@ pub fn one_rule_text(
     push_equations(alloc, &mut out, problem)?;
     push_counted(alloc, &mut out, b"RULES", 1)?;
     push_rule(alloc, &mut out, signature, rule, 1)?;
-    push_order(alloc, &mut out, i)?;
+    push_order(alloc, &mut out, signature, cert)?;
     push_counted(alloc, &mut out, b"TRACE", 1)?;
     push_input(alloc, &mut out, signature, pair)?;
     out.extend_from_slice(b"END\n")?;

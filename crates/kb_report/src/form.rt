@@ -5,7 +5,8 @@ ghost use Rattle.std.specs.Bool.{OnTrue};
 ghost use Rattle.kb_term.specs.View.{tree_of, pair_of, equations_of_list};
 ghost use Rattle.kb_term.specs.Pair.{numbered, variables_of_pair};
 ghost use Rattle.kb_term.specs.Signature.{HasArity, IsWellFormed, IsTermWithinLimits, IsEquationWithinLimits, symbols_of_list, SymbolEntry};
-ghost use Rattle.kb_report.specs.Answers.{IsProblemForm, is_between, is_row as is_row_of, are_rows as are_rows_of};
+ghost use Rattle.kb_report.specs.Answers.{IsProblemForm};
+ghost use Rattle.kb_cert.specs.CertificateText.{is_between, is_row as is_row_of, are_rows as are_rows_of};
 ghost use Rattle.kb_linear.specs.Limits.{interpretation_of};
 
 use kb_linear::Interp;

@@ -14,7 +14,7 @@ use Rattle.kb_linear.specs.Limits.{IsMeasurable}
 use Rattle.kb_linear.specs.LinearOrder.{LinearGreater, Interpretation}
 use Rattle.kb_linear.specs.Interpretations.{interpretations}
 use Rattle.kb_overlap.specs.Trace.{IsRightInput}
-use Rattle.kb_syntax.specs.Terms.{IsPairForm}
+use Rattle.kb_cert.specs.declared.certificate.Certificate.TheVariants.{Linear}
 use Rattle.kb_report.specs.Answers.{Answer, IsProblemForm, IsRuleForm, IsStepForm, one_rule_answer, system_text}
 use Rattle.mkbtt_top.specs.FirstRun.{IsEquationOf, IsOrderedIn, IsAnswerOf}
 use Rattle.kb_overlap.specs.Overlap.{IsOverlapList}
@@ -55,9 +55,9 @@ first-of P x xs h = h 0 x (omega arith)
 -- a text that is made of such parts is an answer's
 pub answer_of : (problem : Problem) (pair : Pair) (direction : ℕ) (rule : Rule) (order : Interpretation) (text : List ℕ)
     → direction ≤ 1 → IsProblemForm problem → IsEquationOf problem pair → IsOrderedIn problem pair direction rule order → IsOverlapList rule rule true []
-    → text ≡ system_text (one_rule_answer problem rule order pair) → IsAnswerOf problem text
+    → text ≡ system_text (one_rule_answer problem rule (Linear order) pair) → IsAnswerOf problem text
 answer_of problem pair direction rule order text d form equation ordered no_overlap spelled = record {
-  answer = one_rule_answer problem rule order pair;
+  answer = one_rule_answer problem rule (Linear order) pair;
   one_rule = record {
     pair = pair;
     equation = equation;

@@ -11,7 +11,9 @@ use Rattle.kb_overlap.specs.Overlap.{IsOverlapList}
 use Rattle.kb_overlap.specs.Trace.{IsRightTrace}
 use Rattle.kb_syntax.specs.Terms.{IsPairForm}
 use Rattle.kb_syntax.specs.Problems.{Spells}
-use Rattle.kb_report.specs.Answers.{Answer, AnswerSpelled, are_rows, one_rule_answer}
+use Rattle.kb_report.specs.Answers.{Answer, AnswerSpelled, one_rule_answer}
+use Rattle.kb_cert.specs.CertificateText.{are_rows}
+use Rattle.kb_cert.specs.declared.certificate.Certificate.TheVariants.{Linear}
 use Rattle.kb_syntax.specs.declared.kind.Kind.TheVariants.{NotBuilt}
 use Rattle.mkbtt_top.specs.declared.status.Status.{Status}
 use Rattle.mkbtt_top.specs.declared.status.Status.TheVariants.{Done, Refused, ReadFault, WriteFault, Memory, Words}
@@ -42,7 +44,7 @@ pub record IsOneRuleAnswer (problem : Problem) (answer : Answer) : Type 0 where
   pub order : Interpretation
   pub ordered : IsOrderedIn problem pair direction rule order
   pub no_overlap : IsOverlapList rule rule true []
-  pub answer_is : answer ≡ one_rule_answer problem rule order pair
+  pub answer_is : answer ≡ one_rule_answer problem rule (Linear order) pair
   pub right : IsRightTrace problem.equations answer.trace
 
 -- the text is the spelling of such an answer to the problem

@@ -10,6 +10,7 @@ ghost use Rattle.kb_report.specs.Answers.{IsProblemForm};
 ghost use Rattle.mkbtt_top.specs.FirstRun.{IsEquationOf, IsOrderedIn, IsAnswerOf, IsAnswerTo};
 ghost use Rattle.kb_overlap.specs.Overlap.{IsOverlapList};
 
+use kb_cert::Certificate;
 use kb_linear::{Interp, search_linear};
 use kb_overlap::{has_few_arguments, overlaps};
 use kb_report::{
@@ -108,18 +109,20 @@ fn answer_by(
     problem: &Problem,
     pair: &Pair,
     direction: u8,
-    ordered: &OrderedRule,
+    ordered: OrderedRule,
 ) -> Result<Option<Vec<u8>>, Memory>
     requires direction { direction ≤ 1 }
     requires problem { IsProblemForm problem.now }
     requires equation { IsEquationOf problem.now pair.now }
-    requires ordered { IsOrderedIn problem.now pair.now direction ordered.now.rule ordered.now.order }
+    requires ordered { IsOrderedIn problem.now pair.now direction ordered.rule ordered.order }
     ensures { IfOk result (λ found. IfSome found (λ text. IsAnswerOf problem.now text.items)) }
 {
-    if !is_without_overlap(alloc, &ordered.rule)? {
+    let OrderedRule { rule, order } = ordered;
+    if !is_without_overlap(alloc, &rule)? {
         return Ok(None);
     }
-    let text = one_rule_text(alloc, problem, &ordered.rule, &ordered.order, pair)?;
+    let cert = Certificate::Linear(order);
+    let text = one_rule_text(alloc, problem, &rule, &cert, pair)?;
     Ok(Some(text))
 }
 
@@ -146,8 +149,8 @@ fn answer(alloc: Global, problem: &Problem) -> Result<Option<Vec<u8>>, Memory>
     let forth = ordered_rule(alloc, problem, &pair, 0)?;
     let back = ordered_rule(alloc, problem, &pair, 1)?;
     match (forth, back) {
-        (Some(ordered), None) => answer_by(alloc, problem, &pair, 0, &ordered),
-        (None, Some(ordered)) => answer_by(alloc, problem, &pair, 1, &ordered),
+        (Some(ordered), None) => answer_by(alloc, problem, &pair, 0, ordered),
+        (None, Some(ordered)) => answer_by(alloc, problem, &pair, 1, ordered),
         (None, None) | (Some(_), Some(_)) => Ok(None),
     }
 }

@@ -1,7 +1,7 @@
 use Rattle.std.proofs.Common.{◌≡◌, drop, length}
 use Rattle.kb_term.specs.Signature.{symbols_of_list}
 use Rattle.kb_linear.specs.Limits.{interpretation_of}
-use Rattle.kb_report.specs.Answers.{are_rows}
+use Rattle.kb_cert.specs.CertificateText.{are_rows}
 use Rattle.kb_report.proofs.form.are_rows.Given as goal
 
 -- the rows that are left decide
