@@ -1,12 +1,12 @@
 -- Where neither white space nor a mark begins.
-use Rattle.std.proofs.Common.{◌≡◌, ℕ, zero, suc, ◌+◌, ◌<◌, ◌==◌, List, [], ◌∷◌, Bool, true, false, cond, not, ◌&&◌, ◌||◌, length, map, refl, sym, ◌∙◌, ap, arith, drop, get_or, ◌≤◌, Vec, Global}
+use Rattle.std.proofs.Common.{◌≡◌, ℕ, ◌+◌, ◌<◌, ◌==◌, List, [], ◌∷◌, Bool, true, false, cond, not, ◌&&◌, ◌||◌, length, map, refl, sym, ◌∙◌, ap, arith, drop, get_or, ◌≤◌, Vec, Global}
 use Rattle.std.specs.Prelude.{nat_eq}
 use Rattle.std.specs.List.{list_any, starts_with}
 use Rattle.std.proofs.lemmas.List.{at_drop_more, get_or-map}
 use Rattle.std.proofs.lemmas.List.Elements.{All-map}
 use Rattle.std.specs.Prelude.{All, AllPairs}
-use Rattle.kb_term.specs.Identifier.{is_white_space, begins_otherwise, is_unbroken}
-use Rattle.kb_syntax.specs.Tokens.{Token, Start, white, mark, letter, marks, mark_of, start_of, is_white}
+use Rattle.kb_term.specs.Identifier.{begins_otherwise, is_unbroken}
+use Rattle.kb_syntax.specs.Tokens.{Token, white, mark, letter, marks, mark_of, start_of, is_white}
 use Rattle.kb_syntax.specs.Starts.{start_in}
 use Rattle.kb_term.specs.Identifier.{IsIdentifier}
 use Rattle.kb_term.specs.Signature.{SymbolEntry, IsSignature, symbols_of_list}

@@ -1,5 +1,5 @@
 -- Lists of names, from a place on.
-use Rattle.std.proofs.Common.{◌≡◌, ◌+◌, ◌<◌, ◌≤◌, ◌||◌, ap, sym, ◌∙◌, subst, refl, ℕ, zero, suc, List, [], ◌∷◌, true, false, Bool, cond, drop, length, get_or, arith, Vec, Global}
+use Rattle.std.proofs.Common.{◌≡◌, ◌+◌, ◌<◌, ◌≤◌, ◌||◌, ap, sym, ◌∙◌, ℕ, List, [], ◌∷◌, false, Bool, cond, drop, length, get_or, Vec, Global}
 use Rattle.std.specs.Prelude.{map, bytes_eq}
 use Rattle.std.proofs.lemmas.List.{at_drop_more}
 use Rattle.std.proofs.Math.ListN.{drop_of_length-le}

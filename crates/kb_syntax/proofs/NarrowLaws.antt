@@ -1,12 +1,11 @@
 -- A text of one equation whose names and uses were tested.
-use Rattle.std.proofs.Common.{append-nil, ◌≡◌, refl, ap, sym, ◌∙◌, subst, arith, ℕ, ◌+◌, ◌≤◌, List, [], ◌∷◌, ◌++◌, Bool, true, false, cond, ◌&&◌, length, length-append}
-use Rattle.std.specs.Prelude.{map, flat_map, nat_le, Option, Some, None, IsTrue}
+use Rattle.std.proofs.Common.{append-nil, ◌≡◌, refl, ap, sym, ◌∙◌, arith, ℕ, ◌≤◌, List, [], ◌∷◌, ◌++◌, Bool, true, false, ◌&&◌, length, length-append}
+use Rattle.std.specs.Prelude.{map, flat_map, nat_le, Option, Some, None}
 use Rattle.std.specs.List.{list_all, list_any}
-use Rattle.kb_term.specs.Tree.{Tree}
-use Rattle.kb_term.specs.Signature.{Problem, SymbolEntry}
+use Rattle.kb_term.specs.Signature.{Problem}
 use Rattle.kb_syntax.specs.Names.{Name, firsts, are_distinct}
-use Rattle.kb_syntax.specs.Grammar.{Written, WrittenEquation, Section}
-use Rattle.kb_syntax.specs.Problems.{variables_of, equations_of, sides_of, names_in, uses_in, all_names, all_uses, agree, is_unapplied, depth_in, variables_among, symbols_among, symbol_names, equation_variables, equation_of, term_of, entry_of, problem_of, names_of_section, are_ordered, is_rules}
+use Rattle.kb_syntax.specs.Grammar.{WrittenEquation}
+use Rattle.kb_syntax.specs.Problems.{variables_of, equations_of, sides_of, names_in, uses_in, all_names, all_uses, agree, is_unapplied, depth_in, variables_among, symbols_among, symbol_names, equation_variables, equation_of, term_of, entry_of, names_of_section, are_ordered, is_rules}
 use Rattle.kb_syntax.specs.Narrow.{one_equation, declared_names, IsProblemOf, Meets}
 
 variables-one : (head : Option (List Name)) (e : WrittenEquation) → variables_of (one_equation head e) ≡ declared_names head

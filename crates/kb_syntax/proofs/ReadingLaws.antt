@@ -1,10 +1,10 @@
 -- One reading behind another.
-use Rattle.std.proofs.Common.{append_assoc, ◌≡◌, refl, ap, sym, ◌∙◌, arith, subst, ℕ, zero, suc, ◌+◌, ◌≤◌, ◌<◌, List, [], ◌∷◌, ◌++◌, length, get_or, drop}
+use Rattle.std.proofs.Common.{append_assoc, ◌≡◌, refl, ap, sym, ◌∙◌, arith, subst, ℕ, ◌+◌, ◌<◌, List, [], ◌∷◌, ◌++◌, length, get_or, drop}
 use Rattle.std.specs.Prelude.{map}
 use Rattle.std.proofs.lemmas.List.{at_drop_more, drop-map}
-use Rattle.kb_syntax.specs.Tokens.{Token, comma, identifier, left_paren, right_paren}
+use Rattle.kb_syntax.specs.Tokens.{Token, comma, identifier, right_paren}
 use Rattle.kb_syntax.specs.Names.{Name}
-use Rattle.kb_syntax.specs.Grammar.{name_tokens, Written, Arguments, no_arguments, argument, term_tokens, argument_tokens, later_tokens}
+use Rattle.kb_syntax.specs.Grammar.{name_tokens, Written, term_tokens, argument_tokens, later_tokens}
 use Rattle.kb_syntax.specs.Fronts.{followed_tokens}
 use Rattle.kb_syntax.specs.Written.{written_of, arguments_of}
 use Rattle.kb_syntax.specs.TokenValues.{token_of, tokens_of}

@@ -1,8 +1,8 @@
 -- Names that look like variables, and the texts of terms argument by argument.
-use Rattle.std.proofs.Common.{append-nil, append_assoc, ◌≡◌, refl, ap, sym, ◌∙◌, subst, arith, ℕ, zero, suc, ◌+◌, ◌-◌, ◌≤◌, ◌<◌, List, [], ◌∷◌, ◌++◌, Bool, true, false, ◌&&◌, length, get_or, take, drop, Vec, Global}
-use Rattle.std.specs.Prelude.{map, replicate, nat_eq, nat_lt, codes, bytes_eq, find, not}
-use Rattle.std.specs.List.{list_all, list_any, starts_with, range_with_len}
-use Rattle.kb_term.specs.Tree.{Tree, Trees, no_trees, more_trees, trees_of}
+use Rattle.std.proofs.Common.{append-nil, append_assoc, ◌≡◌, refl, ap, sym, ◌∙◌, arith, ℕ, zero, suc, ◌+◌, ◌-◌, ◌≤◌, ◌<◌, List, [], ◌∷◌, ◌++◌, Bool, true, false, ◌&&◌, length, get_or, take, drop, Vec, Global}
+use Rattle.std.specs.Prelude.{map, replicate, nat_eq, nat_lt, codes, bytes_eq, find}
+use Rattle.std.specs.List.{list_all, starts_with, range_with_len}
+use Rattle.kb_term.specs.Tree.{Trees, no_trees, more_trees, trees_of}
 use Rattle.kb_term.specs.View.{tree_of}
 use Rattle.kb_term.specs.Signature.{symbols_of_list}
 use Rattle.kb_term.specs.declared.term.Term.{Term}

@@ -3,9 +3,9 @@ use Rattle.std.proofs.Common.{append-nil, append_assoc, ◌≡◌, refl, ap, sym
 use Rattle.std.specs.Prelude.{map, max, nat_le, ◌&&◌, cond}
 use Rattle.std.proofs.lemmas.List.{at_drop_more}
 use Rattle.std.proofs.Math.ListN.{drop_of_length-le}
-use Rattle.kb_term.specs.Tree.{Tree, Trees, more_trees, trees_of}
+use Rattle.kb_term.specs.Tree.{more_trees, trees_of}
 use Rattle.kb_syntax.specs.Names.{Name, number_of}
-use Rattle.kb_syntax.specs.Grammar.{Written, Arguments, argument}
+use Rattle.kb_syntax.specs.Grammar.{Arguments, argument}
 use Rattle.kb_syntax.specs.Problems.{names_in, names_in_all, uses_in, uses_in_all, count_of, depth_in, depth_in_all, is_unapplied, are_unapplied, term_of, terms_of}
 use Rattle.kb_syntax.specs.Written.{written_of, arguments_of}
 use Rattle.kb_syntax.specs.declared.written.WrittenTerm.{WrittenTerm}

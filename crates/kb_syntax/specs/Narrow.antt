@@ -1,5 +1,5 @@
 -- Texts of one equation: perhaps a section of variables, and a section of rules with the equation.
-use Rattle.std.specs.Prelude.{ℕ, ◌+◌, ◌≤◌, ◌≡◌, List, [], ◌∷◌, length, Bool, true, false, Option, Some, None, nat_le}
+use Rattle.std.specs.Prelude.{ℕ, ◌+◌, ◌≤◌, ◌≡◌, List, [], ◌∷◌, length, true, Option, Some, None, nat_le}
 use Rattle.std.specs.List.{list_all}
 use Rattle.kb_term.specs.Signature.{Problem}
 use Rattle.kb_syntax.specs.Names.{Name, are_distinct}

@@ -1,4 +1,4 @@
-use Rattle.std.proofs.Common.{append_assoc, ◌≡◌, ◌++◌, ◌∙◌, ap, sym, List, ℕ}
+use Rattle.std.proofs.Common.{append_assoc, ◌++◌, ◌∙◌, ap, sym, List, ℕ}
 use Rattle.std.specs.Prelude.{map, take}
 use Rattle.std.specs.List.{join_with_byte}
 use Rattle.kb_syntax.specs.Lines.{parted}

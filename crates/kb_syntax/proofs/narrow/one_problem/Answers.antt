@@ -1,6 +1,5 @@
 use Rattle.std.proofs.Common.{◌≡◌, ◌≤◌, ◌∙◌, ◌++◌, ◌∷◌, [], ℕ, List, ap, subst, arith, length}
 use Rattle.std.specs.Prelude.{IfSome, Option, map}
-use Rattle.kb_term.specs.Tree.{Tree}
 use Rattle.kb_term.specs.Signature.{Signature}
 use Rattle.kb_term.specs.View.{tree_of}
 use Rattle.kb_syntax.specs.Names.{Name, firsts}

@@ -1,4 +1,4 @@
-use Rattle.std.proofs.Common.{◌≡◌, ◌+◌, ◌∷◌, ◌++◌, [], ℕ, subst, sym, List}
+use Rattle.std.proofs.Common.{◌+◌, ◌∷◌, ◌++◌, [], ℕ, subst, sym, List}
 use Rattle.std.specs.Prelude.{IfSome, Option}
 use Rattle.kb_syntax.specs.Tokens.{identifier, left_paren, right_paren}
 use Rattle.kb_syntax.specs.Grammar.{Written, term_tokens, argument_tokens}

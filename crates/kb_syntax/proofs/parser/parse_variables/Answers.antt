@@ -1,4 +1,4 @@
-use Rattle.std.proofs.Common.{◌+◌, ◌∷◌, [], ℕ, subst, List}
+use Rattle.std.proofs.Common.{◌+◌, ◌∷◌, [], subst}
 use Rattle.std.specs.Prelude.{IfSome, Option, codes}
 use Rattle.kb_syntax.specs.Tokens.{identifier, left_paren}
 use Rattle.kb_syntax.specs.TokenValues.{tokens_of}

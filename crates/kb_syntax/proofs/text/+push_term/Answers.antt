@@ -1,10 +1,10 @@
-use Rattle.std.proofs.Common.{append-nil, append_assoc, arith, ◌≡◌, ◌<◌, ◌++◌, ◌∷◌, [], sym, ap, ◌∙◌, length}
-use Rattle.std.specs.Prelude.{map, take}
+use Rattle.std.proofs.Common.{append_assoc, arith, ◌<◌, ◌++◌, ◌∷◌, [], sym, ap, ◌∙◌, length}
+use Rattle.std.specs.Prelude.{take}
 use Rattle.std.proofs.lemmas.List.{take_all}
 use Rattle.kb_term.specs.Tree.{tree_depth}
 use Rattle.kb_term.specs.View.{tree_of}
 use Rattle.kb_term.proofs.Arguments.{argument-is, argument-depth, arguments-length}
-use Rattle.kb_syntax.specs.Terms.{names_of, term_text, arguments_text, separator}
+use Rattle.kb_syntax.specs.Terms.{names_of, term_text, separator}
 use Rattle.kb_syntax.proofs.TextLaws.{opened_text, opened_more, closed, trees}
 use Rattle.kb_syntax.proofs.text.+push_term.Goals as goal
 

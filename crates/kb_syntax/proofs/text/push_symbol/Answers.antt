@@ -1,4 +1,4 @@
-use Rattle.std.proofs.Common.{◌≡◌, ◌∙◌, ◌++◌, ap, sym}
+use Rattle.std.proofs.Common.{◌∙◌, ◌++◌, ap, sym}
 use Rattle.kb_term.specs.Signature.{Signature}
 use Rattle.kb_syntax.specs.Terms.{names_of, symbol_text}
 use Rattle.kb_syntax.proofs.IdentifierLaws.{Entry}

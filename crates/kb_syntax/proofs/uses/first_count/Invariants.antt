@@ -1,5 +1,5 @@
 use Rattle.std.proofs.Common.{◌≡◌, drop}
-use Rattle.std.specs.Prelude.{map, unwrap_or}
+use Rattle.std.specs.Prelude.{map}
 use Rattle.kb_syntax.specs.Problems.{arity_in}
 use Rattle.kb_syntax.proofs.uses.first_count.Given as goal
 

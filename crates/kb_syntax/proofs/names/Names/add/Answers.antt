@@ -1,4 +1,4 @@
-use Rattle.std.proofs.Common.{◌≡◌, ap, sym, ◌∙◌, ◌∷◌, ◌++◌, [], true, false}
+use Rattle.std.proofs.Common.{◌≡◌, ap, sym, ◌∙◌, ◌∷◌, ◌++◌, [], false}
 use Rattle.kb_syntax.specs.Names.{is_among}
 use Rattle.kb_syntax.proofs.Firsts.{firsts-new, firsts-old}
 use Rattle.kb_syntax.proofs.names.Names.add.Goals as goal

@@ -1,4 +1,4 @@
-use Rattle.std.proofs.Common.{append_assoc, ◌≡◌, ap, sym, ◌∙◌, ◌++◌}
+use Rattle.std.proofs.Common.{append_assoc, ap, sym, ◌∙◌, ◌++◌}
 use Rattle.std.specs.Prelude.{take}
 use Rattle.kb_syntax.specs.Problems.{names_in, names_in_all}
 use Rattle.kb_syntax.specs.Written.{written_of}

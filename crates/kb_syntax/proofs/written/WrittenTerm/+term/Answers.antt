@@ -1,4 +1,4 @@
-use Rattle.std.proofs.Common.{arith, ap, ◌≡◌}
+use Rattle.std.proofs.Common.{arith, ap}
 use Rattle.std.specs.Prelude.{map}
 use Rattle.kb_term.specs.Tree.{apply}
 use Rattle.kb_term.specs.View.{tree_of}
