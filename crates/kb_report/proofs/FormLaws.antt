@@ -1,8 +1,8 @@
 -- Forms of lists, member by member.
-use Rattle.std.proofs.Common.{◌≡◌, refl, ap, sym, ◌∙◌, subst, arith, ℕ, zero, suc, ◌+◌, ◌≤◌, ◌<◌, List, [], ◌∷◌, length, get_or, true, false, Bool}
-use Rattle.std.specs.Prelude.{map, Option, None, Some, nat_lt, ◌||◌}
+use Rattle.std.proofs.Common.{◌≡◌, refl, arith, ℕ, suc, ◌≤◌, ◌<◌, List, [], ◌∷◌, length, get_or, true, false, Bool}
+use Rattle.std.specs.Prelude.{map, Option, None, nat_lt}
 use Rattle.std.specs.Bool.{OnTrue}
-use Rattle.kb_term.specs.Tree.{Tree, Trees, trees_of, list_of, tree_size, tree_depth}
+use Rattle.kb_term.specs.Tree.{Tree, trees_of, list_of, tree_size, tree_depth}
 use Rattle.kb_term.specs.Pair.{first_limit, limit_if, term_limit, pair_limit, variables_of_pair}
 use Rattle.kb_term.specs.declared.limit.Limit.{Limit}
 use Rattle.kb_term.specs.declared.limit.Limit.TheVariants.{Size, Depth, Variables}

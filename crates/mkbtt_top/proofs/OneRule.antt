@@ -1,6 +1,6 @@
 -- One rule, and the equation that it comes from.
-use Rattle.std.proofs.Common.{◌≡◌, refl, ap, sym, ◌∙◌, subst, arith, ℕ, zero, suc, ◌+◌, ◌≤◌, ◌<◌, List, [], ◌∷◌, ◌++◌, length, get_or, true, false, Bool, Ok, Err, Vec, Global}
-use Rattle.std.specs.Prelude.{map, Option, None, Some, Result, IfOk, IfSome, Contains, All}
+use Rattle.std.proofs.Common.{◌≡◌, refl, sym, subst, arith, ℕ, zero, suc, ◌≤◌, List, [], ◌∷◌, get_or, true, false, Bool, Ok, Err}
+use Rattle.std.specs.Prelude.{Option, None, Some, Result, IfOk, IfSome, Contains, All}
 use Rattle.std.specs.Bool.{OnTrue}
 use Rattle.std.proofs.lemmas.List.Elements.{Contains-append_right, Contains-get_or}
 use Rattle.kb_term.specs.First.{IsFirst}
@@ -11,11 +11,10 @@ use Rattle.kb_term.specs.Rule.{Rule}
 use Rattle.kb_term.specs.Signature.{Problem}
 use Rattle.kb_term.specs.declared.origin.Origin.TheVariants.{Input}
 use Rattle.kb_linear.specs.Limits.{IsMeasurable}
-use Rattle.kb_linear.specs.LinearOrder.{LinearGreater, Interpretation}
-use Rattle.kb_linear.specs.Interpretations.{interpretations}
+use Rattle.kb_linear.specs.LinearOrder.{Interpretation}
 use Rattle.kb_overlap.specs.Trace.{IsRightInput}
 use Rattle.kb_cert.specs.declared.certificate.Certificate.TheVariants.{Linear}
-use Rattle.kb_report.specs.Answers.{Answer, IsProblemForm, IsRuleForm, IsStepForm, one_rule_answer, system_text}
+use Rattle.kb_report.specs.Answers.{IsProblemForm, IsRuleForm, IsStepForm, one_rule_answer, system_text}
 use Rattle.mkbtt_top.specs.FirstRun.{IsEquationOf, IsOrderedIn, IsAnswerOf}
 use Rattle.kb_overlap.specs.Overlap.{IsOverlapList}
 

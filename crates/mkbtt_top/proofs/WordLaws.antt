@@ -1,5 +1,5 @@
 -- The one word that is accepted.
-use Rattle.std.proofs.Common.{◌≡◌, ◌≢◌, refl, ap, sym, ◌∙◌, subst, arith, ℕ, zero, suc, List, [], ◌∷◌, length, get_or, true, false, Bool, Bor}
+use Rattle.std.proofs.Common.{◌≡◌, refl, ap, sym, ◌∙◌, arith, ℕ, List, [], ◌∷◌, length, get_or, Bool, Bor}
 use Rattle.std.specs.Prelude.{map, ◌↔◌, IsTrue, bytes_eq, codes}
 use Rattle.std.proofs.lemmas.Slice.Eq.{bytes_eq-Decides}
 use Rattle.mkbtt_top.specs.FirstRun.{complete_words}

@@ -1,5 +1,5 @@
-use Rattle.std.proofs.Common.{append-nil, ◌≡◌, ◌++◌, ◌∷◌, [], ◌∙◌, ap, sym, List, ℕ}
-use Rattle.std.specs.Prelude.{codes, length}
+use Rattle.std.proofs.Common.{append-nil, ◌++◌, ◌∷◌, [], ◌∙◌, ap, sym, List, ℕ}
+use Rattle.std.specs.Prelude.{codes}
 use Rattle.kb_term.specs.Signature.{Signature}
 use Rattle.kb_term.specs.declared.origin.Origin.TheVariants.{Input}
 use Rattle.kb_cert.specs.CertificateText.{cert_fields}

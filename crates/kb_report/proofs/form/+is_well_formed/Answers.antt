@@ -1,6 +1,6 @@
 use Rattle.std.proofs.Common.{arith, ◌≡◌, ◌<◌, ◌∙◌, sym, ap, subst, length}
 use Rattle.std.specs.Prelude.{map}
-use Rattle.kb_term.specs.Tree.{tree_depth, apply, trees_of, list_of}
+use Rattle.kb_term.specs.Tree.{tree_depth, apply, trees_of}
 use Rattle.kb_term.specs.View.{tree_of}
 use Rattle.kb_term.specs.Signature.{IsWellFormed, HasArity}
 use Rattle.kb_term.proofs.Arguments.{argument-is, argument-depth, arguments-length}

@@ -1,5 +1,5 @@
-use Rattle.std.proofs.Common.{◌≡◌, ℕ, ◌<◌, get_or}
-use Rattle.kb_term.specs.Tree.{tree_depth, apply, trees_of}
+use Rattle.std.proofs.Common.{ℕ, ◌<◌, get_or}
+use Rattle.kb_term.specs.Tree.{tree_depth}
 use Rattle.kb_term.specs.View.{tree_of}
 use Rattle.kb_term.specs.Signature.{IsWellFormed}
 use Rattle.kb_term.specs.declared.term.Term.{Term}

@@ -1,4 +1,4 @@
-use Rattle.std.proofs.Common.{◌≡◌, drop, length}
+use Rattle.std.proofs.Common.{◌≡◌, drop}
 use Rattle.kb_term.specs.Signature.{symbols_of_list}
 use Rattle.kb_linear.specs.Limits.{interpretation_of}
 use Rattle.kb_cert.specs.CertificateText.{are_rows}

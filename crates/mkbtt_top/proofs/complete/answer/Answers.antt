@@ -1,4 +1,4 @@
-use Rattle.std.proofs.Common.{◌≡◌, ◌≤◌, ◌∷◌, [], subst, length, List}
+use Rattle.std.proofs.Common.{[], subst, List}
 use Rattle.std.specs.Prelude.{All}
 use Rattle.std.specs.Bool.{OnTrue}
 use Rattle.kb_term.specs.Tree.{Tree}

@@ -1,8 +1,6 @@
 use Rattle.std.proofs.Common.{◌≡◌, ◌∙◌, ◌++◌, ◌∷◌, [], ap, subst, List}
-use Rattle.std.specs.Prelude.{IfOk, All}
-use Rattle.kb_term.specs.First.{IsFirst}
 use Rattle.kb_term.specs.Rule.{Rule}
-use Rattle.kb_linear.specs.LinearOrder.{LinearGreater, Interpretation}
+use Rattle.kb_linear.specs.LinearOrder.{LinearGreater}
 use Rattle.kb_linear.specs.Interpretations.{interpretations, LinearOrients}
 use Rattle.mkbtt_top.proofs.OneRule.{found-member, found-property, first-of}
 use Rattle.mkbtt_top.proofs.complete.order_of.Goals as goal
