@@ -14,8 +14,13 @@ pub struct StdSource {
 }
 
 impl StdSource {
+    ghost use Rattle.std.specs.Prelude.{◌≡◌};
+    ghost use Rattle.kb_io.specs.Standard.{input_faults};
+
     /// Standard input, which has not failed yet.
-    pub fn new(input: Stdin) -> StdSource {
+    pub fn new(input: Stdin) -> StdSource
+        ensures { input_faults result ≡ 0 }
+    {
         StdSource { input, faults: 0 }
     }
 }
@@ -44,8 +49,13 @@ pub struct StdSink {
 }
 
 impl StdSink {
+    ghost use Rattle.std.specs.Prelude.{◌≡◌};
+    ghost use Rattle.kb_io.specs.Standard.{output_faults};
+
     /// Standard output, which has not failed yet.
-    pub fn new(output: Stdout) -> StdSink {
+    pub fn new(output: Stdout) -> StdSink
+        ensures { output_faults result ≡ 0 }
+    {
         StdSink { output, faults: 0 }
     }
 }

@@ -9,3 +9,6 @@ pub use form::{
     is_equation_within_limits, is_interpretation, is_problem_within_limits, is_term_within_limits,
     is_well_formed,
 };
+
+#[cfg(test)]
+mod tests;
