@@ -117,6 +117,3 @@ answers b h f g = (λ e. f (h.0 e), λ q. h.1 (g q))
 -- the members of a list of terms are no larger than the list
 pub member_size : (items : List Term) (k : ℕ) (d : Term) → k < length items → d ≡ get_or items k d → tree_size (tree_of d) ≤ trees_size (trees_of (map tree_of items))
 member_size items k d h i = let l = at_smaller (map tree_of items) k 0 (tree_of d) (at_from items k d h i) in omega arith
-
-pub arguments_size : (t : Term) (f : Symbol) (ts : List Tree) (items : List Term) → t ≡ App f ts → map tree_of items ≡ ts → trees_size (trees_of (map tree_of items)) < tree_size (tree_of t)
-arguments_size t f ts items e q = let z : tree_size (tree_of t) ≡ tree_size (apply f.0 (trees_of (map tree_of items))) = ap tree_size (form t f ts items e q) in omega arith

@@ -8,16 +8,13 @@ use Rattle.kb_term.proofs.Steps.{occurs_to}
 use Rattle.kb_term.proofs.Instances.{trees_decide}
 use Rattle.kb_term.specs.Pair.{place_in}
 use Rattle.kb_lpo.proofs.Lpo.{IsArgument, DifferFirst, PathGreater, has_argument, through_argument, symbol_above, first_greater, path_from_lpo, lpo_from_path}
-use Rattle.kb_lpo.proofs.LpoLaws.{path_trans, no_lesser, lesser_variables}
+use Rattle.kb_lpo.proofs.LpoLaws.{path_trans, lesser_variables}
 use Rattle.kb_lpo.proofs.LpoDecides.{lpo_decides, Cases, path_cases, path_irreflexive}
 use Rattle.kb_lpo.proofs.Places.{at_same, at_within, at_argument, argument_at, between_all, differ_at, differ_place, at_smaller}
 
 pub by_argument : (p : List ℕ) (f k : ℕ) (ss : List Tree) (u t : Tree) → At ss k u → (u ≡ t) ⊎ LpoGreater p u t → LpoGreater p (apply f (trees_of ss)) t
 by_argument p f k ss u t a (inl e) = lpo_from_path p (has_argument (subst (λ z. IsArgument z (trees_of ss)) e (at_argument ss k u a)))
 by_argument p f k ss u t a (inr l) = lpo_from_path p (through_argument u (at_argument ss k u a) (path_from_lpo p l))
-
-pub not_by_part : (p : List ℕ) (g k : ℕ) (s : Tree) (ts : List Tree) (v : Tree) → At ts k v → ¬ LpoGreater p s v → ¬ LpoGreater p s (apply g (trees_of ts))
-not_by_part p g k s ts v a n l = n (lpo_from_path p (path_trans p (path_from_lpo p l) v (has_argument (at_argument ts k v a))))
 
 pub by_symbol : (p : List ℕ) (f g i : ℕ) (ss ts : List Tree) → IsAbove p f g → length ts ≤ i → Between (λ u. LpoGreater p (apply f (trees_of ss)) u) ts 0 i → LpoGreater p (apply f (trees_of ss)) (apply g (trees_of ts))
 by_symbol p f g i ss ts up h b = lpo_from_path p (symbol_above up (λ u a. path_from_lpo p (between_all (λ u. LpoGreater p (apply f (trees_of ss)) u) ts i h b u a)))
@@ -125,9 +122,6 @@ above_variable p s f x ss e c = variable_within c (λ d. cc)
 pub variable_above : (p : List ℕ) (s : Tree) (x : ℕ) → LpoGreater p s (variable x) → Contains (variables_of s) x
 variable_above p s x l = occurs_to x s (lesser_variables x (path_from_lpo p l) refl)
 
-pub nothing_below_variable : (p : List ℕ) (s t : Tree) (x : ℕ) → s ≡ variable x → ¬ LpoGreater p s t
-nothing_below_variable p s t x e l = no_lesser e (path_from_lpo p l)
-
 -- what is below has its parts below
 pub part_below : (p : List ℕ) (g k : ℕ) (s : Tree) (ts : List Tree) (v : Tree) → At ts k v → LpoGreater p s (apply g (trees_of ts)) → LpoGreater p s v
 part_below p g k s ts v a l = lpo_from_path p (path_trans p (path_from_lpo p l) v (has_argument (at_argument ts k v a)))
@@ -139,13 +133,6 @@ greater_at_difference p f n i ss ts u v g a b h w l = ⊎_elim (λ m. m) (λ m. 
 -- with no witness, the symbol is above
 pub symbol_needed : (p : List ℕ) (f g i : ℕ) (ss ts : List Tree) → ¬ (f ≡ g) → length ss ≤ i → Between (IsNoWitness p (apply g (trees_of ts))) ss 0 i → LpoGreater p (apply f (trees_of ss)) (apply g (trees_of ts)) → IsAbove p f g
 symbol_needed p f g i ss ts d h w l = ⊎_elim (λ a. a) (λ n. absurd (not_by_symbol p f g i ss ts d (λ a. omega arith) h w l)) (cases_lt (place_in p f) (place_in p g))
-
--- with one possible witness and a symbol that isn't above, the witness is greater
-pub only_witness : (p : List ℕ) (f g k i : ℕ) (ss ts : List Tree) (u : Tree) → ¬ (f ≡ g) → ¬ IsAbove p f g → At ss k u → ¬ (u ≡ apply g (trees_of ts)) → length ss ≤ i → Between (IsNoWitness p (apply g (trees_of ts))) ss 0 k → Between (IsNoWitness p (apply g (trees_of ts))) ss (k + 1) i → LpoGreater p (apply f (trees_of ss)) (apply g (trees_of ts)) → LpoGreater p u (apply g (trees_of ts))
-only_witness p f g k i ss ts u d n a e h before behind l = ⊎_elim (λ m. m) (λ m. absurd (not_by_symbol p f g i ss ts d n h (all m) l)) (lpo_decides p u (apply g (trees_of ts)))
-  where
-    all : ¬ LpoGreater p u (apply g (trees_of ts)) → Between (IsNoWitness p (apply g (trees_of ts))) ss 0 i
-    all m j v x y b = ⊎_elim (λ q. before j v x q b) (λ q. ⊎_elim (λ z. subst (IsNoWitness p (apply g (trees_of ts))) (at_same ss k u v a (subst (λ w. At ss w v) z b)) (e, m)) (λ z. behind j v (omega (arith, z)) y b) (cases_eq j k)) (cases_lt j k)
 
 -- some member from a place on is t or greater, or none is
 pub witness_or_none : (p : List ℕ) (t : Tree) (xs : List Tree) (n : ℕ) → HasWitness p t xs n ⊎ Between (IsNoWitness p t) xs n (length xs)

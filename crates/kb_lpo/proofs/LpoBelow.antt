@@ -19,10 +19,6 @@ argument_depth t no_trees i = absurd i
 argument_depth t (more_trees u us) (inl e) = subst (λ x. tree_depth x ≤ max (tree_depth u) (trees_depth us)) e (omega arith)
 argument_depth t (more_trees u us) (inr i) = let h = argument_depth t us i in omega arith
 
-depth_positive : (t : Tree) → 1 ≤ tree_depth t
-depth_positive (variable n) = omega arith
-depth_positive (apply f ts) = omega arith
-
 -- a variable is an argument, or below one
 abbrev VariableIn : (p : List ℕ) (K x : ℕ) (ss : Trees) → Type 0
 VariableIn p K x ss = IsArgument (variable x) ss ⊎ ((s : Tree) × IsArgument s ss × Below p K K s (variable x))

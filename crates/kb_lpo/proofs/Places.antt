@@ -33,9 +33,6 @@ argument_at [] u i = absurd i
 argument_at (x ∷ xs) u (inl e) = (0, e)
 argument_at (x ∷ xs) u (inr i) = let r = argument_at xs u i in (suc r.0, r.1)
 
-pub between_none : (P : Tree → Type 0) (xs : List Tree) (n : ℕ) → Between P xs n n
-between_none P xs n k u a b h = absurd (omega arith)
-
 pub between_more : (P : Tree → Type 0) (xs : List Tree) (n i : ℕ) (v : Tree) → At xs i v → P v → Between P xs n i → Between P xs n (i + 1)
 between_more P xs n i v a p b k u h j at = ⊎_elim (λ e. subst P (at_same xs i v u a (subst (λ z. At xs z u) e at)) p) (λ d. b k u h (omega (arith, d)) at) (cases_eq k i)
 

@@ -6,10 +6,11 @@ ghost use Rattle.kb_lpo.specs.Search.{Fits};
 
 use kb_term::Symbol;
 
-/// For each two of 24 symbols f and g, at 24 f + g, whether f is known to be above g. It is closed under transitivity.
-#[derive(Clone, Copy, PartialEq, Eq)]
+/// For each two of 24 symbols f and g, at 24 f + g, whether f is known to be above g; and how often this was recorded.
+#[derive(Clone, Copy)]
 pub(crate) struct Known {
     above: [bool; 576],
+    pub(crate) records: u32,
 }
 
 impl Known {
@@ -19,6 +20,7 @@ impl Known {
     {
         Known {
             above: [false; 576],
+            records: 0,
         }
     }
 
@@ -44,6 +46,25 @@ impl Known {
         self.is_above(f, g)
     }
 
+    /// Records that `f` is above `g`, and nothing that follows: false where this cannot be.
+    pub(crate) fn record(&mut self, f: Symbol, g: Symbol) -> bool
+        ensures { (prec : List ℕ) → Fits self.old prec → IsAbove prec f.0 g.0 → IsTrue result × Fits self.new prec }
+    {
+        if self.is_from(g, f) {
+            return false;
+        }
+        if self.is_above(f, g) {
+            return true;
+        }
+        if f.0 < 24 {
+            if g.0 < 24 {
+                self.records = self.records.wrapping_add(1);
+                self.above[24 * f.0 as usize + g.0 as usize] = true;
+            }
+        }
+        true
+    }
+
     /// Records that `f` is above `g` and above all that `g` is known to be above.
     fn learn_row(&mut self, f: u8, g: Symbol)
         requires { f < 24 }
@@ -66,6 +87,7 @@ impl Known {
         if self.is_above(f, g) {
             return true;
         }
+        self.records = self.records.wrapping_add(1);
         for x in 0..24u8 {
             if self.is_from(Symbol(x), f) {
                 self.learn_row(x, g);

@@ -160,6 +160,9 @@ fn force_witness(known: &mut Known, ss: &[Term], t: &Term, fuel: &mut u32) -> bo
 fn force_symbol(known: &mut Known, f: Symbol, g: Symbol, ss: &[Term], t: &Term) -> bool
     ensures { (prec : List ℕ) → Fits known.old prec → (Between (IsNoWitness prec (tree_of t.now)) (map tree_of ss.now) 0 (length ss.now) → IsAbove prec f.0 g.0) → IsTrue result × Fits known.new prec }
 {
+    if known.is_above(f, g) {
+        return true;
+    }
     if first_witness(known, ss, 0, t) < ss.len() {
         return true;
     }

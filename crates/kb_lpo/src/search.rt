@@ -44,11 +44,11 @@ fn propagate(known: &mut Known, rules: &[Rule]) -> bool
     ensures { (prec : List ℕ) → Fits known.old prec → LpoOrients prec rules.now → IsTrue result × Fits known.new prec }
 {
     for _ in 0..576 {
-        let before = *known;
+        let before = known.records;
         if !force_all(known, rules) {
             return false;
         }
-        if before == *known {
+        if known.records == before {
             return true;
         }
     }
@@ -77,14 +77,14 @@ fn put_above(known: &mut Known, symbols: &[Symbol], f: Symbol, g: Symbol) -> boo
     if is_listed(symbols, g) {
         return true;
     }
-    known.learn(f, g)
+    known.record(f, g)
 }
 
-/// Records that `f` is above each symbol that is not listed: false where this cannot be.
-fn put_next(known: &mut Known, symbols: &[Symbol], f: Symbol) -> bool
+/// Records that `f` is above each symbol below `count` that is not listed: false where this cannot be.
+fn put_next(known: &mut Known, symbols: &[Symbol], f: Symbol, count: u8) -> bool
     ensures { (prec : List ℕ) → Fits known.old prec → ((g : ℕ) → ¬ Contains (numbers symbols.now) g → ¬ (f.0 ≡ g) → IsAbove prec f.0 g) → IsTrue result × Fits known.new prec }
 {
-    for y in 0..24u8 {
+    for y in 0..count {
         if !put_above(known, symbols, f, Symbol(y)) {
             return false;
         }
@@ -93,15 +93,19 @@ fn put_next(known: &mut Known, symbols: &[Symbol], f: Symbol) -> bool
 }
 
 /// Puts `f` behind the listed symbols, and records what the rules then need: false where it is listed, or no precedence orients all.
-fn place_next(known: &mut Known, rules: &[Rule], symbols: &[Symbol], f: Symbol) -> bool
+fn place_next(known: &mut Known, rules: &[Rule], symbols: &[Symbol], f: Symbol, count: u8) -> bool
     ensures unlisted { result ≡ true → ¬ Contains (numbers symbols.now) f.0 }
     ensures sound { (rest : List ℕ) → ¬ Contains (numbers symbols.now) f.0 → Fits known.old (numbers symbols.now ++ f.0 ∷ rest) → LpoOrients (numbers symbols.now ++ f.0 ∷ rest) rules.now → IsTrue result × Fits known.new (numbers symbols.now ++ f.0 ∷ rest) }
 {
     if is_listed(symbols, f) {
         return false;
     }
-    if !put_next(known, symbols, f) {
+    let before = known.records;
+    if !put_next(known, symbols, f, count) {
         return false;
+    }
+    if known.records == before {
+        return true;
     }
     propagate(known, rules)
 }
@@ -147,7 +151,7 @@ fn search_from(
     for y in lowest(floor)..count {
         let f = Symbol(y);
         let mut more = *known;
-        if place_next(&mut more, rules, prefix, f) {
+        if place_next(&mut more, rules, prefix, f, count) {
             prefix.push(f)?;
             if search_from(&more, rules, count, prefix, left - 1, behind(floor, f))? {
                 return Ok(true);

@@ -1,2 +1,10 @@
-mod OverlapRows
-mod TraceRows
+pub mod OverlapRows
+pub mod TraceRows
+pub mod Variants
+pub mod Extents
+pub mod Subtrees
+pub mod Uniqueness
+pub mod Finding
+pub mod Measures
+pub mod Sides
+pub mod Preorder

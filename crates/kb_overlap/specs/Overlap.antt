@@ -1,14 +1,13 @@
 -- Overlaps of two rules.
 use Rattle.std.specs.Prelude.{ℕ, ◌≡◌, ◌⊎◌, Bool, List, [], ◌∷◌, ◌++◌, map, drop, Contains, Option, Some, None, Result, Ok, Err, cond}
-use Rattle.std.specs.List.{list_any}
 use Rattle.kb_term.specs.Tree.{Tree, variables_of}
 use Rattle.kb_term.specs.Position.{subtree_at, replace_at, function_positions_of}
 use Rattle.kb_term.specs.Substitution.{instance}
-use Rattle.kb_term.specs.Pair.{first_limit, limit_if, is_too_large, is_too_deep, term_limit, pair_limit}
+use Rattle.kb_term.specs.Pair.{Pair, canonical_pair, first_limit, term_limit, pair_limit}
 use Rattle.kb_term.specs.Rule.{Rule, IsVariantRule}
 use Rattle.kb_unify.specs.Unifier.{IsMostGeneralUnifier, IsUnifiable}
+use Rattle.kb_unify.specs.Answer.{terms_limit}
 use Rattle.kb_term.specs.declared.limit.Limit.{Limit}
-use Rattle.kb_term.specs.declared.limit.Limit.TheVariants.{Size, Depth}
 
 -- a variant of the inner rule that has no variable of the outer rule
 pub record IsRenamedApart (outer inner renamed : Rule) : Type 0 where
@@ -34,10 +33,6 @@ pub record IsOverlap (outer inner : Rule) (p : List ℕ) (s t : Tree) : Type 0 w
   pub renamed_apart : IsRenamedApart outer inner renamed
   pub overlaps : OverlapsAt outer renamed p m
   pub pair : IsCriticalPair outer renamed p m s t
-
--- the limit that one of the terms passes: a size above 512, else a depth above 64
-abbrev pub terms_limit : List Tree → Option Limit
-terms_limit ts = first_limit (limit_if (list_any is_too_large ts) Size ∷ limit_if (list_any is_too_deep ts) Depth ∷ [])
 
 -- the limit that an overlap passes: by a term that m gives to a variable, else by the peak, else by the pair
 abbrev pub overlap_limit : Rule → Rule → (ℕ → Tree) → Tree → Tree → Option Limit
@@ -83,3 +78,12 @@ overlap_positions outer same = cond same (drop 1 (function_positions_of outer.le
 -- all overlaps of the two rules in order; same says that they are one rule
 abbrev pub IsOverlapList : Rule → Rule → Bool → List Overlap → Type 0
 IsOverlapList outer inner same os = ListsOverlaps outer inner (overlap_positions outer same) os
+
+-- what of the sides doesn't depend on the choice of variables: their canonical pair, or the limit
+abbrev pub canonical_sides : Result (Tree × Tree) Limit → Result (Option Pair) Limit
+canonical_sides (Ok e) = Ok (canonical_pair e.0 e.1)
+canonical_sides (Err l) = Err l
+
+-- what of an overlap doesn't: its position, and its canonical pair or the limit
+abbrev pub canonical_overlap : Overlap → List ℕ × Result (Option Pair) Limit
+canonical_overlap o = (o.position, canonical_sides o.sides)

@@ -1,2 +1,11 @@
-//! Critical pairs.
+//! Critical pairs: where two rules overlap.
 #![tactic(auto)]
+
+mod alike;
+mod instance;
+mod overlap;
+mod positions;
+
+pub use alike::overlaps_alike;
+pub use overlap::{Overlap, overlaps};
+pub use positions::has_few_arguments;

@@ -5,21 +5,15 @@ use Rattle.kb_term.specs.Tree.{Tree}
 use Rattle.kb_syntax.specs.Names.{Name}
 use Rattle.kb_syntax.specs.Lines.{line, counted, IsBadLine}
 use Rattle.kb_term.specs.Signature.{SymbolEntry, Signature, Problem, IsSignature, IsWithinLimits, IsEquationWithinLimits}
-use Rattle.kb_term.specs.Pair.{distinct}
+use Rattle.kb_term.specs.Pair.{Pair, distinct}
 use Rattle.kb_term.specs.Rule.{Rule}
 use Rattle.kb_overlap.specs.Trace.{TraceStep}
 use Rattle.kb_syntax.specs.Terms.{names_of, symbol_text, infix_text, IsPairForm}
 use Rattle.kb_term.specs.declared.origin.RuleRef.{RuleRef}
 use Rattle.kb_term.specs.declared.origin.Origin.{Origin}
 use Rattle.kb_term.specs.declared.origin.Origin.TheVariants.{Input, Rewrite, Overlap}
+use Rattle.kb_cert.specs.CertificateText.{cert_fields, is_between, is_certificate}
 use Rattle.kb_cert.specs.declared.certificate.Certificate.{Certificate}
-use Rattle.kb_cert.specs.declared.certificate.Certificate.TheVariants.{Lpo, Linear}
-use Rattle.kb_report.specs.declared.parts.Reason.{Reason}
-use Rattle.kb_report.specs.declared.parts.Reason.TheVariants.{Nodes, Processes, Size, Depth, Variables, Steps}
-use Rattle.kb_report.specs.declared.parts.Reject.{Reject}
-use Rattle.kb_report.specs.declared.parts.Reject.TheVariants.{BadStep, Untraced, NotOriented, PairLarge, PairSteps, NotJoined, EquationLarge, EquationSteps, NotProved}
-use Rattle.kb_report.specs.declared.parts.Checked.{Checked}
-use Rattle.kb_report.specs.declared.parts.Checked.TheVariants.{Accepted, Rejected}
 
 -- a system: rules, each with the step that it cites
 pub record Answer : Type 0 where
@@ -27,12 +21,6 @@ pub record Answer : Type 0 where
   pub rules : List (Rule × ℕ)
   pub cert : Certificate
   pub trace : List TraceStep
-
-pub data Report : Type 0 where
-  system : Answer → Report
-  all_failed : ℕ → Report
-  spent_commits : ℕ → ℕ → Report
-  spent_over : Reason → ℕ → Report
 
 -- ---- the lines
 
@@ -50,17 +38,6 @@ equation_lines p = counted (codes "EQUATIONS") (length p.equations) ++ flat_map 
 
 abbrev pub rule_line : List Name → Rule × ℕ → List ℕ
 rule_line names r = line (infix_text names (codes "->") r.0.left r.0.right ++ codes ":" ∷ decimal r.1 ∷ [])
-
--- the constant and the coefficients of a symbol
-abbrev pub interp_text : ℕ × List ℕ → List ℕ
-interp_text row = join_with_byte 44 (decimal row.0 ∷ map decimal row.1)
-
-abbrev pub cert_fields : List Name → Certificate → List (List ℕ)
-cert_fields names (Lpo symbols) = codes "LPO" ∷ map (symbol_text names) symbols
-cert_fields names (Linear rows) = codes "LINEAR" ∷ map interp_text rows
-
-abbrev pub cert_text : Signature → Certificate → List ℕ
-cert_text sig c = join_with_byte 32 (cert_fields (names_of sig) c)
 
 -- e for the root, else argument numbers joined by dots
 abbrev pub position_text : List ℕ → List ℕ
@@ -99,47 +76,12 @@ system_text a = let names = names_of a.problem.signature in
     ++ counted (codes "TRACE") (length a.trace) ++ trace_text a.problem.signature a.trace
     ++ end_line
 
-abbrev pub reason_word : Reason → List ℕ
-reason_word Nodes = codes "nodes"
-reason_word Processes = codes "processes"
-reason_word Size = codes "size"
-reason_word Depth = codes "depth"
-reason_word Variables = codes "variables"
-reason_word Steps = codes "steps"
-
-abbrev pub report_text : Report → List ℕ
-report_text (system a) = system_text a
-report_text (all_failed living) = head_line ++ line (codes "FAILED" ∷ decimal living ∷ []) ++ end_line
-report_text (spent_commits commits living) = head_line ++ line (codes "SPENT" ∷ codes "COMMITS" ∷ decimal commits ∷ decimal living ∷ []) ++ end_line
-report_text (spent_over reason living) = head_line ++ line (codes "SPENT" ∷ codes "OVER" ∷ reason_word reason ∷ decimal living ∷ []) ++ end_line
-
 -- ---- their forms
-
-abbrev pub is_between : ℕ → ℕ → ℕ → Bool
-is_between low high n = nat_le low n && nat_le n high
 
 -- a rule's sides are within the limits and numbered by first occurrence; the step that it cites is a number of one
 pub record IsRuleForm (sig : Signature) (r : Rule × ℕ) : Type 0 where
   pub sides : IsEquationWithinLimits sig (r.0.left, r.0.right)
   pub cited : IsTrue (is_between 1 4096 r.1)
-
--- each symbol's number once
-abbrev pub is_precedence : Signature → List ℕ → Bool
-is_precedence sig symbols = nat_eq (length symbols) (length sig) && nat_eq (length (distinct symbols)) (length sig) && list_all (λ f. nat_lt f (length sig)) symbols
-
-abbrev pub is_row : ℕ → ℕ × List ℕ → Bool
-is_row arity row = nat_le row.0 15 && nat_eq (length row.1) arity && list_all (is_between 1 3) row.1
-
--- a row for each symbol
-abbrev pub are_rows : Signature → List (ℕ × List ℕ) → Bool
-are_rows [] [] = true
-are_rows [] (row ∷ rows) = false
-are_rows (e ∷ sig) [] = false
-are_rows (e ∷ sig) (row ∷ rows) = is_row e.arity row && are_rows sig rows
-
-abbrev pub is_certificate : Signature → Certificate → Bool
-is_certificate sig (Lpo symbols) = is_precedence sig symbols
-is_certificate sig (Linear rows) = are_rows sig rows
 
 abbrev pub is_position : List ℕ → Bool
 is_position p = nat_le (length p) 63 && list_all (is_between 1 8) p
@@ -173,15 +115,10 @@ pub record IsAnswer (a : Answer) : Type 0 where
   pub cert : IsTrue (is_certificate a.problem.signature a.cert)
   pub trace : IsTraceForm a.problem.signature a.trace
 
-abbrev pub IsReport : Report → Type 0
-IsReport (system a) = IsAnswer a
-IsReport (all_failed living) = Unit {0}
-IsReport (spent_commits commits living) = Unit {0}
-IsReport (spent_over reason living) = Unit {0}
-
-pub record AnswerSpelled (bytes : List ℕ) (r : Report) : Type 0 where
-  pub form : IsReport r
-  pub spelling : bytes ≡ report_text r
+-- the bytes are the text of the system
+pub record AnswerSpelled (bytes : List ℕ) (a : Answer) : Type 0 where
+  pub form : IsAnswer a
+  pub spelling : bytes ≡ system_text a
 
 -- the texts of systems, which alone are read
 abbrev pub IsSystemText : List ℕ → Type 0
@@ -195,22 +132,13 @@ IsBadAnswerLine bytes n = IsBadLine IsSystemText bytes n
 abbrev pub IsBadTraceLine : Signature → List ℕ → ℕ → Type 0
 IsBadTraceLine sig bytes n = IsBadLine (λ text. (t : List TraceStep) × IsTraceForm sig t × (text ≡ trace_text sig t)) bytes n
 
-abbrev pub CertSpelled : Signature → List ℕ → Certificate → Type 0
-CertSpelled sig bytes c = IsTrue (is_certificate sig c) × (bytes ≡ cert_text sig c)
+-- ---- answers with one rule
 
--- ---- what the check of an answer writes
-
-abbrev pub reject_word : Reject → List ℕ
-reject_word BadStep = codes "badstep"
-reject_word Untraced = codes "untraced"
-reject_word NotOriented = codes "notoriented"
-reject_word PairLarge = codes "pairlarge"
-reject_word PairSteps = codes "pairsteps"
-reject_word NotJoined = codes "notjoined"
-reject_word EquationLarge = codes "equationlarge"
-reject_word EquationSteps = codes "equationsteps"
-reject_word NotProved = codes "notproved"
-
-abbrev pub checked_text : Checked → List ℕ
-checked_text Accepted = line (codes "ACCEPTED" ∷ [])
-checked_text (Rejected reason n) = line (codes "REJECTED" ∷ reject_word reason ∷ decimal n ∷ [])
+-- the system of this one rule, from the pair of the first equation, with this certificate
+abbrev pub one_rule_answer : Problem → Rule → Certificate → Pair → Answer
+one_rule_answer problem rule cert pair = record {
+  problem = problem;
+  rules = (rule, 1) ∷ [];
+  cert = cert;
+  trace = record { origin = Input 1; pair = pair } ∷ [];
+}

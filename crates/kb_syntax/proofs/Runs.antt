@@ -4,14 +4,16 @@ use Rattle.std.proofs.Math.Nat.{eq-or-lt_of_le}
 use Rattle.std.proofs.lemmas.List.{drop_more, get_or-drop, drop-drop}
 use Rattle.std.proofs.lemmas.Bool.Decides.{nat_tests}
 use Rattle.kb_syntax.specs.Tokens.{Token, Placed, Start, white, mark, letter, start_of, tokens_by, tokens_from, letter_before, with_letter, identifier}
-use Rattle.kb_syntax.specs.Starts.{start_by, start_in, IsNoIdentifier, Stops, IsNameTo}
+use Rattle.kb_syntax.specs.declared.lexer.Mark.{Mark}
+use Rattle.kb_syntax.specs.declared.lexer.Mark.TheVariants.{ArrowEquals, Arrow, Equals, Bar, LeftParen, RightParen, Comma, Quotation}
+use Rattle.kb_syntax.specs.Starts.{mark_length_of, start_by, start_in, IsNoIdentifier, Stops, IsNameTo}
 
 start_is : (b : ℕ) (rest : List ℕ) → start_of b rest ≡ start_by b (get_or rest 0 0) (get_or rest 1 0)
 start_is b [] = refl
 start_is b (c ∷ []) = refl
 start_is b (c ∷ d ∷ rest) = refl
 
-start_in_place : (bytes : List ℕ) (at : ℕ) → start_of (get_or bytes at 0) (drop (at + 1) bytes) ≡ start_in bytes at
+pub start_in_place : (bytes : List ℕ) (at : ℕ) → start_of (get_or bytes at 0) (drop (at + 1) bytes) ≡ start_in bytes at
 start_in_place bytes at =
     let one : get_or (drop (at + 1) bytes) 0 0 ≡ get_or bytes (at + 1) 0 = get_or-drop (at + 1) bytes 0 0 ∙ ap (λ (i : ℕ). get_or bytes i 0) (omega arith) in
     let two : get_or (drop (at + 1) bytes) 1 0 ≡ get_or bytes (at + 2) 0 = get_or-drop (at + 1) bytes 1 0 ∙ ap (λ (i : ℕ). get_or bytes i 0) (omega arith) in
@@ -37,8 +39,8 @@ pub after_mark : (bytes : List ℕ) (at : ℕ) (t : Token) (size : ℕ) → at <
 after_mark bytes at t size h some fits m =
     from_place bytes at at h ∙ ap (λ (s : Start). tokens_by s at (get_or bytes at 0) (λ k. tokens_from k (at + 1) (drop (at + 1) bytes))) m
     ∙ ap (λ (ts : List Placed). record { at = at; token = t } ∷ ts) (passed (size - 1) (at + 1) (drop (at + 1) bytes) (omega (arith, length-drop (at + 1) bytes))
-      ∙ ap (λ (l : List ℕ). tokens_from 0 (at + 1 + (size - 1)) l) (drop-drop (size - 1) (at + 1) bytes)
-      ∙ (let e : at + 1 + (size - 1) ≡ at + size = omega arith in ap (λ (m : ℕ). tokens_from 0 m (drop m bytes)) e))
+    ∙ ap (λ (l : List ℕ). tokens_from 0 (at + 1 + (size - 1)) l) (drop-drop (size - 1) (at + 1) bytes)
+    ∙ (let e : at + 1 + (size - 1) ≡ at + size = omega arith in ap (λ (m : ℕ). tokens_from 0 m (drop m bytes)) e))
 
 -- ---- identifiers
 
@@ -141,3 +143,14 @@ name_tokens bytes at end h =
 
 pub one_more_letter : (bytes : List ℕ) (at end : ℕ) → ((k : ℕ) → at ≤ k → k < end → start_in bytes k ≡ letter) → start_in bytes end ≡ letter → (k : ℕ) → at ≤ k → k < end + 1 → start_in bytes k ≡ letter
 one_more_letter bytes at end letters here k low high = ⊎_elim (λ same. ap (start_in bytes) same ∙ here) (λ less. letters k low less) (eq-or-lt_of_le (let h : k ≤ end = omega arith in h))
+
+-- a mark has at least one byte
+pub mark_length_some : (m : Mark) → 1 ≤ mark_length_of m
+mark_length_some ArrowEquals = omega arith
+mark_length_some Arrow = omega arith
+mark_length_some Equals = omega arith
+mark_length_some Bar = omega arith
+mark_length_some LeftParen = omega arith
+mark_length_some RightParen = omega arith
+mark_length_some Comma = omega arith
+mark_length_some Quotation = omega arith

@@ -5,7 +5,14 @@ pub mod Fronts
 pub mod Problems
 pub mod Refusals
 pub mod FirstPath
+pub mod Narrow
 pub mod Generator
 pub mod Lines
 pub mod Terms
 pub mod Starts
+pub mod Reading
+pub mod TokenValues
+pub mod Written
+pub mod WrittenSizes
+pub mod WrittenFalls
+pub mod WrittenCoding

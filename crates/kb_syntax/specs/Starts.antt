@@ -97,3 +97,12 @@ found_tokens bytes at end End = record { at = at; token = end_of_input } ∷ []
 
 abbrev pub first_and_rest : List ℕ → Found → List Placed
 first_and_rest bytes f = found_tokens bytes f.at f.end f.form
+
+abbrev pub EndsBehind : ℕ → ℕ → Form → Type 0
+EndsBehind from end (MarkForm m) = from < end
+EndsBehind from end Identifier = from < end
+EndsBehind from end End = ⊤
+
+-- a token but the end of the input ends behind the place from which it was sought
+abbrev pub IsAhead : ℕ → Found → Type 0
+IsAhead from f = EndsBehind from f.end f.form

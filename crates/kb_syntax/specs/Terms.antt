@@ -1,5 +1,5 @@
 -- Terms and problems as they are written.
-use Rattle.std.specs.Prelude.{◌≡◌, ℕ, ◌+◌, ◌<◌, ◌≤◌, max, List, [], ◌∷◌, ◌++◌, map, flat_map, length, replicate, drop, get_or, Bool, not, ◌&&◌, nat_eq, nat_le, nat_lt, Some, All, find, unwrap_or, codes, decimal}
+use Rattle.std.specs.Prelude.{◌≡◌, ℕ, zero, suc, ◌+◌, ◌<◌, ◌≤◌, max, List, [], ◌∷◌, ◌++◌, map, flat_map, length, replicate, drop, get_or, Bool, not, ◌&&◌, nat_eq, nat_le, nat_lt, Some, All, find, unwrap_or, codes, decimal}
 use Rattle.std.specs.List.{starts_with, list_all, list_any, range_with_len}
 use Rattle.kb_term.specs.Tree.{Tree, variable, apply, Trees, no_trees, more_trees, variables_of}
 use Rattle.kb_syntax.specs.Names.{Name}
@@ -45,6 +45,11 @@ abbrev mutual
   pub later_text : List Name → Trees → List ℕ
   later_text names no_trees = []
   later_text names (more_trees t ts) = codes "," ++ term_text names t ++ later_text names ts
+
+-- what stands before the argument with this number, from 0
+abbrev pub separator : ℕ → ℕ
+separator zero = 40
+separator (suc n) = 44
 
 -- The bytes are the text of a term over the signature, within size and depth and with variables below 64.
 pub record TermSpelled (sig : Signature) (bytes : List ℕ) (t : Tree) : Type 0 where

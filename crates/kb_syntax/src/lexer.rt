@@ -1,7 +1,12 @@
 // One token at a time.
-ghost use Rattle.std.specs.Prelude.{◌≡◌, ◌+◌, ◌<◌, ◌≤◌, List, length, drop, get_or, slice_index};
-ghost use Rattle.kb_syntax.specs.Tokens.{tokens_from, letter};
-ghost use Rattle.kb_syntax.specs.Starts.{start_by, start_in, start_view, start_length, mark_length_of, first_and_rest, HasBytes, IsNameTo};
+ghost use Rattle.std.specs.Prelude.{IfOk, map, ◌∷◌, ◌≡◌, ◌+◌, ◌<◌, ◌≤◌, List, length, drop, get_or, slice_index};
+ghost use Rattle.std.specs.Bool.{OnTrue};
+ghost use Rattle.kb_syntax.specs.Tokens.{tokens, tokens_from, letter};
+ghost use Rattle.kb_syntax.specs.Starts.{start_by, start_in, start_view, start_length, mark_length_of, first_and_rest, HasBytes, IsNameTo, IsAhead};
+ghost use Rattle.kb_syntax.specs.TokenValues.{token_of, tokens_of as values_of};
+
+use kb_term::Memory;
+use std::alloc::Global;
 
 /// A token that is no identifier.
 #[derive(Clone, Copy, PartialEq, Eq)]
@@ -45,8 +50,16 @@ fn start_at(bytes: &[u8], at: usize) -> Start
     ensures fits { at + start_length result ≤ length bytes.now }
 {
     let b = bytes[at];
-    let c = if bytes.len() - at > 1 { bytes[at + 1] } else { 0 };
-    let d = if bytes.len() - at > 2 { bytes[at + 2] } else { 0 };
+    let c = if bytes.len() - at > 1 {
+        bytes[at + 1]
+    } else {
+        0
+    };
+    let d = if bytes.len() - at > 2 {
+        bytes[at + 2]
+    } else {
+        0
+    };
     start_of(b, c, d)
 }
 
@@ -58,7 +71,11 @@ fn start_of(b: u8, c: u8, d: u8) -> Start
         return Start::White;
     }
     if b == b'-' && c == b'>' {
-        return Start::Mark(if d == b'=' { Mark::ArrowEquals } else { Mark::Arrow });
+        return Start::Mark(if d == b'=' {
+            Mark::ArrowEquals
+        } else {
+            Mark::Arrow
+        });
     }
     if b == b'=' && c == b'=' {
         return Start::Mark(Mark::Equals);
@@ -104,6 +121,8 @@ pub fn next_token(bytes: &[u8], from: usize) -> Found
     requires { from ≤ length bytes.now }
     ensures found { tokens_from 0 from (drop from bytes.now) ≡ first_and_rest bytes.now result }
     ensures within { result.end ≤ length bytes.now }
+    ensures order { result.at ≤ result.end }
+    ensures ahead { IsAhead from result }
 {
     let mut at = from;
     while at < bytes.len() {
@@ -129,5 +148,47 @@ pub fn next_token(bytes: &[u8], from: usize) -> Found
         form: Form::End,
         at,
         end: at,
+    }
+}
+
+/// A token, without its place.
+#[derive(Drop)]
+pub enum Token {
+    Mark(Mark),
+    Identifier(Vec<u8>),
+    End,
+}
+
+/// All tokens of the text. The end of the input is the last of them.
+pub fn tokens_of(alloc: Global, bytes: &[u8]) -> Result<Vec<Token>, Memory>
+    ensures { IfOk result (λ v. values_of v.items ≡ tokens bytes.now) }
+{
+    let mut tokens = Vec::new(alloc);
+    let mut at = 0;
+    loop {
+        let found = next_token(bytes, at);
+        match found.form {
+            Form::Mark(mark) => tokens.push(Token::Mark(mark))?,
+            Form::Identifier => {
+                let name = Vec::from_slice(alloc, &bytes[found.at..found.end])?;
+                tokens.push(Token::Identifier(name))?;
+            }
+            Form::End => {
+                tokens.push(Token::End)?;
+                return Ok(tokens);
+            }
+        }
+        at = found.end;
+    }
+}
+
+/// Whether neither white space nor a mark begins at the place.
+pub(crate) fn is_letter(bytes: &[u8], at: usize) -> bool
+    requires { at < length bytes.now }
+    ensures { OnTrue result (start_in bytes.now at ≡ letter) }
+{
+    match start_at(bytes, at) {
+        Start::Letter => true,
+        Start::White | Start::Mark(_) => false,
     }
 }

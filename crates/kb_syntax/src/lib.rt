@@ -1,8 +1,24 @@
 //! The text of problems: tokens, the grammar, and what is written.
 #![tactic(auto)]
 
+mod identifier;
 mod kind;
 mod lexer;
+mod line;
+mod names;
+mod narrow;
+mod parser;
+#[cfg(test)]
+mod tests;
+mod text;
+mod uses;
+mod written;
 
 pub use kind::{Bound, Kind, Refusal};
-pub use lexer::{Form, Found, Mark, next_token};
+pub use lexer::{Form, Found, Mark, Token, next_token, tokens_of};
+pub use line::Fields;
+pub use names::Names;
+pub use narrow::read_one_equation;
+pub use text::{prefix_of, push_number, push_term, term_text};
+pub use uses::{Use, Uses};
+pub use written::{Sign, WrittenEquation, WrittenTerm, WrittenTerms};

@@ -23,3 +23,4 @@ pub mod Limited
 pub mod Both
 pub mod VariantTests
 pub mod Bounded
+pub mod RuleBelow

@@ -17,6 +17,8 @@ mod rule;
 mod signature;
 mod subst;
 mod term;
+#[cfg(test)]
+mod tests;
 mod variables;
 mod variant;
 
@@ -30,9 +32,9 @@ pub use pair::{Pair, canonical};
 pub use position::{Position, subterm};
 pub use problem::Problem;
 pub use replacement::replace;
-pub use rule::{Rule, rule_of};
+pub use rule::{Rule, numbered_rule, rule_of};
 pub use signature::Signature;
 pub use subst::{Subst, apply};
 pub use term::{Symbol, Term, Terms, compare, depth, size, total_size};
-pub use variables::{apart, has_variables_below, variable_bound};
+pub use variables::{apart, has_variables_below, is_rule_below, variable_bound};
 pub use variant::is_variant;

@@ -2,7 +2,7 @@
 ghost use Rattle.std.specs.Prelude.{ℕ, ◌≡◌, ◌≤◌, ◌+◌, ◌↔◌, IfOk, IsTrue};
 ghost use Rattle.kb_term.specs.Tree.{HasVariablesBelow};
 ghost use Rattle.kb_term.specs.Substitution.{rename};
-ghost use Rattle.kb_term.specs.Rule.{apart as rule_apart};
+ghost use Rattle.kb_term.specs.Rule.{IsRuleBelow, apart as rule_apart};
 ghost use Rattle.kb_term.specs.View.{tree_of};
 
 use crate::memory::Memory;
@@ -33,10 +33,16 @@ pub fn has_variables_below(bound: u32, t: &Term) -> bool
     variable_bound(t) <= bound
 }
 
+/// Whether each variable of the rule is below the bound.
+pub fn is_rule_below(bound: u32, rule: &Rule) -> bool
+    ensures { IsTrue result ↔ IsRuleBelow bound rule.now }
+{
+    has_variables_below(bound, rule.left()) && has_variables_below(bound, rule.right())
+}
+
 /// The rule with 64 added to the number of each variable, so that it shares none with a rule whose variables are below 64.
 pub fn apart(alloc: Global, rule: &Rule) -> Result<Rule, Memory>
-    requires left { HasVariablesBelow 64 rule.now.left }
-    requires right { HasVariablesBelow 64 rule.now.right }
+    requires { IsRuleBelow 64 rule.now }
     ensures { IfOk result (λ other. other ≡ rule_apart rule.now) }
 {
     let left = shifted(alloc, rule.left())?;

@@ -1,1 +1,5 @@
 pub mod Unifier
+pub mod Answer
+pub mod Table
+pub mod Extent
+pub mod Reading

@@ -1,2 +1,12 @@
-//! Unification.
+//! Unification of first-order terms.
 #![tactic(auto)]
+
+mod extent;
+mod fault;
+mod reading;
+mod table;
+mod unifier;
+
+pub use extent::Extent;
+pub use fault::UnifyFault;
+pub use unifier::{unifiers_alike, unify};

@@ -1,4 +1,4 @@
-use Rattle.std.proofs.Common.{List, ℕ, length, ◌≡◌, subst, take, drop, take-append-drop, ◌++◌}
+use Rattle.std.proofs.Common.{List, ℕ, length, subst, take, drop, take-append-drop}
 use Rattle.std.proofs.lemmas.List.Elements.{All-contains_itself, Contains-append_left}
 use Rattle.std.specs.Prelude.{All, Contains, slice_index_or}
 use Rattle.kb_term.specs.First.{IsFirst}

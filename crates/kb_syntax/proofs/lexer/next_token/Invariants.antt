@@ -6,6 +6,7 @@ abbrev pub invariant-loop-at : goal.invariant-loop-at
 invariant-loop-at l = record {
   within : l.at ≤ length l.bytes;
   same : tokens_from 0 l.from (drop l.from l.bytes) ≡ tokens_from 0 l.at (drop l.at l.bytes);
+  behind : l.from ≤ l.at;
 }
 
 abbrev pub decreases-loop-at : goal.decreases-loop-at

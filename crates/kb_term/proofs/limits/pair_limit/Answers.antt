@@ -2,7 +2,7 @@ use Rattle.std.proofs.Common.{◌≡◌, ℕ, ◌<◌, ◌≤◌, arith, length,
 use Rattle.std.specs.Prelude.{nat_lt}
 use Rattle.std.proofs.lemmas.List.{length-take}
 use Rattle.kb_term.specs.Tree.{tree_size, tree_depth}
-use Rattle.kb_term.specs.Pair.{variables_of_pair, IsWithin, ArePairWithin}
+use Rattle.kb_term.specs.Pair.{variables_of_pair, ArePairWithin}
 use Rattle.kb_term.specs.View.{tree_of}
 use Rattle.kb_term.proofs.limits.pair_limit.Goals as goal
 

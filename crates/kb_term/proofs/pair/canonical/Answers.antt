@@ -23,7 +23,7 @@ differ : (c : goal.After-lesser-first) → tree_eq (tree_of c.args.a.now) (tree_
 differ c = tree-is_eq (tree_of c.args.a.now) (tree_of c.args.b.now) ∙ ap (λ o. ordering_index o == 1) (sym c.compare.ensures) ∙ sym c.eq.ensures ∙ c.if-eq.false
 
 made : (c : goal.After-lesser-first) → pair_of c.lesser-first.result.0 c.lesser-first.result.1 ≡ canonical (tree_of c.args.a.now) (tree_of c.args.b.now)
-made c = c.lesser-first.ensures ∙ ap₂ lesser c.in_ok-forth.ensures c.in_ok-back.ensures
+made c = c.lesser-first.ensures ∙ ap₂ lesser c.in_ok-forth.ensures.pair c.in_ok-back.ensures.pair
 
 pub invariant_of-result : goal.invariant_of-result
 invariant_of-result c = subst IsCanonicalPair (sym (made c)) (canonical_own (tree_of c.args.a.now) (tree_of c.args.b.now) (differ c) c.requires)

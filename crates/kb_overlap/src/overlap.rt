@@ -1,0 +1,240 @@
+// Overlaps of two rules.
+ghost use Rattle.std.specs.Prelude.{ℕ, List, Option, Result, map, ◌≡◌, ◌+◌, ◌<◌, ◌≤◌, ◌^◌, Some, None, IfOk, IsSome, IsTrue, Contains, option_map};
+ghost use Rattle.kb_term.specs.Tree.{Tree, tree_size};
+ghost use Rattle.kb_term.specs.View.{tree_of};
+ghost use Rattle.kb_term.specs.Position.{replace_at, subtree_at, function_positions_of};
+ghost use Rattle.kb_term.specs.Substitution.{instance};
+ghost use Rattle.kb_term.specs.Substitution.{substitution_of};
+ghost use Rattle.kb_overlap.specs.Instance.{IsSmall};
+ghost use Rattle.kb_overlap.specs.Overlap.{IsOverlapList};
+ghost use Rattle.kb_overlap.specs.Found.{parts_limit, built_limit, IsPairAnswer, IsFoundAt, AreVariablesBelow, HasFewArguments};
+ghost use Rattle.kb_overlap.specs.View.{overlap_of};
+
+use crate::instance::instance_extent;
+use crate::positions::positions_for;
+use kb_term::{
+    Limit, Memory, Position, Rule, Subst, Term, TermFault, apart, apply, pair_limit, replace, size,
+    subterm,
+};
+use kb_unify::{Extent, UnifyFault, unify};
+use std::alloc::Global;
+
+/// An overlap of two rules: the position of the outer left side at which the inner one stands, and the two terms to which
+/// the peak rewrites, the outer rule's first; or the first limit that the overlap passes.
+#[derive(Drop)]
+pub struct Overlap {
+    pub position: Position,
+    pub sides: Result<(Term, Term), Limit>,
+}
+
+/// The limit that a pair passes by the extents of its first term and of what is put into the second one, the rest of
+/// which has the given size.
+fn extents_limit(first: Extent, inserted: Extent, rest: u32) -> Option<Limit>
+    requires { rest < 2 ^ 31 }
+    ensures { result ≡ parts_limit first inserted rest }
+{
+    if first.size > 512 || rest + u32::from(inserted.size) > 512 {
+        Some(Limit::Size)
+    } else if first.depth > 64 || inserted.depth > 64 {
+        Some(Limit::Depth)
+    } else {
+        None
+    }
+}
+
+/// The size of the term without its subterm at the position.
+fn size_without(t: &Term, position: &Position) -> u32
+    requires { tree_size (tree_of t.now) ≤ 512 }
+    ensures rest { (u : Tree) → subtree_at (tree_of t.now) position.now ≡ Some u → result + tree_size u ≡ tree_size (tree_of t.now) }
+    ensures small { result ≤ 512 }
+{
+    match subterm(t, position) {
+        None => 0,
+        Some(u) => size(t) - size(u),
+    }
+}
+
+/// The pair that the unifier makes, or the limit that its peak or the pair passes.
+///
+/// Sizes and depths are decided first: no term above the limits is built.
+fn critical_pair(
+    alloc: Global,
+    outer: &Rule,
+    renamed: &Rule,
+    position: &Position,
+    m: &Subst,
+) -> Result<(Term, Term), TermFault>
+    requires small { IsSmall (substitution_of m.now) }
+    requires there { IsSome (subtree_at outer.now.left position.now) }
+    ensures { (t : Tree) → replace_at (instance (substitution_of m.now) outer.now.left) position.now (instance (substitution_of m.now) renamed.now.right) ≡ Some t → IsPairAnswer (built_limit outer.now (substitution_of m.now) t) (instance (substitution_of m.now) outer.now.right) t result }
+{
+    let peak = apply(alloc, m, outer.left())?;
+    let extent = instance_extent(m, outer.right());
+    let inside = instance_extent(m, renamed.right());
+    let rest = size_without(&peak, position);
+    if let Some(limit) = extents_limit(extent, inside, rest) {
+        return Err(TermFault::Large(limit));
+    }
+    let first = apply(alloc, m, outer.right())?;
+    let inserted = apply(alloc, m, renamed.right())?;
+    let second = replace(alloc, &peak, position, &inserted)?;
+    match pair_limit(&first, &second) {
+        Some(limit) => Err(TermFault::Large(limit)),
+        None => Ok((first, second)),
+    }
+}
+
+/// The overlap at the position; none where the subterm there and the inner left side have no unifier.
+fn overlap_at(
+    alloc: Global,
+    outer: &Rule,
+    renamed: &Rule,
+    position: &Position,
+) -> Result<Option<Overlap>, Memory>
+    requires outer_variables { AreVariablesBelow 128 outer.now }
+    requires renamed_variables { AreVariablesBelow 128 renamed.now }
+    requires there { Contains (function_positions_of outer.now.left) position.now }
+    ensures { IfOk result (λ o. IsFoundAt outer.now renamed.now position.now (option_map overlap_of o)) }
+{
+    let Some(redex) = subterm(outer.left(), position) else {
+        return Ok(None);
+    };
+    let sides = match unify(alloc, redex, renamed.left()) {
+        Ok(None) => return Ok(None),
+        Ok(Some(m)) => match critical_pair(alloc, outer, renamed, position, &m) {
+            Ok(pair) => Ok(pair),
+            Err(TermFault::Large(limit)) => Err(limit),
+            Err(TermFault::Memory) => return Err(Memory),
+        },
+        Err(UnifyFault::Large(limit)) => Err(limit),
+        Err(UnifyFault::Memory) => return Err(Memory),
+    };
+    let position = position.clone()?;
+    Ok(Some(Overlap { position, sides }))
+}
+
+/// The overlaps of the two rules, the inner one renamed apart, in the order of the positions of the outer left side at
+/// which no variable stands. `same` says that both are one rule, which doesn't overlap itself at the root.
+///
+/// An overlap whose two terms are equal is listed too. One that passes a limit is listed with the first that it passes:
+/// the size and then the depth of a term that the unifier gives to a variable, the size and then the depth of the peak,
+/// and what the pair passes.
+pub fn overlaps(
+    alloc: Global,
+    outer: &Rule,
+    inner: &Rule,
+    same: bool,
+) -> Result<Vec<Overlap>, Memory>
+    requires outer_variables { AreVariablesBelow 64 outer.now }
+    requires inner_variables { AreVariablesBelow 64 inner.now }
+    requires arguments { HasFewArguments outer.now.left }
+    ensures { IfOk result (λ os. IsOverlapList outer.now inner.now same (map overlap_of os.items)) }
+{
+    let renamed = apart(alloc, inner)?;
+    let positions = positions_for(alloc, outer, same)?;
+    let mut found = Vec::new(alloc);
+    for position in &positions {
+        match overlap_at(alloc, outer, &renamed, position)? {
+            None => {}
+            Some(overlap) => found.push(overlap)?,
+        }
+    }
+    Ok(found)
+}
+
+#[cfg(test)]
+mod tests {
+    use super::*;
+    use crate::positions::has_few_arguments;
+    use kb_term::{Symbol, Terms, compare, has_variables_below};
+    use std::cmp::Ordering;
+
+    fn once(alloc: Global, f: u8, a: Term) -> Result<Term, Memory> {
+        let mut items = Vec::new(alloc);
+        items.push(a)?;
+        Ok(Term::App(Symbol(f), Terms::new(items)))
+    }
+
+    fn constant(alloc: Global, f: u8) -> Term {
+        Term::App(Symbol(f), Terms::new(Vec::new(alloc)))
+    }
+
+    /// The rule f(..f(x1)) -> a with f applied so many times.
+    fn nested(alloc: Global, times: u32) -> Result<Rule, Memory> {
+        let mut left = Term::Var(0);
+        for k in 0..times {
+            left = once(alloc, 0, left)?;
+        }
+        Ok(Rule::new(left, constant(alloc, 1)))
+    }
+
+    fn is_ready(rule: &Rule) -> bool
+        ensures variables { IsTrue result → AreVariablesBelow 64 rule.now }
+        ensures arguments { IsTrue result → HasFewArguments rule.now.left }
+    {
+        if has_variables_below(64, rule.left()) {
+            if has_variables_below(64, rule.right()) {
+                return has_few_arguments(rule.left());
+            }
+        }
+        false
+    }
+
+    fn listed(
+        alloc: Global,
+        outer: &Rule,
+        inner: &Rule,
+        same: bool,
+    ) -> Result<Vec<Overlap>, Memory> {
+        if is_ready(outer) {
+            if is_ready(inner) {
+                return overlaps(alloc, outer, inner, same);
+            }
+        }
+        Err(Memory)
+    }
+
+    #[test]
+    fn a_rule_overlaps_itself_below_the_root(rt: HostRuntime) {
+        let alloc = rt.alloc();
+        let rule = nested(alloc, 2).expect(&rt, "memory");
+        let second = once(alloc, 0, constant(alloc, 1)).expect(&rt, "memory");
+        let found = listed(alloc, &rule, &rule, true).expect(&rt, "memory");
+        assert_eq!(rt; found.len(), 1);
+        for overlap in &found {
+            assert_eq!(rt; overlap.position.steps().len(), 1);
+            for step in overlap.position.steps() {
+                assert_eq!(rt; *step, 1);
+            }
+            assert!(rt; matches!(&overlap.sides, Ok(_)));
+            if let Ok((a, b)) = &overlap.sides {
+                assert!(rt; compare(a, rule.right()) == Ordering::Equal);
+                assert!(rt; compare(b, &second) == Ordering::Equal);
+            }
+        }
+    }
+
+    #[test]
+    fn two_rules_overlap_at_the_root_too(rt: HostRuntime) {
+        let alloc = rt.alloc();
+        let outer = nested(alloc, 2).expect(&rt, "memory");
+        let inner = nested(alloc, 1).expect(&rt, "memory");
+        let found = listed(alloc, &outer, &inner, false).expect(&rt, "memory");
+        assert_eq!(rt; found.len(), 2);
+    }
+
+    #[test]
+    fn a_peak_of_depth_65_is_too_deep(rt: HostRuntime) {
+        let alloc = rt.alloc();
+        let rule = nested(alloc, 40).expect(&rt, "memory");
+        let found = listed(alloc, &rule, &rule, true).expect(&rt, "memory");
+        assert_eq!(rt; found.len(), 39);
+        for overlap in &found {
+            if overlap.position.steps().len() < 24 {
+                assert!(rt; matches!(&overlap.sides, Ok(_)));
+            } else {
+                assert!(rt; matches!(&overlap.sides, Err(Limit::Depth)));
+            }
+        }
+    }
+}

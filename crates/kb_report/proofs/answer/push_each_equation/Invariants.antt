@@ -1,0 +1,10 @@
+use Rattle.std.proofs.Common.{◌≡◌, ◌++◌}
+use Rattle.std.specs.Prelude.{flat_map, take}
+use Rattle.kb_term.specs.View.{equations_of_list}
+use Rattle.kb_syntax.specs.Terms.{names_of}
+use Rattle.kb_report.specs.Answers.{equation_line}
+use Rattle.kb_report.proofs.answer.push_each_equation.Given as goal
+
+-- the equations so far were added
+abbrev pub invariant-loop-equation : goal.invariant-loop-equation
+invariant-loop-equation l = l.out.items ≡ l.fn.out.items ++ flat_map (equation_line (names_of l.signature)) (equations_of_list (take l.equation-index l.equations))

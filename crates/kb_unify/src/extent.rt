@@ -1,0 +1,175 @@
+// Sizes and depths, before any term is built.
+ghost use Rattle.std.specs.Prelude.{ℕ, ◌≡◌, ◌<◌, ◌≤◌, ◌+◌, length, IfOk, true, false, Some, None, Ok, IfSome, map, replicate};
+ghost use Rattle.kb_term.specs.Tree.{Tree};
+ghost use Rattle.kb_unify.specs.Table.{slot_at, IsSlot, IsTable, Solves};
+ghost use Rattle.kb_unify.specs.Extent.{IsArgumentsExtent, IsSlotExtent, IsMeasured, IsMeasuredFurther, IsStuck, IsMeasurement, extent_at, unknown_count};
+
+use crate::table::Slot;
+use kb_term::{Limit, Memory};
+use std::alloc::Global;
+
+/// The size of a term up to 513, and its depth up to 65: just above the limits.
+#[derive(Clone, Copy, Debug, PartialEq, Eq)]
+pub struct Extent {
+    pub size: u16,
+    pub depth: u16,
+}
+
+impl Extent {
+    ghost use Rattle.std.specs.Prelude.{◌≡◌, ◌+◌, min, max};
+    ghost use Rattle.kb_term.specs.Tree.{Tree};
+    ghost use Rattle.kb_unify.specs.Extent.{IsExtent, extent_limit};
+
+    /// The extent of no terms.
+    pub fn empty() -> Extent
+        ensures size { result.size ≡ 0 }
+        ensures depth { result.depth ≡ 0 }
+    {
+        Extent { size: 0, depth: 0 }
+    }
+
+    /// The extent of a variable.
+    pub fn of_variable() -> Extent
+        ensures size { result.size ≡ 1 }
+        ensures depth { result.depth ≡ 1 }
+    {
+        Extent { size: 1, depth: 1 }
+    }
+
+    /// The extent of these terms and another one.
+    pub fn with(self, term: Extent) -> Extent
+        ensures size { result.size ≡ min (term.size + self.size) 513 }
+        ensures depth { result.depth ≡ max term.depth self.depth }
+    {
+        Extent {
+            size: term.size.saturating_add(self.size).min(513),
+            depth: term.depth.max(self.depth),
+        }
+    }
+
+    /// The extent of a symbol applied to these terms.
+    pub fn applied(self) -> Extent
+        ensures size { result.size ≡ min (self.size + 1) 513 }
+        ensures depth { result.depth ≡ min (self.depth + 1) 65 }
+    {
+        Extent {
+            size: self.size.saturating_add(1).min(513),
+            depth: self.depth.saturating_add(1).min(65),
+        }
+    }
+
+    /// The limit that a term of this extent passes.
+    pub fn limit(self) -> Option<Limit>
+        ensures { result ≡ extent_limit self }
+    {
+        if self.size > 512 {
+            Some(Limit::Size)
+        } else if self.depth > 64 {
+            Some(Limit::Depth)
+        } else {
+            None
+        }
+    }
+}
+
+/// The extent of the arguments together, where all are known.
+pub fn arguments_extent(first: usize, count: usize, known: &[Option<Extent>]) -> Option<Extent>
+    requires { first + count ≤ length known.now }
+    ensures { IsArgumentsExtent known.now first count result }
+{
+    let mut together = Extent::empty();
+    for k in 0..count {
+        let Some(extent) = known[first + k] else {
+            return None;
+        };
+        together = together.with(extent);
+    }
+    Some(together)
+}
+
+/// The extent of the term that the slot of a place makes, where those of the places that it names are known.
+pub fn slot_extent(place: usize, slot: Slot, known: &[Option<Extent>]) -> Option<Extent>
+    requires inside { place < length known.now }
+    requires slot { IsSlot (length known.now) place slot }
+    ensures { IsSlotExtent known.now place slot result }
+{
+    match slot {
+        Slot::Free => Some(Extent::of_variable()),
+        Slot::Link(next) => known[next],
+        Slot::Node(_, first, count) => match arguments_extent(first, count, known) {
+            None => None,
+            Some(extent) => Some(extent.applied()),
+        },
+    }
+}
+
+/// Measures what can be measured by what is known: whether anything new was.
+pub fn measure_more(slots: &[Slot], known: &mut Vec<Option<Extent>>) -> bool
+    requires table { IsTable slots.now }
+    requires lengths { length known.old.items ≡ length slots.now }
+    ensures further { IsMeasuredFurther slots.now known.old.items known.new.items }
+    ensures progress { result ≡ true → unknown_count known.new.items < unknown_count known.old.items }
+    ensures stuck { result ≡ false → (i : ℕ) → i < length slots.now → extent_at known.new.items i ≡ None → IsStuck (λ j. extent_at known.new.items j ≡ None) (slot_at slots.now i) }
+{
+    let mut changed = false;
+    for i in 0..slots.len() {
+        match known[i] {
+            Some(_) => {}
+            None => match slot_extent(i, slots[i], known) {
+                None => {}
+                Some(extent) => {
+                    known[i] = Some(extent);
+                    changed = true;
+                }
+            },
+        }
+    }
+    changed
+}
+
+/// No extents yet.
+pub fn nothing_known(alloc: Global, count: usize) -> Result<Vec<Option<Extent>>, Memory>
+    ensures { IfOk result (λ v. v.items ≡ replicate count None) }
+{
+    let mut known = Vec::new(alloc);
+    for k in 0..count {
+        known.push(None)?;
+    }
+    Ok(known)
+}
+
+/// Measures until nothing new can be measured.
+pub fn measure_all(slots: &[Slot], known: &mut Vec<Option<Extent>>)
+    requires table { IsTable slots.now }
+    requires lengths { length known.old.items ≡ length slots.now }
+    ensures further { IsMeasuredFurther slots.now known.old.items known.new.items }
+    ensures stuck { (i : ℕ) → i < length slots.now → extent_at known.new.items i ≡ None → IsStuck (λ j. extent_at known.new.items j ≡ None) (slot_at slots.now i) }
+{
+    while measure_more(slots, known) {}
+}
+
+/// The extents, where all are known.
+pub fn all_known(alloc: Global, known: &[Option<Extent>]) -> Result<Option<Vec<Extent>>, Memory>
+    ensures all { IfOk result (λ o. IfSome o (λ v. map Some v.items ≡ known.now)) }
+    ensures missing { result ≡ Ok None → (i : ℕ) × (i < length known.now) × (extent_at known.now i ≡ None) }
+{
+    let mut extents = Vec::new(alloc);
+    for i in 0..known.len() {
+        match known[i] {
+            None => return Ok(None),
+            Some(extent) => extents.push(extent)?,
+        }
+    }
+    Ok(Some(extents))
+}
+
+/// The extents of all places, where the table has a solution; none where it has none.
+pub fn measure(alloc: Global, slots: &[Slot]) -> Result<Option<Vec<Extent>>, Memory>
+    requires { IsTable slots.now }
+    ensures solution { IfOk result (λ o. IfSome o (λ v. IsMeasurement slots.now (Some v.items))) }
+    ensures none { result ≡ Ok None → IsMeasurement slots.now None }
+{
+    let mut known = nothing_known(alloc, slots.len())?;
+    measure_all(slots, &mut known);
+    all_known(alloc, &known)
+}

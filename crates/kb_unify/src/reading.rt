@@ -1,0 +1,73 @@
+// The substitution that a measured table makes.
+ghost use Rattle.std.specs.Prelude.{ℕ, ◌≡◌, ◌<◌, ◌≤◌, length, IfOk, map};
+ghost use Rattle.kb_term.specs.Tree.{Tree};
+ghost use Rattle.kb_term.specs.View.{tree_of};
+ghost use Rattle.kb_unify.specs.Extent.{IsSolution};
+ghost use Rattle.kb_unify.specs.Reading.{IsLimitPassed, IsReadable, ListsBelow, ListsBound, depth_at};
+
+use crate::extent::Extent;
+use crate::table::Slot;
+use kb_term::{Limit, Memory, Subst, Term, Terms};
+use std::alloc::Global;
+
+/// The limit that the term of a variable passes.
+pub fn limit_passed(extents: &[Extent]) -> Option<Limit>
+    requires { 128 ≤ length extents.now }
+    ensures { IsLimitPassed extents.now result }
+{
+    for i in 0..128 {
+        if extents[i].size > 512 {
+            return Some(Limit::Size);
+        }
+    }
+    for j in 0..128 {
+        if extents[j].depth > 64 {
+            return Some(Limit::Depth);
+        }
+    }
+    None
+}
+
+/// The term at a place.
+pub fn build(
+    alloc: Global,
+    slots: &[Slot],
+    extents: &[Extent],
+    place: usize,
+) -> Result<Term, Memory>
+    requires readable { IsReadable slots.now extents.now }
+    requires inside { place < length slots.now }
+    requires shallow { depth_at extents.now place ≤ 64 }
+    ensures { IfOk result (λ t. (w : ℕ → Tree) → IsSolution slots.now extents.now w → tree_of t ≡ w place) }
+{
+    match slots[place] {
+        Slot::Free => Ok(Term::Var(place as u16)),
+        Slot::Link(next) => build(alloc, slots, extents, next),
+        Slot::Node(f, first, count) => {
+            let mut items = Vec::new(alloc);
+            for k in 0..count {
+                items.push(build(alloc, slots, extents, first + k)?)?;
+            }
+            Ok(Term::App(f, Terms::new(items)))
+        }
+    }
+}
+
+/// The terms of all variables that get one.
+pub fn read_off(alloc: Global, slots: &[Slot], extents: &[Extent]) -> Result<Subst, Memory>
+    requires readable { IsReadable slots.now extents.now }
+    requires shallow { (i : ℕ) → i < 128 → depth_at extents.now i ≤ 64 }
+    ensures terms { IfOk result (λ m. (w : ℕ → Tree) → IsSolution slots.now extents.now w → ListsBelow 128 w m) }
+    ensures variables { IfOk result (λ m. ListsBound slots.now m) }
+{
+    let mut entries = Vec::new(alloc);
+    for n in 0..128 {
+        match slots[n] {
+            Slot::Free => {}
+            Slot::Link(_) | Slot::Node(_, _, _) => {
+                entries.push((n as u16, build(alloc, slots, extents, n)?))?;
+            }
+        }
+    }
+    Ok(Subst::new(entries))
+}

@@ -1,0 +1,189 @@
+// Unification.
+ghost use Rattle.std.specs.Prelude.{ℕ, ◌≡◌, ◌<◌, length, IfOk, Ok, true, false, Contains, [], ◌∷◌};
+ghost use Rattle.kb_term.specs.Tree.{Tree, variables_of};
+ghost use Rattle.kb_term.specs.View.{tree_of};
+ghost use Rattle.kb_unify.specs.Unifier.{IsMostGeneralUnifier};
+ghost use Rattle.kb_unify.specs.Table.{IsTable, IsClosed, Solves, Equates};
+ghost use Rattle.kb_unify.specs.Reading.{IsTableOf};
+ghost use Rattle.kb_unify.specs.Answer.{unifier_limit, IsUnified, IsUnifyAnswer};
+ghost use Rattle.kb_term.specs.Tree.{HasVariablesBelow};
+
+use crate::extent::measure;
+use crate::fault::UnifyFault;
+use crate::reading::{limit_passed, read_off};
+use crate::table::{Slot, close, flatten, reserve};
+use kb_term::{Limit, Memory, Subst, Term};
+use std::alloc::Global;
+
+/// What is found of two terms: that nothing unifies them, a limit that the most general unifier passes, or the unifier.
+#[derive(Drop)]
+pub enum Unified {
+    Clash,
+    Above(Limit),
+    Unifier(Subst),
+}
+
+/// The table of both terms.
+pub fn table_of(alloc: Global, a: &Term, b: &Term) -> Result<Vec<Slot>, Memory>
+    requires a_variables { HasVariablesBelow 128 (tree_of a.now) }
+    requires b_variables { HasVariablesBelow 128 (tree_of b.now) }
+    ensures { IfOk result (λ v. IsTableOf (tree_of a.now) (tree_of b.now) v.items) }
+{
+    let mut slots = Vec::new(alloc);
+    reserve(130, &mut slots)?;
+    flatten(a, 128, &mut slots)?;
+    flatten(b, 129, &mut slots)?;
+    Ok(slots)
+}
+
+/// Adds the equation of both terms: whether there is no clash.
+pub fn close_table(alloc: Global, slots: &mut Vec<Slot>) -> Result<bool, Memory>
+    requires table { IsTable slots.old.items }
+    requires long { 129 < length slots.old.items }
+    ensures closed { result ≡ Ok true → IsClosed slots.old.items slots.new.items ((128, 129) ∷ []) }
+    ensures clash { result ≡ Ok false → (v : ℕ → Tree) → Solves v slots.old.items → ¬ Equates v ((128, 129) ∷ []) }
+{
+    let mut pairs = Vec::new(alloc);
+    pairs.push((128, 129))?;
+    close(slots, &mut pairs)
+}
+
+/// The most general unifier, or what stands in its place.
+pub fn solve(alloc: Global, a: &Term, b: &Term) -> Result<Unified, Memory>
+    requires a_variables { HasVariablesBelow 128 (tree_of a.now) }
+    requires b_variables { HasVariablesBelow 128 (tree_of b.now) }
+    ensures { IfOk result (λ u. IsUnified (tree_of a.now) (tree_of b.now) u) }
+{
+    let mut slots = table_of(alloc, a, b)?;
+    if !close_table(alloc, &mut slots)? {
+        return Ok(Unified::Clash);
+    }
+    match measure(alloc, &slots)? {
+        None => Ok(Unified::Clash),
+        Some(extents) => match limit_passed(&extents) {
+            Some(limit) => Ok(Unified::Above(limit)),
+            None => Ok(Unified::Unifier(read_off(alloc, &slots, &extents)?)),
+        },
+    }
+}
+
+/// A most general unifier of the two terms, fully applied: no variable that gets a term occurs in one. None where nothing
+/// makes the terms equal.
+///
+/// `Large(Size)` where the most general unifier gives a variable a term larger than 512, else `Large(Depth)` where it gives
+/// one a term deeper than 64. Sizes and depths are decided before any term is built, so the answer takes memory for
+/// the two terms and for what it gives, never for a term above the limits.
+///
+/// The terms are put as flat equations between places into one table, and equal places are united (Baader and Nipkow,
+/// Term Rewriting and All That, 4.8, unification of term graphs); each union takes one place or one node off the table.
+pub fn unify(alloc: Global, a: &Term, b: &Term) -> Result<Option<Subst>, UnifyFault>
+    requires a_variables { HasVariablesBelow 128 (tree_of a.now) }
+    requires b_variables { HasVariablesBelow 128 (tree_of b.now) }
+    ensures { IsUnifyAnswer (tree_of a.now) (tree_of b.now) result }
+{
+    match solve(alloc, a, b)? {
+        Unified::Clash => Ok(None),
+        Unified::Above(limit) => Err(UnifyFault::Large(limit)),
+        Unified::Unifier(m) => Ok(Some(m)),
+    }
+}
+
+/// Most general unifiers are one up to renaming, so any two of the same terms pass one limit: no answer of `unify`
+/// depends on which of them is found.
+pub fn unifiers_alike()
+    ensures { (m k : ℕ → Tree) (s t : Tree) → IsMostGeneralUnifier m s t → IsMostGeneralUnifier k s t → unifier_limit m s t ≡ unifier_limit k s t }
+{}
+
+#[cfg(test)]
+mod tests {
+    use super::*;
+    use kb_term::{Symbol, Terms, compare, has_variables_below};
+    use std::cmp::Ordering;
+
+    fn node(alloc: Global, f: u8, arguments: Vec<Term>) -> Term {
+        Term::App(Symbol(f), Terms::new(arguments))
+    }
+
+    fn twice(alloc: Global, f: u8, a: Term, b: Term) -> Result<Term, Memory> {
+        let mut items = Vec::new(alloc);
+        items.push(a)?;
+        items.push(b)?;
+        Ok(node(alloc, f, items))
+    }
+
+    fn once(alloc: Global, f: u8, a: Term) -> Result<Term, Memory> {
+        let mut items = Vec::new(alloc);
+        items.push(a)?;
+        Ok(node(alloc, f, items))
+    }
+
+    /// The term f(.., ..) of eight doublings over x9: 255 times f, and 256 times x9.
+    fn doubled(alloc: Global) -> Result<Term, Memory> {
+        let mut t = Term::Var(8);
+        for k in 0..8 {
+            let copy = t.clone()?;
+            t = twice(alloc, 1, t, copy)?;
+        }
+        Ok(t)
+    }
+
+    /// The terms p(x1, .., x8) and p(f(x2, x2), .., f(x9, x9)); where asked, the last is f(s(x9), s(x9)).
+    fn doublings(alloc: Global, wrapped: bool) -> Result<(Term, Term), Memory> {
+        let mut lefts = Vec::new(alloc);
+        let mut rights = Vec::new(alloc);
+        for k in 0u16..8 {
+            lefts.push(Term::Var(k))?;
+            if wrapped && k == 7 {
+                let a = once(alloc, 2, Term::Var(8))?;
+                let b = once(alloc, 2, Term::Var(8))?;
+                rights.push(twice(alloc, 1, a, b)?)?;
+            } else {
+                rights.push(twice(alloc, 1, Term::Var(k + 1), Term::Var(k + 1))?)?;
+            }
+        }
+        Ok((node(alloc, 0, lefts), node(alloc, 0, rights)))
+    }
+
+    fn unified(alloc: Global, a: &Term, b: &Term) -> Option<Result<Option<Subst>, UnifyFault>> {
+        if has_variables_below(128, a) {
+            if has_variables_below(128, b) {
+                return Some(unify(alloc, a, b));
+            }
+        }
+        None
+    }
+
+    #[test]
+    fn a_variable_in_its_own_term_has_no_unifier(rt: HostRuntime) {
+        let alloc = rt.alloc();
+        let a = once(alloc, 0, Term::Var(0)).expect(&rt, "memory");
+        let b = Term::Var(0);
+        let found = unified(alloc, &a, &b);
+        assert!(rt; matches!(&found, Some(Ok(None))));
+    }
+
+    #[test]
+    fn eight_doublings_make_a_term_of_size_511(rt: HostRuntime) {
+        let alloc = rt.alloc();
+        let (a, b) = doublings(alloc, false).expect(&rt, "memory");
+        let found = unified(alloc, &a, &b);
+        assert!(rt; matches!(&found, Some(Ok(Some(_)))));
+        if let Some(Ok(Some(m))) = &found {
+            assert_eq!(rt; m.entries().len(), 8);
+            let expected = doubled(alloc).expect(&rt, "memory");
+            let first = m.get(0);
+            assert!(rt; matches!(&first, Some(_)));
+            if let Some(t) = first {
+                assert!(rt; compare(t, &expected) == Ordering::Equal);
+            }
+        }
+    }
+
+    #[test]
+    fn one_size_more_is_too_large(rt: HostRuntime) {
+        let alloc = rt.alloc();
+        let (a, b) = doublings(alloc, true).expect(&rt, "memory");
+        let found = unified(alloc, &a, &b);
+        assert!(rt; matches!(&found, Some(Err(UnifyFault::Large(Limit::Size)))));
+    }
+}

@@ -1,0 +1,98 @@
+-- What a run on one equation comes to.
+use Rattle.std.specs.Prelude.{ℕ, ◌≡◌, ◌≤◌, List, [], ◌∷◌, length, Option, Some, codes, Contains, true, IsTrue, ⊤}
+use Rattle.kb_io.specs.Bytes.{TakesAll, Appends, AppendsPart}
+use Rattle.kb_term.specs.Pair.{Pair, canonical_pair}
+use Rattle.kb_term.specs.Rule.{Rule, rule_of}
+use Rattle.kb_term.specs.Tree.{Tree}
+use Rattle.kb_term.specs.Signature.{Problem, IsEquationWithinLimits}
+use Rattle.kb_linear.specs.LinearOrder.{LinearGreater, Interpretation}
+use Rattle.kb_linear.specs.Interpretations.{interpretations}
+use Rattle.kb_overlap.specs.Overlap.{IsOverlapList}
+use Rattle.kb_overlap.specs.Trace.{IsRightTrace}
+use Rattle.kb_syntax.specs.Terms.{IsPairForm}
+use Rattle.kb_syntax.specs.Problems.{Spells}
+use Rattle.kb_report.specs.Answers.{Answer, AnswerSpelled, one_rule_answer}
+use Rattle.kb_cert.specs.CertificateText.{are_rows}
+use Rattle.kb_cert.specs.declared.certificate.Certificate.TheVariants.{Linear}
+use Rattle.kb_syntax.specs.declared.kind.Kind.TheVariants.{NotBuilt}
+use Rattle.mkbtt_top.specs.declared.status.Status.{Status}
+use Rattle.mkbtt_top.specs.declared.status.Status.TheVariants.{Done, Refused, ReadFault, WriteFault, Memory, Words}
+
+-- the pair is the canonical pair of the one equation of the problem
+pub record IsEquationOf (problem : Problem) (pair : Pair) : Type 0 where
+  pub equation : Tree × Tree
+  pub one : problem.equations ≡ equation ∷ []
+  pub of_equation : canonical_pair equation.0 equation.1 ≡ Some pair
+
+-- the rule is the pair's in this direction, and the interpretation is one of the family that orders it by value under every assignment
+pub record IsOrderedIn (problem : Problem) (pair : Pair) (direction : ℕ) (rule : Rule) (order : Interpretation) : Type 0 where
+  pub rule_is : rule ≡ rule_of pair direction
+  pub sides : IsEquationWithinLimits problem.signature (rule.left, rule.right)
+  pub pair_form : IsPairForm problem.signature pair
+  pub member : Contains (interpretations problem.signature) order
+  pub rows : IsTrue (are_rows problem.signature order)
+  pub ordered : LinearGreater order rule.left rule.right
+
+-- The answer has this problem, which has one equation; as its only rule that equation's canonical pair in one direction,
+-- which an interpretation of the family orders, and which doesn't overlap itself; and a right trace of one input step.
+pub record IsOneRuleAnswer (problem : Problem) (answer : Answer) : Type 0 where
+  pub pair : Pair
+  pub equation : IsEquationOf problem pair
+  pub direction : ℕ
+  pub forth_or_back : direction ≤ 1
+  pub rule : Rule
+  pub order : Interpretation
+  pub ordered : IsOrderedIn problem pair direction rule order
+  pub no_overlap : IsOverlapList rule rule true []
+  pub answer_is : answer ≡ one_rule_answer problem rule (Linear order) pair
+  pub right : IsRightTrace problem.equations answer.trace
+
+-- the text is the spelling of such an answer to the problem
+pub record IsAnswerOf (problem : Problem) (text : List ℕ) : Type 0 where
+  pub answer : Answer
+  pub one_rule : IsOneRuleAnswer problem answer
+  pub spelling : AnswerSpelled text answer
+
+-- the text is the spelling of an answer to the problem that the bytes spell
+pub record IsAnswerTo (bytes text : List ℕ) : Type 0 where
+  pub problem : Problem
+  pub spelled : Spells bytes problem
+  pub answer : IsAnswerOf problem text
+
+-- the source was read to its end, and the sink gained the answer to what was read
+pub record Answers (left_old left_new written_old written_new : Option (List ℕ)) : Type 0 where
+  pub bytes : List ℕ
+  pub text : List ℕ
+  pub read : TakesAll left_old bytes left_new
+  pub answer : IsAnswerTo bytes text
+  pub written : Appends written_old text written_new
+
+-- the source was read to its end, and the sink gained a proper front of the answer to what was read
+pub record AnswersInPart (left_old left_new written_old written_new : Option (List ℕ)) : Type 0 where
+  pub bytes : List ℕ
+  pub text : List ℕ
+  pub read : TakesAll left_old bytes left_new
+  pub answer : IsAnswerTo bytes text
+  pub written : AppendsPart written_old text written_new
+
+-- the one word that is accepted
+abbrev pub complete_words : List (List ℕ)
+complete_words = codes "complete" ∷ []
+
+-- what is refused is refused as not built, at place 0
+abbrev pub IsNotBuilt : Status → Type 0
+IsNotBuilt Done = ⊤
+IsNotBuilt (Refused kind at) = (kind ≡ NotBuilt) × (at ≡ 0)
+IsNotBuilt ReadFault = ⊤
+IsNotBuilt WriteFault = ⊤
+IsNotBuilt Memory = ⊤
+IsNotBuilt Words = ⊤
+
+-- unless the answer was written, whole or in part, nothing is
+abbrev pub WritesNothing : Status → Option (List ℕ) → Option (List ℕ) → Type 0
+WritesNothing Done old new = ⊤
+WritesNothing (Refused kind at) old new = new ≡ old
+WritesNothing ReadFault old new = new ≡ old
+WritesNothing WriteFault old new = ⊤
+WritesNothing Memory old new = new ≡ old
+WritesNothing Words old new = new ≡ old

@@ -1,0 +1,116 @@
+// How a run ended.
+ghost use Rattle.std.specs.Prelude.{◌≡◌, ◌++◌, ◌∷◌, [], IfOk, OnOk, codes};
+ghost use Rattle.mkbtt_top.specs.Statuses.{bound_word as word_of_bound, kind_word as word_of_kind, line_of, code_of};
+
+use kb_syntax::{Bound, Fields, Kind};
+use kb_term::Memory;
+use std::alloc::Global;
+
+/// How a run ended.
+#[derive(Clone, Copy, Debug, PartialEq, Eq)]
+pub enum Status {
+    /// The answer was written.
+    Done,
+    /// The bytes that were read are refused, for this reason at this place.
+    Refused(Kind, u64),
+    /// The source failed.
+    ReadFault,
+    /// The sink failed, after a proper front of the answer.
+    WriteFault,
+    /// There was no memory.
+    Memory,
+    /// The words of the command are refused.
+    Words,
+}
+
+/// The exit code of the status.
+pub fn status_code(status: &Status) -> u8
+    ensures { result ≡ code_of status.now }
+{
+    match status {
+        Status::Done => 0,
+        Status::Refused(_, _) => 3,
+        Status::ReadFault => 4,
+        Status::WriteFault => 5,
+        Status::Memory => 6,
+        Status::Words => 7,
+    }
+}
+
+fn bound_word(bound: Bound) -> &'static [u8]
+    ensures { result.now ≡ word_of_bound bound }
+{
+    match bound {
+        Bound::Name => b"name",
+        Bound::Equations => b"equations",
+        Bound::Size => b"size",
+        Bound::Depth => b"depth",
+        Bound::Symbols => b"symbols",
+        Bound::Variables => b"variables",
+        Bound::Arity => b"arity",
+        Bound::Input => b"input",
+    }
+}
+
+fn kind_word(alloc: Global, kind: Kind) -> Result<Vec<u8>, Memory>
+    ensures { IfOk result (λ word. word.items ≡ word_of_kind kind) }
+{
+    let word: &'static [u8] = match kind {
+        Kind::NotUtf8 => b"notutf8",
+        Kind::Unclosed => b"unclosed",
+        Kind::BadSection => b"badsection",
+        Kind::Theory => b"theory",
+        Kind::Strategy => b"strategy",
+        Kind::DoubleVariable => b"doublevariable",
+        Kind::Relative => b"relative",
+        Kind::Conditional => b"conditional",
+        Kind::VariableApplied => b"variableapplied",
+        Kind::ArityClash => b"arityclash",
+        Kind::BadToken => b"badtoken",
+        Kind::NotBuilt => b"notbuilt",
+        Kind::Limit(bound) => return limit_word(alloc, bound),
+    };
+    Ok(Vec::from_slice(alloc, word)?)
+}
+
+fn limit_word(alloc: Global, bound: Bound) -> Result<Vec<u8>, Memory>
+    ensures { IfOk result (λ word. word.items ≡ codes "limit-" ++ word_of_bound bound) }
+{
+    let mut word = Vec::from_slice(alloc, b"limit-")?;
+    word.extend_from_slice(bound_word(bound))?;
+    Ok(word)
+}
+
+fn push_words(alloc: Global, line: &mut Fields, first: &[u8], second: &[u8]) -> Result<(), Memory>
+    ensures { OnOk result (line.new ≡ line.old ++ first.now ∷ second.now ∷ []) }
+{
+    line.word(alloc, first)?;
+    line.word(alloc, second)
+}
+
+/// The line that is written to standard error, with its line feed; nothing where the run did its work.
+pub fn status_line(alloc: Global, status: &Status) -> Result<Vec<u8>, Memory>
+    ensures { IfOk result (λ text. text.items ≡ line_of status.now) }
+{
+    let mut text = Vec::new(alloc);
+    let mut line = Fields::new(alloc);
+    line.word(alloc, b"mkbtt:")?;
+    match status {
+        Status::Done => return Ok(text),
+        Status::Refused(kind, at) => {
+            line.word(alloc, b"refused")?;
+            line.push(kind_word(alloc, *kind)?)?;
+            line.word(alloc, b"at")?;
+            line.number(alloc, *at)?;
+        }
+        Status::ReadFault => push_words(alloc, &mut line, b"read", b"fault")?,
+        Status::WriteFault => push_words(alloc, &mut line, b"write", b"fault")?,
+        Status::Memory => {
+            line.word(alloc, b"out")?;
+            push_words(alloc, &mut line, b"of", b"memory")?;
+        }
+        Status::Words => push_words(alloc, &mut line, b"bad", b"words")?,
+    }
+    line.line_to(&mut text)?;
+    Ok(text)
+}

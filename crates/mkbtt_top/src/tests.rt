@@ -1,0 +1,85 @@
+use super::*;
+use kb_io::{MemorySink, MemorySource, OpenGate};
+use kb_syntax::Kind;
+use std::alloc::{AllocError, Global};
+use std::test::Fail;
+
+const IDENTITY: &str = "(VAR x)(RULES f(x) == x)";
+
+const ANSWER: &str =
+    "MKBTT 1\nSYMBOLS f/1\nEQUATIONS 1\nf(x1) = x1\nRULES 1\nf(x1) -> x1 : 1\nORDER LINEAR 1,1\nTRACE 1\n1 input 1 : x1 = f(x1)\nEND\n";
+
+fn failing_at(alloc: Global, call: u64) -> Result<Vec<u64>, AllocError> {
+    let mut fails = Vec::new(alloc);
+    fails.push(call)?;
+    Ok(fails)
+}
+
+fn source_of(alloc: Global, text: &str) -> Result<MemorySource, AllocError> {
+    let bytes = Vec::from_slice(alloc, text.as_bytes())?;
+    Ok(MemorySource::new(bytes, Vec::new(alloc), 7))
+}
+
+#[test]
+fn one_equation_is_answered(rt: HostRuntime) -> Result<(), Fail> {
+    let alloc = rt.alloc();
+    let mut source = source_of(alloc, IDENTITY)?;
+    let mut sink = MemorySink::new(alloc, 1000, Vec::new(alloc), 9)?;
+    let outcome = run(&rt, alloc, &["complete"], &mut source, &mut sink, &OpenGate);
+    assert_eq!(rt; outcome.status, Status::Done);
+    assert_eq!(rt; sink.bytes(), ANSWER.as_bytes());
+    Ok(())
+}
+
+#[test]
+fn an_equation_without_an_order_is_not_built(rt: HostRuntime) -> Result<(), Fail> {
+    let alloc = rt.alloc();
+    let mut source = source_of(alloc, "(VAR x y)(RULES f(x,y) == f(y,x))")?;
+    let mut sink = MemorySink::new(alloc, 1000, Vec::new(alloc), 9)?;
+    let outcome = run(&rt, alloc, &["complete"], &mut source, &mut sink, &OpenGate);
+    assert_eq!(rt; outcome.status, Status::Refused(Kind::NotBuilt, 0));
+    assert!(rt; sink.bytes().is_empty());
+    let line = status_line(alloc, &outcome.status).map_err(|_| AllocError)?;
+    assert_eq!(rt;
+        line.as_slice(),
+        b"mkbtt: refused notbuilt at 0\n".as_slice()
+    );
+    Ok(())
+}
+
+#[test]
+fn a_source_that_fails_at_once_is_told(rt: HostRuntime) -> Result<(), Fail> {
+    let alloc = rt.alloc();
+    let bytes = Vec::from_slice(alloc, IDENTITY.as_bytes())?;
+    let mut source = MemorySource::new(bytes, failing_at(alloc, 1)?, 7);
+    let mut sink = MemorySink::new(alloc, 1000, Vec::new(alloc), 9)?;
+    let outcome = run(&rt, alloc, &["complete"], &mut source, &mut sink, &OpenGate);
+    assert_eq!(rt; status_code(&outcome.status), 4);
+    assert!(rt; sink.bytes().is_empty());
+    Ok(())
+}
+
+#[test]
+fn a_sink_that_fails_has_the_front_of_the_answer(rt: HostRuntime) -> Result<(), Fail> {
+    let alloc = rt.alloc();
+    let mut source = source_of(alloc, IDENTITY)?;
+    let mut sink = MemorySink::new(alloc, 1000, failing_at(alloc, 3)?, 16)?;
+    let outcome = run(&rt, alloc, &["complete"], &mut source, &mut sink, &OpenGate);
+    assert_eq!(rt; status_code(&outcome.status), 5);
+    assert_eq!(rt;
+        sink.bytes(),
+        b"MKBTT 1\nSYMBOLS f/1\nEQUATIONS 1\n".as_slice()
+    );
+    Ok(())
+}
+
+#[test]
+fn other_words_are_refused(rt: HostRuntime) -> Result<(), Fail> {
+    let alloc = rt.alloc();
+    let mut source = source_of(alloc, IDENTITY)?;
+    let mut sink = MemorySink::new(alloc, 1000, Vec::new(alloc), 9)?;
+    let outcome = run(&rt, alloc, &["check"], &mut source, &mut sink, &OpenGate);
+    assert_eq!(rt; status_code(&outcome.status), 7);
+    assert!(rt; sink.bytes().is_empty());
+    Ok(())
+}

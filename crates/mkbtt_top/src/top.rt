@@ -1,0 +1,98 @@
+// The top call.
+ghost use Rattle.std.specs.Prelude.{◌≡◌, ◌≤◌, ◌↔◌, map, IsTrue};
+ghost use Rattle.kb_io.specs.Bytes.{Rose};
+ghost use Rattle.mkbtt_top.specs.FirstRun.{Answers, AnswersInPart, IsNotBuilt, WritesNothing, complete_words};
+
+use crate::complete::complete;
+use crate::status::Status;
+use kb_io::{Gate, ReadAllFault, Sink, Source, read_all, write_all};
+use kb_syntax::Kind;
+use std::alloc::Global;
+use std::sync::Wait;
+use std::thread::Threads;
+
+/// The most bytes of a problem.
+const INPUT_BYTES: usize = 1_048_576;
+
+/// How a run ended.
+#[derive(Clone, Copy, Debug, PartialEq, Eq)]
+pub struct Outcome {
+    pub status: Status,
+}
+
+fn is_complete(words: &[&str]) -> bool
+    ensures { IsTrue result ↔ (map (λ w. w.now) words.now ≡ complete_words) }
+{
+    if words.len() != 1 {
+        return false;
+    }
+    words[0].as_bytes() == b"complete".as_slice()
+}
+
+// What is read, and answered where that is built.
+fn answer_source<S: Source, K: Sink>(alloc: Global, source: &mut S, sink: &mut K) -> Status
+    ensures done { result ≡ Status.Done → Answers (S.left source.old) (S.left source.new) (K.written sink.old) (K.written sink.new) }
+    ensures write_fault { result ≡ Status.WriteFault → AnswersInPart (S.left source.old) (S.left source.new) (K.written sink.old) (K.written sink.new) }
+    ensures write_cause { result ≡ Status.WriteFault → Rose (K.faults sink.old) (K.faults sink.new) }
+    ensures read_cause { result ≡ Status.ReadFault → Rose (S.faults source.old) (S.faults source.new) }
+    ensures words { ¬ (result ≡ Status.Words) }
+    ensures refused { IsNotBuilt result }
+    ensures nothing { WritesNothing result (K.written sink.old) (K.written sink.new) }
+    ensures source_count { S.faults source.old ≤ S.faults source.new }
+    ensures sink_count { K.faults sink.old ≤ K.faults sink.new }
+{
+    let bytes = match read_all(alloc, source, INPUT_BYTES) {
+        Ok(bytes) => bytes,
+        Err(ReadAllFault::ReadFault) => return Status::ReadFault,
+        Err(ReadAllFault::TooLong) => return Status::Refused(Kind::NotBuilt, 0),
+        Err(ReadAllFault::Memory) => return Status::Memory,
+    };
+    match complete(alloc, &bytes) {
+        Ok(Some(text)) => match write_all(sink, &text) {
+            Ok(()) => Status::Done,
+            Err(_) => Status::WriteFault,
+        },
+        Ok(None) => Status::Refused(Kind::NotBuilt, 0),
+        Err(_) => Status::Memory,
+    }
+}
+
+/// Reads a problem from the source, completes it, and writes the answer to the sink.
+///
+/// The one word is `complete`. What is answered in this version is a problem with one equation that isn't trivial, one
+/// direction of which a linear interpretation of the family orders; everything else that is read is refused as not built.
+/// The answer is made whole before its first byte is written.
+pub fn run<R: Threads + Wait + Sync, S: Source, K: Sink, G: Gate>(
+    _rt: &R,
+    alloc: Global,
+    words: &[&str],
+    source: &mut S,
+    sink: &mut K,
+    _gate: &G,
+) -> Outcome
+    // The source was read to its end, and the sink gained the answer to the problem of one equation that its bytes spell.
+    ensures done { result.status ≡ Status.Done → Answers (S.left source.old) (S.left source.new) (K.written sink.old) (K.written sink.new) }
+    // The same, but for what the sink didn't take any more.
+    ensures write_fault { result.status ≡ Status.WriteFault → AnswersInPart (S.left source.old) (S.left source.new) (K.written sink.old) (K.written sink.new) }
+
+    // Causes.
+    ensures words { (result.status ≡ Status.Words) ↔ ¬ (map (λ w. w.now) words.now ≡ complete_words) }
+    ensures read_cause { result.status ≡ Status.ReadFault → Rose (S.faults source.old) (S.faults source.new) }
+    ensures write_cause { result.status ≡ Status.WriteFault → Rose (K.faults sink.old) (K.faults sink.new) }
+    ensures refused { IsNotBuilt result.status }
+
+    // With every status but Done and WriteFault nothing is written; with Words nothing is read.
+    ensures nothing { WritesNothing result.status (K.written sink.old) (K.written sink.new) }
+    ensures unread { result.status ≡ Status.Words → S.left source.new ≡ S.left source.old }
+    ensures source_count { S.faults source.old ≤ S.faults source.new }
+    ensures sink_count { K.faults sink.old ≤ K.faults sink.new }
+{
+    if !is_complete(words) {
+        return Outcome {
+            status: Status::Words,
+        };
+    }
+    Outcome {
+        status: answer_source(alloc, source, sink),
+    }
+}
