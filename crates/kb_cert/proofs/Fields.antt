@@ -1,9 +1,9 @@
 -- Texts field by field.
-use Rattle.std.proofs.Common.{ℕ, zero, suc, ◌+◌, ◌-◌, ◌/◌, ◌%◌, ◌≤◌, ◌<◌, ◌≡◌, ◌⊎◌, ⊎_elim, refl, sym, ap, ap₂, ◌∙◌, subst, arith, List, [], ◌∷◌, ◌++◌, length, map, take, drop, take-append-drop, get_or, append_assoc, All, Bool, true, false, IsTrue, zero-lt-suc, suc-le-suc}
-use Rattle.std.specs.Prelude.{decimal, nat_eq, nat_lt, not, ◌&&◌, ◌||◌, slice_get, Some, option_map}
-use Rattle.std.proofs.lemmas.Bool.{false≢true, eqb-true, eq-eqb, cases_lt}
+use Rattle.std.proofs.Common.{ℕ, zero, suc, ◌+◌, ◌-◌, ◌/◌, ◌%◌, ◌≤◌, ◌<◌, ◌≡◌, ⊎_elim, refl, sym, ap, ap₂, ◌∙◌, subst, arith, List, [], ◌∷◌, ◌++◌, length, map, take, drop, take-append-drop, get_or, All, Bool, true, false, IsTrue, zero-lt-suc, suc-le-suc}
+use Rattle.std.specs.Prelude.{decimal, not, ◌&&◌}
+use Rattle.std.proofs.lemmas.Bool.{false≢true, cases_lt}
 use Rattle.std.proofs.lemmas.Fmt.{decimal_digit, decimal_step}
-use Rattle.kb_term.specs.Identifier.{IsIdentifier, is_unbroken, begins_otherwise, is_white_space}
+use Rattle.kb_term.specs.Identifier.{IsIdentifier, is_unbroken, begins_otherwise}
 use Rattle.kb_term.specs.Signature.{Signature, SymbolEntry, IsSignature}
 use Rattle.kb_cert.specs.CertificateText.{each_behind, names_of, name_at}
 use Rattle.kb_cert.specs.Reading.{IsFree, IsAtEnd, IsFieldEnd, ArePieces}

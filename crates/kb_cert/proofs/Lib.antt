@@ -5,3 +5,5 @@ pub mod Members
 pub mod Fields
 pub mod ReadingLaws
 pub mod RowLaws
+pub mod Different
+pub mod CertLaws

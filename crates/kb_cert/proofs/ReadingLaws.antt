@@ -1,10 +1,10 @@
 -- The steps of reading.
-use Rattle.std.proofs.Common.{ℕ, zero, suc, ◌+◌, ◌-◌, ◌≤◌, ◌<◌, ◌≡◌, refl, sym, ap, ap₂, ◌∙◌, subst, arith, List, [], ◌∷◌, ◌++◌, length, map, append_assoc, Bool, true, false}
+use Rattle.std.proofs.Common.{ℕ, ◌-◌, ◌≤◌, ◌<◌, ◌≡◌, ap, ◌∙◌, arith, List, [], ◌∷◌, ◌++◌, length, map, append_assoc, Bool, true, false}
 use Rattle.std.specs.Prelude.{decimal}
 use Rattle.kb_term.specs.Signature.{Signature, IsSignature}
 use Rattle.kb_term.specs.declared.term.Symbol.{Symbol}
 use Rattle.kb_cert.specs.CertificateText.{names_of, name_at}
-use Rattle.kb_cert.specs.Reading.{IsFree, IsFieldEnd, ArePieces, AreNames, SpellsNames, AreCoefficients, SpellsCoefficients}
+use Rattle.kb_cert.specs.Reading.{IsFree, IsFieldEnd, AreNames, SpellsNames, AreCoefficients, SpellsCoefficients}
 use Rattle.kb_cert.proofs.Fields.{pieces_more, pieces_less, names_free, number_free}
 
 pub names_step : (sig : Signature) (count : ℕ) (text field rest : List ℕ) (old now new : List Symbol) (f : Symbol) (found : Bool) → IsSignature sig → IsFieldEnd 32 field rest → text ≡ 32 ∷ (field ++ rest) → 0 < count → (f.0 < length sig) × (name_at (names_of sig) f.0 ≡ field) → now ≡ old ++ f ∷ []

@@ -1,14 +1,13 @@
 -- Reading rows of numbers.
-use Rattle.std.proofs.Common.{ℕ, zero, suc, ◌+◌, ◌-◌, ◌≤◌, ◌<◌, ◌≡◌, refl, sym, ap, ap₂, ◌∙◌, subst, arith, List, [], ◌∷◌, ◌++◌, length, map, take, drop, append_assoc, take-append-drop, All, Bool, true, false, IsTrue, zero-lt-suc, suc-le-suc}
+use Rattle.std.proofs.Common.{ℕ, zero, suc, ◌+◌, ◌≤◌, ◌<◌, ◌≡◌, refl, sym, ap, ap₂, ◌∙◌, subst, arith, List, [], ◌∷◌, ◌++◌, length, map, take, drop, append_assoc, take-append-drop, All, Bool, true, false, zero-lt-suc}
 use Rattle.std.specs.Prelude.{decimal, nat_eq, nat_le, ◌&&◌, Vec, Option, Some, None, MatchOption}
-use Rattle.std.specs.List.{list_all, join_with_byte}
+use Rattle.std.specs.List.{list_all}
 use Rattle.std.specs.declared.alloc.Global.{Global}
 use Rattle.std.proofs.lemmas.Bool.{false≢true, leb-true, le-leb, eqb-true, eq-eqb}
 use Rattle.kb_term.specs.Signature.{Signature, SymbolEntry, HasArity}
-use Rattle.kb_linear.specs.Limits.{interpretation_of}
-use Rattle.kb_linear.proofs.Places.{map_append}
+use Rattle.kb_linear.specs.Limits.{interpretation_of, IsSmall}
 use Rattle.kb_cert.specs.CertificateText.{each_behind, interp_text, is_between, is_row, are_rows}
-use Rattle.kb_cert.specs.Reading.{IsFree, IsAtEnd, IsFieldEnd, ArePieces, AreCoefficients, SpellsCoefficients, IsRowText, AreRows, SpellsRows}
+use Rattle.kb_cert.specs.Reading.{IsFree, IsFieldEnd, AreCoefficients, SpellsCoefficients, IsRowText, AreRows, SpellsRows}
 use Rattle.kb_cert.proofs.Texts.{join_with_byte-behind}
 use Rattle.kb_cert.proofs.Fields.{all_more, all_rest, both_true, one_cut, behind_at_end, first_piece, number_free}
 
@@ -60,7 +59,7 @@ pub row_parts : (arity : ℕ) (text field rest : List ℕ) (row : ℕ × List �
 row_parts arity text field rest row t e r =
     let s = row_from arity row r.row_is in
     let p = one_cut 44 (decimal row.0) field (each_behind 44 (map decimal row.1)) rest (number_free 44 row.0 (omega arith) s.constant) e.free (behind_at_end 44 (map decimal row.1)) e.at_end
-        (sym (join_with_byte-behind 44 (decimal row.0) (map decimal row.1)) ∙ r.spelling ∙ t) in
+    (sym (join_with_byte-behind 44 (decimal row.0) (map decimal row.1)) ∙ r.spelling ∙ t) in
     (s.constant, p.0, record { count_is = s.count; each = s.each; spelling = p.1 })
 
 -- what is read of the coefficients says what the text is
@@ -117,11 +116,14 @@ rows_less e sig text field rest (row ∷ rows) f t a =
 
 pub rows_step : (whole : Signature) (e : SymbolEntry) (sig : Signature) (arity : ℕ) (text field rest : List ℕ) (old now new : List (ℕ × Vec ℕ Global)) (row : ℕ × Vec ℕ Global) (found : Bool) → whole ≡ e ∷ sig → e.arity ≡ arity → IsFieldEnd 32 field rest → text ≡ 32 ∷ (field ++ rest)
     → IsRowText arity field (row.0, row.1.items) → now ≡ old ++ row ∷ [] → SpellsRows sig rest now new found → SpellsRows whole text old new found
-rows_step whole e sig arity text field rest old now new row true w q f t r n (more, d, a) =
-    (row ∷ more, d ∙ ap (λ z. z ++ more) n ∙ append_assoc old (row ∷ []) more, subst (λ z. AreRows z text (interpretation_of (row ∷ more))) (sym w) (record {
-      rows_are = both (is_row e.arity (row.0, row.1.items)) (are_rows sig (interpretation_of more)) (subst (λ k. is_row k (row.0, row.1.items) ≡ true) (sym q) r.row_is) a.rows_are;
-      spelling = ap₂ (λ x y. 32 ∷ (x ++ y)) r.spelling a.spelling ∙ sym t;
-    }))
+rows_step whole e sig arity text field rest old now new row true w q f t r n (more, d, a) = (
+  row ∷ more,
+  d ∙ ap (λ z. z ++ more) n ∙ append_assoc old (row ∷ []) more,
+  subst (λ z. AreRows z text (interpretation_of (row ∷ more))) (sym w) (record {
+    rows_are = both (is_row e.arity (row.0, row.1.items)) (are_rows sig (interpretation_of more)) (subst (λ k. is_row k (row.0, row.1.items) ≡ true) (sym q) r.row_is) a.rows_are;
+    spelling = ap₂ (λ x y. 32 ∷ (x ++ y)) r.spelling a.spelling ∙ sym t;
+  }),
+)
   where
     both : (a b : Bool) → a ≡ true → b ≡ true → (a && b) ≡ true
     both a b e d = λ i. e i && d i
@@ -150,3 +152,16 @@ row_some arity text read row e h = subst (IsRowRead arity text) e h
 
 pub row_not : (arity : ℕ) (text : List ℕ) (read : Option (ℕ × Vec ℕ Global)) → read ≡ None → IsRowRead arity text read → (row : ℕ × List ℕ) → ¬ IsRowText arity text row
 row_not arity text read e h = subst (IsRowRead arity text) e h
+
+-- what is read of the rows interprets the signature, with small numbers
+pub rows_found : (sig : Signature) (text : List ℕ) (old new : List (ℕ × Vec ℕ Global)) → old ≡ [] → SpellsRows sig text old new true → AreRows sig text (interpretation_of new)
+rows_found sig text old new o (more, d, a) = subst (λ z. AreRows sig text (interpretation_of z)) (sym (d ∙ ap (λ z. z ++ more) o)) a
+
+pub rows_small : (sig : Signature) (rows : List (ℕ × List ℕ)) → are_rows sig rows ≡ true → IsSmall rows
+rows_small [] [] h k d p = absurd (omega arith)
+rows_small [] (row ∷ rows) h k d p = absurd (false≢true h)
+rows_small (e ∷ sig) [] h k d p = absurd (false≢true h)
+rows_small (e ∷ sig) (row ∷ rows) h zero d p =
+    let s = row_from e.arity row (both_true (is_row e.arity row) (are_rows sig rows) h).0 in
+    record { constant = s.constant; coefficients = s.each }
+rows_small (e ∷ sig) (row ∷ rows) h (suc k) d p = rows_small sig rows (both_true (is_row e.arity row) (are_rows sig rows) h).1 k d (omega arith)

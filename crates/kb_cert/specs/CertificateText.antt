@@ -1,5 +1,5 @@
 -- The text of a certificate.
-use Rattle.std.specs.Prelude.{◌≡◌, ℕ, List, [], ◌∷◌, ◌++◌, map, flat_map, length, get_or, Bool, true, false, ◌&&◌, nat_eq, nat_le, nat_lt, codes, decimal, IsTrue}
+use Rattle.std.specs.Prelude.{◌≡◌, ℕ, List, [], ◌∷◌, map, flat_map, length, get_or, Bool, true, false, ◌&&◌, nat_eq, nat_le, nat_lt, codes, decimal, IsTrue}
 use Rattle.std.specs.List.{list_all, join_with_byte}
 use Rattle.kb_term.specs.Signature.{SymbolEntry, Signature}
 use Rattle.kb_term.specs.Pair.{distinct}

@@ -1,5 +1,5 @@
 -- What is read of a text, field by field.
-use Rattle.std.specs.Prelude.{ℕ, ◌+◌, ◌≤◌, ◌<◌, ◌≡◌, List, [], ◌∷◌, ◌++◌, Bool, true, false, length, map, All, Contains, IsTrue, Vec, decimal}
+use Rattle.std.specs.Prelude.{ℕ, ◌≤◌, ◌<◌, ◌≡◌, List, [], ◌∷◌, ◌++◌, Bool, true, false, length, map, All, Contains, IsTrue, Vec, decimal}
 use Rattle.std.specs.declared.alloc.Global.{Global}
 use Rattle.kb_term.specs.Signature.{Signature}
 use Rattle.kb_term.specs.declared.term.Symbol.{Symbol}

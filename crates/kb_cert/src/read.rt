@@ -86,7 +86,12 @@ fn symbol_named(sig: &Signature, name: &[u8]) -> Option<Symbol>
 }
 
 /// Adds the symbols whose names the text is, so many, each behind a space; false where it is none.
-fn read_symbols(sig: &Signature, text: &[u8], count: usize, symbols: &mut Vec<Symbol>) -> Result<bool, Memory>
+fn read_symbols(
+    sig: &Signature,
+    text: &[u8],
+    count: usize,
+    symbols: &mut Vec<Symbol>,
+) -> Result<bool, Memory>
     requires few { length sig.now ≤ 24 }
     requires names { IsSignature sig.now }
     ensures { IfOk result (λ found. SpellsNames sig.now count text.now symbols.old.items symbols.new.items found) }
@@ -156,7 +161,13 @@ fn read_row(alloc: Global, text: &[u8], arity: u8) -> Result<Option<(u8, Vec<u8>
 }
 
 /// Adds the rows that the text is, one for each symbol from `f` on, each behind a space; false where it is none.
-fn read_rows(alloc: Global, sig: &Signature, f: usize, text: &[u8], rows: &mut Vec<(u8, Vec<u8>)>) -> Result<bool, Memory>
+fn read_rows(
+    alloc: Global,
+    sig: &Signature,
+    f: usize,
+    text: &[u8],
+    rows: &mut Vec<(u8, Vec<u8>)>,
+) -> Result<bool, Memory>
     requires few { length sig.now ≤ 24 }
     requires within { f ≤ length sig.now }
     ensures { IfOk result (λ found. SpellsRows (drop f sig.now) text.now rows.old.items rows.new.items found) }
@@ -201,13 +212,17 @@ fn are_different(symbols: &[Symbol]) -> bool
     true
 }
 
-fn read_precedence(alloc: Global, sig: &Signature, text: &[u8]) -> Result<Option<Precedence>, Memory>
-    requires few { length sig.now ≤ 24 }
-    requires names { IsSignature sig.now }
+fn read_precedence(
+    alloc: Global,
+    sig: &Signature,
+    text: &[u8],
+) -> Result<Option<Precedence>, Memory>
+    requires { length sig.now ≤ 24 }
     ensures { IfOk result (λ read. MatchOption read ((symbols : List ℕ) → ¬ IsPrecedenceText sig.now text.now symbols) (IsPrecedenceText sig.now text.now)) }
 {
+    let count = sig.symbols().len();
     let mut symbols = Vec::new(alloc);
-    if !read_symbols(sig, text, sig.count(), &mut symbols)? {
+    if !read_symbols(sig, text, count, &mut symbols)? {
         return Ok(None);
     }
     if !are_different(&symbols) {
@@ -216,7 +231,11 @@ fn read_precedence(alloc: Global, sig: &Signature, text: &[u8]) -> Result<Option
     Ok(Some(Precedence::new(symbols)))
 }
 
-fn read_interpretation(alloc: Global, sig: &Signature, text: &[u8]) -> Result<Option<Interp>, Memory>
+fn read_interpretation(
+    alloc: Global,
+    sig: &Signature,
+    text: &[u8],
+) -> Result<Option<Interp>, Memory>
     requires { length sig.now ≤ 24 }
     ensures { IfOk result (λ read. MatchOption read ((rows : List (ℕ × List ℕ)) → ¬ AreRows sig.now text.now rows) (AreRows sig.now text.now)) }
 {
@@ -233,7 +252,6 @@ pub fn read_cert(alloc: Global, sig: &Signature, line: &[u8]) -> Result<Option<C
     requires { length sig.now ≤ 24 }
     ensures { IfOk result (λ read. MatchOption read ((c : Certificate) → ¬ CertSpelled sig.now line.now c) (CertSpelled sig.now line.now)) }
 {
-    let _names = sig.symbols();
     if let Some(text) = line.strip_prefix(b"LPO".as_slice()) {
         return match read_precedence(alloc, sig, text)? {
             Some(prec) => Ok(Some(Certificate::Lpo(prec))),

@@ -1,5 +1,5 @@
-use Rattle.std.proofs.Common.{arith, subst, sym, length, drop, take, ◌≡◌}
-use Rattle.kb_cert.specs.Reading.{IsFree, IsAtEnd}
+use Rattle.std.proofs.Common.{arith, subst, length, take, ◌≡◌}
+use Rattle.kb_cert.specs.Reading.{IsFree}
 use Rattle.kb_cert.proofs.Fields.{at_end_nothing}
 use Rattle.kb_cert.proofs.read.field_end.Goals as goal
 

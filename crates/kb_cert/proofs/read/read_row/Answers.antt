@@ -1,4 +1,4 @@
-use Rattle.std.proofs.Common.{subst, true, false}
+use Rattle.std.proofs.Common.{subst}
 use Rattle.kb_cert.specs.Reading.{SpellsCoefficients}
 use Rattle.kb_cert.proofs.RowLaws.{row_found, row_none, row_no_constant, cut_parts, end_parts}
 use Rattle.kb_cert.proofs.read.read_row.Goals as goal
