@@ -2,3 +2,8 @@ mod OrderRows
 pub mod Parts
 pub mod Texts
 pub mod Members
+pub mod Fields
+pub mod ReadingLaws
+pub mod RowLaws
+pub mod Different
+pub mod CertLaws

@@ -1,15 +1,13 @@
 -- The members of the family have texts: they have exactly the symbols of the signature, and numbers within the limits.
-use Rattle.std.proofs.Common.{ℕ, zero, suc, ◌+◌, ◌≤◌, ◌<◌, ◌≡◌, ◌⊎◌, ⊎_elim, refl, sym, ap, ap₂, ◌∙◌, subst, arith, List, [], ◌∷◌, ◌++◌, length, map, filter, flat_map, All, Contains, Bool, true, false, ◌==◌, cond, IsTrue}
-use Rattle.std.specs.Prelude.{not, ◌&&◌, nat_eq, nat_le, nat_lt, replicate, Option, Some, None}
+use Rattle.std.proofs.Common.{ℕ, zero, suc, ◌≤◌, ◌≡◌, ⊎_elim, refl, sym, ap, ap₂, ◌∙◌, subst, arith, List, [], ◌∷◌, length, map, filter, Contains, Bool, true, false, ◌==◌, cond, IsTrue}
+use Rattle.std.specs.Prelude.{not, ◌&&◌, nat_eq, nat_le, nat_lt, replicate, Some}
 use Rattle.std.specs.List.{list_all, range_with_len}
-use Rattle.std.proofs.lemmas.Bool.{false≢true, cases_eq, le-leb, lt-ltb, eq-eqb}
-use Rattle.std.proofs.lemmas.List.FromFn.{length-range_with_len}
+use Rattle.std.proofs.lemmas.Bool.{le-leb, lt-ltb, eq-eqb}
 use Rattle.std.proofs.lemmas.List.Elements.{Contains-append_cases, Contains-append_right}
 use Rattle.kb_term.proofs.Steps.{contains_cases, contains_behind, contains_first}
-use Rattle.kb_term.specs.First.{IsFirst}
 use Rattle.kb_term.specs.Pair.{distinct}
 use Rattle.kb_term.specs.Rule.{Rule}
-use Rattle.kb_term.specs.Signature.{Signature, SymbolEntry}
+use Rattle.kb_term.specs.Signature.{Signature}
 use Rattle.kb_lpo.specs.Precedences.{arrangements, precedences}
 use Rattle.kb_linear.specs.LinearOrder.{Interpretation}
 use Rattle.kb_linear.specs.Interpretations.{interpretations}
@@ -18,8 +16,8 @@ use Rattle.kb_linear.proofs.Sorted.{contains_map_back, contains_flat_map_back, c
 use Rattle.kb_linear.proofs.Within.{within_lengths}
 use Rattle.kb_linear.proofs.Members.{IsTried, first_tried, others_tried, length-replicate}
 use Rattle.kb_linear.proofs.Ready.{tried_to_three}
-use Rattle.kb_cert.specs.Family.{family, IsFirstOrder, Orders}
-use Rattle.kb_cert.specs.CertificateText.{is_certificate, is_precedence, are_rows, is_row, is_between}
+use Rattle.kb_cert.specs.Family.{family, IsFirstOrder}
+use Rattle.kb_cert.specs.CertificateText.{is_certificate, is_precedence, are_rows, is_between}
 use Rattle.kb_cert.specs.declared.certificate.Certificate.{Certificate}
 use Rattle.kb_cert.specs.declared.certificate.Certificate.TheVariants.{Lpo, Linear}
 
@@ -31,7 +29,7 @@ contains_filter p (x ∷ xs) y c = go (p x) refl c (contains_filter p xs y)
     go true e c rest = ⊎_elim (λ q. (subst (Contains (x ∷ xs)) q (contains_first x xs), subst (λ z. p z ≡ true) q e)) (λ d. let r = rest d in (contains_behind x xs y r.0, r.1)) (contains_cases x (filter p xs) y c)
     go false e c rest = let r = rest c in (contains_behind x xs y r.0, r.1)
 
-keep_all : (p : ℕ → Bool) (xs : List ℕ) → ((y : ℕ) → Contains xs y → p y ≡ true) → filter p xs ≡ xs
+pub keep_all : (p : ℕ → Bool) (xs : List ℕ) → ((y : ℕ) → Contains xs y → p y ≡ true) → filter p xs ≡ xs
 keep_all p [] h = refl
 keep_all p (x ∷ xs) h = ap₂ (λ b ys. cond b (x ∷ ys) ys) (h x (contains_first x xs)) (keep_all p xs (λ y c. h y (contains_behind x xs y c)))
 
@@ -54,7 +52,7 @@ arranged (suc n) xs r c =
       within = λ y d. ⊎_elim (λ e. subst (Contains xs) e b.1) (λ m. (contains_filter (λ y. not (y == x)) xs y (a.within y m)).0) (contains_cases x q.0 y d);
     })
 
-all_true : (p : ℕ → Bool) (xs : List ℕ) → ((y : ℕ) → Contains xs y → p y ≡ true) → list_all p xs ≡ true
+pub all_true : (p : ℕ → Bool) (xs : List ℕ) → ((y : ℕ) → Contains xs y → p y ≡ true) → list_all p xs ≡ true
 all_true p [] h = refl
 all_true p (x ∷ xs) h = ap₂ (λ a b. a && b) (h x (contains_first x xs)) (all_true p xs (λ y c. h y (contains_behind x xs y c)))
 

@@ -1,5 +1,5 @@
 -- Joined texts, piece by piece.
-use Rattle.std.proofs.Common.{ℕ, zero, suc, ◌+◌, ◌<◌, ◌≡◌, refl, sym, ap, ap₂, ◌∙◌, subst, arith, List, [], ◌∷◌, ◌++◌, length, map, take, get_or, append_assoc, All, Bool, true, false, IsTrue}
+use Rattle.std.proofs.Common.{ℕ, zero, suc, ◌+◌, ◌<◌, ◌≡◌, refl, sym, ap, ◌∙◌, arith, List, [], ◌∷◌, ◌++◌, length, map, take, get_or, append_assoc, All, Bool, true, false, IsTrue}
 use Rattle.std.specs.Prelude.{Vec, nat_lt, nat_eq, ◌&&◌}
 use Rattle.kb_term.specs.Pair.{distinct}
 use Rattle.std.specs.List.{join_with_byte, list_all}

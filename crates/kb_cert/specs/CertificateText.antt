@@ -1,10 +1,14 @@
 -- The text of a certificate.
-use Rattle.std.specs.Prelude.{◌≡◌, ℕ, List, [], ◌∷◌, ◌++◌, map, flat_map, length, get_or, Bool, true, false, ◌&&◌, nat_eq, nat_le, nat_lt, codes, decimal, IsTrue}
+use Rattle.std.specs.Prelude.{◌≡◌, ℕ, List, [], ◌∷◌, map, flat_map, length, get_or, Bool, true, false, ◌&&◌, nat_eq, nat_le, nat_lt, codes, decimal, IsTrue}
 use Rattle.std.specs.List.{list_all, join_with_byte}
 use Rattle.kb_term.specs.Signature.{SymbolEntry, Signature}
 use Rattle.kb_term.specs.Pair.{distinct}
 use Rattle.kb_cert.specs.declared.certificate.Certificate.{Certificate}
 use Rattle.kb_cert.specs.declared.certificate.Certificate.TheVariants.{Lpo, Linear}
+
+-- the names of the symbols
+abbrev pub names_of : Signature → List (List ℕ)
+names_of signature = map (λ (f : SymbolEntry). f.name) signature
 
 -- the name of a symbol by number, of names by number
 abbrev pub name_at : List (List ℕ) → ℕ → List ℕ
@@ -21,7 +25,7 @@ cert_fields names (Linear rows) = codes "LINEAR" ∷ map interp_text rows
 
 -- the fields parted by spaces
 abbrev pub cert_text : Signature → Certificate → List ℕ
-cert_text signature c = join_with_byte 32 (cert_fields (map (λ (f : SymbolEntry). f.name) signature) c)
+cert_text signature c = join_with_byte 32 (cert_fields (names_of signature) c)
 
 abbrev pub is_between : ℕ → ℕ → ℕ → Bool
 is_between low high n = nat_le low n && nat_le n high

@@ -1,2 +1,3 @@
 pub mod Family
 pub mod CertificateText
+pub mod Reading

@@ -197,6 +197,16 @@ fn first_text(alloc: Global, sig: &Signature, rules: &[Rule]) -> Result<Vec<u8>,
     }
 }
 
+/// Whether the line is read, and written again.
+fn is_read(alloc: Global, sig: &Signature, line: &[u8]) -> Result<bool, Memory>
+    requires { length sig.now ≤ 24 }
+{
+    match read_cert(alloc, sig, line)? {
+        Some(c) => Ok(cert_text(alloc, &c, sig)?.as_slice() == line),
+        None => Ok(false),
+    }
+}
+
 /// How many of the rule sets are searched as trying all members does, and how many of them a member orders.
 fn agreements(alloc: Global) -> Result<(u32, u32), Memory> {
     let sig = two_symbols(alloc)?;
@@ -261,5 +271,28 @@ fn the_search_agrees_with_trying_all_members(rt: HostRuntime) -> Result<(), Fail
     assert!(rt; agreed == 343);
     assert!(rt; 50 < ordered);
     assert!(rt; ordered < 300);
+    Ok(())
+}
+
+#[test]
+fn certificates_are_read_from_their_texts_alone(rt: HostRuntime) -> Result<(), Fail> {
+    let alloc = rt.alloc();
+    let sig = two_symbols(alloc)?;
+    assert!(rt; is_read(alloc, &sig, b"LPO g f")?);
+    assert!(rt; is_read(alloc, &sig, b"LINEAR 15,3 0,1")?);
+    for line in [
+        b"LPO g".as_slice(),
+        b"LPO g g",
+        b"LPO g f ",
+        b"LPO g h",
+        b"LINEAR 1,2",
+        b"LINEAR 01,2 0,2",
+        b"LINEAR 16,2 0,2",
+        b"LINEAR 1,4 0,2",
+        b"LINEAR 1,2,2 0,2",
+        b"",
+    ] {
+        assert!(rt; !is_read(alloc, &sig, line)?);
+    }
     Ok(())
 }

@@ -1,7 +1,6 @@
-use Rattle.std.proofs.Common.{arith, sym, ap, ◌∙◌, ◌++◌, map, subst, IsTrue}
+use Rattle.std.proofs.Common.{sym, ap, ◌∙◌, ◌++◌, map, subst, IsTrue}
 use Rattle.std.specs.Prelude.{codes}
 use Rattle.kb_term.specs.Signature.{SymbolEntry}
-use Rattle.kb_term.specs.declared.term.Symbol.{Symbol}
 use Rattle.kb_linear.specs.Limits.{interpretation_of}
 use Rattle.kb_cert.specs.CertificateText.{each_behind, cert_text, is_certificate, is_precedence, name_at, interp_text}
 use Rattle.kb_cert.proofs.Texts.{join_with_byte-behind, symbols_within, map_names, symbol_name}

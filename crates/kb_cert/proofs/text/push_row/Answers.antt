@@ -1,4 +1,4 @@
-use Rattle.std.proofs.Common.{arith, sym, ap, ◌∙◌, ◌++◌, ◌∷◌, [], append_assoc, map, take, length}
+use Rattle.std.proofs.Common.{sym, ap, ◌∙◌, ◌++◌, append_assoc, map}
 use Rattle.std.specs.Prelude.{decimal}
 use Rattle.std.proofs.lemmas.List.{take_all}
 use Rattle.kb_cert.specs.CertificateText.{each_behind}

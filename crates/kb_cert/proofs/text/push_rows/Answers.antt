@@ -1,4 +1,4 @@
-use Rattle.std.proofs.Common.{arith, sym, ap, ◌∙◌, ◌++◌, map}
+use Rattle.std.proofs.Common.{ap, ◌∙◌, ◌++◌, map}
 use Rattle.std.proofs.lemmas.List.{take_all}
 use Rattle.kb_cert.specs.CertificateText.{each_behind}
 use Rattle.kb_cert.proofs.Texts.{map_rows, row_text}

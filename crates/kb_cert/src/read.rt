@@ -1,0 +1,268 @@
+// Reading the text of a certificate.
+ghost use Rattle.std.specs.Prelude.{◌≡◌, ◌∷◌, ◌≤◌, ◌<◌, ◌+◌, ◌++◌, ℕ, List, Bool, true, false, take, drop, length, map, decimal, IfOk, MatchOption, IsTrue, ◌↔◌, slice_index, Contains};
+ghost use Rattle.kb_term.specs.Signature.{SymbolEntry, IsSignature};
+ghost use Rattle.kb_term.specs.declared.term.Symbol.{Symbol};
+ghost use Rattle.kb_linear.specs.Limits.{interpretation_of};
+ghost use Rattle.kb_cert.specs.declared.certificate.Certificate.{Certificate};
+ghost use Rattle.kb_cert.specs.CertificateText.{CertSpelled, names_of, name_at};
+ghost use Rattle.kb_cert.specs.Reading.{IsFieldEnd, SpellsNames, SpellsCoefficients, IsRowText, SpellsRows, AreDifferent, IsPrecedenceText, AreRows};
+
+use crate::certificate::Certificate;
+use kb_linear::Interp;
+use kb_lpo::Precedence;
+use kb_term::{Memory, Signature, Symbol};
+use std::alloc::Global;
+
+/// Where the field ends that the text begins with: at the first such byte, or at the text's end.
+fn field_end(text: &[u8], b: u8) -> usize
+    ensures within { result ≤ length text.now }
+    ensures end { IsFieldEnd b (take result text.now) (drop result text.now) }
+{
+    for i in 0..text.len() {
+        if text[i] == b {
+            return i;
+        }
+    }
+    text.len()
+}
+
+/// The field behind the byte that the text begins with, and the rest behind the field; none where it begins otherwise.
+fn split_field(text: &[u8], b: u8) -> Option<(&[u8], &[u8])>
+    ensures { MatchOption result ((tail : List ℕ) → ¬ (text.now ≡ b ∷ tail)) (λ p. IsFieldEnd b p.0.now p.1.now × (text.now ≡ b ∷ (p.0.now ++ p.1.now))) }
+{
+    if text.is_empty() {
+        return None;
+    }
+    if text[0] != b {
+        return None;
+    }
+    let rest = &text[1..];
+    Some(rest.split_at(field_end(rest, b)))
+}
+
+/// Whether the text is the number in decimal digits.
+fn is_decimal(text: &[u8], n: u8) -> bool
+    requires { n ≤ 15 }
+    ensures { IsTrue result ↔ (decimal n ≡ text.now) }
+{
+    if n < 10 {
+        if text.len() != 1 {
+            return false;
+        }
+        return text[0] == b'0' + n;
+    }
+    if text.len() != 2 {
+        return false;
+    }
+    if text[0] != b'1' {
+        return false;
+    }
+    text[1] == b'0' + (n - 10)
+}
+
+/// The number up to 15 that the text is in decimal digits.
+fn read_number(text: &[u8]) -> Option<u8>
+    ensures { MatchOption result ((n : ℕ) → n ≤ 15 → ¬ (decimal n ≡ text.now)) (λ n. (n ≤ 15) × (decimal n ≡ text.now)) }
+{
+    for n in 0..16 {
+        if is_decimal(text, n) {
+            return Some(n);
+        }
+    }
+    None
+}
+
+/// The symbol with the name.
+fn symbol_named(sig: &Signature, name: &[u8]) -> Option<Symbol>
+    requires { length sig.now ≤ 24 }
+    ensures { MatchOption result ((f : ℕ) → f < length sig.now → ¬ (name_at (names_of sig.now) f ≡ name.now)) (λ f. (f.0 < length sig.now) × (name_at (names_of sig.now) f.0 ≡ name.now)) }
+{
+    for f in 0..sig.count() {
+        if sig.name(Symbol(f as u8)) == name {
+            return Some(Symbol(f as u8));
+        }
+    }
+    None
+}
+
+/// Adds the symbols whose names the text is, so many, each behind a space; false where it is none.
+fn read_symbols(
+    sig: &Signature,
+    text: &[u8],
+    count: usize,
+    symbols: &mut Vec<Symbol>,
+) -> Result<bool, Memory>
+    requires few { length sig.now ≤ 24 }
+    requires names { IsSignature sig.now }
+    ensures { IfOk result (λ found. SpellsNames sig.now count text.now symbols.old.items symbols.new.items found) }
+{
+    if count == 0 {
+        return Ok(text.is_empty());
+    }
+    let Some((field, rest)) = split_field(text, b' ') else {
+        return Ok(false);
+    };
+    match symbol_named(sig, field) {
+        Some(f) => {
+            symbols.push(f)?;
+            let found = read_symbols(sig, rest, count - 1, symbols)?;
+            Ok(found)
+        }
+        None => Ok(false),
+    }
+}
+
+/// The number from 1 to 3 that the text is in decimal digits.
+fn read_coefficient(text: &[u8]) -> Option<u8>
+    ensures { MatchOption result ((n : ℕ) → (1 ≤ n) × (n ≤ 3) → ¬ (decimal n ≡ text.now)) (λ n. ((1 ≤ n) × (n ≤ 3)) × (decimal n ≡ text.now)) }
+{
+    match read_number(text) {
+        Some(n) if n >= 1 && n <= 3 => Some(n),
+        _ => None,
+    }
+}
+
+/// Adds the coefficients that the text is, so many, each behind a comma; false where it is none.
+fn read_coefficients(text: &[u8], count: usize, coefficients: &mut Vec<u8>) -> Result<bool, Memory>
+    ensures { IfOk result (λ found. SpellsCoefficients count text.now coefficients.old.items coefficients.new.items found) }
+{
+    if count == 0 {
+        return Ok(text.is_empty());
+    }
+    let Some((field, rest)) = split_field(text, b',') else {
+        return Ok(false);
+    };
+    match read_coefficient(field) {
+        Some(n) => {
+            coefficients.push(n)?;
+            let found = read_coefficients(rest, count - 1, coefficients)?;
+            Ok(found)
+        }
+        None => Ok(false),
+    }
+}
+
+/// The row that the text is: a constant and so many coefficients.
+fn read_row(alloc: Global, text: &[u8], arity: u8) -> Result<Option<(u8, Vec<u8>)>, Memory>
+    ensures { IfOk result (λ read. MatchOption read ((row : ℕ × List ℕ) → ¬ IsRowText arity text.now row) (λ row. IsRowText arity text.now (row.0, row.1.items))) }
+{
+    let (field, rest) = text.split_at(field_end(text, b','));
+    match read_number(field) {
+        Some(constant) => {
+            let mut coefficients = Vec::new(alloc);
+            if read_coefficients(rest, arity as usize, &mut coefficients)? {
+                Ok(Some((constant, coefficients)))
+            } else {
+                Ok(None)
+            }
+        }
+        None => Ok(None),
+    }
+}
+
+/// Adds the rows that the text is, one for each symbol from `f` on, each behind a space; false where it is none.
+fn read_rows(
+    alloc: Global,
+    sig: &Signature,
+    f: usize,
+    text: &[u8],
+    rows: &mut Vec<(u8, Vec<u8>)>,
+) -> Result<bool, Memory>
+    requires few { length sig.now ≤ 24 }
+    requires within { f ≤ length sig.now }
+    ensures { IfOk result (λ found. SpellsRows (drop f sig.now) text.now rows.old.items rows.new.items found) }
+{
+    if f == sig.count() {
+        return Ok(text.is_empty());
+    }
+    let Some((field, rest)) = split_field(text, b' ') else {
+        return Ok(false);
+    };
+    match read_row(alloc, field, sig.arity(Symbol(f as u8)))? {
+        Some(row) => {
+            rows.push(row)?;
+            let found = read_rows(alloc, sig, f + 1, rest, rows)?;
+            Ok(found)
+        }
+        None => Ok(false),
+    }
+}
+
+/// Whether the symbol is one of these.
+fn is_among(symbols: &[Symbol], f: Symbol) -> bool
+    ensures { IsTrue result ↔ Contains (map (λ (g : Symbol). g.0) symbols.now) f.0 }
+{
+    for i in 0..symbols.len() {
+        if symbols[i] == f {
+            return true;
+        }
+    }
+    false
+}
+
+/// Whether no symbol stands there twice.
+fn are_different(symbols: &[Symbol]) -> bool
+    ensures { IsTrue result ↔ AreDifferent (map (λ (f : Symbol). f.0) symbols.now) }
+{
+    for i in 0..symbols.len() {
+        if is_among(&symbols[i + 1..], symbols[i]) {
+            return false;
+        }
+    }
+    true
+}
+
+fn read_precedence(
+    alloc: Global,
+    sig: &Signature,
+    text: &[u8],
+) -> Result<Option<Precedence>, Memory>
+    requires { length sig.now ≤ 24 }
+    ensures { IfOk result (λ read. MatchOption read ((symbols : List ℕ) → ¬ IsPrecedenceText sig.now text.now symbols) (IsPrecedenceText sig.now text.now)) }
+{
+    let count = sig.symbols().len();
+    let mut symbols = Vec::new(alloc);
+    if !read_symbols(sig, text, count, &mut symbols)? {
+        return Ok(None);
+    }
+    if !are_different(&symbols) {
+        return Ok(None);
+    }
+    Ok(Some(Precedence::new(symbols)))
+}
+
+fn read_interpretation(
+    alloc: Global,
+    sig: &Signature,
+    text: &[u8],
+) -> Result<Option<Interp>, Memory>
+    requires { length sig.now ≤ 24 }
+    ensures { IfOk result (λ read. MatchOption read ((rows : List (ℕ × List ℕ)) → ¬ AreRows sig.now text.now rows) (AreRows sig.now text.now)) }
+{
+    let mut rows = Vec::new(alloc);
+    if read_rows(alloc, sig, 0, text, &mut rows)? {
+        Ok(Some(Interp::new(rows)))
+    } else {
+        Ok(None)
+    }
+}
+
+/// The certificate that a line without its line feed spells; none where it spells no certificate of the signature within the limits.
+pub fn read_cert(alloc: Global, sig: &Signature, line: &[u8]) -> Result<Option<Certificate>, Memory>
+    requires { length sig.now ≤ 24 }
+    ensures { IfOk result (λ read. MatchOption read ((c : Certificate) → ¬ CertSpelled sig.now line.now c) (CertSpelled sig.now line.now)) }
+{
+    if let Some(text) = line.strip_prefix(b"LPO".as_slice()) {
+        return match read_precedence(alloc, sig, text)? {
+            Some(prec) => Ok(Some(Certificate::Lpo(prec))),
+            None => Ok(None),
+        };
+    }
+    if let Some(text) = line.strip_prefix(b"LINEAR".as_slice()) {
+        return match read_interpretation(alloc, sig, text)? {
+            Some(i) => Ok(Some(Certificate::Linear(i))),
+            None => Ok(None),
+        };
+    }
+    Ok(None)
+}
