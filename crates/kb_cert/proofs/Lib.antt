@@ -2,3 +2,4 @@ mod OrderRows
 pub mod Parts
 pub mod Texts
 pub mod Members
+pub mod FamilyLaws

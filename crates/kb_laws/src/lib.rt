@@ -1,0 +1,2 @@
+//! What a rewrite system means.
+#![tactic(auto)]
