@@ -13,6 +13,7 @@ use Rattle.kb_cert.specs.Family.{Orders, family}
 use Rattle.kb_cert.specs.declared.certificate.Certificate.{Certificate}
 use Rattle.kb_cert.specs.declared.certificate.Certificate.TheVariants.{Lpo, Linear}
 use Rattle.kb_term.specs.Pair.{IsSameEquation}
+use Rattle.kb_laws.specs.Complete.{IsCompleteSystem}
 use Rattle.kb_laws.specs.Completion.{KbState, KbStep, deduce, orient, delete, simplify, compose, collapse, IsSameState, Has, Keeps, Gains, KbFollows, kb_start, IsKbRun}
 use Rattle.kb_term.proofs.Relation.{Reaches}
 use Rattle.kb_term.proofs.Steps.{Occurs, OccursIn, occurs_from, occurs_to, Step, StepIn, at_root, inside, here, there, contains_cases}
@@ -24,11 +25,11 @@ use Rattle.kb_lpo.proofs.LpoLaws.{chain_greater}
 use Rattle.kb_linear.proofs.LinearHalting.{chain_linear}
 use Rattle.kb_laws.proofs.CompletionLaws.{same_equation_itself, variant_itself, has_equation, has_rule, kb_run_keeps, Members, proves_to, in_equations_of}
 use Rattle.kb_cert.proofs.FamilyLaws.{ordered_rule, member_fits, terminating_by_member}
-use Rattle.kb_laws.proofs.Overlaps.{OverlapsJoin}
+use Rattle.kb_laws.specs.Overlaps.{OverlapsJoin}
 use Rattle.kb_term.specs.Signature.{IsRuleOver}
 use Rattle.kb_lpo.proofs.Arities.{keeps_well}
-use Rattle.kb_laws.proofs.Laws.{confluent_by_overlaps, joinable_by_confluence}
-use Rattle.kb_laws.proofs.RunLaws.{IsChained, run_chained}
+use Rattle.kb_laws.proofs.ConfluenceLaws.{confluent_by_overlaps, joinable_by_confluence}
+use Rattle.kb_laws.proofs.RunLaws.{AreChains, run_chained}
 
 pub all_from : {X : Type 0} (P : X → Type 0) (xs : List X) → ((x : X) → Contains xs x → P x) → All P xs
 all_from P xs h = λ k d l. h _ (Contains-get_or xs k d l)
@@ -209,7 +210,7 @@ run_sound problem states run well a i = follows_sound problem.signature states (
 }) a i
 
 -- a member that orders the constraint rules orders the rules
-pub orders_chained : (g : Signature) (c : Certificate) → Contains (family g) c → (a : KbState) → IsSoundState g a → IsChained a → Orders c a.constraints → Orders c a.rules
+pub orders_chained : (g : Signature) (c : Certificate) → Contains (family g) c → (a : KbState) → IsSoundState g a → AreChains a → Orders c a.constraints → Orders c a.rules
 orders_chained g (Lpo p) m a z chained h = all_from (λ (r : Rule). LpoGreater p r.left r.right) a.rules (λ r i.
     let k = chained r i in
     lpo_from_path p (chain_greater p (Contains a.constraints) (λ q j. path_from_lpo p (All-contains (λ (q : Rule). LpoGreater p q.left q.right) a.constraints q h j)) k.2.0 r.left r.right (k.0, k.1, k.2.1)))
@@ -218,19 +219,11 @@ orders_chained g (Linear n) m a z chained h = all_from (λ (r : Rule). LinearGre
     chain_linear g n (Contains a.constraints) (member_fits g n m) (λ q j. All-contains (λ (q : Rule). LinearGreater n q.left q.right) a.constraints q h j) (keeps_well g a.constraints (all_from (IsRuleOver g) a.constraints z.constraints)) k.2.0 r.left r.right (z.rules r i).left (k.0, k.1, k.2.1))
 
 -- joinable terms are proved equal
-proved_by_joining : (rules : List Rule) (s t : Tree) → IsJoinable rules s t → Proves (equations_of rules) s t
+pub proved_by_joining : (rules : List Rule) (s t : Tree) → IsJoinable rules s t → Proves (equations_of rules) s t
 proved_by_joining rules s t j =
     let k = joinable_from rules s t j in
     let up : (x y : Tree) → Reaches (Step (Contains rules)) x y → Equal (Members (equations_of rules)) x y = λ x y c. reaches_made_up (Contains rules) (Either (Members (equations_of rules))) (λ r i. equal_rule (Members (equations_of rules)) r (in_equations_of rules r i)) x y c in
     proves_to (equations_of rules) s t (equal_trans (Members (equations_of rules)) s k.0 t (up s k.0 k.1) (equal_sym (Members (equations_of rules)) t k.0 (up t k.0 k.2)))
-
--- a terminating and confluent system, ordered by the member, that proves what the problem's equations prove
-pub record IsCompleteSystem (problem : Problem) (c : Certificate) (rules : List Rule) : Type 0 where
-  pub ordered : Orders c rules
-  pub terminating : IsTerminating problem.signature rules
-  pub confluent : IsConfluent problem.signature rules
-  pub proves_same : (s t : Tree) → Proves problem.equations s t ↔ Proves (equations_of rules) s t
-  pub decides : (s t : Tree) → IsWellFormed problem.signature s → IsWellFormed problem.signature t → Proves problem.equations s t ↔ IsJoinable rules s t
 
 -- a state of a run that has no equation left, whose constraint rules a member orders and whose overlaps are joinable, is a complete system
 pub complete_state : (problem : Problem) (states : List KbState) → IsKbRun problem states
@@ -246,6 +239,7 @@ complete_state problem states run well a i none c m h joins =
     let conf = confluent_by_overlaps g a.rules over halting joins in
     let keeps : (s t : Tree) → Proves problem.equations s t ↔ Proves (equations_of a.rules) s t = λ s t. subst (λ es. Proves problem.equations s t ↔ Proves (es ++ equations_of a.rules) s t) none (kb_run_keeps problem states run a i s t) in
     record {
+      over = over;
       ordered = ordered;
       terminating = halting;
       confluent = conf;

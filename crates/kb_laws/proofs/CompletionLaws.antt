@@ -8,6 +8,7 @@ use Rattle.kb_term.specs.Signature.{Signature, Problem}
 use Rattle.kb_term.specs.Proving.{Proves, EquationStep, RewritesAt, IsPath, equations_of}
 use Rattle.kb_term.specs.Proving as Proving
 use Rattle.kb_term.specs.Pair.{IsSameEquation}
+use Rattle.kb_laws.specs.Runs.{all_of}
 use Rattle.kb_laws.specs.Completion.{KbState, KbStep, deduce, orient, delete, simplify, compose, collapse, IsSameState, Has, Keeps, Gains, KbReaches, KbFollows, kb_start, IsKbRun}
 use Rattle.kb_term.proofs.Steps.{Step, contains_cases, contains_behind, contains_first}
 use Rattle.kb_term.proofs.Bridge.{step_from_position, step_to_position, steps_from_path, path_from_steps}
@@ -150,10 +151,6 @@ in_equations_of (q ∷ rs) r i = ⊎_elim (λ e. subst (λ (x : Rule). Contains 
 pub from_equations_of : (rs : List Rule) (r : Rule) → Contains (equations_of rs) (r.left, r.right) → Contains rs r
 from_equations_of [] r i = absurd (omega arith)
 from_equations_of (q ∷ rs) r i = ⊎_elim (λ (e : (q.left, q.right) ≡ (r.left, r.right)). subst (Contains (q ∷ rs)) (ap (λ x. record { left = x.0; right = x.1 }) e) (contains_first q rs)) (λ j. contains_behind q rs r (from_equations_of rs r j)) (contains_cases (q.left, q.right) (equations_of rs) (r.left, r.right) i)
-
--- the equations of a state and its rules as equations
-abbrev pub all_of : KbState → List (Tree × Tree)
-all_of a = a.equations ++ equations_of a.rules
 
 given_from : (a : KbState) (r : Rule) → Members (all_of a) r → Given a r
 given_from a r i = ⊎_elim (λ j. inl j) (λ j. inr (from_equations_of a.rules r j)) (Contains-append_cases a.equations (equations_of a.rules) (r.left, r.right) i)

@@ -6,7 +6,8 @@ pub mod Overlaps
 pub mod Closing
 pub mod Cleaning
 pub mod CompletionLaws
-pub mod Laws
+pub mod ConfluenceLaws
 pub mod RunLaws
 pub mod Complete
 pub mod Orderable
+pub mod Stated

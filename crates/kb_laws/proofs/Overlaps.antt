@@ -7,13 +7,14 @@ use Rattle.kb_term.specs.Rule.{Rule, rename_rule}
 use Rattle.kb_term.specs.Position.{argument, with_argument, subtree_at, function_positions_of, function_positions_in}
 use Rattle.kb_term.specs.Position as Position
 use Rattle.kb_unify.specs.Unifier.{IsUnifier, IsMostGeneralUnifier}
-use Rattle.kb_overlap.specs.Overlap.{IsRenamedApart, pair_or_limit, overlap_limit, Overlap, IsOverlapOrLimit, HasNoOverlapAt, ListsOverlaps, overlap_positions, IsOverlapList}
+use Rattle.kb_overlap.specs.Overlap.{IsRenamedApart, pair_or_limit, overlap_limit, Overlap, IsOverlapOrLimit, HasNoOverlapAt, ListsOverlaps, overlap_positions}
 use Rattle.kb_term.specs.declared.limit.Limit.{Limit}
 use Rattle.kb_term.specs.Proving as Proving
 use Rattle.kb_term.proofs.Relation.{IsJoinable}
 use Rattle.kb_term.proofs.Steps.{Occurs, OccursIn, occurs_from, occurs_to, Step, contains_cases, contains_behind, contains_first}
 use Rattle.kb_term.proofs.Subterms.{subterm_at, argument_at, replace_at, replace_in, IsApplied, occurs_at}
 use Rattle.kb_term.proofs.Instances.{instance-agree, instance-instance, instance-variable}
+use Rattle.kb_laws.specs.Overlaps.{OverlapsJoin}
 use Rattle.kb_laws.proofs.Peaks.{PeaksJoin}
 use Rattle.kb_term.proofs.StepsInside.{joinable_instance}
 use Rattle.kb_laws.proofs.ReplacedInstances.{replace-instance, some_same}
@@ -198,11 +199,6 @@ unifies_apart A B C h p w m k e d =
       beside_right A m back k,
       beside_other A m r back k B.right C.right h.variant.3 (apart_right A B C h),
     )
-
--- all overlaps of the rules of a list pass no limit and are joinable
-abbrev pub OverlapsJoin : List Rule → Type 0
-OverlapsJoin rules = (i j : ℕ) (A B : Rule) → slice_get rules i ≡ Some A → slice_get rules j ≡ Some B
-    → (os : List Overlap) × IsOverlapList A B (i == j) os × ((o : Overlap) → Contains os o → (s : Tree) × (t : Tree) × (o.sides ≡ Ok (s, t)) × Proving.IsJoinable rules s t)
 
 ok_sides : (l : Option Limit) (s t : Tree) (u v : Tree) → pair_or_limit l s t ≡ Ok (u, v) → (s ≡ u) × (t ≡ v)
 ok_sides None s t u v e = let q : ◌≡◌ {A = Tree × Tree} (s, t) (u, v) = cc in (ap (λ x. x.0) q, ap (λ x. x.1) q)

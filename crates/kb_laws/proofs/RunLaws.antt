@@ -55,13 +55,13 @@ mutual
   step_in_variant P Q h (there k) = there (step_in_variant P Q h k)
 
 -- each rule of the state is a chain of constraint rules
-abbrev pub IsChained : KbState → Type 0
-IsChained a = (r : Rule) → Contains a.rules r → Chain (Step (Contains a.constraints)) r.left r.right
+abbrev pub AreChains : KbState → Type 0
+AreChains a = (r : Rule) → Contains a.rules r → Chain (Step (Contains a.constraints)) r.left r.right
 
 chain_variant : (P : Rule → Type 0) (q r : Rule) → IsVariantRule q r → Chain (Step P) q.left q.right → Chain (Step P) r.left r.right
 chain_variant P q r (f, back, n, k) c = subst₂ (Chain (Step P)) n.there k.there (chain_instance P (λ x. variable (f x)) q.left q.right c)
 
-has_chain : (a : KbState) → IsChained a → (r : Rule) → Has IsVariantRule a.rules r → Chain (Step (Contains a.constraints)) r.left r.right
+has_chain : (a : KbState) → AreChains a → (r : Rule) → Has IsVariantRule a.rules r → Chain (Step (Contains a.constraints)) r.left r.right
 has_chain a h r (q, i, v) = chain_variant (Contains a.constraints) q r v (h q i)
 
 -- a chain of the old constraint rules is one of the new
@@ -71,10 +71,10 @@ lift a b h s t c = chain_map (Step (Contains a.constraints)) (Step (Contains b.c
 lift_kept : (a b : KbState) → Keeps IsVariantRule a.constraints b.constraints → (s t : Tree) → Chain (Step (Contains a.constraints)) s t → Chain (Step (Contains b.constraints)) s t
 lift_kept a b k s t c = lift a b (λ r i. (k r).0 (has_rule a.constraints r i)) s t c
 
-kept_chained : (a b : KbState) → IsChained a → Keeps IsVariantRule a.rules b.rules → Keeps IsVariantRule a.constraints b.constraints → IsChained b
+kept_chained : (a b : KbState) → AreChains a → Keeps IsVariantRule a.rules b.rules → Keeps IsVariantRule a.constraints b.constraints → AreChains b
 kept_chained a b h kr kc r i = lift_kept a b kc r.left r.right (has_chain a h r ((kr r).1 (has_rule b.rules r i)))
 
-pub step_chained : (g : Signature) (a b : KbState) → KbStep g a b → IsChained a → IsChained b
+pub step_chained : (g : Signature) (a b : KbState) → KbStep g a b → AreChains a → AreChains b
 step_chained g a b (deduce u s t w h k ge kr kc) c = kept_chained a b c kr kc
 step_chained g a b (orient s t o l gr gc) c = λ r i. ⊎_elim (λ d. lift a b (λ q j. (gc q).0 (inl (has_rule a.constraints q j))) r.left r.right (has_chain a c r d)) (λ v. new r v) ((gr r).1 (has_rule b.rules r i))
   where
@@ -104,19 +104,19 @@ step_chained g a b (compose s t u q p i other h ke (rest, l, gr) kc) c = λ r j.
         chain_variant (Contains b.constraints) y r v (lift_kept a b kc s u two)
 step_chained g a b (collapse s t u q p i other h ge l kc) c = λ r j. lift_kept a b kc r.left r.right (has_chain a c r ((l.0 r).0 (inl (has_rule b.rules r j))))
 
-same_chained : (a b : KbState) → IsSameState a b → IsChained a → IsChained b
+same_chained : (a b : KbState) → IsSameState a b → AreChains a → AreChains b
 same_chained a b h c = kept_chained a b c h.rules h.constraints
 
-path_chained : (g : Signature) (path : List KbState) (a b : KbState) → IsPath (KbStep g) path a b → IsChained a → IsChained b
-path_chained g [] a b e c = subst IsChained e c
+path_chained : (g : Signature) (path : List KbState) (a b : KbState) → IsPath (KbStep g) path a b → AreChains a → AreChains b
+path_chained g [] a b e c = subst AreChains e c
 path_chained g (x ∷ path) a b (h, k) c = path_chained g path x b k (step_chained g a x h c)
 
-follows_chained : (g : Signature) (states : List KbState) (old : KbState) → KbFollows g old states → IsChained old → (a : KbState) → Contains states a → IsChained a
+follows_chained : (g : Signature) (states : List KbState) (old : KbState) → KbFollows g old states → AreChains old → (a : KbState) → Contains states a → AreChains a
 follows_chained g [] old f c a i = absurd (omega arith)
 follows_chained g (new ∷ states) old (h, f) c a i =
-    let d : IsChained new = same_chained h.1 new h.3 (path_chained g h.0 old h.1 h.2 c) in
-    ⊎_elim (λ e. subst IsChained e d) (λ j. follows_chained g states new f d a j) (contains_cases new states a i)
+    let d : AreChains new = same_chained h.1 new h.3 (path_chained g h.0 old h.1 h.2 c) in
+    ⊎_elim (λ e. subst AreChains e d) (λ j. follows_chained g states new f d a j) (contains_cases new states a i)
 
 -- in a run each rule of a state is a chain of its constraint rules
-pub run_chained : (problem : Problem) (states : List KbState) → IsKbRun problem states → (a : KbState) → Contains states a → IsChained a
+pub run_chained : (problem : Problem) (states : List KbState) → IsKbRun problem states → (a : KbState) → Contains states a → AreChains a
 run_chained problem states run a i = follows_chained problem.signature states (kb_start problem) run (λ r j. absurd (omega arith)) a i

@@ -12,7 +12,8 @@ use Rattle.kb_lpo.proofs.Arities.{keeps_well}
 use Rattle.kb_laws.proofs.Confluence.{Within, newman, church_rosser}
 use Rattle.kb_term.proofs.Chains.{bounded_from}
 use Rattle.kb_laws.proofs.Peaks.{steps_join}
-use Rattle.kb_laws.proofs.Overlaps.{OverlapsJoin, peaks_join}
+use Rattle.kb_laws.specs.Overlaps.{OverlapsJoin}
+use Rattle.kb_laws.proofs.Overlaps.{peaks_join}
 use Rattle.kb_term.proofs.Bridge.{step_from_position, step_to_position, reaches_from, reaches_to, halts_from, joinable_from, joinable_to}
 use Rattle.kb_laws.proofs.Conversion.{equal_made_up, equal_rule}
 use Rattle.kb_laws.proofs.CompletionLaws.{Members, proves_from, from_equations_of}

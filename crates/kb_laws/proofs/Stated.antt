@@ -1,0 +1,107 @@
+-- The laws as they are stated, from the proofs over steps by terms' structure.
+use Rattle.std.proofs.Common.{ℕ, zero, suc, ◌≡◌, inl, inr, refl, subst, subst₂, arith, List, [], ◌∷◌, All, Contains, Some, slice_get, true, ⊎_elim}
+use Rattle.std.proofs.lemmas.List.Elements.{All-contains}
+use Rattle.kb_term.specs.Tree.{Tree}
+use Rattle.kb_term.specs.Substitution.{IsRenaming}
+use Rattle.kb_term.specs.Pair.{IsSameEquation}
+use Rattle.kb_term.specs.Rule.{Rule}
+use Rattle.kb_term.specs.Signature.{Signature, Problem, IsRuleOver}
+use Rattle.kb_term.specs.Proving.{Proves, equations_of}
+use Rattle.kb_term.proofs.Steps.{Step, contains_cases, contains_first}
+use Rattle.kb_term.proofs.Bridge.{step_from_position, step_to_position, reaches_from, reaches_to}
+use Rattle.kb_cert.specs.declared.certificate.Certificate.{Certificate}
+use Rattle.kb_cert.proofs.FamilyLaws.{terminating_by_member}
+use Rattle.kb_overlap.specs.Overlap.{IsOverlapList}
+use Rattle.kb_laws.specs.Completion.{KbState}
+use Rattle.kb_laws.specs.Overlaps.{OverlapsJoin}
+use Rattle.kb_laws.specs.Confluence.{ChurchRosser}
+use Rattle.kb_laws.specs.Runs.{ReachesByStep, IsEquationOver, IsStateOver, StepKeepsOver, StepKeepsChained, RunIsChained, RunIsOver, ProveSame}
+use Rattle.kb_laws.specs.Complete.{CompleteStateIsSystem, LoneRuleIsSystem}
+use Rattle.kb_laws.proofs.Conversion.{Equal, equal_sym, equal_rule, equal_made_up, equal_variant}
+use Rattle.kb_laws.proofs.CompletionLaws.{Members, proves_from, proves_to}
+use Rattle.kb_laws.proofs.ConfluenceLaws.{confluent_by_overlaps, joinable_by_confluence}
+use Rattle.kb_laws.proofs.RunLaws.{Chain, step_chained, run_chained}
+use Rattle.kb_laws.proofs.Complete.{IsSoundState, step_sound, run_sound, complete_state, proved_by_joining, all_from}
+
+pub church_rosser : (signature : Signature) (rules : List Rule) → ChurchRosser signature rules
+church_rosser g rules over conf s t ws wt = ((λ p. joinable_by_confluence g rules over conf s t ws wt p), (λ j. proved_by_joining rules s t j))
+
+chain_to : (rules : List Rule) (s t : Tree) → Chain (Step (Contains rules)) s t → ReachesByStep rules s t
+chain_to rules s t (u, h, c) = (u, step_to_position (Contains rules) h, reaches_to rules u t c)
+
+chain_from : (rules : List Rule) (s t : Tree) → ReachesByStep rules s t → Chain (Step (Contains rules)) s t
+chain_from rules s t (u, h, c) = (u, step_from_position (Contains rules) s u h, reaches_from rules u t c)
+
+pub step_keeps_chained : (signature : Signature) → StepKeepsChained signature
+step_keeps_chained g old new h c = λ r i. chain_to new.constraints r.left r.right (step_chained g old new h (λ q j. chain_from old.constraints q.left q.right (c q j)) r i)
+
+pub run_is_chained : (problem : Problem) (states : List KbState) → RunIsChained problem states
+run_is_chained problem states run a i = λ r j. chain_to a.constraints r.left r.right (run_chained problem states run a i r j)
+
+over_to : (g : Signature) (a : KbState) → IsSoundState g a → IsStateOver g a
+over_to g a h = record {
+  equations = all_from (IsEquationOver g) a.equations h.equations;
+  rules = all_from (IsRuleOver g) a.rules h.rules;
+  constraints = all_from (IsRuleOver g) a.constraints h.constraints;
+}
+
+over_from : (g : Signature) (a : KbState) → IsStateOver g a → IsSoundState g a
+over_from g a h = record {
+  equations = λ d i. All-contains (IsEquationOver g) a.equations d h.equations i;
+  rules = λ r i. All-contains (IsRuleOver g) a.rules r h.rules i;
+  constraints = λ r i. All-contains (IsRuleOver g) a.constraints r h.constraints i;
+}
+
+pub step_keeps_over : (signature : Signature) → StepKeepsOver signature
+step_keeps_over g old new h o = over_to g new (step_sound g old new h (over_from g old o))
+
+pub run_is_over : (problem : Problem) (states : List KbState) → RunIsOver problem states
+run_is_over problem states run over a i = over_to problem.signature a (run_sound problem states run over a i)
+
+pub complete_state_is_system : (problem : Problem) (states : List KbState) (order : Certificate) (state : KbState) → CompleteStateIsSystem problem states order state
+complete_state_is_system problem states c a h = complete_state problem states h.run h.over a h.reached h.no_equations c h.member h.ordered h.joinable
+
+-- the only rule of a list
+only : (rule A : Rule) (i : ℕ) → slice_get (rule ∷ []) i ≡ Some A → (i ≡ 0) × (rule ≡ A)
+only rule A zero e = (refl, cc)
+only rule A (suc i) e = absurd (cc)
+
+lone_joins : (rule : Rule) → IsOverlapList rule rule true [] → OverlapsJoin (rule ∷ [])
+lone_joins rule none zero zero A B e d = ([], subst₂ (λ a b. IsOverlapList a b true []) (only rule A 0 e).1 (only rule B 0 d).1 none, λ o c. absurd (omega arith))
+lone_joins rule none zero (suc j) A B e d = absurd (let q = only rule B (suc j) d in omega (arith, q.0))
+lone_joins rule none (suc i) j A B e d = absurd (let q = only rule A (suc i) e in omega (arith, q.0))
+
+-- what proves one side of an equation equal to the other does so for the same equation
+equal_same : (P : Rule → Type 0) (d e : Tree × Tree) → IsSameEquation d e → Equal P d.0 d.1 → Equal P e.0 e.1
+equal_same P d e (inl v) c = equal_variant P (record { left = d.0; right = d.1 }) (record { left = e.0; right = e.1 }) c v
+equal_same P d e (inr v) c = equal_sym P e.1 e.0 (equal_variant P (record { left = d.0; right = d.1 }) (record { left = e.1; right = e.0 }) c v)
+
+turned : (r back : ℕ → ℕ) (s t : Tree) → IsRenaming r back s t → IsRenaming back r t s
+turned r back s t n = record { there = n.back_again; back_again = n.there }
+
+same_turned : (d e : Tree × Tree) → IsSameEquation d e → IsSameEquation e d
+same_turned d e (inl (r, back, n, k)) = inl (back, r, turned r back d.0 e.0 n, turned r back d.1 e.1 k)
+same_turned d e (inr (r, back, n, k)) = inr (back, r, turned r back d.1 e.0 k, turned r back d.0 e.1 n)
+
+-- two lists of one equation each, which are the same, prove the same
+same_proves : (d e : Tree × Tree) → IsSameEquation d e → (s t : Tree) → Proves (d ∷ []) s t → Proves (e ∷ []) s t
+same_proves d e same s t p =
+    let there : Equal (Members (e ∷ [])) d.0 d.1 = equal_same (Members (e ∷ [])) e d (same_turned d e same) (equal_rule (Members (e ∷ [])) (record { left = e.0; right = e.1 }) (contains_first e [])) in
+    let each : (r : Rule) → Members (d ∷ []) r → Equal (Members (e ∷ [])) r.left r.right = λ r i. ⊎_elim (λ (q : d ≡ (r.left, r.right)). subst (λ (x : Tree × Tree). Equal (Members (e ∷ [])) x.0 x.1) q there) (λ k. absurd (omega arith)) (contains_cases d [] (r.left, r.right) i) in
+    proves_to (e ∷ []) s t (equal_made_up (Members (d ∷ [])) (Members (e ∷ [])) each s t (proves_from (d ∷ []) s t p))
+
+pub lone_rule_is_system : (signature : Signature) (order : Certificate) (rule : Rule) (e : Tree × Tree) → LoneRuleIsSystem signature order rule e
+lone_rule_is_system g c rule e h same =
+    let rules : List Rule = rule ∷ [] in
+    let over : All (IsRuleOver g) rules = all_from (IsRuleOver g) rules (λ r i. ⊎_elim (λ q. subst (IsRuleOver g) q h.over) (λ k. absurd (omega arith)) (contains_cases rule [] r i)) in
+    let halting = terminating_by_member g c h.member rules over h.ordered in
+    let conf = confluent_by_overlaps g rules over halting (lone_joins rule h.no_overlap) in
+    let keeps : ProveSame (e ∷ []) (equations_of rules) = λ s t. (same_proves e (rule.left, rule.right) same s t, same_proves (rule.left, rule.right) e (same_turned e (rule.left, rule.right) same) s t) in
+    record {
+      over = over;
+      ordered = h.ordered;
+      terminating = halting;
+      confluent = conf;
+      proves_same = keeps;
+      decides = λ s t ws wt. ((λ p. joinable_by_confluence g rules over conf s t ws wt ((keeps s t).0 p)), (λ j. (keeps s t).1 (proved_by_joining rules s t j)));
+    }

@@ -1,0 +1,50 @@
+-- Complete systems: from a run of completion, and of one rule.
+use Rattle.std.specs.Prelude.{◌↔◌, ◌≡◌, List, [], ◌∷◌, All, Contains, true}
+use Rattle.kb_term.specs.Tree.{Tree}
+use Rattle.kb_term.specs.Pair.{IsSameEquation}
+use Rattle.kb_term.specs.Rule.{Rule}
+use Rattle.kb_term.specs.Signature.{Signature, Problem, IsWellFormed, IsRuleOver}
+use Rattle.kb_term.specs.Proving.{IsTerminating, IsConfluent, IsJoinable, Proves, equations_of}
+use Rattle.kb_cert.specs.Family.{family, Orders}
+use Rattle.kb_cert.specs.declared.certificate.Certificate.{Certificate}
+use Rattle.kb_overlap.specs.Overlap.{IsOverlapList}
+use Rattle.kb_laws.specs.Completion.{KbState, IsKbRun}
+use Rattle.kb_laws.specs.Overlaps.{OverlapsJoin}
+use Rattle.kb_laws.specs.Runs.{ProveSame, IsEquationOver}
+
+-- Rules over the signature that the order orders, terminating and confluent, which prove what the equations of the problem prove:
+-- between terms over the signature exactly what is joinable.
+pub record IsCompleteSystem (problem : Problem) (order : Certificate) (rules : List Rule) : Type 0 where
+  pub over : All (IsRuleOver problem.signature) rules
+  pub ordered : Orders order rules
+  pub terminating : IsTerminating problem.signature rules
+  pub confluent : IsConfluent problem.signature rules
+  pub proves_same : ProveSame problem.equations (equations_of rules)
+  pub decides : (s t : Tree) → IsWellFormed problem.signature s → IsWellFormed problem.signature t → Proves problem.equations s t ↔ IsJoinable rules s t
+
+-- a state of a run that has no equations, whose constraint rules the member of the family orders, and whose overlaps are joinable
+pub record IsCompleteState (problem : Problem) (states : List KbState) (order : Certificate) (state : KbState) : Type 0 where
+  pub run : IsKbRun problem states
+  pub over : All (IsEquationOver problem.signature) problem.equations
+  pub reached : Contains states state
+  pub no_equations : state.equations ≡ []
+  pub member : Contains (family problem.signature) order
+  pub ordered : Orders order state.constraints
+  pub joinable : OverlapsJoin state.rules
+
+-- the rules of a complete state are a complete system for the problem
+abbrev pub CompleteStateIsSystem : Problem → List KbState → Certificate → KbState → Type 0
+CompleteStateIsSystem problem states order state = IsCompleteState problem states order state → IsCompleteSystem problem order state.rules
+
+-- a rule over the signature that the member of the family orders and that doesn't overlap itself
+pub record IsLoneRule (signature : Signature) (order : Certificate) (rule : Rule) : Type 0 where
+  pub over : IsRuleOver signature rule
+  pub member : Contains (family signature) order
+  pub ordered : Orders order (rule ∷ [])
+  pub no_overlap : IsOverlapList rule rule true []
+
+-- such a rule that is an equation, up to variants and to the order of sides, is a complete system for that equation
+abbrev pub LoneRuleIsSystem : Signature → Certificate → Rule → Tree × Tree → Type 0
+LoneRuleIsSystem signature order rule e =
+    IsLoneRule signature order rule → IsSameEquation e (rule.left, rule.right)
+    → IsCompleteSystem (record { signature = signature; equations = e ∷ [] }) order (rule ∷ [])
