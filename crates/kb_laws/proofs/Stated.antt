@@ -1,22 +1,32 @@
 -- The laws as they are stated, from the proofs over steps by terms' structure.
-use Rattle.std.proofs.Common.{ℕ, zero, suc, ◌≡◌, inl, inr, refl, subst, subst₂, arith, List, [], ◌∷◌, All, Contains, Some, slice_get, true, ⊎_elim}
+use Rattle.std.proofs.Common.{ℕ, zero, suc, ◌≡◌, ◌==◌, ◌<◌, ◌↔◌, ◌⊎◌, ◌∙◌, inl, inr, refl, sym, ap, subst, subst₂, arith, List, [], ◌∷◌, All, Contains, Option, Some, None, slice_get, Bool, true, false, cond, length, ⊎_elim}
 use Rattle.std.proofs.lemmas.List.Elements.{All-contains}
-use Rattle.kb_term.specs.Tree.{Tree}
+use Rattle.kb_term.specs.Tree.{Tree, tree_eq}
 use Rattle.kb_term.specs.Substitution.{IsRenaming}
-use Rattle.kb_term.specs.Pair.{IsSameEquation}
-use Rattle.kb_term.specs.Rule.{Rule}
+use Rattle.kb_term.specs.Pair.{Pair, numbered, canonical, place_in, variables_of_pair, IsVariantEquation, IsSameEquation}
+use Rattle.kb_term.proofs.Variants.{variants_from_numbered, numbered_renamed}
+use Rattle.kb_term.proofs.OwnPair.{numbered_apart}
+use Rattle.kb_term.proofs.CanonicalPairs.{lesser_cases, canonical_from_same, same_from_canonical}
+use Rattle.kb_linear.specs.LinearOrder.{Interpretation, LinearGreater}
+use Rattle.kb_linear.proofs.LinearHalting.{linear_halts}
+use Rattle.kb_lpo.proofs.Arities.{keeps_well}
+use Rattle.std.specs.List.{range_with_len}
+use Rattle.kb_cert.specs.declared.certificate.Certificate.TheVariants.{Lpo}
+use Rattle.kb_term.specs.Rule.{Rule, rule_of}
 use Rattle.kb_term.specs.Signature.{Signature, Problem, IsRuleOver}
 use Rattle.kb_term.specs.Proving.{Proves, equations_of}
 use Rattle.kb_term.proofs.Steps.{Step, contains_cases, contains_first}
-use Rattle.kb_term.proofs.Bridge.{step_from_position, step_to_position, reaches_from, reaches_to}
+use Rattle.kb_term.proofs.Bridge.{halts_to, step_from_position, step_to_position, reaches_from, reaches_to}
 use Rattle.kb_cert.specs.declared.certificate.Certificate.{Certificate}
-use Rattle.kb_cert.proofs.FamilyLaws.{terminating_by_member}
+use Rattle.kb_cert.proofs.FamilyLaws.{terminating_by_member, ordered_rule, first_member}
 use Rattle.kb_overlap.specs.Overlap.{IsOverlapList}
 use Rattle.kb_laws.specs.Completion.{KbState}
 use Rattle.kb_laws.specs.Overlaps.{OverlapsJoin}
 use Rattle.kb_laws.specs.Confluence.{ChurchRosser}
 use Rattle.kb_laws.specs.Runs.{ReachesByStep, IsEquationOver, IsStateOver, StepKeepsOver, StepKeepsChained, RunIsChained, RunIsOver, ProveSame}
-use Rattle.kb_laws.specs.Complete.{CompleteStateIsSystem, LoneRuleIsSystem}
+use Rattle.kb_laws.specs.Complete.{CompleteStateIsSystem, LoneRuleIsSystem, PairRuleIsSystem}
+use Rattle.kb_laws.specs.Halting.{HasMember, MemberOrdersRulesOnly, InterpretationHalts}
+use Rattle.kb_cert.specs.Family.{Orders, IsGreater}
 use Rattle.kb_laws.proofs.Conversion.{Equal, equal_sym, equal_rule, equal_made_up, equal_variant}
 use Rattle.kb_laws.proofs.CompletionLaws.{Members, proves_from, proves_to}
 use Rattle.kb_laws.proofs.ConfluenceLaws.{confluent_by_overlaps, joinable_by_confluence}
@@ -93,15 +103,55 @@ same_proves d e same s t p =
 pub lone_rule_is_system : (signature : Signature) (order : Certificate) (rule : Rule) (e : Tree × Tree) → LoneRuleIsSystem signature order rule e
 lone_rule_is_system g c rule e h same =
     let rules : List Rule = rule ∷ [] in
-    let over : All (IsRuleOver g) rules = all_from (IsRuleOver g) rules (λ r i. ⊎_elim (λ q. subst (IsRuleOver g) q h.over) (λ k. absurd (omega arith)) (contains_cases rule [] r i)) in
-    let halting = terminating_by_member g c h.member rules over h.ordered in
+    let one : IsRuleOver g rule = record { is_rule = ordered_rule g c h.member rule.left rule.right h.over.1 h.ordered; left = h.over.0; right = h.over.1 } in
+    let over : All (IsRuleOver g) rules = all_from (IsRuleOver g) rules (λ r i. ⊎_elim (λ q. subst (IsRuleOver g) q one) (λ k. absurd (omega arith)) (contains_cases rule [] r i)) in
+    let ordered : Orders c rules = all_from (λ (r : Rule). IsGreater c r.left r.right) rules (λ r i. ⊎_elim (λ q. subst (λ (x : Rule). IsGreater c x.left x.right) q h.ordered) (λ k. absurd (omega arith)) (contains_cases rule [] r i)) in
+    let halting = terminating_by_member g c h.member rules over ordered in
     let conf = confluent_by_overlaps g rules over halting (lone_joins rule h.no_overlap) in
     let keeps : ProveSame (e ∷ []) (equations_of rules) = λ s t. (same_proves e (rule.left, rule.right) same s t, same_proves (rule.left, rule.right) e (same_turned e (rule.left, rule.right) same) s t) in
     record {
       over = over;
-      ordered = h.ordered;
+      ordered = ordered;
       terminating = halting;
       confluent = conf;
       proves_same = keeps;
       decides = λ s t ws wt. ((λ p. joinable_by_confluence g rules over conf s t ws wt ((keeps s t).0 p)), (λ j. (keeps s t).1 (proved_by_joining rules s t j)));
     }
+
+-- the numbered pair is a variant
+numbered_variant : (s t : Tree) → IsVariantEquation (s, t) ((numbered s t).first, (numbered s t).second)
+numbered_variant s t = variants_from_numbered s t (numbered s t).first (numbered s t).second (sym (numbered_renamed (place_in (variables_of_pair s t)) s t (numbered_apart s t)))
+
+-- so are the canonical pair and the rule that it is in either direction
+canonical_same : (s t : Tree) → IsSameEquation (s, t) ((canonical s t).first, (canonical s t).second)
+canonical_same s t = ⊎_elim (λ q. subst (λ (p : Pair). IsSameEquation (s, t) (p.first, p.second)) (sym q) (inl (numbered_variant s t)))
+    (λ q. subst (λ (p : Pair). IsSameEquation (s, t) (p.first, p.second)) (sym q) (inr (let v = numbered_variant t s in (v.0, v.1, v.3, v.2))))
+    (lesser_cases (numbered s t) (numbered t s))
+
+rule_same : (p : Pair) (direction : ℕ) → IsSameEquation (p.first, p.second) ((rule_of p direction).left, (rule_of p direction).right)
+rule_same p zero = inl (numbered_variant p.first p.second)
+rule_same p (suc d) = inr (let v = numbered_variant p.second p.first in (v.0, v.1, v.3, v.2))
+
+pair_rule_same : (s t : Tree) (direction : ℕ) → IsSameEquation (s, t) ((rule_of (canonical s t) direction).left, (rule_of (canonical s t) direction).right)
+pair_rule_same s t d =
+    let p : Pair = canonical s t in
+    let r : Rule = rule_of p d in
+    same_from_canonical s t r.left r.right (canonical_from_same s t p.first p.second (canonical_same s t) ∙ canonical_from_same p.first p.second r.left r.right (rule_same p d))
+
+the_pair : (b : Bool) (p q : Pair) → cond b None (Some p) ≡ Some q → p ≡ q
+the_pair true p q e = absurd (cc)
+the_pair false p q e = cc
+
+pub pair_rule_is_system : (signature : Signature) (order : Certificate) (rule : Rule) (e : Tree × Tree) → PairRuleIsSystem signature order rule e
+pair_rule_is_system g c rule e p d h of is =
+    let q : canonical e.0 e.1 ≡ p = the_pair (tree_eq e.0 e.1) (canonical e.0 e.1) p of in
+    lone_rule_is_system g c rule e h (subst (λ (r : Rule). IsSameEquation e (r.left, r.right)) (sym is) (subst (λ (x : Pair). IsSameEquation e ((rule_of x d).left, (rule_of x d).right)) q (pair_rule_same e.0 e.1 d)))
+
+pub has_member : (signature : Signature) → HasMember signature
+has_member g = (Lpo (range_with_len 0 (length g)), first_member g)
+
+pub member_orders_rules_only : (signature : Signature) (order : Certificate) → MemberOrdersRulesOnly signature order
+member_orders_rules_only g c m rule w h = ordered_rule g c m rule.left rule.right w h
+
+pub interpretation_halts : (signature : Signature) (i : Interpretation) → InterpretationHalts signature i
+interpretation_halts g i fit rules over h t w = halts_to rules t (linear_halts g i (Contains rules) fit (λ r j. All-contains (λ (r : Rule). LinearGreater i r.left r.right) rules r h j) (keeps_well g rules over) t w)

@@ -1,11 +1,11 @@
 -- Complete systems: from a run of completion, and of one rule.
-use Rattle.std.specs.Prelude.{◌↔◌, ◌≡◌, List, [], ◌∷◌, All, Contains, true}
+use Rattle.std.specs.Prelude.{ℕ, Some, ◌↔◌, ◌≡◌, List, [], ◌∷◌, All, Contains, true}
 use Rattle.kb_term.specs.Tree.{Tree}
-use Rattle.kb_term.specs.Pair.{IsSameEquation}
-use Rattle.kb_term.specs.Rule.{Rule}
+use Rattle.kb_term.specs.Pair.{Pair, canonical_pair, IsSameEquation}
+use Rattle.kb_term.specs.Rule.{Rule, rule_of}
 use Rattle.kb_term.specs.Signature.{Signature, Problem, IsWellFormed, IsRuleOver}
 use Rattle.kb_term.specs.Proving.{IsTerminating, IsConfluent, IsJoinable, Proves, equations_of}
-use Rattle.kb_cert.specs.Family.{family, Orders}
+use Rattle.kb_cert.specs.Family.{family, IsGreater, Orders}
 use Rattle.kb_cert.specs.declared.certificate.Certificate.{Certificate}
 use Rattle.kb_overlap.specs.Overlap.{IsOverlapList}
 use Rattle.kb_laws.specs.Completion.{KbState, IsKbRun}
@@ -36,15 +36,24 @@ pub record IsCompleteState (problem : Problem) (states : List KbState) (order : 
 abbrev pub CompleteStateIsSystem : Problem → List KbState → Certificate → KbState → Type 0
 CompleteStateIsSystem problem states order state = IsCompleteState problem states order state → IsCompleteSystem problem order state.rules
 
--- a rule over the signature that the member of the family orders and that doesn't overlap itself
+-- a rule between terms over the signature that the member of the family orders and that doesn't overlap itself
 pub record IsLoneRule (signature : Signature) (order : Certificate) (rule : Rule) : Type 0 where
-  pub over : IsRuleOver signature rule
+  pub over : IsEquationOver signature (rule.left, rule.right)
   pub member : Contains (family signature) order
-  pub ordered : Orders order (rule ∷ [])
+  pub ordered : IsGreater order rule.left rule.right
   pub no_overlap : IsOverlapList rule rule true []
+
+-- the problem of one equation
+abbrev pub problem_of : Signature → Tree × Tree → Problem
+problem_of signature e = record { signature = signature; equations = e ∷ [] }
 
 -- such a rule that is an equation, up to variants and to the order of sides, is a complete system for that equation
 abbrev pub LoneRuleIsSystem : Signature → Certificate → Rule → Tree × Tree → Type 0
 LoneRuleIsSystem signature order rule e =
-    IsLoneRule signature order rule → IsSameEquation e (rule.left, rule.right)
-    → IsCompleteSystem (record { signature = signature; equations = e ∷ [] }) order (rule ∷ [])
+    IsLoneRule signature order rule → IsSameEquation e (rule.left, rule.right) → IsCompleteSystem (problem_of signature e) order (rule ∷ [])
+
+-- so is such a rule that is the canonical pair of an equation in either direction
+abbrev pub PairRuleIsSystem : Signature → Certificate → Rule → Tree × Tree → Type 0
+PairRuleIsSystem signature order rule e =
+    (pair : Pair) (direction : ℕ) → IsLoneRule signature order rule → canonical_pair e.0 e.1 ≡ Some pair → rule ≡ rule_of pair direction
+    → IsCompleteSystem (problem_of signature e) order (rule ∷ [])

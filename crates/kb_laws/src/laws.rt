@@ -4,10 +4,12 @@ ghost use Rattle.kb_term.specs.Tree.{Tree};
 ghost use Rattle.kb_term.specs.Rule.{Rule};
 ghost use Rattle.kb_term.specs.Signature.{Signature, Problem};
 ghost use Rattle.kb_cert.specs.declared.certificate.Certificate.{Certificate};
+ghost use Rattle.kb_linear.specs.LinearOrder.{Interpretation};
+ghost use Rattle.kb_laws.specs.Halting.{HasMember, MemberOrdersRulesOnly, MemberHalts, InterpretationHalts};
 ghost use Rattle.kb_laws.specs.Completion.{KbState};
 ghost use Rattle.kb_laws.specs.Confluence.{CriticalPairLemma, ClosedOverlapsJoin, NewmansLemma, ConfluentByOverlaps, ChurchRosser};
 ghost use Rattle.kb_laws.specs.Runs.{StepKeepsProved, StepKeepsOver, StepKeepsChained, StepKeepsOrderable, RunKeepsProved, RunIsChained, RunIsOver, RunIsOrderable};
-ghost use Rattle.kb_laws.specs.Complete.{CompleteStateIsSystem, LoneRuleIsSystem};
+ghost use Rattle.kb_laws.specs.Complete.{CompleteStateIsSystem, LoneRuleIsSystem, PairRuleIsSystem};
 
 /// Critical pair lemma (Knuth and Bendix 1970): where the overlaps of every two rules are joinable, any two steps from one term lead to
 /// joinable terms. Overlaps whose terms normalise to one are joinable.
@@ -52,8 +54,19 @@ pub fn complete_state()
     ensures { (problem : Problem) (states : List KbState) (order : Certificate) (state : KbState) → CompleteStateIsSystem problem states order state }
 {}
 
-/// One rule over a signature that some member of the family orders, and that doesn't overlap itself, is such a system for its own equation,
-/// read either way round and up to variants.
+/// One rule between terms over a signature that some member of the family orders, and that doesn't overlap itself, is such a system for its
+/// own equation, read either way round and up to variants; so the rule that is the canonical pair of an equation in either direction is one
+/// for that equation.
 pub fn lone_rule()
-    ensures { (signature : Signature) (order : Certificate) (rule : Rule) (e : Tree × Tree) → LoneRuleIsSystem signature order rule e }
+    ensures same { (signature : Signature) (order : Certificate) (rule : Rule) (e : Tree × Tree) → LoneRuleIsSystem signature order rule e }
+    ensures pair { (signature : Signature) (order : Certificate) (rule : Rule) (e : Tree × Tree) → PairRuleIsSystem signature order rule e }
+{}
+
+/// Each signature's family has a member. What a member orders is a rule, and such rules halt: a number bounds the steps of every chain from
+/// each term over the signature. So do rules that any linear interpretation of the signature orders.
+pub fn ordered_rules_halt()
+    ensures exists { (signature : Signature) → HasMember signature }
+    ensures rules { (signature : Signature) (order : Certificate) → MemberOrdersRulesOnly signature order }
+    ensures halts { (signature : Signature) (order : Certificate) → MemberHalts signature order }
+    ensures linear { (signature : Signature) (i : Interpretation) → InterpretationHalts signature i }
 {}

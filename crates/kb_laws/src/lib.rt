@@ -8,7 +8,7 @@ mod laws;
 
 pub use laws::{
     church_rosser, complete_state, completion_keeps, critical_pair_lemma, lone_rule, newmans_lemma,
-    runs_keep,
+    ordered_rules_halt, runs_keep,
 };
 
 #[cfg(test)]

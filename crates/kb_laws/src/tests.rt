@@ -1,6 +1,6 @@
 use super::{
     church_rosser, complete_state, completion_keeps, critical_pair_lemma, lone_rule, newmans_lemma,
-    runs_keep,
+    ordered_rules_halt, runs_keep,
 };
 
 #[test]
@@ -12,4 +12,5 @@ fn each_law_is_called(_rt: HostRuntime) {
     runs_keep();
     complete_state();
     lone_rule();
+    ordered_rules_halt();
 }
