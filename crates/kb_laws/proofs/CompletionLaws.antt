@@ -13,7 +13,7 @@ use Rattle.kb_laws.specs.Completion.{KbState, KbStep, deduce, orient, delete, si
 use Rattle.kb_term.proofs.Steps.{Step, contains_cases, contains_behind, contains_first}
 use Rattle.kb_term.proofs.Bridge.{step_from_position, step_to_position, steps_from_path, path_from_steps}
 use Rattle.kb_term.proofs.Chains.{reaches_refl}
-use Rattle.kb_laws.proofs.Conversion.{Either, Equal, equal_sym, equal_trans, equal_step, equal_rule, equal_made_up, equal_variant}
+use Rattle.kb_laws.proofs.Conversion.{Either, Equal, equal_sym, equal_trans, equal_step, equal_rule, equal_made_up, equal_same, equal_variant}
 use Rattle.kb_term.proofs.Instances.{instance-variable}
 
 -- the rules of a state, and its equations as rules
@@ -45,13 +45,8 @@ has_equation es d i = (d, i, same_equation_itself d)
 pub has_rule : (rs : List Rule) (r : Rule) → Contains rs r → Has IsVariantRule rs r
 has_rule rs r i = (r, i, variant_itself r)
 
--- what a state proves of an equation it proves of the same one
-equal_same : (b : KbState) (d e : Tree × Tree) → IsSameEquation d e → Equal (Given b) d.0 d.1 → Equal (Given b) e.0 e.1
-equal_same b d e (inl v) c = equal_variant (Given b) (record { left = d.0; right = d.1 }) (record { left = e.0; right = e.1 }) c v
-equal_same b d e (inr v) c = equal_sym (Given b) e.1 e.0 (equal_variant (Given b) (record { left = d.0; right = d.1 }) (record { left = e.1; right = e.0 }) c v)
-
 equal_has : (b : KbState) (d : Tree × Tree) → Has IsSameEquation b.equations d → Equal (Given b) d.0 d.1
-equal_has b d (e, i, v) = equal_same b e d v (equal_rule (Given b) (record { left = e.0; right = e.1 }) (inl i))
+equal_has b d (e, i, v) = equal_same (Given b) e d v (equal_rule (Given b) (record { left = e.0; right = e.1 }) (inl i))
 
 equal_has_rule : (b : KbState) (r : Rule) → Has IsVariantRule b.rules r → Equal (Given b) r.left r.right
 equal_has_rule b r (q, i, v) = equal_variant (Given b) q r (equal_rule (Given b) q (inr i)) v
@@ -82,7 +77,7 @@ kept_rules_back a rs k r i = equal_has_rule a r ((k r).1 (has_rule rs r i))
 
 -- a list that gains a member
 gained_equations : (a : KbState) (ds es : List (Tree × Tree)) (x : Tree × Tree) → Gains IsSameEquation ds es x → ((d : Tree × Tree) → Has IsSameEquation ds d → Equal (Given a) d.0 d.1) → Equal (Given a) x.0 x.1 → (d : Tree × Tree) → Contains es d → Equal (Given a) d.0 d.1
-gained_equations a ds es x g h c d i = ⊎_elim (λ k. h d k) (λ v. equal_same a x d v c) ((g d).1 (has_equation es d i))
+gained_equations a ds es x g h c d i = ⊎_elim (λ k. h d k) (λ v. equal_same (Given a) x d v c) ((g d).1 (has_equation es d i))
 
 gained_rules : (a : KbState) (qs rs : List Rule) (x : Rule) → Gains IsVariantRule qs rs x → ((r : Rule) → Has IsVariantRule qs r → Equal (Given a) r.left r.right) → Equal (Given a) x.left x.right → (r : Rule) → Contains rs r → Equal (Given a) r.left r.right
 gained_rules a qs rs x g h c r i = ⊎_elim (λ k. h r k) (λ v. equal_variant (Given a) x r c v) ((g r).1 (has_rule rs r i))

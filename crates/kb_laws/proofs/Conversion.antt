@@ -1,6 +1,7 @@
 -- What equations prove, and lists of equations that prove the same.
 use Rattle.std.proofs.Common.{ℕ, zero, suc, ◌⊎◌, inl, inr, sym, subst₂}
 use Rattle.kb_term.specs.Tree.{Tree, variable, Trees}
+use Rattle.kb_term.specs.Pair.{IsSameEquation}
 use Rattle.kb_term.specs.Rule.{Rule, reversed, IsVariantRule}
 use Rattle.kb_term.proofs.Relation.{Steps, Reaches}
 use Rattle.kb_term.proofs.Steps.{Step, StepIn, at_root, inside, here, there}
@@ -80,3 +81,8 @@ equal_made_up P Q h s t c = reaches_made_up (Either P) (Either Q) (λ r i. go r 
 -- a variant of a rule proves the rule
 pub equal_variant : (P : Rule → Type 0) (a b : Rule) → Equal P a.left a.right → IsVariantRule a b → Equal P b.left b.right
 equal_variant P a b c (r, back, n, e) = subst₂ (Equal P) n.there e.there (reaches_instance (Either P) (λ x. variable (r x)) a.left a.right c)
+
+-- what proves one side of an equation equal to the other does so for the same equation
+pub equal_same : (P : Rule → Type 0) (d e : Tree × Tree) → IsSameEquation d e → Equal P d.0 d.1 → Equal P e.0 e.1
+equal_same P d e (inl v) c = equal_variant P (record { left = d.0; right = d.1 }) (record { left = e.0; right = e.1 }) c v
+equal_same P d e (inr v) c = equal_sym P e.1 e.0 (equal_variant P (record { left = d.0; right = d.1 }) (record { left = e.1; right = e.0 }) c v)

@@ -11,3 +11,4 @@ pub mod RunLaws
 pub mod Complete
 pub mod Orderable
 pub mod Stated
+pub mod LoneRule

@@ -1,6 +1,5 @@
 -- What the orders of the family order halts.
 use Rattle.std.specs.Prelude.{List, All, Contains}
-use Rattle.kb_term.specs.Tree.{Tree}
 use Rattle.kb_term.specs.Rule.{Rule, IsRule}
 use Rattle.kb_term.specs.Signature.{Signature, IsWellFormed, IsRuleOver}
 use Rattle.kb_term.specs.Proving.{IsTerminating}
