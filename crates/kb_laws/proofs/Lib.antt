@@ -12,3 +12,4 @@ pub mod Complete
 pub mod Orderable
 pub mod Stated
 pub mod LoneRule
+mod SystemRows

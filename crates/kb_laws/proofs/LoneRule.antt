@@ -27,7 +27,7 @@ only : (rule A : Rule) (i : ℕ) → slice_get (rule ∷ []) i ≡ Some A → (i
 only rule A zero e = (refl, cc)
 only rule A (suc i) e = absurd (cc)
 
-lone_joins : (rule : Rule) → IsOverlapList rule rule true [] → OverlapsJoin (rule ∷ [])
+pub lone_joins : (rule : Rule) → IsOverlapList rule rule true [] → OverlapsJoin (rule ∷ [])
 lone_joins rule none zero zero A B e d = ([], subst₂ (λ a b. IsOverlapList a b true []) (only rule A 0 e).1 (only rule B 0 d).1 none, λ o c. absurd (omega arith))
 lone_joins rule none zero (suc j) A B e d = absurd (let q = only rule B (suc j) d in omega (arith, q.0))
 lone_joins rule none (suc i) j A B e d = absurd (let q = only rule A (suc i) e in omega (arith, q.0))
