@@ -11,14 +11,14 @@ ghost use Rattle.kb_laws.specs.Confluence.{CriticalPairLemma, ClosedOverlapsJoin
 ghost use Rattle.kb_laws.specs.Runs.{StepKeepsProved, StepKeepsOver, StepKeepsChained, StepKeepsOrderable, RunKeepsProved, RunIsChained, RunIsOver, RunIsOrderable};
 ghost use Rattle.kb_laws.specs.Complete.{CompleteStateIsSystem, LoneRuleIsSystem, PairRuleIsSystem};
 
-/// Critical pair lemma (Knuth and Bendix 1970): where the overlaps of every two rules are joinable, any two steps from one term lead to
+/// Critical pair lemma: where the overlaps of every two rules are joinable, any two steps from one term lead to
 /// joinable terms. Overlaps whose terms normalise to one are joinable.
 pub fn critical_pair_lemma()
     ensures overlaps { (signature : Signature) (rules : List Rule) → CriticalPairLemma signature rules }
     ensures closed { (rules : List Rule) → ClosedOverlapsJoin rules }
 {}
 
-/// Newman's lemma (1942): terminating and locally confluent rules are confluent; so terminating rules with joinable overlaps are.
+/// Newman's lemma: terminating and locally confluent rules are confluent; so terminating rules with joinable overlaps are.
 pub fn newmans_lemma()
     ensures local { (signature : Signature) (rules : List Rule) → NewmansLemma signature rules }
     ensures overlaps { (signature : Signature) (rules : List Rule) → ConfluentByOverlaps signature rules }
