@@ -7,3 +7,4 @@ pub mod ReadingLaws
 pub mod RowLaws
 pub mod Different
 pub mod CertLaws
+pub mod FamilyLaws

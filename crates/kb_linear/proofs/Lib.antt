@@ -8,3 +8,4 @@ pub mod Sorted
 pub mod Members
 pub mod Ready
 pub mod TwoSymbols
+pub mod LinearHalting

@@ -1,0 +1,155 @@
+-- The members of the family: their interpretations are positive, and what they order is a rule.
+use Rattle.std.proofs.Common.{ℕ, Option, Some, None, zero-lt-suc, suc-le-suc, zero, suc, ◌+◌, ◌*◌, ◌≡◌, ◌≤◌, ◌⊎◌, inl, inr, refl, ap, ap₂, subst, arith, List, [], ◌∷◌, map, All, Contains, length, cond, ◌==◌, replicate, ⊎_elim, flat_map, filter, not, sym, ◌∙◌, ◌<◌}
+use Rattle.std.specs.List.{AllZip, range_with_len}
+use Rattle.std.proofs.lemmas.List.Elements.{All-contains, Contains-append_cases, Contains-append_left}
+use Rattle.std.proofs.lemmas.Bool.{cases_eq, cond-true, cond-false, ne_eqb, eq-eqb}
+use Rattle.kb_term.specs.Tree.{Tree, variable, apply, Trees, no_trees, more_trees, list_of, variables_of}
+use Rattle.kb_term.specs.Rule.{Rule, IsRule}
+use Rattle.kb_term.specs.Signature.{Signature, SymbolEntry, IsWellFormed, AreWellFormed, IsRuleOver}
+use Rattle.kb_term.specs.Proving.{IsTerminating}
+use Rattle.kb_linear.specs.LinearOrder.{Interpretation, linear_value, weighted_sum, LinearGreater, IsInterpretationOf}
+use Rattle.kb_linear.specs.Interpretations.{choices, rows, interpretations_to, interpretations_up_to, top_constant, interpretations}
+use Rattle.kb_lpo.specs.Precedences.{arrangements, precedences}
+use Rattle.kb_cert.specs.Family.{family, IsGreater, Orders, IsOrderable}
+use Rattle.kb_cert.specs.declared.certificate.Certificate.{Certificate}
+use Rattle.kb_cert.specs.declared.certificate.Certificate.TheVariants.{Lpo, Linear}
+use Rattle.kb_term.proofs.Steps.{Occurs, OccursIn, occurs_from, occurs_to, contains_cases, contains_behind, contains_first}
+use Rattle.kb_term.specs.Substitution.{rename}
+use Rattle.kb_term.proofs.Bridge.{halts_to}
+use Rattle.kb_lpo.proofs.Lpo.{path_from_lpo, lpo_from_path}
+use Rattle.kb_lpo.proofs.Arities.{keeps_well}
+use Rattle.kb_lpo.proofs.PathOrderLaws.{terminating_by_lpo}
+use Rattle.kb_lpo.proofs.LpoLaws.{path-instance, lesser_variables, no_lesser}
+use Rattle.kb_linear.proofs.Sorted.{contains_map_back, contains_flat_map_back, choices_from, contains_map}
+use Rattle.kb_linear.proofs.LinearHalting.{row_of, Fits, row_fits, value-instance, linear_halts}
+
+coefficients_fit : (n : ℕ) (cs : List ℕ) → AllZip (λ xs y. Contains xs y) (replicate n (1 ∷ 2 ∷ [])) cs → Fits n (0, cs)
+coefficients_fit zero [] h = (refl, λ k d l. absurd (omega arith))
+coefficients_fit zero (c ∷ cs) h = absurd h
+coefficients_fit (suc n) [] h = absurd h
+coefficients_fit (suc n) (c ∷ cs) h = let r = coefficients_fit n cs h.1 in (ap suc r.0, λ k d l. go r.1 k d l)
+  where
+    first : 1 ≤ c
+    first = ⊎_elim (λ e. omega arith) (λ d. ⊎_elim (λ e. omega arith) (λ f. absurd (omega arith)) (contains_cases 2 [] c d)) (contains_cases 1 (2 ∷ []) c h.0)
+
+    go : All (λ c. 1 ≤ c) cs → All (λ c. 1 ≤ c) (c ∷ cs)
+    go r zero d l = first
+    go r (suc k) d l = r k d (omega arith)
+
+row_fit : (top n : ℕ) (row : ℕ × List ℕ) → Contains (rows top n) row → Fits n row
+row_fit top n row c =
+    let r = contains_flat_map_back (λ x. map (λ cs. (x, cs)) (choices (replicate n (1 ∷ 2 ∷ [])))) (range_with_len 0 (top + 1)) row c in
+    let q = contains_map_back (λ cs. (r.0, cs)) (choices (replicate n (1 ∷ 2 ∷ []))) row r.2 in
+    subst (Fits n) q.2 (coefficients_fit n q.0 (choices_from (replicate n (1 ∷ 2 ∷ [])) q.0 q.1))
+
+rows_fit : (top : ℕ) (g : Signature) (i : Interpretation) → AllZip (λ xs y. Contains xs y) (map (λ (f : SymbolEntry). rows top f.arity) g) i → IsInterpretationOf g i
+rows_fit top [] [] h = tt
+rows_fit top [] (row ∷ i) h = absurd h
+rows_fit top (f ∷ g) [] h = absurd h
+rows_fit top (f ∷ g) (row ∷ i) h = (row_fit top f.arity row h.0, rows_fit top g i h.1)
+
+interpretation_to : (g : Signature) (top : ℕ) (i : Interpretation) → Contains (interpretations_to g top) i → IsInterpretationOf g i
+interpretation_to g top i c = rows_fit top g i (choices_from (map (λ (f : SymbolEntry). rows top f.arity) g) i c)
+
+interpretation_up_to : (g : Signature) (top : Option ℕ) (i : Interpretation) → Contains (interpretations_up_to g top) i → IsInterpretationOf g i
+interpretation_up_to g None i c = absurd (omega arith)
+interpretation_up_to g (Some top) i c = interpretation_to g top i c
+
+pub interpretation_fits : (g : Signature) (i : Interpretation) → Contains (interpretations g) i → IsInterpretationOf g i
+interpretation_fits g i c = interpretation_up_to g (top_constant g) i c
+
+pub member_fits : (g : Signature) (i : Interpretation) → Contains (family g) (Linear i) → IsInterpretationOf g i
+member_fits g i c = ⊎_elim (λ d. let r = contains_map_back Lpo (precedences (length g)) (Linear i) d in absurd (cc)) (λ d. let r = contains_map_back Linear (interpretations g) (Linear i) d in let e : r.0 ≡ i = cc in interpretation_fits g i (subst (Contains (interpretations g)) e r.1))
+    (Contains-append_cases (map Lpo (precedences (length g))) (map Linear (interpretations g)) (Linear i) c)
+
+-- the value of a term hangs on its variables, and is at least that of each
+mutual
+  value_agree : (i : Interpretation) (a b : ℕ → ℕ) (t : Tree) → ((x : ℕ) → Occurs x t → a x ≡ b x) → linear_value i a t ≡ linear_value i b t
+  value_agree i a b (variable n) h = h n refl
+  value_agree i a b (apply f ts) h = ap (λ x. (row_of i f).0 + x) (sum_agree i a b ts (row_of i f).1 h)
+
+  sum_agree : (i : Interpretation) (a b : ℕ → ℕ) (ts : Trees) (cs : List ℕ) → ((x : ℕ) → OccursIn x ts → a x ≡ b x) → weighted_sum i a ts cs ≡ weighted_sum i b ts cs
+  sum_agree i a b no_trees cs h = refl
+  sum_agree i a b (more_trees t ts) [] h = refl
+  sum_agree i a b (more_trees t ts) (c ∷ cs) h = ap₂ (λ x y. c * x + y) (value_agree i a b t (λ x o. h x (inl o))) (sum_agree i a b ts cs (λ x o. h x (inr o)))
+
+at_least : (c x y z : ℕ) → 1 ≤ c → x ≤ y → x ≤ c * y + z
+at_least c x y z p h = grind arith
+
+mutual
+  value_least : (g : Signature) (i : Interpretation) → IsInterpretationOf g i → (a : ℕ → ℕ) (x : ℕ) (t : Tree) → IsWellFormed g t → Occurs x t → a x ≤ linear_value i a t
+  value_least g i fit a x (variable n) w o = let e : a n ≡ a x = ap a o in omega arith
+  value_least g i fit a x (apply f ts) w o = let r = row_fits g i fit f (length (list_of ts)) w.0 in let q = sum_least g i fit a x ts (row_of i f).1 w.1 r.0 r.1 o in omega arith
+
+  sum_least : (g : Signature) (i : Interpretation) → IsInterpretationOf g i → (a : ℕ → ℕ) (x : ℕ) (ts : Trees) (cs : List ℕ) → AreWellFormed g ts → length cs ≡ length (list_of ts) → All (λ c. 1 ≤ c) cs → OccursIn x ts → a x ≤ weighted_sum i a ts cs
+  sum_least g i fit a x no_trees cs w e p o = absurd o
+  sum_least g i fit a x (more_trees t ts) [] w e p o = absurd (omega arith)
+  sum_least g i fit a x (more_trees t ts) (c ∷ cs) w e p (inl o) = at_least c (a x) (linear_value i a t) (weighted_sum i a ts cs) (p 0 0 (zero-lt-suc _)) (value_least g i fit a x t w.0 o)
+  sum_least g i fit a x (more_trees t ts) (c ∷ cs) w e p (inr o) = let q = sum_least g i fit a x ts cs w.1 (omega arith) (λ k d l. p (suc k) d (suc-le-suc l)) o in omega arith
+
+contains_decides : (xs : List ℕ) (x : ℕ) → Contains xs x ⊎ (Contains xs x → ⊥)
+contains_decides [] x = inr (λ c. omega arith)
+contains_decides (y ∷ ys) x = go (cases_eq y x) (contains_decides ys x)
+  where
+    go : (y ≡ x) ⊎ (y ≡ x → ⊥) → Contains ys x ⊎ (Contains ys x → ⊥) → Contains (y ∷ ys) x ⊎ (Contains (y ∷ ys) x → ⊥)
+    go (inl e) c = inl (0, omega arith, e)
+    go (inr d) (inl c) = inl (contains_behind y ys x c)
+    go (inr d) (inr n) = inr (λ c. ⊎_elim d n (contains_cases y ys x c))
+
+linear_variables : (g : Signature) (i : Interpretation) → IsInterpretationOf g i → (s t : Tree) → IsWellFormed g t → LinearGreater i s t → (x : ℕ) → Contains (variables_of t) x → Contains (variables_of s) x
+linear_variables g i fit s t w h x c = ⊎_elim (λ d. d) (λ n. absurd (go n)) (contains_decides (variables_of s) x)
+  where
+    big : ℕ → ℕ
+    big y = cond (y == x) (linear_value i (λ z. 0) s) 0
+
+    go : (Contains (variables_of s) x → ⊥) → ⊥
+    go n =
+        let e : linear_value i big s ≡ linear_value i (λ z. 0) s = value_agree i big (λ z. 0) s (λ y o. cond-false (y == x) (linear_value i (λ z. 0) s) 0 (ne_eqb y x (λ q. n (subst (Contains (variables_of s)) q (occurs_to y s o))))) in
+        let l : big x ≤ linear_value i big t = value_least g i fit big x t w (occurs_from x t c) in
+        let b : big x ≡ linear_value i (λ z. 0) s = cond-true (x == x) (linear_value i (λ z. 0) s) 0 (eq-eqb x x refl) in
+        let k = h big in
+        omega arith
+
+-- what a member of the family orders is a rule
+pub ordered_rule : (g : Signature) (c : Certificate) → Contains (family g) c → (s t : Tree) → IsWellFormed g t → IsGreater c s t → IsRule (record { left = s; right = t })
+ordered_rule g (Lpo p) m s t w h = record { no_variable = λ n e. no_lesser e (path_from_lpo p h); holds_variables = λ x c. occurs_to x s (lesser_variables x (path_from_lpo p h) (occurs_from x t c)) }
+ordered_rule g (Linear i) m s t w h = record {
+  no_variable = λ n e. let k = h (λ z. 0) in let q : linear_value i (λ z. 0) s ≡ 0 = ap (linear_value i (λ z. 0)) e in omega arith;
+  holds_variables = linear_variables g i (member_fits g i m) s t w h;
+}
+
+-- the numbers from n on, without a lesser one, are all
+filter_range : (x n k : ℕ) → x < n → filter (λ y. not (y == x)) (range_with_len n k) ≡ range_with_len n k
+filter_range x n zero h = refl
+filter_range x n (suc k) h =
+    cond-true (not (n == x)) (n ∷ filter (λ y. not (y == x)) (range_with_len (n + 1) k)) (filter (λ y. not (y == x)) (range_with_len (n + 1) k)) (ap not (ne_eqb n x (λ e. omega arith)))
+    ∙ ap (λ ys. n ∷ ys) (filter_range x (n + 1) k (omega arith))
+
+filter_first : (n k : ℕ) → filter (λ y. not (y == n)) (range_with_len n (suc k)) ≡ range_with_len (n + 1) k
+filter_first n k =
+    cond-false (not (n == n)) (n ∷ filter (λ y. not (y == n)) (range_with_len (n + 1) k)) (filter (λ y. not (y == n)) (range_with_len (n + 1) k)) (ap not (eq-eqb n n refl))
+    ∙ filter_range n (n + 1) k (omega arith)
+
+arranged : (k n : ℕ) → Contains (arrangements k (range_with_len n k)) (range_with_len n k)
+arranged zero n = contains_first [] []
+arranged (suc k) n =
+    let xs : List ℕ = range_with_len n (suc k) in
+    Contains-append_left (map (n ∷◌) (arrangements k (filter (λ y. not (y == n)) xs))) (flat_map (λ x. map (x ∷◌) (arrangements k (filter (λ y. not (y == x)) xs))) (range_with_len (n + 1) k)) xs
+    (contains_map (n ∷◌) (arrangements k (filter (λ y. not (y == n)) xs)) (range_with_len (n + 1) k) (subst (λ ys. Contains (arrangements k ys) (range_with_len (n + 1) k)) (sym (filter_first n k)) (arranged k (n + 1))))
+
+-- the family has a member for each signature
+pub first_member : (g : Signature) → Contains (family g) (Lpo (range_with_len 0 (length g)))
+first_member g = Contains-append_left (map Lpo (precedences (length g))) (map Linear (interpretations g)) (Lpo (range_with_len 0 (length g))) (contains_map Lpo (precedences (length g)) (range_with_len 0 (length g)) (arranged (length g) 0))
+
+pub nothing_orderable : (g : Signature) → IsOrderable g []
+nothing_orderable g = (Lpo (range_with_len 0 (length g)), first_member g, λ k d l. absurd (omega arith))
+
+-- a member orders variants alike
+pub greater_renamed : (c : Certificate) (f : ℕ → ℕ) (s t : Tree) → IsGreater c s t → IsGreater c (rename f s) (rename f t)
+greater_renamed (Lpo p) f s t h = lpo_from_path p (path-instance p (λ x. variable (f x)) (path_from_lpo p h))
+greater_renamed (Linear i) f s t h = λ a. let q = h (λ x. linear_value i a (variable (f x))) in omega (arith, value-instance i a (λ x. variable (f x)) s, value-instance i a (λ x. variable (f x)) t)
+
+-- what a member of the family orders is terminating
+pub terminating_by_member : (g : Signature) (c : Certificate) → Contains (family g) c → (rules : List Rule) → All (IsRuleOver g) rules → Orders c rules → IsTerminating g rules
+terminating_by_member g (Lpo p) m rules over h = terminating_by_lpo p g rules over h
+terminating_by_member g (Linear n) m rules over h = λ t w. halts_to rules t (linear_halts g n (Contains rules) (member_fits g n m) (λ r j. All-contains (λ r. LinearGreater n r.left r.right) rules r h j) (keeps_well g rules over) t w)

@@ -1,0 +1,28 @@
+-- What the orders of the family order halts.
+use Rattle.std.specs.Prelude.{List, All, Contains}
+use Rattle.kb_term.specs.Rule.{Rule, IsRule}
+use Rattle.kb_term.specs.Signature.{Signature, IsWellFormed, IsRuleOver}
+use Rattle.kb_term.specs.Proving.{IsTerminating}
+use Rattle.kb_linear.specs.LinearOrder.{Interpretation, IsInterpretationOf}
+use Rattle.kb_linear.specs.Interpretations.{LinearOrients}
+use Rattle.kb_cert.specs.Family.{family, IsGreater, Orders}
+use Rattle.kb_cert.specs.declared.certificate.Certificate.{Certificate}
+
+-- the family has a member
+abbrev pub HasMember : Signature → Type 0
+HasMember signature = (order : Certificate) × Contains (family signature) order
+
+-- what a member of the family orders is a rule
+abbrev pub MemberOrdersRulesOnly : Signature → Certificate → Type 0
+MemberOrdersRulesOnly signature order =
+    Contains (family signature) order → (rule : Rule) → IsWellFormed signature rule.right → IsGreater order rule.left rule.right → IsRule rule
+
+-- rules over the signature that a member of the family orders halt on each term over the signature, with a bound on the steps of every chain
+abbrev pub MemberHalts : Signature → Certificate → Type 0
+MemberHalts signature order =
+    Contains (family signature) order → (rules : List Rule) → All (IsRuleOver signature) rules → Orders order rules → IsTerminating signature rules
+
+-- so do those that a linear interpretation of the signature orders
+abbrev pub InterpretationHalts : Signature → Interpretation → Type 0
+InterpretationHalts signature i =
+    IsInterpretationOf signature i → (rules : List Rule) → All (IsRuleOver signature) rules → LinearOrients i rules → IsTerminating signature rules
