@@ -1,0 +1,419 @@
+//! The cases of crates/kb_bench by straightforward algorithms in plain Rust: `rustc -O plain.rs`.
+//!
+//! The words are those of kb_bench, the name of a case and the number of repetitions, and the checksum is the same.
+
+/// A term: a variable, or a symbol with its arguments.
+#[derive(Clone, PartialEq, Eq)]
+enum Term {
+    Var(u16),
+    App(u8, Vec<Term>),
+}
+use Term::{App, Var};
+
+type Rule = (Term, Term);
+type Row = (u8, Vec<u8>);
+
+// ---- the path order
+
+fn occurs(x: u16, t: &Term) -> bool {
+    match t {
+        Var(n) => *n == x,
+        App(_, ts) => ts.iter().any(|u| occurs(x, u)),
+    }
+}
+
+/// The path order, where `above(f, g)` says whether f is above g. One case decides.
+fn greater(above: &dyn Fn(u8, u8) -> bool, s: &Term, t: &Term) -> bool {
+    let (App(f, ss), App(g, ts)) = (s, t) else {
+        return match (s, t) {
+            (App(_, ss), Var(x)) => ss.iter().any(|u| occurs(*x, u)),
+            _ => false,
+        };
+    };
+    if f == g {
+        for i in 0..ss.len().min(ts.len()) {
+            if ss[i] != ts[i] {
+                if greater(above, &ss[i], &ts[i]) {
+                    return ts[i + 1..].iter().all(|u| greater(above, s, u));
+                }
+                return ss[i + 1..].iter().any(|u| u == t || greater(above, u, t));
+            }
+        }
+        false
+    } else if above(*f, *g) {
+        ts.iter().all(|u| greater(above, s, u))
+    } else {
+        ss.iter().any(|u| u == t || greater(above, u, t))
+    }
+}
+
+/// Whether the precedence, the greatest symbol first, orients the rule. A symbol that is not listed is below all.
+fn orients(prec: &[u8], rule: &Rule) -> bool {
+    let above = |f, g| prec.iter().find(|x| **x == f || **x == g) == Some(&f);
+    greater(&above, &rule.0, &rule.1)
+}
+
+/// Whether some precedence that begins so may orient the rule: an undecided question is answered by yes.
+fn may_orient(prefix: &[u8], rule: &Rule) -> bool {
+    let above = |f, g| prefix.iter().find(|x| **x == f || **x == g) != Some(&g);
+    greater(&above, &rule.0, &rule.1)
+}
+
+/// All permutations in lexicographic order.
+fn brute_force(count: u8, rules: &[Rule], prec: &mut Vec<u8>) -> bool {
+    if prec.len() == count as usize {
+        return rules.iter().all(|rule| orients(prec, rule));
+    }
+    for f in 0..count {
+        if !prec.contains(&f) {
+            prec.push(f);
+            if brute_force(count, rules, prec) {
+                return true;
+            }
+            prec.pop();
+        }
+    }
+    false
+}
+
+/// Permutations in lexicographic order; a prefix is given up where some rule fails however it goes on.
+fn backtrack(count: u8, rules: &[Rule], prec: &mut Vec<u8>) -> bool {
+    if prec.len() == count as usize {
+        return rules.iter().all(|rule| orients(prec, rule));
+    }
+    for f in 0..count {
+        if !prec.contains(&f) {
+            prec.push(f);
+            if rules.iter().all(|rule| may_orient(prec, rule)) && backtrack(count, rules, prec) {
+                return true;
+            }
+            prec.pop();
+        }
+    }
+    false
+}
+
+fn search_path(count: u8, rules: &[Rule]) -> Option<Vec<u8>> {
+    let mut prec = vec![];
+    let found = if count <= 8 {
+        brute_force(count, rules, &mut prec)
+    } else {
+        backtrack(count, rules, &mut prec)
+    };
+    found.then_some(prec)
+}
+
+// ---- the linear interpretations
+
+/// The constant and the coefficients of the variables of a term.
+fn value(rows: &[Row], t: &Term, factor: u128, form: &mut (u128, [u128; 64])) {
+    match t {
+        Var(n) => form.1[*n as usize] += factor,
+        App(f, ts) => {
+            let row = &rows[*f as usize];
+            form.0 += factor * u128::from(row.0);
+            for (c, u) in row.1.iter().zip(ts) {
+                value(rows, u, factor * u128::from(*c), form);
+            }
+        }
+    }
+}
+
+fn linear_greater(rows: &[Row], s: &Term, t: &Term) -> bool {
+    let mut left = (0, [0; 64]);
+    let mut right = (0, [0; 64]);
+    value(rows, s, 1, &mut left);
+    value(rows, t, 1, &mut right);
+    left.0 > right.0 && left.1.iter().zip(&right.1).all(|(a, b)| a >= b)
+}
+
+/// The next interpretation in lexicographic order, with constants up to `top`.
+fn advance(rows: &mut [Row], top: u8) -> bool {
+    for row in rows.iter_mut().rev() {
+        for c in row.1.iter_mut().rev() {
+            if *c == 1 {
+                *c = 2;
+                return true;
+            }
+            *c = 1;
+        }
+        if row.0 < top {
+            row.0 += 1;
+            return true;
+        }
+        row.0 = 0;
+    }
+    false
+}
+
+/// One after the other; each is left at the first rule that it does not orient.
+fn search_linear(arities: &[u8], rules: &[Rule]) -> Option<Vec<Row>> {
+    let count = arities.len() as u32;
+    let sum: u32 = arities.iter().map(|n| u32::from(*n)).sum();
+    let top = if 2 * count + sum <= 16 {
+        3
+    } else if count + sum <= 16 {
+        1
+    } else {
+        return None;
+    };
+    let mut rows: Vec<Row> = arities.iter().map(|n| (0, vec![1; *n as usize])).collect();
+    loop {
+        if rules.iter().all(|(l, r)| linear_greater(&rows, l, r)) {
+            return Some(rows);
+        }
+        if !advance(&mut rows, top) {
+            return None;
+        }
+    }
+}
+
+// ---- unification
+
+/// The term that the bindings lead to, as far as it is a bound variable.
+fn walk<'a>(mut t: &'a Term, bound: &[Option<&'a Term>]) -> &'a Term {
+    while let Var(n) = t {
+        match bound[*n as usize] {
+            Some(u) => t = u,
+            None => break,
+        }
+    }
+    t
+}
+
+/// Robinson's algorithm with triangular bindings; the occurs check is made at the end, where the terms are built.
+fn solve<'a>(s: &'a Term, t: &'a Term, bound: &mut [Option<&'a Term>]) -> bool {
+    let mut stack = vec![(s, t)];
+    while let Some((s, t)) = stack.pop() {
+        match (walk(s, bound), walk(t, bound)) {
+            (Var(x), Var(y)) if x == y => {}
+            (Var(x), u) => bound[*x as usize] = Some(u),
+            (u, Var(y)) => bound[*y as usize] = Some(u),
+            (App(f, ss), App(g, ts)) => {
+                if f != g || ss.len() != ts.len() {
+                    return false;
+                }
+                stack.extend(ss.iter().zip(ts));
+            }
+        }
+    }
+    true
+}
+
+#[derive(Clone, Copy, PartialEq)]
+enum Extent {
+    Unknown,
+    Open,
+    Known(u64, u64),
+}
+
+/// The size and depth of the term under the bindings; none where a variable leads to itself.
+fn extent(t: &Term, bound: &[Option<&Term>], known: &mut [Extent]) -> Option<(u64, u64)> {
+    match t {
+        Var(n) => match (known[*n as usize], bound[*n as usize]) {
+            (Extent::Known(size, depth), _) => Some((size, depth)),
+            (Extent::Open, _) => None,
+            (Extent::Unknown, None) => Some((1, 0)),
+            (Extent::Unknown, Some(u)) => {
+                known[*n as usize] = Extent::Open;
+                let (size, depth) = extent(u, bound, known)?;
+                known[*n as usize] = Extent::Known(size, depth);
+                Some((size, depth))
+            }
+        },
+        App(_, ts) => {
+            let (mut size, mut depth) = (1u64, 0);
+            for u in ts {
+                let (s, d) = extent(u, bound, known)?;
+                size = size.saturating_add(s);
+                depth = depth.max(d + 1);
+            }
+            Some((size, depth))
+        }
+    }
+}
+
+fn build(t: &Term, bound: &[Option<&Term>]) -> Term {
+    match walk(t, bound) {
+        Var(n) => Var(*n),
+        App(f, ts) => App(*f, ts.iter().map(|u| build(u, bound)).collect()),
+    }
+}
+
+/// The variables that get a term, with their terms; the error is a limit that one of them passes.
+fn unify(s: &Term, t: &Term) -> Result<Option<Vec<(u16, Term)>>, ()> {
+    let mut bound = [None; 128];
+    if !solve(s, t, &mut bound) {
+        return Ok(None);
+    }
+    let mut known = [Extent::Unknown; 128];
+    for n in 0..128 {
+        match extent(&Var(n), &bound, &mut known) {
+            None => return Ok(None),
+            Some((size, depth)) if size > 512 || depth > 64 => return Err(()),
+            Some(_) => {}
+        }
+    }
+    let mut entries = vec![];
+    for n in 0..128u16 {
+        if let Some(u) = bound[n as usize] {
+            entries.push((n, build(u, &bound)));
+        }
+    }
+    Ok(Some(entries))
+}
+
+// ---- the cases, as in crates/kb_bench/src
+
+fn next(seed: &mut u32, bound: u32) -> u32 {
+    *seed = seed.wrapping_mul(1664525).wrapping_add(1013904223);
+    (*seed >> 16) % bound
+}
+
+fn some_term(seed: &mut u32, arities: &[u8], depth: u8) -> Term {
+    if depth == 0 || next(seed, 7) == 0 {
+        return Var(next(seed, 3) as u16);
+    }
+    let f = next(seed, arities.len() as u32) as usize;
+    let ts = (0..arities[f]).map(|_| some_term(seed, arities, depth - 1));
+    App(f as u8, ts.collect())
+}
+
+fn guided_rules(
+    above: &dyn Fn(&Term, &Term) -> bool,
+    arities: &[u8],
+    count: usize,
+    depth: u8,
+    is_turned: bool,
+) -> Vec<Rule> {
+    let mut seed = 5;
+    let mut rules: Vec<Rule> = vec![];
+    for _ in 0..100000 {
+        if rules.len() >= count {
+            break;
+        }
+        let s = some_term(&mut seed, arities, depth);
+        let t = some_term(&mut seed, arities, depth);
+        if above(&s, &t) {
+            let turned = is_turned && (rules.len() == 7 || rules.len() == 11);
+            rules.push(if turned { (t, s) } else { (s, t) });
+        }
+    }
+    rules
+}
+
+fn path_rules(arities: &[u8], count: usize, depth: u8, is_turned: bool) -> Vec<Rule> {
+    let n = arities.len();
+    let prec: Vec<u8> = (0..n).map(|f| ((f * 5 + 3) % n) as u8).collect();
+    let above = |f, g| prec.iter().find(|x| **x == f || **x == g) == Some(&f);
+    let order = |s: &Term, t: &Term| greater(&above, s, t);
+    guided_rules(&order, arities, count, depth, is_turned)
+}
+
+fn linear_rules(arities: &[u8], count: usize, depth: u8, is_turned: bool) -> Vec<Rule> {
+    let rows: Vec<Row> = (0..arities.len() as u8).map(|f| (f * 3 % 4, vec![1 + f % 2])).collect();
+    let order = |s: &Term, t: &Term| linear_greater(&rows, s, t);
+    guided_rules(&order, arities, count, depth, is_turned)
+}
+
+fn group_rules() -> Vec<Rule> {
+    let m = |a: &Term, b: &Term| App(0, vec![a.clone(), b.clone()]);
+    let i = |a: &Term| App(1, vec![a.clone()]);
+    let (e, x, y, z) = (&App(2, vec![]), &Var(0), &Var(1), &Var(2));
+    vec![
+        (m(e, x), x.clone()),
+        (m(&i(x), x), e.clone()),
+        (m(&m(x, y), z), m(x, &m(y, z))),
+        (m(&i(x), &m(x, y)), y.clone()),
+        (i(e), e.clone()),
+        (m(x, e), x.clone()),
+        (i(&i(x)), x.clone()),
+        (m(x, &i(x)), e.clone()),
+        (m(x, &m(&i(x), y)), y.clone()),
+        (i(&m(x, y)), m(&i(y), &i(x))),
+    ]
+}
+
+fn full_tree(height: u8, at: u16, step: u16, half: u16) -> Term {
+    if height == 0 {
+        return Var(at * step % 64 + half * 64);
+    }
+    App(
+        0,
+        vec![full_tree(height - 1, 2 * at, step, half), full_tree(height - 1, 2 * at + 1, step, half)],
+    )
+}
+
+fn comb(leaves: u16, step: u16, half: u16) -> Term {
+    (0..leaves).fold(Var(half * 64), |t, n| App(0, vec![Var(n * step % 64 + half * 64), t]))
+}
+
+fn with_next(sum: u64, number: u64) -> u64 {
+    sum.wrapping_mul(31).wrapping_add(number)
+}
+
+fn repeat(repetitions: u32, run: &dyn Fn() -> u64) -> u64 {
+    (0..repetitions).fold(0, |sum, _| with_next(sum, run()))
+}
+
+fn path_case(count: usize, rules: Vec<Rule>, repetitions: u32) -> u64 {
+    repeat(repetitions, &|| {
+        let found = search_path(count as u8, std::hint::black_box(&rules));
+        found.unwrap_or_default().iter().fold(1, |sum, f| with_next(sum, u64::from(*f)))
+    })
+}
+
+fn linear_case(arities: &[u8], rules: Vec<Rule>, repetitions: u32) -> u64 {
+    repeat(repetitions, &|| {
+        let found = search_linear(arities, std::hint::black_box(&rules));
+        found.unwrap_or_default().iter().fold(1, |sum, row| {
+            let sum = with_next(sum, u64::from(row.0));
+            row.1.iter().fold(sum, |sum, c| with_next(sum, u64::from(*c)))
+        })
+    })
+}
+
+fn unify_case(s: Term, t: Term, repetitions: u32) -> u64 {
+    repeat(repetitions, &|| match unify(std::hint::black_box(&s), &t) {
+        Ok(Some(entries)) => std::hint::black_box(&entries).len() as u64 + 1000,
+        Ok(None) => 1,
+        Err(()) => 2,
+    })
+}
+
+const GROUP: [u8; 3] = [2, 1, 0];
+const UNARY: [u8; 12] = [1; 12];
+const FIVE: [u8; 5] = [1; 5];
+const EIGHT: [u8; 8] = [1; 8];
+const WIDE: [u8; 24] =
+    [2, 3, 2, 0, 1, 2, 3, 1, 3, 0, 0, 3, 2, 1, 1, 3, 2, 2, 1, 1, 1, 1, 2, 3];
+
+fn main() {
+    let words: Vec<String> = std::env::args().skip(1).collect();
+    let times: u32 = words[1].parse().unwrap();
+    let sum = match words[0].as_str() {
+        "lpo_group" => path_case(3, group_rules(), times),
+        "lpo_unary" => path_case(12, path_rules(&UNARY, 20, 4, false), times),
+        "lpo_wide" => path_case(24, path_rules(&WIDE, 60, 4, false), times),
+        "lpo_wide_none" => path_case(24, path_rules(&WIDE, 60, 4, true), times),
+        "linear_group" => linear_case(&GROUP, group_rules(), times),
+        "linear_unary" => linear_case(&FIVE, linear_rules(&FIVE, 20, 5, false), times),
+        "linear_unary_none" => linear_case(&FIVE, linear_rules(&FIVE, 20, 5, true), times),
+        "linear_unary_eight" => linear_case(&EIGHT, linear_rules(&EIGHT, 20, 5, false), times),
+        "unify_tree" => unify_case(
+            App(2, vec![full_tree(8, 0, 1, 0)]),
+            App(2, vec![full_tree(8, 0, 5, 1)]),
+            times,
+        ),
+        "unify_comb" => {
+            unify_case(App(2, vec![comb(255, 1, 0)]), App(2, vec![comb(255, 5, 1)]), times)
+        }
+        "unify_doubling" => {
+            let double = |n| App(0, vec![Var(n), Var(n)]);
+            let left = App(1, (0..8).map(Var).collect());
+            unify_case(left, App(1, (1..9).map(double).collect()), times)
+        }
+        name => panic!("no case {name}"),
+    };
+    println!("{sum}");
+}

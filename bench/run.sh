@@ -1,0 +1,50 @@
+#!/bin/sh
+# Builds crates/kb_bench and plain.rs, times both on each case for the same number of repetitions, and prints the ratio.
+# A word makes all numbers of repetitions so many times as great: bench/run.sh 3.
+set -eu
+top=$(cd "$(dirname "$0")/.." && pwd)
+times=${1:-1}
+work=$(mktemp -d)
+trap 'rm -rf "$work"' EXIT
+
+(cd "$top/crates/kb_bench" && rt run >"$work/log" 2>&1) || { cat "$work/log"; exit 1; }
+proved=$top/crates/kb_bench/out/kb_bench
+plain=$work/plain
+rustc -O --edition 2021 -o "$plain" "$top/bench/plain.rs"
+
+# The least of five times in nanoseconds.
+least() {
+    best=
+    for _ in 1 2 3 4 5; do
+        start=$(date +%s%N)
+        "$@" >/dev/null
+        spent=$(($(date +%s%N) - start))
+        if [ -z "$best" ] || [ "$spent" -lt "$best" ]; then best=$spent; fi
+    done
+    echo "$best"
+}
+
+printf '%-20s %12s %14s %14s %8s\n' case repetitions 'kb_bench, us' 'plain Rust, us' ratio
+while read -r case count; do
+    count=$((count * times))
+    if [ "$("$proved" "$case" 3)" != "$("$plain" "$case" 3)" ]; then
+        echo "$case: the answers differ"
+        exit 1
+    fi
+    a=$(($(least "$proved" "$case" "$count") - $(least "$proved" "$case" 0)))
+    b=$(($(least "$plain" "$case" "$count") - $(least "$plain" "$case" 0)))
+    awk -v case="$case" -v n="$count" -v a="$a" -v b="$b" \
+        'BEGIN { printf "%-20s %12d %14.2f %14.2f %8.2f\n", case, n, a / n / 1000, b / n / 1000, a / b }'
+done <<'CASES'
+lpo_group 100000
+lpo_unary 5000
+lpo_wide 300
+lpo_wide_none 30
+linear_group 1000
+linear_unary 100
+linear_unary_none 20
+linear_unary_eight 100
+unify_tree 10000
+unify_comb 10000
+unify_doubling 10000
+CASES

@@ -1,0 +1,4 @@
+use Rattle.kb_bench.proofs.rules.+some_term.Given as goal
+
+abbrev pub decreases-some_term : goal.decreases-some_term
+decreases-some_term l = l.depth

@@ -1,0 +1,201 @@
+// The cases, and their answers' checksums.
+ghost use Rattle.std.specs.Prelude.{◌≤◌, length};
+ghost use Rattle.kb_linear.specs.Limits.{AreMeasurable};
+
+use crate::rules::{group_rules, linear_rules, path_rules};
+use crate::shapes::{comb, eight_doubles, eight_variables, full_tree, signature, unary};
+use kb_linear::{Interp, search_linear};
+use kb_lpo::{Precedence, search_lpo};
+use kb_term::{Memory, Rule, Signature, Term, has_variables_below};
+use kb_unify::{UnifyFault, unify};
+use std::alloc::Global;
+
+/// What is repeated.
+#[derive(Clone, Copy)]
+pub enum Case {
+    LpoGroup,
+    LpoUnary,
+    LpoWide,
+    LpoWideNone,
+    LinearGroup,
+    LinearUnary,
+    LinearUnaryNone,
+    LinearUnaryEight,
+    UnifyTree,
+    UnifyComb,
+    UnifyDoubling,
+}
+
+/// The case of this name.
+pub fn case_named(name: &str) -> Option<Case> {
+    match name {
+        "lpo_group" => Some(Case::LpoGroup),
+        "lpo_unary" => Some(Case::LpoUnary),
+        "lpo_wide" => Some(Case::LpoWide),
+        "lpo_wide_none" => Some(Case::LpoWideNone),
+        "linear_group" => Some(Case::LinearGroup),
+        "linear_unary" => Some(Case::LinearUnary),
+        "linear_unary_none" => Some(Case::LinearUnaryNone),
+        "linear_unary_eight" => Some(Case::LinearUnaryEight),
+        "unify_tree" => Some(Case::UnifyTree),
+        "unify_comb" => Some(Case::UnifyComb),
+        "unify_doubling" => Some(Case::UnifyDoubling),
+        _ => None,
+    }
+}
+
+const GROUP: [u8; 3] = [2, 1, 0];
+
+const UNARY: [u8; 12] = [1; 12];
+
+const FIVE: [u8; 5] = [1; 5];
+
+const EIGHT: [u8; 8] = [1; 8];
+
+const WIDE: [u8; 24] = [
+    2, 3, 2, 0, 1, 2, 3, 1, 3, 0, 0, 3, 2, 1, 1, 3, 2, 2, 1, 1, 1, 1, 2, 3,
+];
+
+fn with_next(sum: u64, number: u64) -> u64 {
+    sum.wrapping_mul(31).wrapping_add(number)
+}
+
+fn precedence_code(found: &Option<Precedence>) -> u64 {
+    let mut sum = 1;
+    if let Some(prec) = found {
+        for f in prec.symbols() {
+            sum = with_next(sum, u64::from(f.0));
+        }
+    }
+    sum
+}
+
+fn interpretation_code(found: &Option<Interp>) -> u64 {
+    let mut sum = 1;
+    if let Some(interp) = found {
+        for row in interp.rows() {
+            sum = with_next(sum, u64::from(row.0));
+            for coefficient in &row.1 {
+                sum = with_next(sum, u64::from(*coefficient));
+            }
+        }
+    }
+    sum
+}
+
+// 1000 more than how many variables get a term, in which most general unifiers agree; less where there is none.
+fn unifier_code(alloc: Global, s: &Term, t: &Term) -> Result<u64, Memory> {
+    if !has_variables_below(128, s) {
+        return Ok(0);
+    }
+    if !has_variables_below(128, t) {
+        return Ok(0);
+    }
+    match unify(alloc, s, t) {
+        Ok(Some(m)) => Ok((m.entries().len() as u64).wrapping_add(1000)),
+        Ok(None) => Ok(1),
+        Err(UnifyFault::Large(_)) => Ok(2),
+        Err(UnifyFault::Memory) => Err(Memory),
+    }
+}
+
+fn repeat_lpo(
+    alloc: Global,
+    sig: &Signature,
+    rules: &[Rule],
+    repetitions: u32,
+) -> Result<u64, Memory>
+    requires { length sig.now ≤ 24 }
+{
+    let mut sum = 0;
+    for _ in 0..repetitions {
+        sum = with_next(sum, precedence_code(&search_lpo(alloc, sig, rules)?));
+    }
+    Ok(sum)
+}
+
+fn repeat_linear(
+    alloc: Global,
+    sig: &Signature,
+    rules: &[Rule],
+    repetitions: u32,
+) -> Result<u64, Memory>
+    requires few { length sig.now ≤ 24 }
+    requires measurable { AreMeasurable rules.now }
+{
+    let mut sum = 0;
+    for _ in 0..repetitions {
+        sum = with_next(sum, interpretation_code(&search_linear(alloc, sig, rules)?));
+    }
+    Ok(sum)
+}
+
+fn repeat_unify(alloc: Global, s: &Term, t: &Term, repetitions: u32) -> Result<u64, Memory> {
+    let mut sum = 0;
+    for _ in 0..repetitions {
+        sum = with_next(sum, unifier_code(alloc, s, t)?);
+    }
+    Ok(sum)
+}
+
+fn path_case(
+    alloc: Global,
+    arities: &[u8],
+    count: usize,
+    is_turned: bool,
+    repetitions: u32,
+) -> Result<u64, Memory>
+    requires { length arities.now ≤ 24 }
+{
+    let sig = signature(alloc, arities)?;
+    let rules = path_rules(alloc, arities, count, 4, is_turned)?;
+    repeat_lpo(alloc, &sig, &rules, repetitions)
+}
+
+fn linear_case(
+    alloc: Global,
+    arities: &[u8],
+    is_turned: bool,
+    repetitions: u32,
+) -> Result<u64, Memory>
+    requires { length arities.now ≤ 24 }
+{
+    let sig = signature(alloc, arities)?;
+    let rules = linear_rules(alloc, arities, 20, 5, is_turned)?;
+    repeat_linear(alloc, &sig, &rules, repetitions)
+}
+
+/// The answers of so many runs of the case in one number.
+pub fn checksum(alloc: Global, case: Case, repetitions: u32) -> Result<u64, Memory> {
+    match case {
+        Case::LpoGroup => {
+            let sig = signature(alloc, &GROUP)?;
+            repeat_lpo(alloc, &sig, &group_rules(alloc)?, repetitions)
+        }
+        Case::LpoUnary => path_case(alloc, &UNARY, 20, false, repetitions),
+        Case::LpoWide => path_case(alloc, &WIDE, 60, false, repetitions),
+        Case::LpoWideNone => path_case(alloc, &WIDE, 60, true, repetitions),
+        Case::LinearGroup => {
+            let sig = signature(alloc, &GROUP)?;
+            repeat_linear(alloc, &sig, &group_rules(alloc)?, repetitions)
+        }
+        Case::LinearUnary => linear_case(alloc, &FIVE, false, repetitions),
+        Case::LinearUnaryNone => linear_case(alloc, &FIVE, true, repetitions),
+        Case::LinearUnaryEight => linear_case(alloc, &EIGHT, false, repetitions),
+        Case::UnifyTree => {
+            let s = unary(alloc, 2, full_tree(alloc, 8, 0, 1, 0)?)?;
+            let t = unary(alloc, 2, full_tree(alloc, 8, 0, 5, 1)?)?;
+            repeat_unify(alloc, &s, &t, repetitions)
+        }
+        Case::UnifyComb => {
+            let s = unary(alloc, 2, comb(alloc, 255, 1, 0)?)?;
+            let t = unary(alloc, 2, comb(alloc, 255, 5, 1)?)?;
+            repeat_unify(alloc, &s, &t, repetitions)
+        }
+        Case::UnifyDoubling => {
+            let s = eight_variables(alloc)?;
+            let t = eight_doubles(alloc)?;
+            repeat_unify(alloc, &s, &t, repetitions)
+        }
+    }
+}
