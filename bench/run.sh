@@ -7,7 +7,7 @@ times=${1:-1}
 work=$(mktemp -d)
 trap 'rm -rf "$work"' EXIT
 
-(cd "$top/crates/kb_bench" && rt run >"$work/log" 2>&1) || { cat "$work/log"; exit 1; }
+(cd "$top/crates/kb_bench" && rt run -- lpo_group 1 >"$work/log" 2>&1) || { cat "$work/log"; exit 1; }
 proved=$top/crates/kb_bench/out/kb_bench
 plain=$work/plain
 rustc -O --edition 2021 -o "$plain" "$top/bench/plain.rs"
@@ -39,7 +39,7 @@ done <<'CASES'
 lpo_group 100000
 lpo_unary 5000
 lpo_wide 300
-lpo_wide_none 30
+lpo_wide_none 3000
 linear_group 1000
 linear_unary 100
 linear_unary_none 20

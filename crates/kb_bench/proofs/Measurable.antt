@@ -1,5 +1,5 @@
 -- Terms within the limits have values.
-use Rattle.std.proofs.Common.{◌≡◌, ℕ, ◌<◌, get_or, Bool}
+use Rattle.std.proofs.Common.{◌≡◌, get_or, Bool}
 use Rattle.std.specs.Prelude.{Option, IsNone, is_some, not, true, false}
 use Rattle.std.specs.Bool.{OnTrue}
 use Rattle.std.proofs.lemmas.List.Elements.{Contains-get_or}
