@@ -1,9 +1,9 @@
 -- Lists of variables and terms that grow: by one entry, and pattern by pattern.
 use Rattle.std.proofs.Common.{ℕ, zero, suc, ◌+◌, ◌<◌, ◌≡◌, refl, sym, ap, ap₂, ◌∙◌, arith, subst, List, [], ◌∷◌, ◌++◌, length, get_or, take, append_assoc, append-nil, Bool, true, false, cond}
-use Rattle.std.specs.Prelude.{map, ◌==◌, ◌||◌, Result, Ok}
+use Rattle.std.specs.Prelude.{◌==◌, ◌||◌, Result, Ok}
 use Rattle.std.specs.List.{list_any}
-use Rattle.std.proofs.lemmas.Bool.{false≢true, eqb-true, eqb-false, eq-eqb, ne_eqb}
-use Rattle.kb_term.specs.Tree.{Tree, Trees, variable, apply, no_trees, more_trees, trees_of, variables_of, variables_in}
+use Rattle.std.proofs.lemmas.Bool.{false≢true, eqb-true, eq-eqb, ne_eqb}
+use Rattle.kb_term.specs.Tree.{Tree, variable, apply, no_trees, more_trees, trees_of, variables_of, variables_in}
 use Rattle.kb_term.specs.Pair.{distinct}
 use Rattle.kb_term.specs.Substitution.{instance, instances, substitution_of, Matches}
 use Rattle.kb_term.proofs.Distinct.{distinct-new, distinct-old}
@@ -75,11 +75,11 @@ substitution_kept (e ∷ es) ds x h = go (e.0 == x) h (substitution_kept es ds x
 -- a variable that is listed already
 pub extended_old : (n : ℕ) (t s : Tree) (es : List (ℕ × Tree)) → IsPresent n t es → t ≡ s → IsExtended (n ∷ []) (λ k. k n ≡ s) es es
 extended_old n t s es p same = record {
-    variables = λ vs e. distinct-old (listed_variables es) vs n e p.0;
-    there = λ k g h. g;
-    back = λ k g. (g, gives_first k es n p.0 g ∙ p.1 ∙ same);
-    single = λ g. g;
-  }
+  variables = λ vs e. distinct-old (listed_variables es) vs n e p.0;
+  there = λ k g h. g;
+  back = λ k g. (g, gives_first k es n p.0 g ∙ p.1 ∙ same);
+  single = λ g. g;
+}
 
 pub clash_old : (n : ℕ) (t s : Tree) (es : List (ℕ × Tree)) → IsPresent n t es → ¬ (t ≡ s) → (k : ℕ → Tree) → Gives k es → ¬ (k n ≡ s)
 clash_old n t s es p other k g h = other (sym p.1 ∙ sym (gives_first k es n p.0 g) ∙ h)
@@ -87,37 +87,37 @@ clash_old n t s es p other k g h = other (sym p.1 ∙ sym (gives_first k es n p.
 -- a variable that isn't listed yet
 pub extended_new : (n : ℕ) (s : Tree) (es new : List (ℕ × Tree)) → IsAbsent n es → new ≡ es ++ (n, s) ∷ [] → IsExtended (n ∷ []) (λ k. k n ≡ s) es new
 extended_new n s es new a is = subst (IsExtended (n ∷ []) (λ k. k n ≡ s) es) (sym is) (record {
-    variables = λ vs e. listed_append es ((n, s) ∷ []) ∙ distinct-new (listed_variables es) vs n e a;
-    there = λ k g h. gives_append k es ((n, s) ∷ []) g (h, tt);
-    back = λ k g. (gives_left k es ((n, s) ∷ []) g, (gives_right k es ((n, s) ∷ []) g).0);
-    single = λ g. gives_append (substitution_of (es ++ (n, s) ∷ [])) es ((n, s) ∷ []) (gives_other (substitution_of es) (substitution_of (es ++ (n, s) ∷ [])) es (λ x c. substitution_kept es ((n, s) ∷ []) x c) g) (substitution_new es n s a, tt);
-  })
+  variables = λ vs e. listed_append es ((n, s) ∷ []) ∙ distinct-new (listed_variables es) vs n e a;
+  there = λ k g h. gives_append k es ((n, s) ∷ []) g (h, tt);
+  back = λ k g. (gives_left k es ((n, s) ∷ []) g, (gives_right k es ((n, s) ∷ []) g).0);
+  single = λ g. gives_append (substitution_of (es ++ (n, s) ∷ [])) es ((n, s) ∷ []) (gives_other (substitution_of es) (substitution_of (es ++ (n, s) ∷ [])) es (λ x c. substitution_kept es ((n, s) ∷ []) x c) g) (substitution_new es n s a, tt);
+})
 
 -- no patterns
 pub extended_none : (E : (ℕ → Tree) → Type 0) (es : List (ℕ × Tree)) → ((k : ℕ → Tree) → E k) → IsExtended [] E es es
 extended_none E es h = record {
-    variables = λ vs e. e ∙ ap distinct (sym (append-nil vs));
-    there = λ k g _. g;
-    back = λ k g. (g, h k);
-    single = λ g. g;
-  }
+  variables = λ vs e. e ∙ ap distinct (sym (append-nil vs));
+  there = λ k g _. g;
+  back = λ k g. (g, h k);
+  single = λ g. g;
+}
 
 -- one after another
 extended_both : (xs ys : List ℕ) (E F : (ℕ → Tree) → Type 0) (ds bs cs : List (ℕ × Tree)) → IsExtended xs E ds bs → IsExtended ys F bs cs → IsExtended (xs ++ ys) (λ k. E k × F k) ds cs
 extended_both xs ys E F ds bs cs a b = record {
-    variables = λ vs e. b.variables (vs ++ xs) (a.variables vs e) ∙ ap distinct (append_assoc vs xs ys);
-    there = λ k g h. b.there k (a.there k g h.0) h.1;
-    back = λ k g. let r = b.back k g in let q = a.back k r.0 in (q.0, (q.1, r.1));
-    single = λ g. b.single (a.single g);
-  }
+  variables = λ vs e. b.variables (vs ++ xs) (a.variables vs e) ∙ ap distinct (append_assoc vs xs ys);
+  there = λ k g h. b.there k (a.there k g h.0) h.1;
+  back = λ k g. let r = b.back k g in let q = a.back k r.0 in (q.0, (q.1, r.1));
+  single = λ g. b.single (a.single g);
+}
 
 extended_by : (xs ys : List ℕ) (E F : (ℕ → Tree) → Type 0) (ds bs : List (ℕ × Tree)) → xs ≡ ys → ((k : ℕ → Tree) → E k → F k) → ((k : ℕ → Tree) → F k → E k) → IsExtended xs E ds bs → IsExtended ys F ds bs
 extended_by xs ys E F ds bs e f g h = record {
-    variables = λ vs d. h.variables vs d ∙ ap (λ zs. distinct (vs ++ zs)) e;
-    there = λ k p q. h.there k p (g k q);
-    back = λ k p. let r = h.back k p in (r.0, f k r.1);
-    single = λ p. h.single p;
-  }
+  variables = λ vs d. h.variables vs d ∙ ap (λ zs. distinct (vs ++ zs)) e;
+  there = λ k p q. h.there k p (g k q);
+  back = λ k p. let r = h.back k p in (r.0, f k r.1);
+  single = λ p. h.single p;
+}
 
 variables-take : (ps : List Tree) (i : ℕ) → i < length ps → variables_in (trees_of (take i ps)) ++ variables_of (get_or ps i (variable 0)) ≡ variables_in (trees_of (take (suc i) ps))
 variables-take [] i h = absurd (omega (arith, h))
@@ -149,8 +149,8 @@ pub extended_more : (ps ts : List Tree) (i : ℕ) (ds bs cs : List (ℕ × Tree)
 extended_more ps ts i ds bs cs h d a b =
     let next : suc i ≡ i + 1 = omega arith in
     subst (λ n. IsExtendedBy n ps ts ds cs) next (
-      extended_by _ _ _ _ ds cs (variables-take ps i h) (λ k e. same-take k ps ts i h d e.0 e.1) (λ k e. same-take_less k ps ts i h d e)
-      (extended_both _ _ (λ k. instances k (trees_of (take i ps)) ≡ trees_of (take i ts)) (λ k. instance k (get_or ps i (variable 0)) ≡ get_or ts i (variable 0)) ds bs cs a b)
+    extended_by _ _ _ _ ds cs (variables-take ps i h) (λ k e. same-take k ps ts i h d e.0 e.1) (λ k e. same-take_less k ps ts i h d e)
+    (extended_both _ _ (λ k. instances k (trees_of (take i ps)) ≡ trees_of (take i ts)) (λ k. instance k (get_or ps i (variable 0)) ≡ get_or ts i (variable 0)) ds bs cs a b)
     )
 
 -- the arguments are the same as long as they are looked at

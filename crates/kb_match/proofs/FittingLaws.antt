@@ -2,7 +2,6 @@
 use Rattle.std.proofs.Common.{ℕ, zero, suc, ◌<◌, ◌≡◌, refl, ap, arith, subst, List, [], ◌∷◌, length, get_or}
 use Rattle.kb_term.specs.Tree.{Tree, Trees, variable, apply, no_trees, more_trees, trees_of}
 use Rattle.kb_term.specs.Substitution.{instance, instances, Matches}
-use Rattle.kb_term.proofs.Trees.{apply≢variable, apply-inj, more_trees-inj}
 use Rattle.kb_match.specs.Fitting.{Fits, FitEach}
 
 mutual

@@ -4,9 +4,9 @@
 mod fitting;
 mod laws;
 mod matcher;
-
-
+#[cfg(test)]
+mod tests;
 
 pub use fitting::fits;
-pub use laws::{matching_terms_fit, matches_are_one};
+pub use laws::{matches_are_one, matching_terms_fit};
 pub use matcher::match_term;

@@ -13,11 +13,7 @@ use std::alloc::Global;
 /// first occurrence; none where there is none.
 ///
 /// It takes time linear in the subject, times a look-up among the pattern's variables, and allocates the substitution alone.
-pub fn match_term(
-    alloc: Global,
-    pattern: &Term,
-    subject: &Term,
-) -> Result<Option<Subst>, Memory>
+pub fn match_term(alloc: Global, pattern: &Term, subject: &Term) -> Result<Option<Subst>, Memory>
     ensures { IfOk result (IsMatchAnswer (tree_of pattern.now) (tree_of subject.now)) }
 {
     let mut entries = Vec::new(alloc);

@@ -1,6 +1,6 @@
-use Rattle.std.proofs.Common.{arith, ◌≡◌, ◌<◌, ◌∙◌, sym, ap, ap₂, subst, length, refl, below_more, eq-eqb}
+use Rattle.std.proofs.Common.{arith, ◌≡◌, ◌<◌, ◌∙◌, sym, ap, length, refl, below_more}
 use Rattle.std.specs.Prelude.{map}
-use Rattle.kb_term.specs.Tree.{tree_depth, trees_of, apply, Tree}
+use Rattle.kb_term.specs.Tree.{tree_depth, trees_of, apply}
 use Rattle.kb_term.specs.View.{tree_of}
 use Rattle.kb_term.proofs.Arguments.{argument-is, argument-depth, arguments-length}
 use Rattle.kb_match.specs.Fitting.{Fits}
@@ -13,12 +13,14 @@ returns-then-f-g t c =
     let ps = map tree_of c.items-patterns.result.now in
     let ts = map tree_of c.items-subjects.result.now in
     let whole : tree_of c.args.pattern.now ≡ apply c.in-App-App.f.0 (trees_of ps) = ap tree_of c.in-App-App.is-0 ∙ ap (λ vs. apply c.in-App-App.f.0 (trees_of vs)) (sym c.items-patterns.ensures) in
-    let other : tree_of c.args.subject.now ≡ apply c.in-App-App.g.0 (trees_of ts) = ap tree_of c.in-App-App.is-1 ∙ ap (λ vs. apply c.in-App-App.g.0 (trees_of vs)) (sym c.items-subjects.ensures) in
-    ((λ e. absurd (cc)), λ h. let fit : Fits (apply c.in-App-App.f.0 (trees_of ps)) (apply c.in-App-App.g.0 (trees_of ts)) = fits_same whole other h in
-      elim c.then-f-g.branch [
-        | then-f-g-via-then-f-g w ↦ absurd (omega (arith, w.if-f-g.true, fit.0))
-        | then-f-g-via-else-f-g+then-patterns-subjects w ↦ absurd (omega (arith, w.if-patterns-subjects.true, fit_length ps ts fit.1, arguments-length c.items-patterns.result.now, arguments-length c.items-subjects.result.now))
-      ])
+    let other : tree_of c.args.subject.now ≡ apply c.in-App-App.g.0 (trees_of ts) = ap tree_of c.in-App-App.is-1 ∙ ap (λ vs. apply c.in-App-App.g.0 (trees_of vs)) (sym c.items-subjects.ensures) in (
+      (λ e. absurd (cc)),
+      λ h. let fit : Fits (apply c.in-App-App.f.0 (trees_of ps)) (apply c.in-App-App.g.0 (trees_of ts)) = fits_same whole other h in
+          elim c.then-f-g.branch [
+            | then-f-g-via-then-f-g w ↦ absurd (omega (arith, w.if-f-g.true, fit.0))
+            | then-f-g-via-else-f-g+then-patterns-subjects w ↦ absurd (omega (arith, w.if-patterns-subjects.true, fit_length ps ts fit.1, arguments-length c.items-patterns.result.now, arguments-length c.items-subjects.result.now))
+          ],
+    )
 
 pub fits-requires : goal.fits-requires
 fits-requires t c =
@@ -41,9 +43,11 @@ returns-then-not-fits t c =
     let here = argument-is items ps i c.index-patterns-i.result refl c.loop-i-test.true c.index-patterns-i.is in
     let there = argument-is others ts i c.index-subjects-i.result refl (omega (arith, c.loop-i-test.true, c.if-patterns-subjects.false)) c.index-subjects-i.is in
     let whole : tree_of c.args.pattern.now ≡ apply c.in-App-App.f.0 (trees_of ps) = ap tree_of c.in-App-App.is-0 ∙ ap (λ vs. apply c.in-App-App.f.0 (trees_of vs)) (sym c.items-patterns.ensures) in
-    let other : tree_of c.args.subject.now ≡ apply c.in-App-App.g.0 (trees_of ts) = ap tree_of c.in-App-App.is-1 ∙ ap (λ vs. apply c.in-App-App.g.0 (trees_of vs)) (sym c.items-subjects.ensures) in
-    ((λ e. absurd (cc)), λ h. let fit : Fits (apply c.in-App-App.f.0 (trees_of ps)) (apply c.in-App-App.g.0 (trees_of ts)) = fits_same whole other h in
-      c.if-not-fits.ensures.1 (fits_same (sym here) (sym there) (fits_at ps ts i room fit.1)))
+    let other : tree_of c.args.subject.now ≡ apply c.in-App-App.g.0 (trees_of ts) = ap tree_of c.in-App-App.is-1 ∙ ap (λ vs. apply c.in-App-App.g.0 (trees_of vs)) (sym c.items-subjects.ensures) in (
+      (λ e. absurd (cc)),
+      λ h. let fit : Fits (apply c.in-App-App.f.0 (trees_of ps)) (apply c.in-App-App.g.0 (trees_of ts)) = fits_same whole other h in
+          c.if-not-fits.ensures.1 (fits_same (sym here) (sym there) (fits_at ps ts i room fit.1)),
+    )
 
 pub loop-i-preserved : goal.loop-i-preserved
 loop-i-preserved t c =

@@ -1,11 +1,11 @@
-use Rattle.std.proofs.Common.{arith, ℕ, ◌≡◌, ◌<◌, ◌∙◌, sym, ap, subst, length, refl, [], ◌∷◌, ◌++◌, get_or, List, true, false}
+use Rattle.std.proofs.Common.{arith, ◌≡◌, ◌<◌, ◌∙◌, sym, ap, subst, length, refl, [], ◌∷◌, ◌++◌}
 use Rattle.std.specs.Prelude.{map, Ok}
-use Rattle.kb_term.specs.Tree.{Tree, tree_depth, trees_of, apply, variable, variables_of}
+use Rattle.kb_term.specs.Tree.{tree_depth, trees_of, apply}
 use Rattle.kb_term.specs.Substitution.{instance}
 use Rattle.kb_term.specs.View.{tree_of, entries_of_list}
 use Rattle.kb_term.proofs.Arguments.{argument-is, argument-depth, arguments-length}
 use Rattle.kb_term.proofs.Trees.{apply-inj}
-use Rattle.kb_match.specs.Extending.{Gives, IsExtended, IsPresent, IsAbsent}
+use Rattle.kb_match.specs.Extending.{IsPresent, IsAbsent}
 use Rattle.kb_match.proofs.Extensions.{extended_as, clash_as, extended_old, clash_old, extended_new, extended_more, extended_all, clash_at, same_length, entries_push, ok_value}
 use Rattle.kb_match.proofs.matcher.+extend.Goals as goal
 use Rattle.kb_match.proofs.matcher.+extend.Goals.{then-f-g-via-then-f-g, then-f-g-via-else-f-g+then-patterns-subjects}

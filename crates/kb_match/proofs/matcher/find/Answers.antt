@@ -1,4 +1,3 @@
-use Rattle.std.proofs.Common.{refl}
 use Rattle.kb_match.proofs.Extensions.{present_at, absent_more}
 use Rattle.kb_match.proofs.matcher.find.Goals as goal
 

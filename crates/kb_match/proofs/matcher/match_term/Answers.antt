@@ -1,11 +1,11 @@
-use Rattle.std.proofs.Common.{ap, subst, sym, ◌∙◌, ◌≡◌, List, ℕ, []}
+use Rattle.std.proofs.Common.{ap, subst, sym, ◌≡◌, []}
 use Rattle.std.specs.Prelude.{Ok}
-use Rattle.kb_term.specs.Tree.{Tree, variables_of}
+use Rattle.kb_term.specs.Tree.{variables_of}
 use Rattle.kb_term.specs.Substitution.{instance}
 use Rattle.kb_term.specs.View.{tree_of, entries_of_list}
 use Rattle.kb_match.specs.Matching.{IsMatchList}
-use Rattle.kb_match.specs.Extending.{IsExtended, Gives}
-use Rattle.kb_match.proofs.Extensions.{match_from, match_none}
+use Rattle.kb_match.specs.Extending.{IsExtended}
+use Rattle.kb_match.proofs.Extensions.{match_from}
 use Rattle.kb_match.proofs.matcher.match_term.Goals as goal
 
 pub returns-then-branch : goal.returns-then-branch
