@@ -1,1 +1,2 @@
 mod RewriteRows
+pub mod Positions

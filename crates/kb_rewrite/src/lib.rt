@@ -1,2 +1,6 @@
-//! Redexes, the strategy that rewrites at the first of them, and normal forms: definitions only.
+//! Redexes, the strategy that rewrites at the first of them, and normal forms.
 #![tactic(auto)]
+
+mod encompassing;
+
+pub use encompassing::found;

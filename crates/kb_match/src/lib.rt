@@ -1,0 +1,12 @@
+//! Matching of first-order terms.
+#![tactic(auto)]
+
+mod fitting;
+mod laws;
+mod matcher;
+#[cfg(test)]
+mod tests;
+
+pub use fitting::fits;
+pub use laws::{matches_are_one, matching_terms_fit};
+pub use matcher::match_term;
