@@ -1,6 +1,6 @@
 -- One rule, and the equation that it comes from.
-use Rattle.std.proofs.Common.{◌≡◌, refl, sym, subst, arith, ℕ, zero, suc, ◌≤◌, List, [], ◌∷◌, get_or, true, false, Bool, Ok, Err}
-use Rattle.std.specs.Prelude.{Option, None, Some, Result, IfOk, IfSome, Contains, All}
+use Rattle.std.proofs.Common.{◌≡◌, length, refl, sym, subst, arith, ℕ, zero, suc, ◌≤◌, List, [], ◌∷◌, get_or, true, false, Bool, Ok, Err}
+use Rattle.std.specs.Prelude.{map, Option, None, Some, Result, IfOk, IfSome, Contains, All}
 use Rattle.std.specs.Bool.{OnTrue}
 use Rattle.std.proofs.lemmas.List.Elements.{Contains-append_right, Contains-get_or}
 use Rattle.kb_term.specs.First.{IsFirst}
@@ -13,7 +13,12 @@ use Rattle.kb_term.specs.declared.origin.Origin.TheVariants.{Input}
 use Rattle.kb_linear.specs.Limits.{IsMeasurable}
 use Rattle.kb_linear.specs.LinearOrder.{Interpretation}
 use Rattle.kb_overlap.specs.Trace.{IsRightInput}
-use Rattle.kb_cert.specs.declared.certificate.Certificate.TheVariants.{Linear}
+use Rattle.kb_linear.proofs.Sorted.{contains_map}
+use Rattle.kb_linear.specs.Interpretations.{interpretations}
+use Rattle.kb_cert.specs.declared.certificate.Certificate.TheVariants.{Lpo, Linear}
+use Rattle.kb_lpo.specs.Precedences.{precedences}
+use Rattle.kb_laws.specs.Complete.{IsCompleteSystem, IsLoneRule, problem_of}
+use Rattle.kb_laws.proofs.LoneRule.{pair_rule_is_system}
 use Rattle.kb_report.specs.Answers.{IsProblemForm, IsRuleForm, IsStepForm, one_rule_answer, system_text}
 use Rattle.mkbtt_top.specs.FirstRun.{IsEquationOf, IsOrderedIn, IsAnswerOf}
 use Rattle.kb_overlap.specs.Overlap.{IsOverlapList}
@@ -51,6 +56,20 @@ all-one P x h (suc k) d q = absurd (omega arith)
 pub first-of : {X : Type 0} (P : X → Type 0) (x : X) (xs : List X) → All P (x ∷ xs) → P x
 first-of P x xs h = h 0 x (omega arith)
 
+-- such a rule is a complete system for the problem
+system_of : (problem : Problem) (pair : Pair) (direction : ℕ) (rule : Rule) (order : Interpretation) → (equation : IsEquationOf problem pair) → IsOrderedIn problem pair direction rule order → IsOverlapList rule rule true [] → IsCompleteSystem problem (Linear order) (rule ∷ [])
+system_of problem pair direction rule order equation ordered no_overlap =
+    let e = equation.equation in
+    let sig = problem.signature in
+    let lone : IsLoneRule sig (Linear order) rule = record {
+      over = (ordered.sides.left.well_formed, ordered.sides.right.well_formed);
+      member = Contains-append_right (map Lpo (precedences (length sig))) (map Linear (interpretations sig)) (Linear order) (contains_map Linear (interpretations sig) order ordered.member);
+      ordered = ordered.ordered;
+      no_overlap = no_overlap;
+    } in
+    let same : problem_of sig e ≡ problem = (λ i. record { signature = sig; equations = sym equation.one i }) in
+    subst (λ (p : Problem). IsCompleteSystem p (Linear order) (rule ∷ [])) same (pair_rule_is_system sig (Linear order) rule e pair direction lone equation.of_equation ordered.rule_is)
+
 -- a text that is made of such parts is an answer's
 pub answer_of : (problem : Problem) (pair : Pair) (direction : ℕ) (rule : Rule) (order : Interpretation) (text : List ℕ)
     → direction ≤ 1 → IsProblemForm problem → IsEquationOf problem pair → IsOrderedIn problem pair direction rule order → IsOverlapList rule rule true []
@@ -68,6 +87,7 @@ answer_of problem pair direction rule order text d form equation ordered no_over
     no_overlap = no_overlap;
     answer_is = refl;
     right = (subst (λ (es : List (Tree × Tree)). IsRightInput es 1 pair) (sym equation.one) (equation.equation, refl, equation.of_equation), tt);
+    system = system_of problem pair direction rule order equation ordered no_overlap;
   };
   spelling = record {
     form = record {

@@ -10,6 +10,7 @@ use Rattle.kb_linear.specs.Interpretations.{interpretations}
 use Rattle.kb_overlap.specs.Overlap.{IsOverlapList}
 use Rattle.kb_overlap.specs.Trace.{IsRightTrace}
 use Rattle.kb_syntax.specs.Terms.{IsPairForm}
+use Rattle.kb_laws.specs.Complete.{IsCompleteSystem}
 use Rattle.kb_syntax.specs.Problems.{Spells}
 use Rattle.kb_report.specs.Answers.{Answer, AnswerSpelled, one_rule_answer}
 use Rattle.kb_cert.specs.CertificateText.{are_rows}
@@ -35,6 +36,7 @@ pub record IsOrderedIn (problem : Problem) (pair : Pair) (direction : ℕ) (rule
 
 -- The answer has this problem, which has one equation; as its only rule that equation's canonical pair in one direction,
 -- which an interpretation of the family orders, and which doesn't overlap itself; and a right trace of one input step.
+-- So its rules halt, are confluent and prove exactly what the problem proves.
 pub record IsOneRuleAnswer (problem : Problem) (answer : Answer) : Type 0 where
   pub pair : Pair
   pub equation : IsEquationOf problem pair
@@ -46,6 +48,7 @@ pub record IsOneRuleAnswer (problem : Problem) (answer : Answer) : Type 0 where
   pub no_overlap : IsOverlapList rule rule true []
   pub answer_is : answer ≡ one_rule_answer problem rule (Linear order) pair
   pub right : IsRightTrace problem.equations answer.trace
+  pub system : IsCompleteSystem problem (Linear order) (rule ∷ [])
 
 -- the text is the spelling of such an answer to the problem
 pub record IsAnswerOf (problem : Problem) (text : List ℕ) : Type 0 where
