@@ -1,2 +1,3 @@
 mod RewriteRows
 pub mod Positions
+pub mod FirstRedexes

@@ -1,1 +1,2 @@
 pub mod NormalForm
+pub mod Search

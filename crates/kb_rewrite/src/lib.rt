@@ -2,5 +2,7 @@
 #![tactic(auto)]
 
 mod encompassing;
+mod redex;
 
 pub use encompassing::found;
+pub use redex::{Redex, first_redex};
