@@ -3,6 +3,8 @@
 
 mod encompassing;
 mod redex;
+mod rewriting;
 
 pub use encompassing::found;
 pub use redex::{Redex, first_redex};
+pub use rewriting::step;
