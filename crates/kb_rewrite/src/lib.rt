@@ -4,6 +4,8 @@
 mod encompassing;
 mod redex;
 mod rewriting;
+#[cfg(test)]
+mod tests;
 
 pub use encompassing::found;
 pub use redex::{Redex, first_redex};
