@@ -1,3 +1,4 @@
 mod RewriteRows
 pub mod Positions
 pub mod FirstRedexes
+pub mod Steps

@@ -1,9 +1,13 @@
 -- The search for the first redex: subterm by subterm, and rule by rule.
-use Rattle.std.specs.Prelude.{ℕ, ◌<◌, ◌≡◌, Bool, true, List, ◌∷◌, ◌++◌, Contains, Option, Some, None, slice_get}
+use Rattle.std.specs.Prelude.{ℕ, ◌<◌, ◌≡◌, Bool, true, List, ◌∷◌, ◌++◌, Contains, Option, Some, None, slice_get, Result}
 use Rattle.kb_term.specs.Tree.{Tree}
 use Rattle.kb_term.specs.Position.{subtree_at, positions_of}
 use Rattle.kb_term.specs.Substitution.{Matches, IsVariant}
 use Rattle.kb_term.specs.Rule.{Rule}
+use Rattle.kb_term.specs.Proving.{RewritesAt}
+use Rattle.kb_term.specs.Made.{IsLimitedAnswer}
+use Rattle.kb_term.specs.declared.term.Term.{Term}
+use Rattle.kb_term.specs.declared.fault.TermFault.{TermFault}
 use Rattle.kb_rewrite.specs.NormalForm.{IsFirstRedex, HasNoRedex, IsFound}
 use Rattle.kb_rewrite.specs.declared.redex.Redex.{Redex}
 
@@ -39,3 +43,7 @@ abbrev pub IsRedexAnswer : List Rule → Bool → Tree → Option Redex → Type
 IsRedexAnswer rules strict_only t None = HasNoRedex rules strict_only t
 IsRedexAnswer rules strict_only t (Some r) =
     IsFirstRedex rules strict_only t r.position r.rule × ((rule : Rule) → slice_get rules r.rule ≡ Some rule → IsFound t rule r.kind)
+
+-- what the step by the rule with the number i at p answers: the result, or the limit that it passes
+abbrev pub IsStepAnswer : List Rule → Tree → List ℕ → ℕ → Result Term TermFault → Type 0
+IsStepAnswer rules t p i answer = (rule : Rule) → slice_get rules i ≡ Some rule → (v : Tree) × RewritesAt rule p t v × IsLimitedAnswer v answer

@@ -3,6 +3,10 @@
 
 mod encompassing;
 mod redex;
+mod rewriting;
+#[cfg(test)]
+mod tests;
 
 pub use encompassing::found;
 pub use redex::{Redex, first_redex};
+pub use rewriting::step;
