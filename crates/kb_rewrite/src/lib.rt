@@ -2,11 +2,13 @@
 #![tactic(auto)]
 
 mod encompassing;
+mod laws;
 mod redex;
 mod rewriting;
 #[cfg(test)]
 mod tests;
 
 pub use encompassing::found;
+pub use laws::{no_redex_is_normal, strategy_rewrites};
 pub use redex::{Redex, first_redex};
 pub use rewriting::step;

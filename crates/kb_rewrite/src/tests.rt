@@ -96,4 +96,6 @@ fn a_variant_is_passed_over_where_strict_redexes_are_asked_for(rt: HostRuntime) 
     assert!(rt; strict.is_none());
     let any = first(alloc, &rules, &t, false).expect(&rt, "memory");
     assert!(rt; any.is_some());
+    no_redex_is_normal();
+    strategy_rewrites();
 }
