@@ -59,32 +59,17 @@ fn may_orient(prefix: &[u8], rule: &Rule) -> bool {
     greater(&above, &rule.0, &rule.1)
 }
 
-/// All permutations in lexicographic order.
-fn brute_force(count: u8, rules: &[Rule], prec: &mut Vec<u8>) -> bool {
+/// Whether some permutation orients the rules, in lexicographic order from the prefix on, which then holds it.
+/// With `prunes` a prefix is given up where some rule fails however it goes on.
+fn permute(count: u8, rules: &[Rule], prec: &mut Vec<u8>, prunes: bool) -> bool {
     if prec.len() == count as usize {
         return rules.iter().all(|rule| orients(prec, rule));
     }
     for f in 0..count {
         if !prec.contains(&f) {
             prec.push(f);
-            if brute_force(count, rules, prec) {
-                return true;
-            }
-            prec.pop();
-        }
-    }
-    false
-}
-
-/// Permutations in lexicographic order; a prefix is given up where some rule fails however it goes on.
-fn backtrack(count: u8, rules: &[Rule], prec: &mut Vec<u8>) -> bool {
-    if prec.len() == count as usize {
-        return rules.iter().all(|rule| orients(prec, rule));
-    }
-    for f in 0..count {
-        if !prec.contains(&f) {
-            prec.push(f);
-            if rules.iter().all(|rule| may_orient(prec, rule)) && backtrack(count, rules, prec) {
+            let is_open = !prunes || rules.iter().all(|rule| may_orient(prec, rule));
+            if is_open && permute(count, rules, prec, prunes) {
                 return true;
             }
             prec.pop();
@@ -95,12 +80,7 @@ fn backtrack(count: u8, rules: &[Rule], prec: &mut Vec<u8>) -> bool {
 
 fn search_path(count: u8, rules: &[Rule]) -> Option<Vec<u8>> {
     let mut prec = vec![];
-    let found = if count <= 8 {
-        brute_force(count, rules, &mut prec)
-    } else {
-        backtrack(count, rules, &mut prec)
-    };
-    found.then_some(prec)
+    permute(count, rules, &mut prec, count > 8).then_some(prec)
 }
 
 // ---- the linear interpretations
