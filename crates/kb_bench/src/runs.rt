@@ -27,7 +27,7 @@ pub enum Case {
 }
 
 /// The case of this name.
-pub fn case_named(name: &str) -> Option<Case> {
+pub(crate) fn case_named(name: &str) -> Option<Case> {
     match name {
         "lpo_group" => Some(Case::LpoGroup),
         "lpo_unary" => Some(Case::LpoUnary),
@@ -166,7 +166,7 @@ fn linear_case(
 }
 
 /// The answers of so many runs of the case in one number.
-pub fn checksum(alloc: Global, case: Case, repetitions: u32) -> Result<u64, Memory> {
+pub(crate) fn checksum(alloc: Global, case: Case, repetitions: u32) -> Result<u64, Memory> {
     match case {
         Case::LpoGroup => {
             let sig = signature(alloc, &GROUP)?;
