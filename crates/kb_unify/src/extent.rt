@@ -104,6 +104,8 @@ pub fn slot_extent(place: usize, slot: Slot, known: &[Option<Extent>]) -> Option
 }
 
 /// Measures what can be measured by what is known: whether anything new was.
+///
+/// It goes from the last place to the first, since the arguments of a node stand behind it: one pass measures a term of any depth.
 pub fn measure_more(slots: &[Slot], known: &mut Vec<Option<Extent>>) -> bool
     requires table { IsTable slots.now }
     requires lengths { length known.old.items ≡ length slots.now }
@@ -112,7 +114,8 @@ pub fn measure_more(slots: &[Slot], known: &mut Vec<Option<Extent>>) -> bool
     ensures stuck { result ≡ false → (i : ℕ) → i < length slots.now → extent_at known.new.items i ≡ None → IsStuck (λ j. extent_at known.new.items j ≡ None) (slot_at slots.now i) }
 {
     let mut changed = false;
-    for i in 0..slots.len() {
+    for done in 0..slots.len() {
+        let i = slots.len() - 1 - done;
         match known[i] {
             Some(_) => {}
             None => match slot_extent(i, slots[i], known) {
