@@ -13,3 +13,4 @@ pub mod Orderable
 pub mod Stated
 pub mod LoneRule
 mod SystemRows
+mod SquareRows

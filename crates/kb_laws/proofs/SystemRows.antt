@@ -31,7 +31,7 @@ abbrev f-order : Certificate
 f-order = Lpo (0 ∷ [])
 
 -- what holds of the member holds of the list
-all_one : {X : Type 0} (P : X → Type 0) (x : X) → P x → All P (x ∷ [])
+pub all_one : {X : Type 0} (P : X → Type 0) (x : X) → P x → All P (x ∷ [])
 all_one P x h = all_from P (x ∷ []) (λ y i. ⊎_elim (λ q. subst P q h) (λ k. absurd (omega arith)) (contains_cases x [] y i))
 
 f-lone : IsLoneRule f-only f-order f-rule
@@ -42,7 +42,7 @@ pub f-system : IsCompleteSystem (problem_of f-only (variable 0, one 0 (variable 
 f-system = lone_rule_is_system f-only f-order f-rule (variable 0, one 0 (variable 0)) f-lone (inr ((λ n. n), (λ n. n), record { there = refl; back_again = refl }, record { there = refl; back_again = refl }))
 
 -- the list of one member is the empty one and that member
-gains_one : {X : Type 0} (Same : X → X → Type 0) (x : X) → Gains Same [] (x ∷ []) x
+pub gains_one : {X : Type 0} (Same : X → X → Type 0) (x : X) → Gains Same [] (x ∷ []) x
 gains_one {X} Same x y = (there, back)
   where
     there : Has Same [] y ⊎ Same x y → Has Same (x ∷ []) y

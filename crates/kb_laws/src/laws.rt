@@ -9,7 +9,8 @@ ghost use Rattle.kb_laws.specs.Halting.{HasMember, MemberOrdersRulesOnly, Member
 ghost use Rattle.kb_laws.specs.Completion.{KbState};
 ghost use Rattle.kb_laws.specs.Confluence.{CriticalPairLemma, ClosedOverlapsJoin, NewmansLemma, ConfluentByOverlaps, ChurchRosser};
 ghost use Rattle.kb_laws.specs.Runs.{StepKeepsProved, StepKeepsOver, StepKeepsChained, StepKeepsOrderable, RunKeepsProved, RunIsChained, RunIsOver, RunIsOrderable};
-ghost use Rattle.kb_laws.specs.Complete.{CompleteStateIsSystem, LoneRuleIsSystem, PairRuleIsSystem};
+ghost use Rattle.kb_laws.specs.Complete.{IsCompleteSystem, CompleteStateIsSystem, LoneRuleIsSystem, PairRuleIsSystem};
+ghost use Rattle.kb_laws.specs.Square.{square_problem, square_order, square_rules};
 
 /// Critical pair lemma: where the overlaps of every two rules are joinable, any two steps from one term lead to
 /// joinable terms. Overlaps whose terms normalise to one are joinable.
@@ -69,4 +70,10 @@ pub fn ordered_rules_halt()
     ensures rules { (signature : Signature) (order : Certificate) → MemberOrdersRulesOnly signature order }
     ensures halts { (signature : Signature) (order : Certificate) → MemberHalts signature order }
     ensures linear { (signature : Signature) (i : Interpretation) → InterpretationHalts signature i }
+{}
+
+/// What these laws ask can be met where rules overlap: f(f(x)) -> a and f(a) -> a, ordered by the path order with f above a, are a complete
+/// system for f(f(x)) = a.
+pub fn square_completes()
+    ensures { IsCompleteSystem square_problem square_order square_rules }
 {}

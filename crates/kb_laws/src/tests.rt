@@ -1,6 +1,6 @@
 use super::{
     church_rosser, complete_state, completion_keeps, critical_pair_lemma, lone_rule, newmans_lemma,
-    ordered_rules_halt, runs_keep,
+    ordered_rules_halt, runs_keep, square_completes,
 };
 
 #[test]
@@ -13,4 +13,5 @@ fn each_law_is_called(_rt: HostRuntime) {
     complete_state();
     lone_rule();
     ordered_rules_halt();
+    square_completes();
 }
