@@ -1,0 +1,7 @@
+pub mod Bits
+pub mod Members
+pub mod Ordered
+pub mod Merged
+pub mod Searched
+pub mod Forked
+pub mod Sets

@@ -1,0 +1,100 @@
+-- What a binary search in a list of names answers.
+use Rattle.std.specs.Prelude.{ℕ, List, [], ◌∷◌, ◌++◌, Bool, true, false, ◌||◌, ◌≡◌, refl, length, suc, zero, ◌+◌, ◌<◌, ◌≤◌, insert, is_ok, Result, Ok, Err, IfOk, IfErr}
+use Rattle.std.proofs.Common.{ap, ap₂, add-one, sym, ◌∙◌, subst, arith, get_or}
+use mathlib.Core.Bool.{true≢false}
+use native.Mathlib.Numerals.{unary_clauses}
+use Rattle.std.specs.declared.cmp.Ordering.{Ordering}
+use Rattle.std.specs.Ordering.{is_eq, is_lt, ordering_index}
+use Rattle.std.specs.List.Sorted.{IsSorted, IsNonDecreasingBy, IsPartitionPoint, IsBinarySearchResult, IsSearchInRange}
+use Rattle.std.proofs.lemmas.List.Sorted.{searchable_from_sorted}
+use Rattle.std.specs.declared.cmp.Ordering.TheVariants.{Less, Equal, Greater}
+use Rattle.kb_label.specs.Names.{Name, name_cmp, name_eq, has, add, by_order, IsInNameOrder}
+use Rattle.kb_label.specs.NameOrder.{name_cmp-total, name_cmp-equal, name_eq-by_cmp}
+use Rattle.kb_label.proofs.Ordered.{turned, turned_back, rest, lower, before-absent, add-later}
+use Rattle.kb_label.proofs.Members.{name_eq-refl}
+
+adjacent : (l : List Name) → IsInNameOrder l → (k : ℕ) (d : Name) → suc k < length l → name_cmp (get_or l k d) (get_or l (suc k) d) ≡ Less
+adjacent [] o k d h = absurd (omega arith)
+adjacent (p ∷ []) o k d h = absurd (omega arith)
+adjacent (p ∷ q ∷ l) o zero d h = o.0
+adjacent (p ∷ q ∷ l) o (suc k) d h = adjacent (q ∷ l) o.1 k d (omega arith)
+
+sorted : (l : List Name) → IsInNameOrder l → IsSorted name_cmp l
+sorted l o k d h w =
+    rw add-one (ap is_lt (turned_back (get_or l k d) (get_or l (suc k) d) (adjacent l o k d (omega arith))))
+
+-- the answers of the search rise
+pub searchable : (l : List Name) (p : Name) → IsInNameOrder l → IsNonDecreasingBy (λ q. ordering_index (name_cmp q p)) l
+searchable l p o = searchable_from_sorted name_cmp-total (λ q. q) l p (sorted l o)
+
+or_true : (b : Bool) → (b || true) ≡ true
+or_true true = refl
+or_true false = refl
+
+-- a name that stands somewhere
+pub at-has : (l : List Name) (p : Name) (k : ℕ) → k < length l → get_or l k p ≡ p → has l p ≡ true
+at-has [] p k h e = absurd (omega arith)
+at-has (q ∷ l) p zero h e = ap (λ b. b || has l p) (ap (name_eq p) e ∙ name_eq-refl p)
+at-has (q ∷ l) p (suc k) h e = ap (λ b. name_eq p q || b) (at-has l p k (omega arith) e) ∙ or_true (name_eq p q)
+
+-- a name that is there is not added again
+pub add-present : (p : Name) (l : List Name) → IsInNameOrder l → has l p ≡ true → add p l ≡ l
+add-present p [] o h = absurd (true≢false (sym h))
+add-present p (q ∷ l) o h = go (name_cmp p q) refl (add-present p l (rest q l o))
+  where
+    go : (k : Ordering) → name_cmp p q ≡ k → (has l p ≡ true → add p l ≡ l) → by_order k (p ∷ q ∷ l) (q ∷ l) (q ∷ add p l) ≡ q ∷ l
+    go Less e ih = absurd (true≢false (sym h ∙ before-absent p (q ∷ l) (lower p q l e o)))
+    go Equal e ih = refl
+    go Greater e ih = ap (q ∷◌) (ih (rw (name_eq-by_cmp p q ∙ ap is_eq e) at h))
+
+module _ (p : Name) where
+  -- the names below the place come before p, and the others after it
+  pub record IsPlace (l : List Name) (k : ℕ) : Type 0 where
+    pub within : k ≤ length l
+    pub below : (i : ℕ) (d : Name) → i < k → name_cmp (get_or l i d) p ≡ Less
+    pub above : (i : ℕ) (d : Name) → k ≤ i → i < length l → name_cmp (get_or l i d) p ≡ Greater
+
+  later : (q : Name) (l : List Name) (k : ℕ) → IsPlace (q ∷ l) (suc k) → IsPlace l k
+  later q l k h = record {
+    within = omega (arith, h.within);
+    below = λ i d w. h.below (suc i) d (omega arith);
+    above = λ i d w v. h.above (suc i) d (omega arith) (omega arith);
+  }
+
+  neither : (q : Name) (l : List Name) → is_eq (name_cmp p q) ≡ false → has l p ≡ false → has (q ∷ l) p ≡ false
+  neither q l e h = ap₂ ◌||◌ (name_eq-by_cmp p q ∙ e) h
+
+  pub insert-place : (l : List Name) (k : ℕ) → IsPlace l k → insert l k p ≡ add p l
+  insert-place [] zero h = refl
+  insert-place [] (suc k) h = absurd (omega (arith, h.within))
+  insert-place (q ∷ l) zero h = sym (ap (λ o. by_order o (p ∷ q ∷ l) (q ∷ l) (q ∷ add p l)) (turned q p (h.above 0 p (omega arith) (omega arith))))
+  insert-place (q ∷ l) (suc k) h = ap (q ∷◌) (insert-place l k (later q l k h)) ∙ sym (add-later p q l (turned_back q p (h.below 0 p (omega arith))))
+
+  pub place-absent : (l : List Name) (k : ℕ) → IsPlace l k → has l p ≡ false
+  place-absent [] k h = refl
+  place-absent (q ∷ l) zero h =
+      neither q l (ap is_eq (turned q p (h.above 0 p (omega arith) (omega arith)))) (place-absent l zero (record {
+        within = omega arith;
+        below = λ i d w. absurd (omega arith);
+        above = λ i d w v. h.above (suc i) d (omega arith) (omega arith);
+      }))
+  place-absent (q ∷ l) (suc k) h =
+      neither q l (ap is_eq (turned_back q p (h.below 0 p (omega arith)))) (place-absent l k (later q l k h))
+
+-- ---- what the search answers
+
+module _ (l : List Name) (p : Name) (o : IsInNameOrder l) where
+  placed : (k : ℕ) → k ≤ length l → IsPartitionPoint (λ q. name_cmp q p ≡ Less) (λ q. name_cmp q p ≡ Greater) l k → IsPlace p l k
+  placed k w h = record { within = w; below = λ i d v. h.0 i d (omega arith) v; above = λ i d v u. h.1 i d v u }
+
+  pub search-found : (r : Result ℕ ℕ) → IsSearchInRange r (length l) → IsBinarySearchResult (λ q. name_cmp q p) l r → is_ok r ≡ has l p
+  search-found (Ok k) w h = sym (at-has l p k w (name_cmp-equal (get_or l k p) p (h p)))
+  search-found (Err k) w h = sym (place-absent p l k (placed k w (h (searchable l p o))))
+
+  pub search-present : (r : Result ℕ ℕ) → IsSearchInRange r (length l) → IsBinarySearchResult (λ q. name_cmp q p) l r → IfOk r (λ _. add p l ≡ l)
+  search-present (Ok k) w h = add-present p l o (at-has l p k w (name_cmp-equal (get_or l k p) p (h p)))
+  search-present (Err k) w h = tt
+
+  pub search-absent : (r : Result ℕ ℕ) → IsSearchInRange r (length l) → IsBinarySearchResult (λ q. name_cmp q p) l r → IfErr r (λ k. insert l k p ≡ add p l)
+  search-absent (Ok k) w h = tt
+  search-absent (Err k) w h = insert-place p l k (placed k w (h (searchable l p o)))

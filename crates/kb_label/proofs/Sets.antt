@@ -1,0 +1,53 @@
+-- Lists of names in their order are told by what they name.
+use Rattle.std.specs.Prelude.{List, [], ◌∷◌, Bool, true, false, ◌&&◌, ◌||◌, not, ◌≡◌, refl}
+use Rattle.std.proofs.Common.{ap, ap₂, sym, ◌∙◌, subst}
+use mathlib.Core.Bool.{true≢false}
+use Rattle.std.specs.declared.cmp.Ordering.{Ordering}
+use Rattle.std.specs.declared.cmp.Ordering.TheVariants.{Less, Equal, Greater}
+use Rattle.kb_label.specs.Names.{Name, child, name_cmp, name_eq, has, add, minus, relabel, IsInNameOrder}
+use Rattle.kb_label.specs.NameOrder.{name_cmp-equal}
+use Rattle.kb_label.proofs.Members.{name_eq-refl, name_eq-eq, has-add, has-minus}
+use Rattle.kb_label.proofs.Ordered.{turned, rest, lower, before-absent}
+use Rattle.kb_label.proofs.Forked.{relabelled}
+
+first : (p : Name) (l : List Name) → has (p ∷ l) p ≡ true
+first p l = ap (λ b. b || has l p) (name_eq-refl p)
+
+-- a name that comes before all of m is not first in a list that names the same
+not_less : {P : Type 0} (p q : Name) (l m : List Name) → IsInNameOrder (q ∷ m) → has (p ∷ l) p ≡ has (q ∷ m) p → name_cmp p q ≡ Less → P
+not_less p q l m w h e = absurd (true≢false (sym (first p l) ∙ h ∙ before-absent p (q ∷ m) (lower p q m e w)))
+
+tails : (p r : Name) (l m : List Name) → IsInNameOrder (p ∷ l) → IsInNameOrder (p ∷ m) → (name_eq r p || has l r) ≡ (name_eq r p || has m r) → has l r ≡ has m r
+tails p r l m o w h = go (name_eq r p) refl h
+  where
+    go : (b : Bool) → name_eq r p ≡ b → (b || has l r) ≡ (b || has m r) → has l r ≡ has m r
+    go true e g =
+        let same : r ≡ p = name_eq-eq r p e in
+        rw same (before-absent p l o ∙ sym (before-absent p m w))
+    go false e g = g
+
+pub same_names : (l m : List Name) → IsInNameOrder l → IsInNameOrder m → ((q : Name) → has l q ≡ has m q) → l ≡ m
+same_names [] [] o w h = refl
+same_names [] (q ∷ m) o w h = absurd (true≢false (sym (first q m) ∙ sym (h q)))
+same_names (p ∷ l) [] o w h = absurd (true≢false (sym (first p l) ∙ h p))
+same_names (p ∷ l) (q ∷ m) o w h = go (name_cmp p q) refl (λ v g. same_names l m (rest p l o) (rest q m w) (λ r. tails p r l m o v (g r)))
+  where
+    go : (k : Ordering) → name_cmp p q ≡ k → (IsInNameOrder (p ∷ m) → ((r : Name) → (name_eq r p || has l r) ≡ (name_eq r p || has m r)) → l ≡ m) → p ∷ l ≡ q ∷ m
+    go Less e ih = not_less p q l m w (h p) e
+    go Equal e ih =
+        let same : q ≡ p = sym (name_cmp-equal p q e) in
+        ap₂ ◌∷◌ (sym same) (ih (subst (λ v. IsInNameOrder (v ∷ m)) same w) (λ r. h r ∙ ap (λ v. name_eq r v || has m r) same))
+    go Greater e ih = not_less q p m l o (sym (h q)) (turned p q e)
+
+or_false : (b : Bool) → (b || false) ≡ b
+or_false true = refl
+or_false false = refl
+
+pub has-relabel : (p q : Name) (l : List Name) → has l p ≡ true → has (relabel p l) q ≡ (name_eq q (child p false) || (name_eq q (child p true) || (not (name_eq q p) && has l q)))
+has-relabel p q l h =
+    ap (λ m. has m q) (relabelled p l h)
+    ∙ has-add (child p false) (add (child p true) (minus l (p ∷ []))) q
+    ∙ ap (λ b. name_eq q (child p false) || b) (has-add (child p true) (minus l (p ∷ [])) q ∙ ap (λ b. name_eq q (child p true) || b) (has-minus l (p ∷ []) q ∙ ap (λ b. not b && has l q) (or_false (name_eq q p))))
+
+pub relabel-absent : (p : Name) (l : List Name) → has l p ≡ false → relabel p l ≡ l
+relabel-absent p l h = rw h refl

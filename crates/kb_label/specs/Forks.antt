@@ -1,0 +1,8 @@
+-- The names that live after forks.
+use Rattle.std.specs.Prelude.{List, [], ◌∷◌, true, ◌≡◌}
+use Rattle.kb_label.specs.Names.{Name, root, has, relabel}
+
+-- what forks of living processes make of the first process: the names that live
+pub data IsForked : List Name → Type 0 where
+  at_first : IsForked (root ∷ [])
+  at_fork : (p : Name) (l : List Name) → IsForked l → has l p ≡ true → IsForked (relabel p l)

@@ -1,0 +1,21 @@
+//! Names of processes, and labels, the sets of living processes.
+#![tactic(auto)]
+
+mod labels;
+mod laws;
+mod list_labels;
+mod living;
+mod name_list;
+mod process;
+#[cfg(test)]
+mod tests;
+mod verdict;
+
+pub use labels::Labels;
+pub use laws::{
+    forked_names_are_apart, operations_are_those_of_sets, ordered_names_are_told_by_members,
+};
+pub use list_labels::{ListLabels, NameLog};
+pub use living::{Living, MAX_LIVING};
+pub use process::{MAX_BITS, Process};
+pub use verdict::{Reason, Spent, Verdict};

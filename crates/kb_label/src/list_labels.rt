@@ -1,0 +1,135 @@
+// Labels that are plain lists of names.
+ghost use Rattle.std.specs.Prelude.{◌≡◌, ◌<◌, length, OnOk, OnErr};
+ghost use Rattle.kb_label.specs.Names.{relabel};
+
+use crate::labels::Labels;
+use crate::living::Living;
+use crate::name_list::NameList;
+use crate::process::{MAX_BITS, Process};
+use std::alloc::{AllocError, Global};
+use std::marker::Model;
+
+/// A log of forks that is the list of the names that live.
+///
+/// It changes no label: after a fork, whoever keeps a `ListLabels` relabels it.
+#[derive(Drop)]
+pub struct NameLog {
+    living: NameList,
+}
+
+impl Model for NameLog {
+    ghost use Rattle.std.specs.Prelude.{List, length, ◌+◌, ◌≤◌};
+    ghost use Rattle.kb_label.specs.Names.{Name};
+    ghost use Rattle.kb_label.specs.Forks.{IsForked};
+    ghost use Rattle.kb_label.specs.declared.process.TheConstants.{MAX_BITS};
+
+    ghost Value = { List Name };
+
+    ghost view = { λ log. log.living };
+
+    ghost invariant = { λ log. IsForked log.living × (length log.living ≤ MAX_BITS + 1) };
+}
+
+impl Living for NameLog {
+    ghost living_names = { λ log. log };
+
+    fn start(alloc: Global) -> Result<NameLog, AllocError> {
+        let living = NameList::of(alloc, Process::root())?;
+        Ok(NameLog { living })
+    }
+
+    fn fork(&mut self, process: &Process) -> Result<(), AllocError> {
+        self.living.relabel(process)
+    }
+
+    fn is_living(&self, process: &Process) -> bool {
+        self.living.has(process)
+    }
+
+    fn living(&self) -> u32 {
+        self.living.len() as u32
+    }
+
+    fn names(&self) -> Result<Vec<Process>, AllocError> {
+        self.living.names()
+    }
+
+    fn copy(&self) -> Result<NameLog, AllocError> {
+        let living = self.living.copy()?;
+        Ok(NameLog { living })
+    }
+}
+
+/// A label that is the list of its names.
+///
+/// It reads no log: its names live as long as its owner relabels it at each fork.
+#[derive(Drop)]
+pub struct ListLabels {
+    names: NameList,
+}
+
+impl Model for ListLabels {
+    ghost use Rattle.std.specs.Prelude.{List};
+    ghost use Rattle.kb_label.specs.Names.{Name};
+
+    ghost Value = { List Name };
+
+    ghost view = { λ label. label.names };
+}
+
+impl ListLabels {
+    /// Puts the two children of a process in its place, where the label has it.
+    ///
+    /// # Errors
+    ///
+    /// Want of memory; the label is then as before.
+    pub fn relabel(&mut self, process: &Process) -> Result<(), AllocError>
+        requires { length process.now < MAX_BITS }
+        ensures ok { OnOk result (self.new ≡ relabel process.now self.old) }
+        ensures err { OnErr result (self.new ≡ self.old) }
+    {
+        self.names.relabel(process)
+    }
+}
+
+impl Labels for ListLabels {
+    type Log = NameLog;
+
+    ghost names_under = { λ log label. label };
+
+    fn new(alloc: Global) -> ListLabels {
+        ListLabels {
+            names: NameList::new(alloc),
+        }
+    }
+
+    fn has(&self, _log: &NameLog, process: &Process) -> bool {
+        self.names.has(process)
+    }
+
+    fn is_empty(&self, _log: &NameLog) -> bool {
+        self.names.is_empty()
+    }
+
+    fn add(&mut self, _log: &NameLog, process: &Process) -> Result<(), AllocError> {
+        self.names.add(process)
+    }
+
+    fn join(&mut self, _log: &NameLog, other: &ListLabels) -> Result<(), AllocError> {
+        self.names.join(&other.names)
+    }
+
+    fn meet(&mut self, _log: &NameLog, other: &ListLabels) -> Result<(), AllocError> {
+        self.names.meet(&other.names);
+        Ok(())
+    }
+
+    fn minus(&mut self, _log: &NameLog, other: &ListLabels) -> Result<(), AllocError> {
+        self.names.minus(&other.names);
+        Ok(())
+    }
+
+    fn names(&self, _log: &NameLog) -> Result<Vec<Process>, AllocError> {
+        self.names.names()
+    }
+}

@@ -1,0 +1,191 @@
+// Lists of names in their order.
+ghost use Rattle.std.specs.Prelude.{◌≡◌, ◌<◌, ◌≤◌, [], ◌∷◌, length, insert, is_ok, OnOk, OnErr, IfOk, IfErr};
+ghost use Rattle.kb_label.specs.Names.{has, add, join, meet, minus, relabel, is_empty, IsInNameOrder};
+
+use crate::process::{MAX_BITS, Process};
+use std::alloc::{AllocError, Global};
+use std::cmp::Ordering;
+use std::marker::Model;
+
+/// Names in their order, each once.
+#[derive(Drop)]
+pub(crate) struct NameList {
+    names: Vec<Process>,
+}
+
+impl Model for NameList {
+    ghost use Rattle.std.specs.Prelude.{List};
+    ghost use Rattle.kb_label.specs.Names.{Name, IsInNameOrder};
+
+    ghost Value = { List Name };
+
+    ghost view = { λ l. l.names.items };
+
+    ghost invariant = { λ l. IsInNameOrder l.names.items };
+}
+
+impl NameList {
+    /// No name.
+    pub(crate) fn new(alloc: Global) -> NameList
+        ensures { result ≡ [] }
+    {
+        NameList {
+            names: Vec::new(alloc),
+        }
+    }
+
+    /// The name of one process.
+    pub(crate) fn of(alloc: Global, process: Process) -> Result<NameList, AllocError>
+        ensures { IfOk result (λ names. names ≡ process ∷ []) }
+    {
+        let mut names = Vec::new(alloc);
+        names.push(process)?;
+        Ok(NameList { names })
+    }
+
+    /// How many names there are.
+    pub(crate) fn len(&self) -> usize
+        ensures { result ≡ length self.now }
+    {
+        self.names.len()
+    }
+
+    /// Whether there is no name.
+    pub(crate) fn is_empty(&self) -> bool
+        ensures { result ≡ is_empty self.now }
+    {
+        self.names.is_empty()
+    }
+
+    /// Whether the process is named.
+    pub(crate) fn has(&self, process: &Process) -> bool
+        ensures { result ≡ has self.now process.now }
+    {
+        self.place(process).is_ok()
+    }
+
+    /// All names, in their order.
+    pub(crate) fn names(&self) -> Result<Vec<Process>, AllocError>
+        ensures names { IfOk result (λ names. names.items ≡ self.now) }
+        ensures in_order { IsInNameOrder self.now }
+    {
+        self.names.as_slice().to_vec(*self.names.allocator())
+    }
+
+    /// The same names again.
+    pub(crate) fn copy(&self) -> Result<NameList, AllocError>
+        ensures { IfOk result (λ names. names ≡ self.now) }
+    {
+        let names = self.names()?;
+        Ok(NameList { names })
+    }
+
+    /// Adds a name at its place.
+    pub(crate) fn add(&mut self, process: &Process) -> Result<(), AllocError>
+        ensures ok { OnOk result (self.new ≡ add process.now self.old) }
+        ensures err { OnErr result (self.new ≡ self.old) }
+    {
+        match self.place(process) {
+            Ok(_) => Ok(()),
+            Err(place) => {
+                self.names.insert(place, *process)?;
+                Ok(())
+            }
+        }
+    }
+
+    /// Adds all names of another list.
+    pub(crate) fn join(&mut self, other: &NameList) -> Result<(), AllocError>
+        ensures ok { OnOk result (self.new ≡ join self.old other.now) }
+        ensures err { OnErr result (self.new ≡ self.old) }
+    {
+        let names = merged(
+            *self.names.allocator(),
+            self.names.as_slice(),
+            other.names.as_slice(),
+        )?;
+        self.names = names;
+        Ok(())
+    }
+
+    /// Keeps the names that another list has too.
+    pub(crate) fn meet(&mut self, other: &NameList)
+        ensures { self.new ≡ meet self.old other.now }
+    {
+        self.names.retain(|name| other.has(name));
+    }
+
+    /// Takes out the names that another list has.
+    pub(crate) fn minus(&mut self, other: &NameList)
+        ensures { self.new ≡ minus self.old other.now }
+    {
+        self.names.retain(|name| !other.has(name));
+    }
+
+    /// Puts the two children of a process in its place, where it is named.
+    pub(crate) fn relabel(&mut self, process: &Process) -> Result<(), AllocError>
+        requires { length process.now < MAX_BITS }
+        ensures ok { OnOk result (self.new ≡ relabel process.now self.old) }
+        ensures err { OnErr result (self.new ≡ self.old) }
+    {
+        if !self.has(process) {
+            return Ok(());
+        }
+        let mut names = self.copy()?;
+        names.remove(process);
+        names.add(&process.child(true))?;
+        names.add(&process.child(false))?;
+        *self = names;
+        Ok(())
+    }
+
+    // Where the name stands, or where it would have to be put.
+    fn place(&self, process: &Process) -> Result<usize, usize>
+        ensures found { is_ok result ≡ has self.now process.now }
+        ensures present { IfOk result (λ _. add process.now self.now ≡ self.now) }
+        ensures within { IfErr result (λ place. place ≤ length self.now) }
+        ensures absent { IfErr result (λ place. insert self.now place process.now ≡ add process.now self.now) }
+    {
+        self.names.as_slice().binary_search(process)
+    }
+
+    // Takes a name out, where it is there.
+    fn remove(&mut self, process: &Process)
+        ensures { self.new ≡ minus self.old (process.now ∷ []) }
+    {
+        self.names.retain(|name| *name != *process);
+    }
+}
+
+// The names of two lists, in their order.
+fn merged(alloc: Global, left: &[Process], right: &[Process]) -> Result<Vec<Process>, AllocError>
+    requires left_in_order { IsInNameOrder left.now }
+    requires right_in_order { IsInNameOrder right.now }
+    ensures { IfOk result (λ names. names.items ≡ join left.now right.now) }
+{
+    let mut names = Vec::new(alloc);
+    let mut i = 0;
+    let mut j = 0;
+    while i < left.len() && j < right.len() {
+        let first = &left[i];
+        let second = &right[j];
+        match first.cmp(second) {
+            Ordering::Less => {
+                names.push(*first)?;
+                i += 1;
+            }
+            Ordering::Equal => {
+                names.push(*first)?;
+                i += 1;
+                j += 1;
+            }
+            Ordering::Greater => {
+                names.push(*second)?;
+                j += 1;
+            }
+        }
+    }
+    names.extend_from_slice(&left[i..])?;
+    names.extend_from_slice(&right[j..])?;
+    Ok(names)
+}
