@@ -9,13 +9,13 @@ ghost use Rattle.kb_lpo.specs.Precedences.{IsLowerBound, LpoOrients};
 
 use crate::known::Known;
 use crate::needs::{force, possible};
-use crate::order::greater;
+use crate::order::{greater, has_symbol};
 use crate::precedence::Precedence;
 use kb_term::{Memory, Rule, Signature, Symbol};
 use std::alloc::Global;
 
-/// How many prefixes the rules refuse before each prefix is given all that the rules need: until then the search only asks
-/// whether each rule is still possible, which takes a fraction of the time.
+/// How many prefixes the rules refuse before all that they need is recorded for each prefix: until then the search only asks
+/// whether the rules are still possible, which takes a fraction of the time.
 const PATIENCE: u32 = 100;
 
 /// Whether the precedence orients all rules.
@@ -43,13 +43,16 @@ fn force_all(known: &mut Known, rules: &[Rule]) -> bool
     true
 }
 
-/// Whether each rule is still possible: false where no precedence that fits orients all.
-fn possible_all(known: &Known, rules: &[Rule]) -> bool
+/// Whether the rules are still possible, where `f` was put above other symbols: false where no precedence that fits orients
+/// all. This changes nothing for rules without `f` on the right, so they are left out.
+fn are_possible(known: &Known, rules: &[Rule], f: Symbol) -> bool
     ensures { (prec : List ℕ) → Fits known.now prec → LpoOrients prec rules.now → IsTrue result }
 {
     for i in 0..rules.len() {
-        if !possible(known, rules[i].left(), rules[i].right()) {
-            return false;
+        if has_symbol(rules[i].right(), f) {
+            if !possible(known, rules[i].left(), rules[i].right()) {
+                return false;
+            }
         }
     }
     true
@@ -131,7 +134,7 @@ fn place_next(
     if known.records == before {
         return true;
     }
-    if possible_all(known, rules) {
+    if are_possible(known, rules, f) {
         return true;
     }
     *patience = patience.saturating_sub(1);
@@ -246,7 +249,15 @@ fn search_from(
         if place_next(&mut more, rules, prefix, f, count, patience) {
             prefix.push(f)?;
             let next_floor = behind(floor, f);
-            if search_from(&mut more, rules, count, prefix, left - 1, next_floor, patience)? {
+            if search_from(
+                &mut more,
+                rules,
+                count,
+                prefix,
+                left - 1,
+                next_floor,
+                patience,
+            )? {
                 return Ok(true);
             }
             prefix.pop();
@@ -279,7 +290,15 @@ fn search_above(
         return Ok(None);
     }
     let mut patience = PATIENCE;
-    if search_from(&mut known, rules, count, &mut prefix, count, floor, &mut patience)? {
+    if search_from(
+        &mut known,
+        rules,
+        count,
+        &mut prefix,
+        count,
+        floor,
+        &mut patience,
+    )? {
         return Ok(Some(Precedence::new(prefix)));
     }
     Ok(None)

@@ -32,7 +32,9 @@ loop-y-preserved t c =
     let xs = numbers c.args.prefix.now.items in
     let y = c.loop-y.y in
     let rules = c.args.rules.now in
-    let s : numbers c.deref-in-loop-y.result.now ≡ xs = ap numbers c.deref-in-loop-y.ensures.value ∙ c.loop-y.invariant.0 in
-    (c.loop-y.invariant.0, none_refused rules c.args.count (c.args.left - 1) y xs (listed_or_not xs y) (λ r n o.
-        let d = ap (λ z. z ++ y ∷ r) s in
-        false≢true (sym c.if-may_follow.false ∙ c.may_follow.ensures.sound r (λ k. n (subst (λ z. Contains z y) s k)) (subst (Fits c.args.known.now) (sym d) (c.requires (y ∷ r) o)))) c.loop-y.invariant.1)
+    let s : numbers c.deref-in-loop-y.result.now ≡ xs = ap numbers c.deref-in-loop-y.ensures.value ∙ c.loop-y.invariant.0 in (
+      c.loop-y.invariant.0,
+      none_refused rules c.args.count (c.args.left - 1) y xs (listed_or_not xs y) (λ r n o.
+          let d = ap (λ z. z ++ y ∷ r) s in
+          false≢true (sym c.if-may_follow.false ∙ c.may_follow.ensures.sound r (λ k. n (subst (λ z. Contains z y) s k)) (subst (Fits c.args.known.now) (sym d) (c.requires (y ∷ r) o)))) c.loop-y.invariant.1,
+    )
