@@ -25,6 +25,11 @@ abbrev pub IsSearched : List Rule → ℕ → ℕ → List ℕ → List ℕ → 
 IsSearched rules count left before now true = (rest : List ℕ) × (now ≡ before ++ rest) × IsFirst (λ rest. LpoOrients (before ++ rest) rules) (arrangements left (outside count before)) (Some rest)
 IsSearched rules count left before now false = (now ≡ before) × IsFirst (λ rest. LpoOrients (before ++ rest) rules) (arrangements left (outside count before)) None
 
+-- found: as IsSearched says; not found: the prefix is as before
+abbrev pub IsTried : List Rule → ℕ → ℕ → List ℕ → List ℕ → Bool → Type 0
+IsTried rules count left before now true = IsSearched rules count left before now true
+IsTried rules count left before now false = now ≡ before
+
 -- the first place at which the lists differ has the smaller number in the first one
 abbrev pub IsEarlier : List ℕ → List ℕ → Type 0
 IsEarlier [] ys = ⊥

@@ -12,7 +12,7 @@ use kb_term::{Symbol, Term};
 
 /// Whether `s` may be above `t`: false where no precedence that fits what is known has it so.
 #[cycle(possible)]
-fn possible(known: &Known, s: &Term, t: &Term) -> bool
+pub(crate) fn possible(known: &Known, s: &Term, t: &Term) -> bool
     ensures { (prec : List ℕ) → Fits known.now prec → LpoGreater prec (tree_of s.now) (tree_of t.now) → IsTrue result }
 {
     match (s, t) {

@@ -1,5 +1,5 @@
 use Rattle.std.proofs.Common.{sym, ◌∙◌, ◌++◌, ◌∷◌, [], ap, subst, arith, ◌≡◌, suc, ◌-◌, Contains, refl, List, ℕ}
-use Rattle.std.specs.Prelude.{None}
+use Rattle.std.specs.Prelude.{None, slice_index_or}
 use Rattle.kb_lpo.specs.Precedences.{arrangements}
 use Rattle.kb_term.specs.First.{IsFirst}
 use Rattle.std.proofs.lemmas.Bool.{false≢true}
@@ -30,14 +30,19 @@ search_from-requires t c =
     let e = ap (λ z. z ++ rest) p ∙ append_assoc xs (y ∷ []) rest in
     let d = ap (λ z. z ++ y ∷ rest) s in
     let q = subst (λ z. LpoOrients z rules) e o in
-    subst (Fits c.place_next.new.known) (d ∙ sym e) (c.place_next.ensures.sound rest u (subst (Fits c.args.known.now) (sym d) (c.requires.sound (y ∷ rest) q)) (subst (λ z. LpoOrients z rules) (sym d) q)).1 in
-    (grind arith, (sound, floor_next rules c.args.count c.args.left (c.args.left - 1) y xs (numbers c.push.new.self.items) (numbers c.args.floor.now) (numbers c.behind.result.now) n p (grind arith) (subst (λ z. ¬ Contains z y) s u) c.behind.ensures c.requires.bound))
+    subst (Fits c.place_next.new.known) (d ∙ sym e) (c.place_next.ensures.sound rest u (subst (Fits c.narrow.new.known) (sym d) (c.narrow.ensures (xs ++ y ∷ rest) (c.loop-y.invariant.2 (y ∷ rest) q) q).1) (subst (λ z. LpoOrients z rules) (sym d) q)).1 in
+    (grind arith, (sound, floor_next rules c.args.count c.args.left (c.args.left - 1) y xs (numbers c.push.new.self.items) (numbers c.args.floor.now) (numbers c.behind-next_floor.result.now) n p (grind arith) (subst (λ z. ¬ Contains z y) s u) c.behind-next_floor.ensures c.requires.bound))
+
+pub returns-then-not-narrow : goal.returns-then-not-narrow
+returns-then-not-narrow t c =
+    let xs = numbers c.args.prefix.now.items in
+    (c.loop-y.invariant.0, λ k d i o. let r = slice_index_or (arrangements c.args.left (outside c.args.count xs)) k d in false≢true (sym c.if-not-narrow.true ∙ (c.narrow.ensures (xs ++ r) (c.loop-y.invariant.2 r o) o).0))
 
 pub loop-y-init : goal.loop-y-init
 loop-y-init t c =
     let n : suc (c.args.left - 1) ≡ c.args.left = grind arith in
     let xs = numbers c.args.prefix.now.items in
-    (refl, subst (λ z. IsFirst (λ r. LpoOrients (xs ++ r) c.args.rules.now) (tried (c.args.left - 1) xs c.args.count z) None) (sym c.lowest-y.ensures) (lowest_refused c.args.rules.now c.args.count c.args.left (c.args.left - 1) xs (numbers c.args.floor.now) n c.requires.bound))
+    (refl, subst (λ z. IsFirst (λ r. LpoOrients (xs ++ r) c.args.rules.now) (tried (c.args.left - 1) xs c.args.count z) None) (sym c.lowest-y.ensures) (lowest_refused c.args.rules.now c.args.count c.args.left (c.args.left - 1) xs (numbers c.args.floor.now) n c.requires.bound), c.requires.sound)
 
 pub returns-then-branch : goal.returns-then-branch
 returns-then-branch t c =
@@ -56,17 +61,19 @@ loop-y-preserved t c =
     let y = c.loop-y.y in
     let rules = c.args.rules.now in
     let s : numbers c.deref-in-loop-y.result.now ≡ xs = ap numbers c.deref-in-loop-y.ensures.value ∙ c.loop-y.invariant.0 in
+    let fits : (rest : List ℕ) → LpoOrients (xs ++ rest) rules → Fits c.narrow.new.known (xs ++ rest) = λ rest o. (c.narrow.ensures (xs ++ rest) (c.loop-y.invariant.2 rest o) o).1 in
     elim c.if-place_next.branch [
       | then-place_next+in_ok-push+in_ok-search_from+else-branch w ↦
           let u = c.place_next.ensures.unlisted w.if-place_next.true in
           let p : numbers w.push.new.self.items ≡ xs ++ y ∷ [] = ap numbers w.in_ok-push.ensures.items ∙ numbers_push c.loop-y.prefix.items (record { 0 = y }) ∙ ap (λ z. z ++ y ∷ []) c.loop-y.invariant.0 in
           let r = subst (λ b. IsSearched rules c.args.count (c.args.left - 1) (numbers w.push.new.self.items) (numbers w.search_from.new.prefix.items) b) w.if-branch.false w.in_ok-search_from.ensures in
-          (ap (λ v. numbers v.items) w.prefix-is ∙ popped xs y w.search_from.new.prefix.items w.pop.new.self.items w.pop.result (r.0 ∙ p) w.pop.ensures.items (λ h. w.pop.ensures.variant.1 (let k = w.search_from.new.prefix.ok in grind (arith, h, k))), none_next rules c.args.count (c.args.left - 1) y xs (numbers w.push.new.self.items) (numbers w.search_from.new.prefix.items) p (subst (λ z. ¬ Contains z y) s u) c.loop-y.invariant.1 r)
+          (ap (λ v. numbers v.items) w.prefix-is ∙ popped xs y w.search_from.new.prefix.items w.pop.new.self.items w.pop.result (r.0 ∙ p) w.pop.ensures.items (λ h. w.pop.ensures.variant.1 (let k = w.search_from.new.prefix.ok in grind (arith, h, k))), none_next rules c.args.count (c.args.left - 1) y xs (numbers w.push.new.self.items) (numbers w.search_from.new.prefix.items) p (subst (λ z. ¬ Contains z y) s u) c.loop-y.invariant.1 r, fits)
       | else-place_next w ↦ (
         ap (λ v. numbers v.items) w.prefix-is ∙ c.loop-y.invariant.0,
         none_refused rules c.args.count (c.args.left - 1) y xs (listed_or_not xs y) (λ r n o.
             let d = ap (λ z. z ++ y ∷ r) s in
-            false≢true (sym w.if-place_next.false ∙ (c.place_next.ensures.sound r (λ k. n (subst (λ z. Contains z y) s k)) (subst (Fits c.args.known.now) (sym d) (c.requires.sound (y ∷ r) o)) (subst (λ z. LpoOrients z rules) (sym d) o)).0)) c.loop-y.invariant.1,
+            false≢true (sym w.if-place_next.false ∙ (c.place_next.ensures.sound r (λ k. n (subst (λ z. Contains z y) s k)) (subst (Fits c.narrow.new.known) (sym d) (fits (y ∷ r) o)) (subst (λ z. LpoOrients z rules) (sym d) o)).0)) c.loop-y.invariant.1,
+        fits,
       )
     ]
 

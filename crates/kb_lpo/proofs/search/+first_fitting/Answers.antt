@@ -1,0 +1,40 @@
+use Rattle.std.proofs.Common.{sym, ◌∙◌, ◌++◌, ◌∷◌, [], ap, subst, arith, ◌≡◌, suc, ◌-◌, Contains, List, ℕ, Bool, true, false}
+use Rattle.std.proofs.lemmas.Bool.{false≢true}
+use Rattle.kb_lpo.specs.Search.{numbers, Fits, IsSearched, IsTried}
+use Rattle.kb_lpo.specs.Precedences.{LpoOrients}
+use Rattle.kb_term.specs.Rule.{Rule}
+use Rattle.kb_lpo.proofs.First.{leaf, numbers_push, found_next, none_refused, listed_or_not}
+use Rattle.kb_lpo.proofs.search.+first_fitting.Goals as goal
+
+searched_tried : (rules : List Rule) (count left : ℕ) (xs ys : List ℕ) (b : Bool) → IsSearched rules count left xs ys b → IsTried rules count left xs ys b
+searched_tried rules count left xs ys true h = h
+searched_tried rules count left xs ys false h = h.0
+
+pub returns-then-left-eq0 : goal.returns-then-left-eq0
+returns-then-left-eq0 t c =
+    let e = ap numbers c.deref.ensures.value in
+    let xs = numbers c.args.prefix.now.items in
+    searched_tried c.args.rules.now c.args.count c.args.left xs xs c.orients.result (leaf c.args.rules.now c.args.count c.args.left xs c.orients.result (grind arith) ((λ h. subst (λ z. LpoOrients z c.args.rules.now) e (c.orients.ensures.0 h)), (λ o. c.orients.ensures.1 (subst (λ z. LpoOrients z c.args.rules.now) (sym e) o))))
+
+pub returns-then-branch : goal.returns-then-branch
+returns-then-branch t c =
+    let xs = numbers c.args.prefix.now.items in
+    let y = c.loop-y.y in
+    let rules = c.args.rules.now in
+    let s = ap numbers c.deref-in-loop-y.ensures.value ∙ c.loop-y.invariant.0 in
+    let u = c.may_follow.ensures.unlisted c.if-may_follow.true in
+    let p : numbers c.push.new.self.items ≡ xs ++ y ∷ [] = ap numbers c.in_ok-push.ensures.items ∙ numbers_push c.loop-y.prefix.items (record { 0 = y }) ∙ ap (λ z. z ++ y ∷ []) c.loop-y.invariant.0 in
+    let n : suc (c.args.left - 1) ≡ c.args.left = grind arith in
+    found_next rules c.args.count (c.args.left - 1) c.args.left y xs (numbers c.push.new.self.items) (numbers c.first_fitting.new.prefix.items) n p (grind arith) (subst (λ z. ¬ Contains z y) s u) c.loop-y.invariant.1 (subst (λ b. IsTried rules c.args.count (c.args.left - 1) (numbers c.push.new.self.items) (numbers c.first_fitting.new.prefix.items) b) c.if-branch.true c.in_ok-first_fitting.ensures)
+
+pub loop-y-preserved : goal.loop-y-preserved
+loop-y-preserved t c =
+    let xs = numbers c.args.prefix.now.items in
+    let y = c.loop-y.y in
+    let rules = c.args.rules.now in
+    let s : numbers c.deref-in-loop-y.result.now ≡ xs = ap numbers c.deref-in-loop-y.ensures.value ∙ c.loop-y.invariant.0 in (
+      c.loop-y.invariant.0,
+      none_refused rules c.args.count (c.args.left - 1) y xs (listed_or_not xs y) (λ r n o.
+          let d = ap (λ z. z ++ y ∷ r) s in
+          false≢true (sym c.if-may_follow.false ∙ c.may_follow.ensures.sound r (λ k. n (subst (λ z. Contains z y) s k)) (subst (Fits c.args.known.now) (sym d) (c.requires (y ∷ r) o)))) c.loop-y.invariant.1,
+    )
