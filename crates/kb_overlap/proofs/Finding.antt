@@ -22,7 +22,7 @@ use Rattle.kb_overlap.specs.Found.{built_limit, IsPairAnswer, AreVariablesBelow}
 use Rattle.kb_overlap.specs.Instance.{IsSmall}
 use Rattle.kb_overlap.specs.View.{sides_of}
 use Rattle.kb_term.proofs.Variants.{rename-rename, rename_same, variables_renamed}
-use Rattle.kb_overlap.proofs.Subtrees.{some_same, subtree-instance, replace-there, subtree_variables, contains_mapped}
+use Rattle.kb_term.proofs.Subtrees.{some_same, subtree-instance, replace-there, subtree_variables, contains_mapped}
 use Rattle.kb_overlap.proofs.Uniqueness.{variables_of_rule, shift, shifted_unifies}
 
 -- 64 added to each variable, and taken off

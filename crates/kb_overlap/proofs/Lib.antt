@@ -2,7 +2,6 @@ pub mod OverlapRows
 pub mod TraceRows
 pub mod Variants
 pub mod Extents
-pub mod Subtrees
 pub mod Uniqueness
 pub mod Finding
 pub mod Measures

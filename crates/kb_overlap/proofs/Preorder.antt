@@ -5,9 +5,7 @@ use Rattle.std.proofs.lemmas.List.{append-nil, map-append}
 use Rattle.kb_term.specs.Tree.{Tree, Trees, variable, apply, no_trees, more_trees, trees_of, list_of}
 use Rattle.kb_term.specs.Position.{function_positions_of, function_positions_in}
 use Rattle.kb_term.specs.Signature.{Signature, SymbolEntry, HasArity, IsWellFormed, AreWellFormed}
-use Rattle.kb_overlap.proofs.Subtrees.{some_same}
 use Rattle.kb_term.specs.Rule.{Rule}
-use Rattle.kb_overlap.specs.Found.{HasFewArguments, HaveFewArguments}
 use Rattle.kb_overlap.specs.Overlap.{Overlap, ListsOverlaps, HasNoOverlapAt, IsOverlapOrLimit, overlap_positions}
 
 -- one more argument
@@ -40,16 +38,6 @@ positions_more found start new path here us k h so_far here_is new_is =
     ∙ ap (λ n. start ++ map (path ++◌) (xs ++ map (n ∷◌) ys)) (sym number)
     ∙ ap (λ zs. start ++ map (path ++◌) zs) (sym (positions-take us k 1 h))
     ∙ ap (λ n. start ++ map (path ++◌) (function_positions_in (trees_of (take n us)) 1)) next
-
--- arguments of a term with few arguments
-pub few_arguments : (us : List Tree) (k : ℕ) → k < length us → HaveFewArguments (trees_of us) → HasFewArguments (get_or us k (variable 0))
-few_arguments [] k h few = absurd (omega (arith, h))
-few_arguments (u ∷ us) zero h few = few.0
-few_arguments (u ∷ us) (suc k) h few = few_arguments us k (omega (arith, h)) few.1
-
-pub arguments-count : (us : List Tree) → length (list_of (trees_of us)) ≡ length us
-arguments-count [] = refl
-arguments-count (u ∷ us) = ap suc (arguments-count us)
 
 pub map_root : (ps : List (List ℕ)) → map ([] ++◌) ps ≡ ps
 map_root [] = refl
@@ -92,24 +80,3 @@ listed_position A false k d h = (k, h, get_or_any (function_positions_of A.left)
 -- the same, in a list of these positions
 pub listed_at : (A : Rule) (same : Bool) (ps : List (List ℕ)) → ps ≡ overlap_positions A same → (k : ℕ) (d : List ℕ) → k < length ps → Contains (function_positions_of A.left) (get_or ps k d)
 listed_at A same ps e k d h = subst (λ qs. k < length qs → Contains (function_positions_of A.left) (get_or qs k d)) (sym e) (listed_position A same k d) h
-
--- few arguments of each argument
-pub all_few_arguments : (us : List Tree) → ((j : ℕ) → j < length us → HasFewArguments (get_or us j (variable 0))) → HaveFewArguments (trees_of us)
-all_few_arguments [] h = tt
-all_few_arguments (u ∷ us) h = (h 0 (omega arith), all_few_arguments us (λ j p. h (suc j) (omega (arith, p))))
-
--- an arity of the signature
-few_arity : (signature : Signature) → All (λ (f : SymbolEntry). f.arity ≤ 255) signature → (f n : ℕ) → HasArity signature f n → n ≤ 255
-few_arity [] small f n h = absurd (cc)
-few_arity (g ∷ gs) small zero n h = let e : g.arity ≡ n = some_same g.arity n h in omega (arith, e, small 0 g (omega arith))
-few_arity (g ∷ gs) small (suc f) n h = few_arity gs (λ k d p. small (suc k) d (omega (arith, p))) f n h
-
--- terms over a signature have few arguments where its arities are small
-mutual
-  pub few_from_arities : (signature : Signature) → All (λ (f : SymbolEntry). f.arity ≤ 255) signature → (t : Tree) → IsWellFormed signature t → HasFewArguments t
-  few_from_arities signature small (variable n) well = tt
-  few_from_arities signature small (apply f ts) well = (few_arity signature small f (length (list_of ts)) well.0, few_from_arities_in signature small ts well.1)
-
-  few_from_arities_in : (signature : Signature) → All (λ (f : SymbolEntry). f.arity ≤ 255) signature → (ts : Trees) → AreWellFormed signature ts → HaveFewArguments ts
-  few_from_arities_in signature small no_trees well = tt
-  few_from_arities_in signature small (more_trees t ts) well = (few_from_arities signature small t well.0, few_from_arities_in signature small ts well.1)

@@ -9,7 +9,7 @@ use Rattle.kb_term.specs.declared.limit.Limit.TheVariants.{Size, Depth, Variable
 use Rattle.kb_unify.specs.Extent.{IsExtent}
 use Rattle.kb_unify.specs.declared.extent.Extent.{Extent}
 use Rattle.kb_overlap.specs.Found.{parts_limit}
-use Rattle.kb_overlap.proofs.Subtrees.{some_same}
+use Rattle.kb_term.proofs.Subtrees.{some_same}
 
 size-with_argument : (ts : Trees) (i : ℕ) (a x : Tree) → argument ts i ≡ Some a → trees_size (with_argument ts i x) + tree_size a ≡ trees_size ts + tree_size x
 size-with_argument no_trees zero a x e = absurd (cc)

@@ -17,7 +17,7 @@ use Rattle.kb_unify.proofs.Similar.{similar_map, similar_limit}
 use Rattle.kb_overlap.specs.Overlap.{IsRenamedApart, OverlapsAt, IsCriticalPair, overlap_limit, pair_or_limit, Overlap, IsOverlapOrLimit, HasNoOverlapAt, ListsOverlaps, canonical_sides, canonical_overlap}
 use Rattle.kb_term.proofs.Variants.{rename-rename, rename_agree, rename_same, turned_back, map_append, variables_renamed}
 use Rattle.kb_overlap.proofs.Extents.{same_canonical, same_pair_limit, same_term_limit}
-use Rattle.kb_overlap.proofs.Subtrees.{some_same, replace-instance, subtree_variables}
+use Rattle.kb_term.proofs.Subtrees.{some_same, replace-instance, subtree_variables}
 
 abbrev pub variables_of_rule : Rule → List ℕ
 variables_of_rule A = variables_of A.left ++ variables_of A.right

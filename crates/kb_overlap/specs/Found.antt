@@ -38,13 +38,3 @@ AreVariablesBelow bound rule = HasVariablesBelow bound rule.left × HasVariables
 abbrev pub IsFoundAt : Rule → Rule → List ℕ → Option Overlap → Type 0
 IsFoundAt outer renamed p None = (u : Tree) → subtree_at outer.left p ≡ Some u → ¬ IsUnifiable u renamed.left
 IsFoundAt outer renamed p (Some o) = (o.position ≡ p) × ((inner : Rule) → IsRenamedApart outer inner renamed → IsOverlapOrLimit outer inner o)
-
--- no symbol of the term is applied to more than 255 arguments: a position holds each argument's number in a byte
-abbrev mutual
-  pub HasFewArguments : Tree → Type 0
-  HasFewArguments (variable n) = ⊤
-  HasFewArguments (apply f ts) = (length (list_of ts) ≤ 255) × HaveFewArguments ts
-
-  pub HaveFewArguments : Trees → Type 0
-  HaveFewArguments no_trees = ⊤
-  HaveFewArguments (more_trees t ts) = HasFewArguments t × HaveFewArguments ts

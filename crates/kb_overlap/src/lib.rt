@@ -8,4 +8,3 @@ mod positions;
 
 pub use alike::overlaps_alike;
 pub use overlap::{Overlap, overlaps};
-pub use positions::has_few_arguments;

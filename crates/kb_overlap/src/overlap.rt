@@ -7,7 +7,8 @@ ghost use Rattle.kb_term.specs.Substitution.{instance};
 ghost use Rattle.kb_term.specs.Substitution.{substitution_of};
 ghost use Rattle.kb_overlap.specs.Instance.{IsSmall};
 ghost use Rattle.kb_overlap.specs.Overlap.{IsOverlapList};
-ghost use Rattle.kb_overlap.specs.Found.{parts_limit, built_limit, IsPairAnswer, IsFoundAt, AreVariablesBelow, HasFewArguments};
+ghost use Rattle.kb_overlap.specs.Found.{parts_limit, built_limit, IsPairAnswer, IsFoundAt, AreVariablesBelow};
+ghost use Rattle.kb_term.specs.FewArguments.{HasFewArguments};
 ghost use Rattle.kb_overlap.specs.View.{overlap_of};
 
 use crate::instance::instance_extent;
@@ -145,8 +146,7 @@ pub fn overlaps(
 #[cfg(test)]
 mod tests {
     use super::*;
-    use crate::positions::has_few_arguments;
-    use kb_term::{Symbol, Terms, compare, has_variables_below};
+    use kb_term::{Symbol, Terms, compare, has_few_arguments, has_variables_below};
     use std::cmp::Ordering;
 
     fn once(alloc: Global, f: u8, a: Term) -> Result<Term, Memory> {

@@ -1,33 +1,12 @@
 // The positions at which overlaps are looked for.
-ghost use Rattle.std.specs.Prelude.{◌≡◌, ◌++◌, ◌↔◌, map, IfOk, IsTrue};
+ghost use Rattle.std.specs.Prelude.{◌≡◌, ◌++◌, map, IfOk};
 ghost use Rattle.kb_term.specs.Position.{function_positions_of};
 ghost use Rattle.kb_term.specs.View.{tree_of};
-ghost use Rattle.kb_overlap.specs.Found.{HasFewArguments};
+ghost use Rattle.kb_term.specs.FewArguments.{HasFewArguments};
 ghost use Rattle.kb_overlap.specs.Overlap.{overlap_positions};
 
 use kb_term::{Memory, Position, Rule, Term};
 use std::alloc::Global;
-
-/// Whether no symbol of the term is applied to more than 255 arguments, as `overlaps` asks of the outer left side.
-pub fn has_few_arguments(t: &Term) -> bool
-    ensures { IsTrue result ↔ HasFewArguments (tree_of t.now) }
-{
-    match t {
-        Term::Var(_) => true,
-        Term::App(_, arguments) => {
-            let items = arguments.items();
-            if items.len() > 255 {
-                return false;
-            }
-            for k in 0..items.len() {
-                if !has_few_arguments(&items[k]) {
-                    return false;
-                }
-            }
-            true
-        }
-    }
-}
 
 /// Adds the positions of the term at which no variable stands, in preorder; the path leads to the term.
 fn push_positions(t: &Term, path: &Position, found: &mut Vec<Position>) -> Result<(), Memory>

@@ -24,3 +24,5 @@ pub mod Both
 pub mod VariantTests
 pub mod Bounded
 pub mod RuleBelow
+pub mod Subtrees
+pub mod FewArguments

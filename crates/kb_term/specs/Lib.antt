@@ -13,3 +13,4 @@ pub mod Falls
 pub mod Made
 pub mod Paired
 pub mod TermOrder
+pub mod FewArguments

@@ -1,6 +1,7 @@
 //! Terms, pairs, rules, signatures and problems.
 #![tactic(auto)]
 
+mod arities;
 mod fault;
 mod laws;
 mod limit;
@@ -22,6 +23,7 @@ mod tests;
 mod variables;
 mod variant;
 
+pub use arities::has_few_arguments;
 pub use fault::TermFault;
 pub use laws::canonical_pairs_tell_equations;
 pub use limit::Limit;
@@ -34,7 +36,7 @@ pub use problem::Problem;
 pub use replacement::replace;
 pub use rule::{Rule, numbered_rule, rule_of};
 pub use signature::Signature;
-pub use subst::{Subst, apply};
+pub use subst::{Subst, apply, instance_of};
 pub use term::{Symbol, Term, Terms, compare, depth, size, total_size};
 pub use variables::{apart, has_variables_below, is_rule_below, variable_bound};
 pub use variant::is_variant;

@@ -49,6 +49,13 @@ impl Subst {
         &self.entries
     }
 
+    /// The variables and their terms, given back without a copy.
+    pub fn into_entries(self) -> Vec<(u16, Term)>
+        ensures { entries_of_list result.items ≡ self }
+    {
+        self.entries
+    }
+
     /// The term of a variable; none where the variable stays.
     pub fn get(&self, n: u16) -> Option<&Term>
         ensures { MatchOption result (substitution_of self.now n ≡ variable n) (λ u. substitution_of self.now n ≡ tree_of u.now) }
@@ -87,7 +94,10 @@ pub fn apply(alloc: Global, m: &Subst, t: &Term) -> Result<Term, TermFault>
     Ok(made)
 }
 
-fn instance_of(alloc: Global, m: &Subst, t: &Term) -> Result<Term, Memory>
+/// The term with each variable replaced by what the substitution gives it, whatever its size.
+///
+/// It takes memory for each node of the result, so where the result may pass a limit `apply` is the call to take.
+pub fn instance_of(alloc: Global, m: &Subst, t: &Term) -> Result<Term, Memory>
     ensures { IfOk result (λ u. tree_of u ≡ instance (substitution_of m.now) (tree_of t.now)) }
 {
     match t {

@@ -12,15 +12,15 @@ ghost use Rattle.kb_overlap.specs.Overlap.{IsOverlapList};
 
 use kb_cert::Certificate;
 use kb_linear::{Interp, search_linear};
-use kb_overlap::{has_few_arguments, overlaps};
+use kb_overlap::overlaps;
 use kb_report::{
     is_equation_within_limits, is_interpretation, is_problem_within_limits, is_term_within_limits,
     one_rule_text,
 };
 use kb_syntax::read_one_equation;
 use kb_term::{
-    Memory, Pair, Problem, Rule, Signature, Term, canonical, has_variables_below, is_rule_below,
-    rule_of,
+    Memory, Pair, Problem, Rule, Signature, Term, canonical, has_few_arguments, has_variables_below,
+    is_rule_below, rule_of,
 };
 use std::alloc::Global;
 

@@ -6,7 +6,7 @@ use Rattle.kb_term.specs.Substitution.{instance}
 use Rattle.kb_term.specs.View.{tree_of}
 use Rattle.kb_unify.specs.Extent.{IsExtent}
 use Rattle.kb_term.specs.Substitution.{substitution_of}
-use Rattle.kb_overlap.proofs.Subtrees.{some_value, subtree-instance}
+use Rattle.kb_term.proofs.Subtrees.{some_value, subtree-instance}
 use Rattle.kb_overlap.proofs.Sides.{parts_passed}
 use Rattle.kb_overlap.proofs.overlap.critical_pair.Goals as goal
 

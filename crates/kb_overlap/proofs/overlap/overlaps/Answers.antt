@@ -9,7 +9,7 @@ use Rattle.kb_overlap.specs.Overlap.{IsRenamedApart, ListsOverlaps}
 use Rattle.kb_overlap.specs.View.{overlap_of}
 use Rattle.kb_overlap.proofs.Finding.{apart_is, below_more, below_apart, none_there}
 use Rattle.kb_overlap.proofs.Preorder.{listed_at, lists_none, lists_some}
-use Rattle.kb_overlap.proofs.Subtrees.{position_there}
+use Rattle.kb_term.proofs.Subtrees.{position_there}
 use Rattle.kb_overlap.proofs.overlap.overlaps.Goals.{in-Some+in_ok-push-in-Some, in-None}
 use Rattle.kb_overlap.proofs.overlap.overlaps.Goals as goal
 

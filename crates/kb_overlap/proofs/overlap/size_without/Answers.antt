@@ -2,7 +2,7 @@ use Rattle.std.proofs.Common.{arith, ◌∙◌, sym, ap}
 use Rattle.std.specs.Prelude.{option_map}
 use Rattle.kb_term.specs.Tree.{tree_size}
 use Rattle.kb_term.specs.View.{tree_of}
-use Rattle.kb_overlap.proofs.Subtrees.{some_same}
+use Rattle.kb_term.proofs.Subtrees.{some_same}
 use Rattle.kb_overlap.proofs.Sides.{size-subtree}
 use Rattle.kb_overlap.proofs.overlap.size_without.Goals as goal
 

@@ -4,8 +4,9 @@ use Rattle.kb_term.specs.Position.{function_positions_of}
 use Rattle.kb_term.specs.Tree.{tree_depth, trees_of, apply}
 use Rattle.kb_term.specs.View.{tree_of}
 use Rattle.kb_term.proofs.Arguments.{argument-is, argument-depth, arguments-length}
-use Rattle.kb_overlap.specs.Found.{HasFewArguments}
-use Rattle.kb_overlap.proofs.Preorder.{positions_more, few_arguments, arguments-count}
+use Rattle.kb_term.specs.FewArguments.{HasFewArguments}
+use Rattle.kb_term.proofs.FewArguments.{few_arguments, arguments-count}
+use Rattle.kb_overlap.proofs.Preorder.{positions_more}
 use Rattle.kb_overlap.proofs.positions.+push_positions.Goals as goal
 
 pub overflow_cast-k : goal.overflow_cast-k

@@ -3,9 +3,9 @@ use Rattle.std.specs.Prelude.{map}
 use Rattle.kb_term.specs.Tree.{tree_depth, trees_of, apply}
 use Rattle.kb_term.specs.View.{tree_of}
 use Rattle.kb_term.proofs.Arguments.{argument-is, argument-depth, arguments-length}
-use Rattle.kb_overlap.specs.Found.{HasFewArguments}
-use Rattle.kb_overlap.proofs.Preorder.{few_arguments, all_few_arguments, arguments-count}
-use Rattle.kb_overlap.proofs.positions.+has_few_arguments.Goals as goal
+use Rattle.kb_term.specs.FewArguments.{HasFewArguments}
+use Rattle.kb_term.proofs.FewArguments.{few_arguments, all_few_arguments, arguments-count}
+use Rattle.kb_term.proofs.arities.+has_few_arguments.Goals as goal
 
 pub returns-then-items-gt255 : goal.returns-then-items-gt255
 returns-then-items-gt255 t c =
