@@ -243,6 +243,76 @@ fn unify(s: &Term, t: &Term) -> Result<Option<Vec<(u16, Term)>>, ()> {
     Ok(Some(entries))
 }
 
+// ---- rewriting
+
+/// Whether the pattern becomes the term by the bindings, to which its variables are added.
+fn matches<'a>(pattern: &Term, t: &'a Term, bound: &mut Vec<(u16, &'a Term)>) -> bool {
+    match (pattern, t) {
+        (Var(x), _) => match bound.iter().find(|entry| entry.0 == *x) {
+            Some(entry) => entry.1 == t,
+            None => {
+                bound.push((*x, t));
+                true
+            }
+        },
+        (App(f, ps), App(g, ts)) => {
+            f == g && ps.len() == ts.len() && ps.iter().zip(ts).all(|(p, u)| matches(p, u, bound))
+        }
+        _ => false,
+    }
+}
+
+fn instance(t: &Term, bound: &[(u16, &Term)]) -> Term {
+    match t {
+        Var(x) => bound.iter().find(|entry| entry.0 == *x).map_or(Var(*x), |entry| entry.1.clone()),
+        App(f, ts) => App(*f, ts.iter().map(|u| instance(u, bound)).collect()),
+    }
+}
+
+/// Rewrites the term in place at the first redex in preorder, by the first rule there; false where there is none.
+fn rewrite_first(rules: &[Rule], t: &mut Term) -> bool {
+    for (left, right) in rules {
+        let mut bound = vec![];
+        if matches(left, t, &mut bound) {
+            let made = instance(right, &bound);
+            *t = made;
+            return true;
+        }
+    }
+    match t {
+        Var(_) => false,
+        App(_, ts) => ts.iter_mut().any(|u| rewrite_first(rules, u)),
+    }
+}
+
+fn size(t: &Term) -> u32 {
+    match t {
+        Var(_) => 1,
+        App(_, ts) => 1 + ts.iter().map(size).sum::<u32>(),
+    }
+}
+
+fn depth(t: &Term) -> u32 {
+    match t {
+        Var(_) => 1,
+        App(_, ts) => 1 + ts.iter().map(depth).max().unwrap_or(0),
+    }
+}
+
+/// The normal form with the number of steps; the error is 1 after 10,000 steps, 2 at a limit.
+fn normal_form(rules: &[Rule], t: &Term) -> Result<(Term, u32), u64> {
+    let mut term = t.clone();
+    for count in 0..10000 {
+        if !rewrite_first(rules, &mut term) {
+            return Ok((term, count));
+        }
+        if size(&term) > 512 || depth(&term) > 64 {
+            return Err(2);
+        }
+    }
+    if rewrite_first(rules, &mut term) { Err(1) } else { Ok((term, 10000)) }
+}
+
 // ---- the cases, as in crates/kb_bench/src
 
 fn next(seed: &mut u32, bound: u32) -> u32 {
@@ -361,6 +431,36 @@ fn unify_case(s: Term, t: Term, repetitions: u32) -> u64 {
     })
 }
 
+fn term_code(t: &Term) -> u64 {
+    match t {
+        Var(n) => u64::from(*n),
+        App(f, ts) => ts.iter().fold(u64::from(*f), |code, u| with_next(code, term_code(u))),
+    }
+}
+
+fn normal_case(rules: Vec<Rule>, t: Term, repetitions: u32) -> u64 {
+    repeat(repetitions, &|| match normal_form(std::hint::black_box(&rules), &t) {
+        Ok((form, steps)) => with_next(term_code(&form), u64::from(steps)),
+        Err(code) => code,
+    })
+}
+
+fn numeral(n: u8) -> Term {
+    (0..n).fold(App(0, vec![]), |t, _| App(1, vec![t]))
+}
+
+fn numeral_rules() -> Vec<Rule> {
+    let s = |t: Term| App(1, vec![t]);
+    let sum = |t: Term, u: Term| App(2, vec![t, u]);
+    let product = |t: Term, u: Term| App(3, vec![t, u]);
+    vec![
+        (sum(numeral(0), Var(0)), Var(0)),
+        (sum(s(Var(0)), Var(1)), s(sum(Var(0), Var(1)))),
+        (product(numeral(0), Var(0)), numeral(0)),
+        (product(s(Var(0)), Var(1)), sum(Var(1), product(Var(0), Var(1)))),
+    ]
+}
+
 const GROUP: [u8; 3] = [2, 1, 0];
 const UNARY: [u8; 12] = [1; 12];
 const FIVE: [u8; 5] = [1; 5];
@@ -393,6 +493,14 @@ fn main() {
             let left = App(1, (0..8).map(Var).collect());
             unify_case(left, App(1, (1..9).map(double).collect()), times)
         }
+        "rewrite_product" => {
+            normal_case(numeral_rules(), App(3, vec![numeral(7), numeral(7)]), times)
+        }
+        "rewrite_tree" => normal_case(
+            vec![(App(0, vec![Var(0), Var(1)]), App(1, vec![Var(1), Var(0)]))],
+            App(2, vec![full_tree(8, 0, 1, 0)]),
+            times,
+        ),
         name => panic!("no case {name}"),
     };
     println!("{sum}");

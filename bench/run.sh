@@ -47,4 +47,6 @@ linear_unary_eight 100
 unify_tree 10000
 unify_comb 10000
 unify_doubling 10000
+rewrite_product 1000
+rewrite_tree 100
 CASES

@@ -2,6 +2,7 @@
 ghost use Rattle.std.specs.Prelude.{◌≤◌, length};
 ghost use Rattle.kb_linear.specs.Limits.{AreMeasurable};
 
+use crate::rewriting::{product_case, tree_case};
 use crate::rules::{group_rules, linear_rules, path_rules};
 use crate::shapes::{comb, eight_doubles, eight_variables, full_tree, signature, unary};
 use kb_linear::{Interp, search_linear};
@@ -24,6 +25,8 @@ pub enum Case {
     UnifyTree,
     UnifyComb,
     UnifyDoubling,
+    RewriteProduct,
+    RewriteTree,
 }
 
 /// The case of this name.
@@ -40,6 +43,8 @@ pub(crate) fn case_named(name: &str) -> Option<Case> {
         "unify_tree" => Some(Case::UnifyTree),
         "unify_comb" => Some(Case::UnifyComb),
         "unify_doubling" => Some(Case::UnifyDoubling),
+        "rewrite_product" => Some(Case::RewriteProduct),
+        "rewrite_tree" => Some(Case::RewriteTree),
         _ => None,
     }
 }
@@ -56,7 +61,8 @@ const WIDE: [u8; 24] = [
     2, 3, 2, 0, 1, 2, 3, 1, 3, 0, 0, 3, 2, 1, 1, 3, 2, 2, 1, 1, 1, 1, 2, 3,
 ];
 
-fn with_next(sum: u64, number: u64) -> u64 {
+/// The sum of numbers so far, with one number more.
+pub(crate) fn with_next(sum: u64, number: u64) -> u64 {
     sum.wrapping_mul(31).wrapping_add(number)
 }
 
@@ -197,5 +203,7 @@ pub(crate) fn checksum(alloc: Global, case: Case, repetitions: u32) -> Result<u6
             let t = eight_doubles(alloc)?;
             repeat_unify(alloc, &s, &t, repetitions)
         }
+        Case::RewriteProduct => product_case(alloc, repetitions),
+        Case::RewriteTree => tree_case(alloc, repetitions),
     }
 }

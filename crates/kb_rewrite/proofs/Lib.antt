@@ -2,4 +2,7 @@ mod RewriteRows
 pub mod Positions
 pub mod FirstRedexes
 pub mod Steps
-pub mod Normal
+pub mod Irreducible
+pub mod Strategy
+pub mod Runs
+pub mod Determined

@@ -1,16 +1,19 @@
 -- Redexes and normal forms on small terms.
-use Rattle.std.specs.Prelude.{ℕ, zero, suc, ◌<◌, List, [], ◌∷◌, ◌≡◌, false, None, All, length}
+use Rattle.std.specs.Prelude.{ℕ, zero, suc, ◌+◌, ◌<◌, List, [], ◌∷◌, ◌≡◌, false, Some, None, All, length}
 use Rattle.std.proofs.Common.{refl, arith, subst, ap, sym, ◌∙◌}
 use Rattle.std.proofs.lemmas.Bool.{false≢true}
 use Rattle.std.proofs.lemmas.Option.{same_Some}
 use Rattle.kb_term.specs.Substitution.{instance}
-use Rattle.kb_term.specs.Tree.{Tree, variable}
+use Rattle.kb_term.specs.Tree.{Tree, variable, tree_size, tree_depth}
 use Rattle.kb_term.specs.Rule.{Rule}
 use Rattle.kb_term.specs.Pair.{term_limit}
-use Rattle.kb_rewrite.specs.NormalForm.{IsFound, IsRedex, StrategyStep, IsRunWithinLimits, HasRedex, NormalisesTo, long}
+use Rattle.kb_rewrite.specs.NormalForm.{IsFound, IsNormal, IsRedex, StrategyStep, IsRunWithinLimits, HasRedex, NormalisesTo, form, long, large}
+use Rattle.kb_term.specs.declared.limit.Limit.TheVariants.{Depth}
 use Rattle.kb_term.specs.declared.origin.Found.TheVariants.{Variant}
 use Rattle.kb_term.proofs.PairRows.{one, none}
 use Rattle.kb_term.proofs.Trees.{apply-inj}
+use Rattle.kb_overlap.proofs.Sides.{term_limit-none}
+use Rattle.kb_rewrite.proofs.Strategy.{strategy_root}
 
 -- f(a) is a variant of the left side of f(a) -> b
 pub found-variant : IsFound (one 0 (none 1)) (record { left = one 0 (none 1); right = none 2 }) Variant
@@ -96,3 +99,71 @@ pub normalises-long : NormalisesTo a-b (none 0) (long 10000)
 normalises-long =
     let r = swaps-run 10000 0 1 step-a step-b in
     (refl, swaps 10000 0 1, r.0, r.1, length-swaps 10000 0 1, r.2)
+
+-- a -> b alone
+abbrev pub to-b : List Rule
+to-b = record { left = none 0; right = none 1 } ∷ []
+
+step-to-b : StrategyStep to-b (none 0) (none 1)
+step-to-b = strategy_root to-b (none 0) (none 1) 0 (record { left = none 0; right = none 1 }) variable refl refl refl (λ j h. absurd (omega (arith, h)))
+
+none_some : {X : Type 0} {x : X} → None ≡ Some x → ⊥
+none_some e = cc
+
+normal-b : IsNormal to-b (none 1)
+normal-b u (rule, (suc k, h, e), p, s) = absurd (omega (arith, h))
+normal-b u (rule, (zero, h, e), zero ∷ p, (m, w)) = none_some (w.redex)
+normal-b u (rule, (zero, h, e), suc i ∷ p, (m, w)) = none_some (w.redex)
+normal-b u (rule, (zero, h, e), [], (m, w)) =
+    let same : instance m (none 0) ≡ none 1 = subst (λ (q : Rule). instance m q.left ≡ none 1) (sym e) (sym (same_Some _ _ w.redex)) in
+    absurd (omega (arith, (apply-inj same).0))
+
+-- the normal form of a is b, one step away
+pub normalises-form : NormalisesTo to-b (none 0) (form (none 1) 1)
+normalises-form = (none 1 ∷ [], ((step-to-b, refl), within-more (none 1) [] refl (λ k d p. absurd (omega (arith, p)))), refl, omega arith, normal-b)
+
+-- f(x) -> f(f(x))
+abbrev pub f-ff : List Rule
+f-ff = record { left = one 0 (variable 0); right = one 0 (one 0 (variable 0)) } ∷ []
+
+-- so many f over a
+abbrev pub powers : ℕ → Tree
+powers zero = none 1
+powers (suc n) = one 0 (powers n)
+
+step-f : (n : ℕ) → StrategyStep f-ff (powers (suc n)) (powers (suc (suc n)))
+step-f n = strategy_root f-ff (powers (suc n)) (powers (suc (suc n))) 0 (record { left = one 0 (variable 0); right = one 0 (one 0 (variable 0)) }) (λ x. powers n) refl refl refl (λ j h. absurd (omega (arith, h)))
+
+size-powers : (n : ℕ) → tree_size (powers n) ≡ suc n
+size-powers zero = refl
+size-powers (suc n) = omega (arith, size-powers n)
+
+depth-powers : (n : ℕ) → tree_depth (powers n) ≡ suc n
+depth-powers zero = refl
+depth-powers (suc n) = omega (arith, depth-powers n)
+
+small-power : (n : ℕ) → n < 64 → term_limit (powers n) ≡ None
+small-power n h = term_limit-none (powers n) (omega (arith, h, size-powers n)) (omega (arith, h, depth-powers n))
+
+-- the results of k steps from n + 1 times f, and how many more f than one the last has
+abbrev climb : ℕ → ℕ → List Tree
+climb zero n = []
+climb (suc k) n = powers (suc (suc n)) ∷ climb k (suc n)
+
+abbrev top : ℕ → ℕ → ℕ
+top zero n = n
+top (suc k) n = top k (suc n)
+
+length-climb : (k n : ℕ) → length (climb k n) ≡ k
+length-climb zero n = refl
+length-climb (suc k) n = ap suc (length-climb k (suc n))
+
+climbs : (k n : ℕ) → k + n < 63 → IsRunWithinLimits f-ff (climb k n) (powers (suc n)) (powers (suc (top k n)))
+climbs zero n h = (refl, λ k d p. absurd (omega (arith, p)))
+climbs (suc k) n h =
+    let r = climbs k (suc n) (omega (arith, h)) in
+    ((step-f n, r.0), within-more (powers (suc (suc n))) (climb k (suc n)) (small-power (suc (suc n)) (omega (arith, h))) r.1)
+
+-- normalising f(a) passes the depth
+pub normalises-deep : NormalisesTo f-ff (powers 1) (large Depth)
+normalises-deep = (climb 62 0, powers 63, powers 64, climbs 62 0 (omega arith), omega (arith, length-climb 62 0), step-f 62, refl)

@@ -1,2 +1,3 @@
 pub mod NormalForm
 pub mod Search
+pub mod Answers

@@ -3,12 +3,14 @@
 
 mod encompassing;
 mod laws;
+mod normalising;
 mod redex;
 mod rewriting;
 #[cfg(test)]
 mod tests;
 
 pub use encompassing::found;
-pub use laws::{no_redex_is_normal, strategy_rewrites};
+pub use laws::{no_redex_is_normal, normal_forms_are_one, strategy_rewrites};
+pub use normalising::{MAX_STEPS, Normal, normal_form};
 pub use redex::{Redex, first_redex};
 pub use rewriting::step;

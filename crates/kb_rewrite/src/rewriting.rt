@@ -36,7 +36,7 @@ fn matched_at(alloc: Global, pattern: &Term, t: &Term, p: &Position) -> Result<S
 }
 
 /// The term with each variable replaced by what the substitution gives it, whatever its size.
-fn instance_of(alloc: Global, m: &Subst, t: &Term) -> Result<Term, Memory>
+pub(crate) fn instance_of(alloc: Global, m: &Subst, t: &Term) -> Result<Term, Memory>
     ensures { IfOk result (λ u. tree_of u ≡ instance (substitution_of m.now) (tree_of t.now)) }
 {
     match t {

@@ -1,7 +1,7 @@
 // Worked examples.
 use crate::*;
 use kb_overlap::has_few_arguments;
-use kb_term::{Found, Memory, Rule, Symbol, Term, Terms};
+use kb_term::{Found, Limit, Memory, Rule, Symbol, Term, Terms};
 use std::alloc::Global;
 
 fn constant(alloc: Global, f: u8) -> Term {
@@ -98,4 +98,113 @@ fn a_variant_is_passed_over_where_strict_redexes_are_asked_for(rt: HostRuntime) 
     assert!(rt; any.is_some());
     no_redex_is_normal();
     strategy_rewrites();
+}
+
+/// The symbol under itself so many times, around the term.
+fn chain(alloc: Global, f: u8, count: u16, t: Term) -> Result<Term, Memory> {
+    let mut t = t;
+    for _ in 0..count {
+        t = unary(alloc, f, t)?;
+    }
+    Ok(t)
+}
+
+fn binary(alloc: Global, f: u8, a: Term, b: Term) -> Result<Term, Memory> {
+    let mut items = Vec::new(alloc);
+    items.push(a)?;
+    items.push(b)?;
+    Ok(Term::App(Symbol(f), Terms::new(items)))
+}
+
+/// One rule in a list.
+fn rule(alloc: Global, left: Term, right: Term) -> Result<Vec<Rule>, Memory> {
+    let mut rules = Vec::new(alloc);
+    rules.push(Rule::new(left, right))?;
+    Ok(rules)
+}
+
+/// The rules 0 + y -> y and s(x) + y -> s(x + y), by the symbols 0, s, + of the numbers 0 to 2.
+fn sum_rules(alloc: Global) -> Result<Vec<Rule>, Memory> {
+    let mut rules = rule(
+        alloc,
+        binary(alloc, 2, constant(alloc, 0), Term::Var(1))?,
+        Term::Var(1),
+    )?;
+    let left = binary(alloc, 2, unary(alloc, 1, Term::Var(0))?, Term::Var(1))?;
+    let right = unary(alloc, 1, binary(alloc, 2, Term::Var(0), Term::Var(1))?)?;
+    rules.push(Rule::new(left, right))?;
+    Ok(rules)
+}
+
+/// The rule d(x) -> p(x, x), by the symbols d, p of the numbers 1 and 2.
+fn doubling(alloc: Global) -> Result<Vec<Rule>, Memory> {
+    let left = unary(alloc, 1, Term::Var(0))?;
+    rule(alloc, left, binary(alloc, 2, Term::Var(0), Term::Var(0))?)
+}
+
+#[test]
+fn two_constants_that_become_each_other_are_long(rt: HostRuntime) {
+    let alloc = rt.alloc();
+    let mut rules = rule(alloc, constant(alloc, 0), constant(alloc, 1)).expect(&rt, "memory");
+    rules
+        .push(Rule::new(constant(alloc, 1), constant(alloc, 0)))
+        .expect(&rt, "memory");
+    let normal = normal_form(alloc, &rules, &constant(alloc, 0)).expect(&rt, "memory");
+    assert!(rt; matches!(&normal, Normal::Long(10000)));
+}
+
+#[test]
+fn a_symbol_that_doubles_itself_passes_the_depth(rt: HostRuntime) {
+    let alloc = rt.alloc();
+    let left = unary(alloc, 1, Term::Var(0)).expect(&rt, "memory");
+    let right = chain(alloc, 1, 2, Term::Var(0)).expect(&rt, "memory");
+    let rules = rule(alloc, left, right).expect(&rt, "memory");
+    let t = unary(alloc, 1, constant(alloc, 0)).expect(&rt, "memory");
+    let normal = normal_form(alloc, &rules, &t).expect(&rt, "memory");
+    assert!(rt; matches!(&normal, Normal::Large(Limit::Depth)));
+}
+
+#[test]
+fn two_and_two_are_four_in_three_steps(rt: HostRuntime) {
+    let alloc = rt.alloc();
+    let rules = sum_rules(alloc).expect(&rt, "memory");
+    let two = chain(alloc, 1, 2, constant(alloc, 0)).expect(&rt, "memory");
+    let more = chain(alloc, 1, 2, constant(alloc, 0)).expect(&rt, "memory");
+    let t = binary(alloc, 2, two, more).expect(&rt, "memory");
+    let normal = normal_form(alloc, &rules, &t).expect(&rt, "memory");
+    assert!(rt; matches!(&normal, Normal::Form(_, 3)));
+    if let Normal::Form(u, _) = &normal {
+        let four = chain(alloc, 1, 4, constant(alloc, 0)).expect(&rt, "memory");
+        assert!(rt; *u == four);
+    }
+    normal_forms_are_one();
+}
+
+#[test]
+fn eight_doublings_make_size_511_and_nine_pass_the_size(rt: HostRuntime) {
+    let alloc = rt.alloc();
+    let rules = doubling(alloc).expect(&rt, "memory");
+    let eight = chain(alloc, 1, 8, constant(alloc, 0)).expect(&rt, "memory");
+    let small = normal_form(alloc, &rules, &eight).expect(&rt, "memory");
+    assert!(rt; matches!(&small, Normal::Form(_, 255)));
+    let nine = chain(alloc, 1, 9, constant(alloc, 0)).expect(&rt, "memory");
+    let large = normal_form(alloc, &rules, &nine).expect(&rt, "memory");
+    assert!(rt; matches!(&large, Normal::Large(Limit::Size)));
+}
+
+#[test]
+fn the_first_result_decides_and_its_size_before_its_depth(rt: HostRuntime) {
+    let alloc = rt.alloc();
+    let long = chain(alloc, 1, 600, constant(alloc, 3)).expect(&rt, "memory");
+    let rules = rule(alloc, constant(alloc, 0), long).expect(&rt, "memory");
+    let normal = normal_form(alloc, &rules, &constant(alloc, 0)).expect(&rt, "memory");
+    assert!(rt; matches!(&normal, Normal::Large(Limit::Size)));
+    let deep = chain(alloc, 1, 70, constant(alloc, 3)).expect(&rt, "memory");
+    let mut rules = rule(alloc, constant(alloc, 0), deep).expect(&rt, "memory");
+    let left = unary(alloc, 1, Term::Var(0)).expect(&rt, "memory");
+    rules
+        .push(Rule::new(left, constant(alloc, 3)))
+        .expect(&rt, "memory");
+    let normal = normal_form(alloc, &rules, &constant(alloc, 0)).expect(&rt, "memory");
+    assert!(rt; matches!(&normal, Normal::Large(Limit::Depth)));
 }

@@ -1,0 +1,100 @@
+// The cases of rewriting, and their answers' checksums.
+use crate::runs::with_next;
+use crate::shapes::{binary, full_tree, unary};
+use kb_rewrite::{Normal, normal_form};
+use kb_term::{Memory, Rule, Symbol, Term, Terms};
+use std::alloc::Global;
+
+fn zero(alloc: Global) -> Term {
+    Term::App(Symbol(0), Terms::new(Vec::new(alloc)))
+}
+
+fn successor(alloc: Global, t: Term) -> Result<Term, Memory> {
+    unary(alloc, 1, t)
+}
+
+fn sum(alloc: Global, s: Term, t: Term) -> Result<Term, Memory> {
+    binary(alloc, 2, s, t)
+}
+
+fn product(alloc: Global, s: Term, t: Term) -> Result<Term, Memory> {
+    binary(alloc, 3, s, t)
+}
+
+fn numeral(alloc: Global, n: u8) -> Result<Term, Memory> {
+    let mut t = zero(alloc);
+    for _ in 0..n {
+        t = successor(alloc, t)?;
+    }
+    Ok(t)
+}
+
+// Sums and products of numerals: the symbols 0 to 3 are zero, the successor, the sum and the product.
+fn numeral_rules(alloc: Global) -> Result<Vec<Rule>, Memory> {
+    let mut rules = Vec::new(alloc);
+    let x = Term::Var(0);
+    rules.push(Rule::new(sum(alloc, zero(alloc), x)?, Term::Var(0)))?;
+    let more = successor(alloc, Term::Var(0))?;
+    let rest = sum(alloc, Term::Var(0), Term::Var(1))?;
+    rules.push(Rule::new(sum(alloc, more, Term::Var(1))?, successor(alloc, rest)?))?;
+    rules.push(Rule::new(product(alloc, zero(alloc), Term::Var(0))?, zero(alloc)))?;
+    let more = successor(alloc, Term::Var(0))?;
+    let rest = product(alloc, Term::Var(0), Term::Var(1))?;
+    rules.push(Rule::new(
+        product(alloc, more, Term::Var(1))?,
+        sum(alloc, Term::Var(1), rest)?,
+    ))?;
+    Ok(rules)
+}
+
+// The rule that turns a node of symbol 0 round, to one of symbol 1.
+fn turning_rules(alloc: Global) -> Result<Vec<Rule>, Memory> {
+    let left = binary(alloc, 0, Term::Var(0), Term::Var(1))?;
+    let right = binary(alloc, 1, Term::Var(1), Term::Var(0))?;
+    let mut rules = Vec::new(alloc);
+    rules.push(Rule::new(left, right))?;
+    Ok(rules)
+}
+
+fn term_code(t: &Term) -> u64 {
+    match t {
+        Term::Var(n) => u64::from(*n),
+        Term::App(f, arguments) => {
+            let mut code = u64::from(f.0);
+            let items = arguments.items();
+            for k in 0..items.len() {
+                code = with_next(code, term_code(&items[k]));
+            }
+            code
+        }
+    }
+}
+
+// The normal form and the number of steps; less than 1000 where there is none.
+fn normal_code(normal: &Normal) -> u64 {
+    match normal {
+        Normal::Form(t, steps) => with_next(term_code(t), u64::from(*steps)),
+        Normal::Long(_) => 1,
+        Normal::Large(_) => 2,
+    }
+}
+
+fn repeat_normal(alloc: Global, rules: &[Rule], t: &Term, repetitions: u32) -> Result<u64, Memory> {
+    let mut sum = 0;
+    for _ in 0..repetitions {
+        sum = with_next(sum, normal_code(&normal_form(alloc, rules, t)?));
+    }
+    Ok(sum)
+}
+
+/// 7 times 7, in numerals: 64 steps.
+pub(crate) fn product_case(alloc: Global, repetitions: u32) -> Result<u64, Memory> {
+    let t = product(alloc, numeral(alloc, 7)?, numeral(alloc, 7)?)?;
+    repeat_normal(alloc, &numeral_rules(alloc)?, &t, repetitions)
+}
+
+/// The 255 nodes of a full tree turned round, a step each, in a term of size 512.
+pub(crate) fn tree_case(alloc: Global, repetitions: u32) -> Result<u64, Memory> {
+    let t = unary(alloc, 2, full_tree(alloc, 8, 0, 1, 0)?)?;
+    repeat_normal(alloc, &turning_rules(alloc)?, &t, repetitions)
+}
