@@ -1,10 +1,9 @@
 -- The positions of a term in preorder, argument by argument, and lists of overlaps that grow with them.
-use Rattle.std.proofs.Common.{ℕ, zero, suc, ◌+◌, ◌<◌, ◌≤◌, ◌≡◌, inl, inr, refl, sym, ap, ap₂, ◌∙◌, subst, arith, List, [], ◌∷◌, ◌++◌, length, get_or, take, append_assoc, Contains}
-use Rattle.std.specs.Prelude.{All, map, drop, remove, Bool, true, false}
+use Rattle.std.proofs.Common.{ℕ, zero, suc, ◌+◌, ◌<◌, ◌≡◌, inl, inr, refl, sym, ap, ap₂, ◌∙◌, subst, arith, List, [], ◌∷◌, ◌++◌, length, get_or, take, append_assoc, Contains}
+use Rattle.std.specs.Prelude.{map, drop, remove, Bool, true, false}
 use Rattle.std.proofs.lemmas.List.{append-nil, map-append}
-use Rattle.kb_term.specs.Tree.{Tree, Trees, variable, apply, no_trees, more_trees, trees_of, list_of}
+use Rattle.kb_term.specs.Tree.{Tree, variable, trees_of}
 use Rattle.kb_term.specs.Position.{function_positions_of, function_positions_in}
-use Rattle.kb_term.specs.Signature.{Signature, SymbolEntry, HasArity, IsWellFormed, AreWellFormed}
 use Rattle.kb_term.specs.Rule.{Rule}
 use Rattle.kb_overlap.specs.Overlap.{Overlap, ListsOverlaps, HasNoOverlapAt, IsOverlapOrLimit, overlap_positions}
 

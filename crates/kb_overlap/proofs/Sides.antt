@@ -71,10 +71,6 @@ size-subtree (i ∷ p) (apply f ts) u e = go (argument ts i) refl (λ a h. size-
     go None q back e = absurd (cc)
     go (Some a) q back e = omega (arith, back a e, size-argument ts i a q)
 
--- terms without a limit
-pub term_limit-none : (t : Tree) → tree_size t ≤ 512 → tree_depth t ≤ 64 → term_limit t ≡ None
-term_limit-none t h k = let a : nat_lt 512 (tree_size t) ≡ false = grind arith in let b : nat_lt 64 (tree_depth t) ≡ false = grind arith in rw (a, b) refl
-
 -- a pair with a side that is too large, too deep
 pub pair_limit-size : (s t : Tree) → (nat_lt 512 (tree_size s) || nat_lt 512 (tree_size t)) ≡ true → pair_limit s t ≡ Some Size
 pair_limit-size s t h = rw h refl

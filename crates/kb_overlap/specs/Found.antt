@@ -1,6 +1,6 @@
 -- What is found at one position.
-use Rattle.std.specs.Prelude.{ℕ, ◌+◌, ◌≤◌, ◌≡◌, length, ◌||◌, nat_lt, List, [], ◌∷◌, Option, Some, None, Result, Ok, Err, ⊤}
-use Rattle.kb_term.specs.Tree.{Tree, Trees, variable, apply, no_trees, more_trees, list_of, HasVariablesBelow}
+use Rattle.std.specs.Prelude.{ℕ, ◌+◌, ◌≡◌, ◌||◌, nat_lt, List, [], ◌∷◌, Option, Some, None, Result, Ok, Err, ⊤}
+use Rattle.kb_term.specs.Tree.{Tree, HasVariablesBelow}
 use Rattle.kb_term.specs.Position.{subtree_at}
 use Rattle.kb_term.specs.Pair.{first_limit, limit_if, term_limit, pair_limit}
 use Rattle.kb_term.specs.Rule.{Rule}

@@ -12,7 +12,7 @@ use Rattle.kb_term.specs.Proving.{IsPath, RewritesAt}
 use Rattle.kb_term.specs.declared.limit.Limit.{Limit}
 use Rattle.kb_term.proofs.Instances.{agree_at, instance-agree}
 use Rattle.kb_term.proofs.Steps.{contains_first, contains_behind, occurs_from, occurs_to}
-use Rattle.kb_overlap.proofs.Subtrees.{some_same, replace-there}
+use Rattle.kb_term.proofs.Subtrees.{some_same, replace-there}
 use Rattle.kb_rewrite.specs.NormalForm.{IsRedex, IsFirstRedex, IsNormal, HasRedex, StrategyStep, IsRunWithinLimits, HoldVariables, Normalised, form, long, large, NormalisesTo}
 use Rattle.kb_rewrite.proofs.FirstRedexes.{rule_inside}
 use Rattle.kb_rewrite.proofs.Irreducible.{step_from}

@@ -8,7 +8,7 @@ use Rattle.kb_term.specs.Tree.{Tree, variable, apply, trees_of}
 use Rattle.kb_term.specs.Rule.{Rule}
 use Rattle.kb_term.specs.Substitution.{Matches}
 use Rattle.kb_term.specs.Position.{subtree_at, positions_of, positions_in}
-use Rattle.kb_overlap.proofs.Subtrees.{some_same, contains_mapped}
+use Rattle.kb_term.proofs.Subtrees.{some_same, contains_mapped}
 use Rattle.kb_rewrite.specs.NormalForm.{IsFirstRedex, HasNoRedex}
 use Rattle.kb_rewrite.specs.Search.{IsRootRedex, IsFirstRule, HasNone, IsFirstAt}
 use Rattle.kb_rewrite.proofs.Positions.{subtree-in, subtree-below}

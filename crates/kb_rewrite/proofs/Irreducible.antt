@@ -7,7 +7,7 @@ use Rattle.kb_term.specs.Tree.{Tree}
 use Rattle.kb_term.specs.Rule.{Rule}
 use Rattle.kb_term.specs.Substitution.{instance}
 use Rattle.kb_term.specs.Proving.{Step}
-use Rattle.kb_overlap.proofs.Subtrees.{some_same}
+use Rattle.kb_term.proofs.Subtrees.{some_same}
 use Rattle.kb_rewrite.specs.NormalForm.{HasNoRedex, IsNormal, StrategyStep}
 use Rattle.kb_rewrite.proofs.FirstRedexes.{rule_inside}
 

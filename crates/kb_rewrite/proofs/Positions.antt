@@ -5,7 +5,7 @@ use Rattle.std.proofs.lemmas.Bool.{false≢true}
 use Rattle.kb_term.specs.Tree.{Tree, variable, apply, trees_of}
 use Rattle.kb_term.specs.Position.{argument, subtree_at}
 use Rattle.kb_term.specs.Substitution.{Matches}
-use Rattle.kb_overlap.proofs.Subtrees.{some_same}
+use Rattle.kb_term.proofs.Subtrees.{some_same}
 use Rattle.kb_rewrite.specs.NormalForm.{Encompasses}
 
 -- the argument with a number from 1

@@ -12,7 +12,7 @@ use Rattle.kb_term.specs.declared.limit.Limit.TheVariants.{Depth}
 use Rattle.kb_term.specs.declared.origin.Found.TheVariants.{Variant}
 use Rattle.kb_term.proofs.PairRows.{one, none}
 use Rattle.kb_term.proofs.Trees.{apply-inj}
-use Rattle.kb_overlap.proofs.Sides.{term_limit-none}
+use Rattle.kb_term.proofs.Limited.{limit-none}
 use Rattle.kb_rewrite.proofs.Strategy.{strategy_root}
 
 -- f(a) is a variant of the left side of f(a) -> b
@@ -143,7 +143,7 @@ depth-powers zero = refl
 depth-powers (suc n) = omega (arith, depth-powers n)
 
 small-power : (n : ℕ) → n < 64 → term_limit (powers n) ≡ None
-small-power n h = term_limit-none (powers n) (omega (arith, h, size-powers n)) (omega (arith, h, depth-powers n))
+small-power n h = limit-none (powers n) (omega (arith, h, size-powers n)) (omega (arith, h, depth-powers n))
 
 -- the results of k steps from n + 1 times f, and how many more f than one the last has
 abbrev climb : ℕ → ℕ → List Tree

@@ -25,6 +25,9 @@ run_none rules t u e = ([], (e, λ k d p. absurd (omega (arith, p))), refl)
 pub run_more : (rules : List Rule) (t u v : Tree) (n : ℕ) → Run rules t u n → StrategyStep rules u v → term_limit v ≡ None → Run rules t v (n + 1)
 run_more rules t u v n (path, (h, small), e) s limit = (path ++ v ∷ [], (path_more (StrategyStep rules) path t u v h s, All-append (λ w. term_limit w ≡ None) path (v ∷ []) small (All-cons (λ w. term_limit w ≡ None) v [] limit (All-nil (λ w. term_limit w ≡ None)))), omega (arith, e, length-append path (v ∷ [])))
 
+pub run_same : (rules : List Rule) (t : Tree) (n : ℕ) {u v : Tree} → u ≡ v → Run rules t u n → Run rules t v n
+run_same rules t n e h = subst (λ x. Run rules t x n) e h
+
 -- the answers after a run
 pub answers_form : (rules : List Rule) (t u : Tree) (n : ℕ) → Run rules t u n → n ≤ 10000 → HasNoRedex rules false u → NormalisesTo rules t (form u n)
 answers_form rules t u n (path, h, e) few none = (path, h, e, few, normal_from rules u none)

@@ -1,6 +1,5 @@
 -- What a step makes.
-use Rattle.std.proofs.Common.{ℕ, zero, suc, ◌+◌, ◌-◌, ◌<◌, ◌≡◌, refl, sym, ap, ◌∙◌, arith, subst, List, [], ◌∷◌, ◌++◌, append_assoc, length, length-drop, get_or, take, drop, Some}
-use Rattle.std.proofs.lemmas.List.{take_all}
+use Rattle.std.proofs.Common.{ℕ, zero, suc, ◌+◌, ◌-◌, ◌<◌, ◌≡◌, refl, sym, ap, ◌∙◌, arith, subst, List, [], ◌∷◌, length, get_or, set, take, Some}
 use Rattle.std.specs.Prelude.{map, Result, IsSomeAnd, false}
 use Rattle.kb_term.specs.Tree.{Tree, variable, more_trees, trees_of}
 use Rattle.kb_term.specs.Position.{subtree_at, replace_at, with_argument}
@@ -11,7 +10,7 @@ use Rattle.kb_term.specs.Proving.{RewritesAt}
 use Rattle.kb_term.specs.Made.{IsLimitedAnswer}
 use Rattle.kb_term.specs.declared.term.Term.{Term}
 use Rattle.kb_term.specs.declared.fault.TermFault.{TermFault}
-use Rattle.kb_overlap.proofs.Subtrees.{some_same, replace-there}
+use Rattle.kb_term.proofs.Subtrees.{some_same, replace-there}
 use Rattle.kb_rewrite.specs.NormalForm.{IsRedex}
 use Rattle.kb_rewrite.specs.Search.{IsStepAnswer}
 use Rattle.kb_rewrite.proofs.FirstRedexes.{rule_at}
@@ -55,17 +54,14 @@ step_memory rules t p i redex answer limited other e =
     let r = replace-there p t (instance m redex.rule.left) (instance m redex.rule.right) at in
     subst (λ (r : Rule). (v : Tree) × RewritesAt r p t v × IsLimitedAnswer v answer) same (r.0, (m, record { redex = at; result = r.1 }), limited r.0)
 
--- a list with another member at the index k, made of what is before, the member and what is behind
-put : (ts : List Term) (k : ℕ) (x : Term) → k < length ts → trees_of (map tree_of (take k ts ++ x ∷ drop (suc k) ts)) ≡ with_argument (trees_of (map tree_of ts)) (suc k) (tree_of x)
-put [] k x h = absurd (omega (arith, h))
-put (t ∷ ts) zero x h = refl
-put (t ∷ ts) (suc k) x h = ap (more_trees (tree_of t)) (put ts k x (omega (arith, h)))
+-- a list with another member at the index k, written there twice
+pub put : (ts : List Term) (k : ℕ) (y x : Term) → k < length ts → trees_of (map tree_of (set (set ts k y) k x)) ≡ with_argument (trees_of (map tree_of ts)) (suc k) (tree_of x)
+put [] k y x h = absurd (omega (arith, h))
+put (t ∷ ts) zero y x h = refl
+put (t ∷ ts) (suc k) y x h = ap (more_trees (tree_of t)) (put ts k y x (omega (arith, h)))
 
-pub put_in : (ts none one two three front back : List Term) (k : ℕ) (x : Term) → k < length ts → none ≡ [] → one ≡ none ++ front → front ≡ take k ts → two ≡ one ++ x ∷ [] → three ≡ two ++ back → back ≡ take (length ts - (k + 1)) (drop (k + 1) ts)
-    → trees_of (map tree_of three) ≡ with_argument (trees_of (map tree_of ts)) (k + 1) (tree_of x)
-put_in ts none one two three front back k x h e0 e1 e2 e3 e4 e5 =
-    let next : suc k ≡ k + 1 = omega arith in
-    let rest : back ≡ drop (k + 1) ts = e5 ∙ take_all (length ts - (k + 1)) (drop (k + 1) ts) (omega (arith, length-drop (k + 1) ts)) in
-    let front_is : one ≡ take k ts = e1 ∙ ap (λ ys. ys ++ front) e0 ∙ e2 in
-    let all : three ≡ take k ts ++ x ∷ drop (suc k) ts = e4 ∙ ap (λ ys. ys ++ back) (e3 ∙ ap (λ ys. ys ++ x ∷ []) front_is) ∙ append_assoc (take k ts) (x ∷ []) back ∙ ap (λ ys. take k ts ++ x ∷ ys) (rest ∙ ap (λ n. drop n ts) (sym next)) in
-    ap (λ ys. trees_of (map tree_of ys)) all ∙ put ts k x h ∙ ap (λ n. with_argument (trees_of (map tree_of ts)) n (tree_of x)) next
+-- where it is the term that was there
+pub put_back : (ts : List Term) (k : ℕ) (y x : Term) → k < length ts → tree_of x ≡ get_or (map tree_of ts) k (variable 0) → map tree_of (set (set ts k y) k x) ≡ map tree_of ts
+put_back [] k y x h e = absurd (omega (arith, h))
+put_back (t ∷ ts) zero y x h e = ap (λ u. u ∷ map tree_of ts) e
+put_back (t ∷ ts) (suc k) y x h e = ap (tree_of t ∷◌) (put_back ts k y x (omega (arith, h)) e)

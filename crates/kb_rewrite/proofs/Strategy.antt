@@ -9,8 +9,11 @@ use Rattle.kb_term.specs.Position.{with_argument, replace_at}
 use Rattle.kb_term.specs.Rule.{Rule}
 use Rattle.kb_term.specs.Substitution.{instance, Matches}
 use Rattle.kb_term.specs.Proving.{RewritesAt}
-use Rattle.kb_overlap.proofs.Subtrees.{some_same}
+use Rattle.kb_term.proofs.Subtrees.{some_same}
 use Rattle.kb_rewrite.specs.NormalForm.{MatchesAt, IsRedex, IsFirstRedex, HasNoRedex, StrategyStep}
+use Rattle.kb_rewrite.specs.Answers.{IsTried}
+use Rattle.kb_rewrite.specs.declared.normalising.Tried.{Tried}
+use Rattle.kb_rewrite.specs.declared.normalising.Tried.TheVariants.{Rewritten, Same}
 use Rattle.kb_rewrite.specs.Search.{IsFirstAt, HasNone}
 use Rattle.kb_rewrite.proofs.Positions.{argument-get, subtree-in}
 use Rattle.kb_rewrite.proofs.FirstRedexes.{first_root, first_in, none_variable, none_apply, rule_at}
@@ -103,12 +106,9 @@ strategy_same rules {t} {s} {u} {v} d e h = subst (λ x. StrategyStep rules x v)
 pub no_redex_same : (rules : List Rule) {t u : Tree} → t ≡ u → HasNoRedex rules false t → HasNoRedex rules false u
 no_redex_same rules e h = subst (HasNoRedex rules false) e h
 
--- what a step of the strategy answers: the result, or none where there is no redex
-abbrev FirstStep : List Rule → Tree → Option Term → Type 0
-FirstStep rules t o = MatchOption o (HasNoRedex rules false t) (λ u. StrategyStep rules t (tree_of u))
+-- what is tried of a term
+pub tried_step : (rules : List Rule) (t : Tree) (u : Term) {r : Tried} → r ≡ Rewritten u → IsTried rules t r → StrategyStep rules t (tree_of u)
+tried_step rules t u e h = subst (IsTried rules t) e h
 
-pub first_step : (rules : List Rule) (t : Tree) (u : Term) {o : Option Term} → o ≡ Some u → FirstStep rules t o → StrategyStep rules t (tree_of u)
-first_step rules t u e h = subst (FirstStep rules t) e h
-
-pub no_step : (rules : List Rule) (t : Tree) {o : Option Term} → o ≡ None → FirstStep rules t o → HasNoRedex rules false t
-no_step rules t e h = subst (FirstStep rules t) e h
+pub tried_none : (rules : List Rule) (t : Tree) (u : Term) {r : Tried} → r ≡ Same u → IsTried rules t r → HasNoRedex rules false t × (tree_of u ≡ t)
+tried_none rules t u e h = subst (IsTried rules t) e h

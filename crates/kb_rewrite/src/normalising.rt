@@ -1,15 +1,13 @@
 // Normal forms by the strategy.
-ghost use Rattle.std.specs.Prelude.{ℕ, ◌≡◌, ◌<◌, ◌+◌, [], length, map, IfOk, MatchOption, false};
-ghost use Rattle.kb_term.specs.Position.{with_argument};
-ghost use Rattle.kb_term.specs.Tree.{trees_of};
+ghost use Rattle.std.specs.Prelude.{ℕ, [], IfOk, MatchOption, false};
 ghost use Rattle.kb_term.specs.View.{tree_of};
-ghost use Rattle.kb_rewrite.specs.NormalForm.{IsRedex, HasNoRedex, StrategyStep, NormalisesTo};
-ghost use Rattle.kb_rewrite.specs.Answers.{normalised};
+ghost use Rattle.kb_rewrite.specs.NormalForm.{IsRedex, StrategyStep, NormalisesTo};
+ghost use Rattle.kb_rewrite.specs.Answers.{normalised, IsTried};
 
-use crate::rewriting::instance_of;
 use kb_match::match_term;
-use kb_term::{Limit, Memory, Rule, Term, Terms, term_limit};
+use kb_term::{Limit, Memory, Rule, Term, Terms, instance_of, term_limit};
 use std::alloc::Global;
+use std::mem;
 
 /// The most steps of one normalisation.
 pub const MAX_STEPS: u32 = 10000;
@@ -32,17 +30,17 @@ pub enum Normal {
 /// the first 10,000 steps is larger than 512, and `Large(Depth)` where it is not and is deeper than 64; the first such result
 /// decides. `Long(10000)` where none of these results passes a limit and a redex is left after them.
 ///
-/// A step visits the positions before its redex, with one match for each rule of the same root symbol. It builds the instance of
-/// the right side and the applications above the redex anew, and copies the other arguments of these; the limits take one more
-/// walk over the result and no memory.
+/// A step visits the positions up to its redex, with one match for each rule of the same root symbol, and moves each argument that
+/// it visits out and back. It builds the instance of the right side and copies nothing else. The limits take two more walks over
+/// the result and no memory.
 pub fn normal_form(alloc: Global, rules: &[Rule], t: &Term) -> Result<Normal, Memory>
     ensures { IfOk result (λ r. NormalisesTo rules.now (tree_of t.now) (normalised r)) }
 {
     let mut term = t.clone()?;
     for count in 0..MAX_STEPS {
-        match rewrite_first(alloc, rules, &term)? {
-            None => return Ok(Normal::Form(term, count)),
-            Some(next) => {
+        match rewrite_first(alloc, rules, term)? {
+            Tried::Same(form) => return Ok(Normal::Form(form, count)),
+            Tried::Rewritten(next) => {
                 if let Some(limit) = term_limit(&next) {
                     return Ok(Normal::Large(limit));
                 }
@@ -50,34 +48,41 @@ pub fn normal_form(alloc: Global, rules: &[Rule], t: &Term) -> Result<Normal, Me
             }
         }
     }
-    match rewrite_first(alloc, rules, &term)? {
-        None => Ok(Normal::Form(term, MAX_STEPS)),
-        Some(_) => Ok(Normal::Long(MAX_STEPS)),
+    match rewrite_first(alloc, rules, term)? {
+        Tried::Same(form) => Ok(Normal::Form(form, MAX_STEPS)),
+        Tried::Rewritten(_) => Ok(Normal::Long(MAX_STEPS)),
     }
 }
 
-/// The term after one step of the strategy; none where it has no redex.
-fn rewrite_first(alloc: Global, rules: &[Rule], t: &Term) -> Result<Option<Term>, Memory>
-    ensures { IfOk result (λ o. MatchOption o (HasNoRedex rules.now false (tree_of t.now)) (λ u. StrategyStep rules.now (tree_of t.now) (tree_of u))) }
+/// What becomes of a term of which one step is asked for: the result, or the term itself, which has no redex.
+#[derive(Drop)]
+pub(crate) enum Tried {
+    Rewritten(Term),
+    Same(Term),
+}
+
+/// The term after one step of the strategy. The parts beside the redex are moved and not copied.
+fn rewrite_first(alloc: Global, rules: &[Rule], t: Term) -> Result<Tried, Memory>
+    ensures { IfOk result (IsTried rules.now (tree_of t)) }
 {
-    match rewrite_root(alloc, rules, t)? {
-        Some(made) => return Ok(Some(made)),
-        None => {}
+    if let Some(made) = rewrite_root(alloc, rules, &t)? {
+        return Ok(Tried::Rewritten(made));
     }
     match t {
-        Term::Var(_) => Ok(None),
+        Term::Var(n) => Ok(Tried::Same(Term::Var(n))),
         Term::App(f, arguments) => {
-            let items = arguments.items();
+            let mut items = arguments.into_items();
             for k in 0..items.len() {
-                match rewrite_first(alloc, rules, &items[k])? {
-                    None => {}
-                    Some(made) => {
-                        let arguments = with_item(alloc, items, k, made)?;
-                        return Ok(Some(Term::App(*f, arguments)));
+                let item = mem::replace(&mut items[k], Term::Var(0));
+                match rewrite_first(alloc, rules, item)? {
+                    Tried::Same(same) => items[k] = same,
+                    Tried::Rewritten(made) => {
+                        items[k] = made;
+                        return Ok(Tried::Rewritten(Term::App(f, Terms::new(items))));
                     }
                 }
             }
-            Ok(None)
+            Ok(Tried::Same(Term::App(f, Terms::new(items))))
         }
     }
 }
@@ -93,16 +98,4 @@ fn rewrite_root(alloc: Global, rules: &[Rule], t: &Term) -> Result<Option<Term>,
         }
     }
     Ok(None)
-}
-
-/// The arguments with another term at the index k.
-fn with_item(alloc: Global, items: &[Term], k: usize, item: Term) -> Result<Terms, Memory>
-    requires { k < length items.now }
-    ensures { IfOk result (λ ts. trees_of ts ≡ with_argument (trees_of (map tree_of items.now)) (k + 1) (tree_of item)) }
-{
-    let mut made: Vec<Term> = Vec::with_capacity(alloc, items.len())?;
-    made.extend_from_slice(&items[..k])?;
-    made.push(item)?;
-    made.extend_from_slice(&items[k + 1..])?;
-    Ok(Terms::new(made))
 }

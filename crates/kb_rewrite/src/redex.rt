@@ -1,7 +1,7 @@
 // The first redex.
 ghost use Rattle.std.specs.Prelude.{ℕ, ◌≡◌, ◌<◌, ◌^◌, ◌↔◌, length, reverse, IfOk, IfSome, IsTrue, Ok, None};
 ghost use Rattle.kb_term.specs.View.{tree_of};
-ghost use Rattle.kb_overlap.specs.Found.{HasFewArguments};
+ghost use Rattle.kb_term.specs.FewArguments.{HasFewArguments};
 ghost use Rattle.kb_rewrite.specs.Search.{IsFirstRule, IsFirstAt, HasNone, IsRootRedex, IsRedexAnswer, Applies};
 
 use crate::encompassing::{found, matches_term};

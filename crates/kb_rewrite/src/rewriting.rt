@@ -8,7 +8,7 @@ ghost use Rattle.kb_rewrite.specs.Search.{IsStepAnswer};
 
 use crate::redex::Redex;
 use kb_match::match_term;
-use kb_term::{Memory, Position, Rule, Subst, Term, TermFault, Terms, replace, subterm};
+use kb_term::{Memory, Position, Rule, Subst, Term, TermFault, instance_of, replace, subterm};
 use std::alloc::Global;
 
 /// The term after the rule of the redex is used at its position.
@@ -33,24 +33,4 @@ fn matched_at(alloc: Global, pattern: &Term, t: &Term, p: &Position) -> Result<S
     let u = subterm(t, p).unwrap();
     let found = match_term(alloc, pattern, u)?;
     Ok(found.unwrap())
-}
-
-/// The term with each variable replaced by what the substitution gives it, whatever its size.
-pub(crate) fn instance_of(alloc: Global, m: &Subst, t: &Term) -> Result<Term, Memory>
-    ensures { IfOk result (λ u. tree_of u ≡ instance (substitution_of m.now) (tree_of t.now)) }
-{
-    match t {
-        Term::Var(n) => match m.get(*n) {
-            Some(u) => Ok(u.clone()?),
-            None => Ok(Term::Var(*n)),
-        },
-        Term::App(f, arguments) => {
-            let items = arguments.items();
-            let mut made = Vec::with_capacity(alloc, items.len())?;
-            for k in 0..items.len() {
-                made.push(instance_of(alloc, m, &items[k])?)?;
-            }
-            Ok(Term::App(*f, Terms::new(made)))
-        }
-    }
 }

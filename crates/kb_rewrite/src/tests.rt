@@ -1,7 +1,6 @@
 // Worked examples.
 use crate::*;
-use kb_overlap::has_few_arguments;
-use kb_term::{Found, Limit, Memory, Rule, Symbol, Term, Terms};
+use kb_term::{Found, Limit, Memory, Rule, Symbol, Term, Terms, has_few_arguments};
 use std::alloc::Global;
 
 fn constant(alloc: Global, f: u8) -> Term {

@@ -3,8 +3,8 @@ use Rattle.std.specs.Prelude.{map, IfSome, Ok, reverse}
 use Rattle.kb_term.specs.Tree.{tree_depth, trees_of, apply, variable}
 use Rattle.kb_term.specs.View.{tree_of}
 use Rattle.kb_term.proofs.Arguments.{argument-is, argument-depth, arguments-length}
-use Rattle.kb_overlap.specs.Found.{HasFewArguments}
-use Rattle.kb_overlap.proofs.Preorder.{few_arguments, arguments-count}
+use Rattle.kb_term.specs.FewArguments.{HasFewArguments}
+use Rattle.kb_term.proofs.FewArguments.{few_arguments, arguments-count}
 use Rattle.kb_rewrite.specs.Search.{IsRootRedex, IsFirstRule, IsFirstAt}
 use Rattle.kb_rewrite.proofs.FirstRedexes.{first_root, none_variable, none_apply, first_in, reverse_push, first_same, none_same, no_rule}
 use Rattle.kb_rewrite.proofs.redex.+first_below.Goals as goal
