@@ -32,9 +32,9 @@ pub enum Normal {
 /// the first 10,000 steps is larger than 512, and `Large(Depth)` where it is not and is deeper than 64; the first such result
 /// decides. `Long(10000)` where none of these results passes a limit and a redex is left after them.
 ///
-/// A step visits the positions before its redex, with one match for each rule of the same root symbol. It builds the instance of
-/// the right side and the applications above the redex anew, and copies the other arguments of these; the limits take one more
-/// walk over the result and no memory.
+/// A step visits the positions up to its redex, with one match for each rule of the same root symbol. It builds the instance of
+/// the right side and the applications above the redex anew, and copies the other arguments of these: linear in the term, with
+/// one allocation for each application with arguments that is copied. The limits take two more walks and no memory.
 pub fn normal_form(alloc: Global, rules: &[Rule], t: &Term) -> Result<Normal, Memory>
     ensures { IfOk result (λ r. NormalisesTo rules.now (tree_of t.now) (normalised r)) }
 {
