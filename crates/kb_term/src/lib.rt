@@ -25,7 +25,7 @@ mod variant;
 
 pub use arities::has_few_arguments;
 pub use fault::TermFault;
-pub use laws::canonical_pairs_tell_equations;
+pub use laws::{canonical_pairs_tell_equations, numberings_tell_variants};
 pub use limit::Limit;
 pub use limits::{MAX_DEPTH, MAX_SIZE, pair_limit, term_limit};
 pub use memory::Memory;
