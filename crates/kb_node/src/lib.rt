@@ -6,6 +6,8 @@ mod job;
 mod node;
 mod place;
 mod table;
+#[cfg(test)]
+mod tests;
 mod view;
 
 pub use fault::NodeFault;
