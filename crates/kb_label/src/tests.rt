@@ -1,9 +1,8 @@
 // Worked examples.
 use crate::*;
 use std::alloc::{AllocError, Global};
-use std::test::Fail;
 
-/// A log of a fork of the first process and then of its second child, and the number of processes that live, by the trait alone.
+/// A log after a fork of the first process and one of its second child, by the trait alone.
 fn forked_twice<L: Living>(alloc: Global) -> Result<L, AllocError> {
     let mut log = L::start(alloc)?;
     let root = Process::root();
@@ -14,115 +13,131 @@ fn forked_twice<L: Living>(alloc: Global) -> Result<L, AllocError> {
     if log.is_living(&second) && log.living() < MAX_LIVING {
         log.fork(&second)?;
     }
-    Ok(log)
+    log.copy()
 }
 
-/// The label of these processes, as far as they live, by the trait alone.
+/// The label of two processes, as far as they live, by the trait alone.
 fn label_of<L: Labels>(
     alloc: Global,
     log: &L::Log,
-    processes: &[Process],
+    first: &Process,
+    second: &Process,
 ) -> Result<L, AllocError> {
     let mut label = L::new(alloc);
-    for process in processes {
-        if log.is_living(process) {
-            label.add(log, process)?;
-        }
+    if log.is_living(first) {
+        label.add(log, first)?;
+    }
+    if log.is_living(second) {
+        label.add(log, second)?;
     }
     Ok(label)
 }
 
-/// The label of what the first two labels have together, without the second, and then what it shares with the first.
+/// The names of both labels, those of the first alone, or those of both, by the trait alone.
 fn worked<L: Labels>(
     alloc: Global,
     log: &L::Log,
     first: &L,
     second: &L,
+    way: u8,
 ) -> Result<Vec<Process>, AllocError> {
     let mut label = L::new(alloc);
     label.join(log, first)?;
-    label.join(log, second)?;
-    label.minus(log, second)?;
-    label.meet(log, first)?;
+    match way {
+        0 => label.join(log, second)?,
+        1 => label.minus(log, second)?,
+        _ => label.meet(log, second)?,
+    }
     label.names(log)
 }
 
+fn is_at(names: &[Process], place: usize, bits: &[bool]) -> bool {
+    match names.get(place) {
+        Some(name) => name.bits() == bits,
+        None => false,
+    }
+}
+
 #[test]
-fn names_stand_in_their_order_after_forks(rt: HostRuntime) -> Result<(), Fail> {
-    let alloc = rt.alloc();
-    let log: NameLog = forked_twice(alloc)?;
-    let expected = [
-        Process::from_bits(&[false]),
-        Process::from_bits(&[true, false]),
-        Process::from_bits(&[true, true]),
-    ];
+fn names_stand_in_their_order_after_forks(rt: HostRuntime) {
+    let log: NameLog = forked_twice(rt.alloc()).expect(&rt, "memory");
+    let names = log.names().expect(&rt, "memory");
     assert_eq!(rt; log.living(), 3);
-    assert_eq!(rt; log.names()?.as_slice(), expected.as_slice());
-    assert_eq!(rt; log.copy()?.names()?.as_slice(), expected.as_slice());
-    assert!(rt; !log.is_living(&Process::from_bits(&[true])));
-    Ok(())
+    assert_eq!(rt; names.len(), 3);
+    assert!(rt; is_at(&names, 0, &[false]));
+    assert!(rt; is_at(&names, 1, &[true, false]));
+    assert!(rt; is_at(&names, 2, &[true, true]));
 }
 
 #[test]
 fn a_shorter_name_comes_first(rt: HostRuntime) {
-    assert!(rt; Process::from_bits(&[true]) < Process::from_bits(&[false, false]));
-    assert!(rt; Process::from_bits(&[false, true]) < Process::from_bits(&[true, false]));
-    assert!(rt; Process::root() < Process::from_bits(&[false]));
-    assert!(rt; Process::from_bits(&[false]) != Process::from_bits(&[false, false]));
+    let one = Process::from_bits(&[true]);
+    let two = Process::from_bits(&[false, true]);
+    assert!(rt; one < two);
+    assert!(rt; two < Process::from_bits(&[true, false]));
+    assert!(rt; Process::root() < one);
 }
 
 #[test]
-fn a_label_is_relabelled_at_a_fork(rt: HostRuntime) -> Result<(), Fail> {
+fn a_label_is_relabelled_at_a_fork(rt: HostRuntime) {
     let alloc = rt.alloc();
-    let mut log = NameLog::start(alloc)?;
+    let log = NameLog::start(alloc).expect(&rt, "memory");
     let root = Process::root();
-    let mut label: ListLabels = label_of(alloc, &log, &[root])?;
-    let none = ListLabels::new(alloc);
-    label.relabel(&root)?;
-    log.fork(&root)?;
-    let children = [root.child(false), root.child(true)];
-    assert_eq!(rt; label.names(&log)?.as_slice(), children.as_slice());
-    assert_eq!(rt; log.names()?.as_slice(), children.as_slice());
-    assert!(rt; label.has(&log, &children[1]));
+    let mut label: ListLabels = label_of(alloc, &log, &root, &root).expect(&rt, "memory");
+    label.relabel(&root).expect(&rt, "memory");
+    let names = label.names(&log).expect(&rt, "memory");
+    assert_eq!(rt; names.len(), 2);
+    assert!(rt; is_at(&names, 0, &[false]));
+    assert!(rt; is_at(&names, 1, &[true]));
     assert!(rt; !label.has(&log, &root));
-    assert!(rt; none.is_empty(&log));
     assert!(rt; !label.is_empty(&log));
-    Ok(())
 }
 
-#[test]
-fn labels_are_joined_and_met(rt: HostRuntime) -> Result<(), Fail> {
-    let alloc = rt.alloc();
+/// What the labels of two processes each of a log with three give together.
+fn worked_after_forks(alloc: Global, way: u8) -> Result<Vec<Process>, AllocError> {
     let log: NameLog = forked_twice(alloc)?;
-    let zero = Process::from_bits(&[false]);
-    let ten = Process::from_bits(&[true, false]);
-    let eleven = Process::from_bits(&[true, true]);
-    let first: ListLabels = label_of(alloc, &log, &[eleven, zero])?;
-    let second: ListLabels = label_of(alloc, &log, &[ten, eleven])?;
-    let left = worked(alloc, &log, &first, &second)?;
-    assert_eq!(rt; left.as_slice(), [zero].as_slice());
-    let mut all: ListLabels = label_of(alloc, &log, &[eleven])?;
-    all.join(&log, &second)?;
-    all.join(&log, &first)?;
-    assert_eq!(rt; all.names(&log)?.as_slice(), [zero, ten, eleven].as_slice());
-    all.meet(&log, &second)?;
-    assert_eq!(rt; all.names(&log)?.as_slice(), [ten, eleven].as_slice());
-    Ok(())
+    let zero = Process::root().child(false);
+    let one = Process::root().child(true);
+    let first: ListLabels = label_of(alloc, &log, &one.child(true), &zero)?;
+    let second: ListLabels = label_of(alloc, &log, &one.child(false), &one.child(true))?;
+    worked(alloc, &log, &first, &second, way)
 }
 
 #[test]
-fn as_many_processes_live_as_may(rt: HostRuntime) -> Result<(), Fail> {
-    let alloc = rt.alloc();
+fn labels_are_joined(rt: HostRuntime) {
+    let names = worked_after_forks(rt.alloc(), 0).expect(&rt, "memory");
+    assert_eq!(rt; names.len(), 3);
+    assert!(rt; is_at(&names, 0, &[false]));
+    assert!(rt; is_at(&names, 1, &[true, false]));
+    assert!(rt; is_at(&names, 2, &[true, true]));
+}
+
+#[test]
+fn labels_are_met_and_left(rt: HostRuntime) {
+    let left = worked_after_forks(rt.alloc(), 1).expect(&rt, "memory");
+    assert_eq!(rt; left.len(), 1);
+    assert!(rt; is_at(&left, 0, &[false]));
+    let met = worked_after_forks(rt.alloc(), 2).expect(&rt, "memory");
+    assert_eq!(rt; met.len(), 1);
+    assert!(rt; is_at(&met, 0, &[true, true]));
+}
+
+/// Forks the last process until as many live as may, and tells how many live and how many bits the last name has.
+fn after_all_forks(alloc: Global) -> Result<(u32, usize), AllocError> {
     let mut log = NameLog::start(alloc)?;
     let mut process = Process::root();
-    for _ in 1..MAX_LIVING {
+    for _ in 0..MAX_LIVING {
         if log.is_living(&process) && log.living() < MAX_LIVING && process.bits().len() < MAX_BITS {
             log.fork(&process)?;
             process = process.child(true);
         }
     }
-    assert_eq!(rt; log.living(), 256);
-    assert_eq!(rt; process.bits().len(), 255);
-    assert!(rt; log.is_living(&process));
-    Ok(())
+    Ok((log.living(), process.bits().len()))
+}
+
+#[test]
+fn as_many_processes_live_as_may(rt: HostRuntime) {
+    let (living, bits) = after_all_forks(rt.alloc()).expect(&rt, "memory");
+    assert_eq!(rt; living, 256);
+    assert_eq!(rt; bits, 255);
 }

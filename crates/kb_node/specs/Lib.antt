@@ -1,0 +1,4 @@
+pub mod Hashing
+pub mod Filed
+pub mod Labelled
+pub mod Views

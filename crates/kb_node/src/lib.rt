@@ -1,0 +1,17 @@
+//! The table of nodes, and the jobs on them.
+#![tactic(auto)]
+
+mod fault;
+mod job;
+mod node;
+mod place;
+mod table;
+#[cfg(test)]
+mod tests;
+mod view;
+
+pub use fault::NodeFault;
+pub use job::{Deduced, Fact, Job, LimitCause};
+pub use node::{LabelKind, Node, NodeId, Role};
+pub use table::{MAX_NODES, NodeTable};
+pub use view::{NodeIds, RuleRefs, View};

@@ -1,0 +1,223 @@
+// The table of nodes.
+ghost use Rattle.std.specs.Prelude.{◌≡◌, ℕ, [], Some, ◌<◌, ◌≤◌, ◌↔◌, length, take, slice_get, option_map, MatchOption, ◌++◌, IfOk, OnOk, OnErr};
+ghost use Rattle.kb_label.specs.Names.{has};
+ghost use Rattle.kb_node.specs.Labelled.{label_in, with_label_at, pairs_of, is_dead_under, HasPair, LacksPair, AreDistinct, AddsNode};
+ghost use Rattle.kb_node.specs.Views.{when, equations_of, rules_of, constraints_of};
+
+use crate::fault::NodeFault;
+use crate::node::{LabelKind, Node, NodeId};
+use crate::place::{Place, find_place};
+use crate::view::{NodeIds, RuleRefs, View};
+use indexmap::IndexSet;
+use kb_label::{Labels, Process};
+use kb_term::{Memory, Origin, Pair, RuleRef};
+use std::alloc::{AllocError, Global};
+use std::marker::Model;
+
+/// The most nodes that a table may have.
+pub const MAX_NODES: usize = 4096;
+
+/// The nodes, one for each pair, in the order in which they were added. Contracts see it as the list of its nodes.
+///
+/// A node is found in constant time, expected over the hashes of pairs.
+#[derive(Drop)]
+pub struct NodeTable<L: Labels> {
+    nodes: Vec<Node<L>>,
+    places: IndexSet<Place>,
+}
+
+impl<L: Labels> Model for NodeTable<L> {
+    ghost use Rattle.std.specs.Prelude.{List};
+    ghost use Rattle.kb_node.specs.declared.node.Node.{Node};
+    ghost use Rattle.std.specs.Coded.{codes};
+    ghost use Rattle.kb_term.specs.Coding.{coded_pair};
+
+    ghost Value = { List (Node L) };
+
+    ghost coded = { Prim.hlevel (codes, coded_pair) };
+
+    ghost use Rattle.kb_node.specs.Labelled.{pairs_of};
+    ghost use Rattle.kb_node.specs.Filed.{IsFiled};
+
+    ghost view = { λ t. t.nodes.items };
+
+    ghost invariant = { λ t. IsFiled t.places.keys (pairs_of t.nodes.items) };
+}
+
+impl<L: Labels> NodeTable<L> {
+    /// No node. It takes no memory.
+    pub fn new(alloc: Global) -> NodeTable<L>
+        ensures { result ≡ [] }
+    {
+        NodeTable {
+            nodes: Vec::new(alloc),
+            places: IndexSet::new(alloc),
+        }
+    }
+
+    /// How many nodes there are, at most 4,096.
+    pub fn len(&self) -> u32
+        ensures count { result ≡ length self.now }
+        ensures most { result ≤ MAX_NODES }
+        ensures distinct { AreDistinct self.now }
+    {
+        self.nodes.len() as u32
+    }
+
+    /// The pair of a node.
+    pub fn pair(&self, n: NodeId) -> Result<Pair, Memory>
+        requires { n.0 < length self.now }
+        ensures { IfOk result (HasPair self.now n.0) }
+    {
+        let pair = self.nodes[n.0 as usize].pair.clone()?;
+        Ok(pair)
+    }
+
+    /// How the pair of a node was made first.
+    pub fn origin(&self, n: NodeId) -> Result<Origin, Memory>
+        requires { n.0 < length self.now }
+        ensures { IfOk result (λ origin. option_map (λ node. node.origin) (slice_get self.now n.0) ≡ Some origin) }
+    {
+        let origin = self.nodes[n.0 as usize].origin.clone()?;
+        Ok(origin)
+    }
+
+    /// The label of a node that has this kind.
+    pub fn label(&self, n: NodeId, kind: LabelKind) -> &L
+        requires { n.0 < length self.now }
+        ensures { option_map (λ node. label_in node kind) (slice_get self.now n.0) ≡ Some result.now }
+    {
+        self.nodes[n.0 as usize].label(kind)
+    }
+
+    /// Puts a label in the place of the node's label of this kind, which it gives. It takes no memory.
+    pub fn set_label(&mut self, n: NodeId, kind: LabelKind, label: L) -> L
+        requires { n.0 < length self.old }
+        ensures old { option_map (λ node. label_in node kind) (slice_get self.old n.0) ≡ Some result }
+        ensures new { self.new ≡ with_label_at self.old n.0 kind label }
+    {
+        let node = &mut self.nodes[n.0 as usize];
+        node.set_label(kind, label)
+    }
+
+    /// Whether no process has the node as a rule or as an equation.
+    pub fn is_dead(&self, log: &L::Log, n: NodeId) -> bool
+        requires { n.0 < length self.now }
+        ensures { option_map (is_dead_under L.names_under log.now) (slice_get self.now n.0) ≡ Some result }
+    {
+        let node = &self.nodes[n.0 as usize];
+        node.rule0.is_empty(log) && node.rule1.is_empty(log) && node.equation.is_empty(log)
+    }
+
+    /// Keeps the first nodes alone. It takes no memory.
+    pub fn truncate(&mut self, len: u32)
+        requires { len ≤ length self.old }
+        ensures { self.new ≡ take len self.old }
+    {
+        self.nodes.truncate(len as usize);
+        self.places.truncate(len as usize);
+    }
+
+    /// The node that has the pair; none where no node has it. It takes no memory.
+    pub fn find(&self, pair: &Pair) -> Option<NodeId>
+        ensures { MatchOption result (LacksPair self.now pair.now) (λ n. HasPair self.now n.0 pair.now) }
+    {
+        match find_place(self.nodes.as_slice(), &self.places, pair) {
+            Ok(number) => Some(NodeId(number as u16)),
+            Err(_) => None,
+        }
+    }
+
+    /// The node that has the pair, which keeps its origin; else one more node, without labels.
+    ///
+    /// # Errors
+    ///
+    /// `Full` where the pair is new and the table has 4,096 nodes, and want of memory; the table is then as before.
+    pub fn find_or_add(&mut self, pair: Pair, origin: Origin) -> Result<NodeId, NodeFault>
+        ensures present { (n : ℕ) → HasPair self.old n pair → (result ≡ Ok (record { 0 = n })) × (self.new ≡ self.old) }
+        ensures added { LacksPair self.old pair → IfOk result (λ n. (n.0 ≡ length self.old) × AddsNode L.names_under self.old self.new pair origin) }
+        ensures full { (result ≡ Err NodeFault.Full) ↔ (LacksPair self.old pair × (length self.old ≡ MAX_NODES)) }
+        ensures err { OnErr result (self.new ≡ self.old) }
+    {
+        let place = match find_place(self.nodes.as_slice(), &self.places, &pair) {
+            Ok(number) => return Ok(NodeId(number as u16)),
+            Err(place) => place,
+        };
+        let number = self.nodes.len();
+        if number == MAX_NODES {
+            return Err(NodeFault::Full);
+        }
+        self.nodes.reserve(1)?;
+        self.places.insert(place)?;
+        let node = Node::unlabelled(*self.nodes.allocator(), pair, origin);
+        self.nodes.push(node).unwrap();
+        Ok(NodeId(number as u16))
+    }
+
+    /// What a process sees of the nodes.
+    pub fn view_of(&self, log: &L::Log, p: &Process) -> Result<View, Memory>
+        ensures equations { IfOk result (λ v. v.equations ≡ equations_of L.names_under log.now p.now self.now) }
+        ensures rules { IfOk result (λ v. v.rules ≡ rules_of L.names_under log.now p.now self.now) }
+        ensures constraints { IfOk result (λ v. v.constraints ≡ constraints_of L.names_under log.now p.now self.now) }
+    {
+        let alloc = *self.nodes.allocator();
+        let mut equations = NodeIds::new(alloc);
+        let mut rules = RuleRefs::new(alloc);
+        let mut constraints = RuleRefs::new(alloc);
+        for i in 0..self.nodes.len() {
+            let node = &self.nodes[i];
+            let number = i as u16;
+            push_equation(&mut equations, log, p, number, &node.equation)?;
+            push_directions(&mut rules, log, p, number, &node.rule0, &node.rule1)?;
+            push_directions(
+                &mut constraints,
+                log,
+                p,
+                number,
+                &node.constraint0,
+                &node.constraint1,
+            )?;
+        }
+        Ok(View {
+            equations,
+            rules,
+            constraints,
+        })
+    }
+}
+
+// Adds a node whose label has the process.
+fn push_equation<L: Labels>(
+    equations: &mut NodeIds,
+    log: &L::Log,
+    p: &Process,
+    node: u16,
+    label: &L,
+) -> Result<(), AllocError>
+    ensures { OnOk result (equations.new ≡ equations.old ++ when (has (L.names_under log.now label.now) p.now) (record { 0 = node })) }
+{
+    if label.has(log, p) {
+        equations.push(NodeId(node))?;
+    }
+    Ok(())
+}
+
+// Adds the directions of a node whose label has the process.
+fn push_directions<L: Labels>(
+    rules: &mut RuleRefs,
+    log: &L::Log,
+    p: &Process,
+    node: u16,
+    forth: &L,
+    back: &L,
+) -> Result<(), AllocError>
+    ensures { OnOk result (rules.new ≡ rules.old ++ (when (has (L.names_under log.now forth.now) p.now) (record { node = node; dir = 0 }) ++ when (has (L.names_under log.now back.now) p.now) (record { node = node; dir = 1 }))) }
+{
+    if forth.has(log, p) {
+        rules.push(RuleRef { node, dir: 0 })?;
+    }
+    if back.has(log, p) {
+        rules.push(RuleRef { node, dir: 1 })?;
+    }
+    Ok(())
+}
