@@ -23,3 +23,10 @@ pub mod OneRoles
 pub mod Openings
 pub mod KnownFacts
 pub mod Remaining
+mod Rows
+mod MoreRows
+mod Runs
+mod EmptyRun
+mod ForkRun
+mod ForkViews
+mod Replays
