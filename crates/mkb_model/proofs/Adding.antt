@@ -10,29 +10,20 @@ use Rattle.kb_term.specs.Proving.{RewritesAt}
 use Rattle.kb_term.specs.declared.origin.RuleRef.{RuleRef}
 use Rattle.kb_term.specs.declared.origin.Origin.TheVariants.{Overlap as ByOverlap}
 use Rattle.kb_label.specs.Names.{Name, has}
-use Rattle.mkb_model.specs.Plain.{Plain, PlainNode, label_at, rule_kind, constraint_kind, state_of}
+use Rattle.mkb_model.specs.Plain.{Plain, PlainNode, label_at, rule_kind, constraint_kind, state_of, pair_in, sides}
 use Rattle.mkb_model.specs.Effects.{with_node, node_of, gains_equation, added, on_nodes}
 use Rattle.kb_node.specs.declared.node.LabelKind.{LabelKind}
 use Rattle.kb_node.specs.declared.node.LabelKind.TheVariants.{R0, R1, E, C0, C1, X}
 use Rattle.kb_node.specs.declared.job.Deduced.{Deduced}
+use Rattle.mkb_model.specs.Ready.{IsOn, KeepsPairs, IsRole, OneRole, IsDeducedFrom}
 use Rattle.mkb_model.proofs.Lists.{clash, decide}
-use Rattle.mkb_model.proofs.Roles.{IsOn, on-gains_equation, keeps-with_node, equation-no_rule, equation-no_constraint, kind_number, KeepsRoles, keeps_trans, keeps-gains_equation}
-use Rattle.mkb_model.proofs.Pairs.{pair_in, KeepsPairs, pairs_trans, same_kept, pairs-with_node, pairs-gains_equation, pairs-added, node-with_node}
+use Rattle.mkb_model.proofs.Roles.{on-gains_equation, keeps-with_node, equation-no_rule, equation-no_constraint, kind_number, KeepsRoles, keeps_trans, keeps-gains_equation}
+use Rattle.mkb_model.proofs.Pairs.{pairs_trans, same_kept, pairs-with_node, pairs-gains_equation, pairs-added, node-with_node}
 use Rattle.mkb_model.proofs.Views.{same_sym, same_trans, rule_sym, rule_trans, rule_of-between, EqView, RuleView, iff_over, pair_back, equations-view, rules-view, constraints-view, rule_listed}
 use Rattle.mkb_model.proofs.Moves.{Steps, no_steps, steps_more, HasEq, HasRule, IsSettled, deduced}
-use Rattle.mkb_model.proofs.Changes.{Fits, fits_before, sides, same_node, lean_state, eq_change}
+use Rattle.mkb_model.proofs.Changes.{Fits, fits_before, same_node, lean_state, eq_change}
 
 -- ---- roles of equations and rules
-
-abbrev pub IsRole : LabelKind → Type 0
-IsRole E = ⊤
-IsRole R0 = ⊤
-IsRole R1 = ⊤
-IsRole k = ⊥
-
--- the process has each node as an equation, as one of the two rules, or not at all
-abbrev pub OneRole : List PlainNode → Name → Type 0
-OneRole xs p = (n : ℕ) (j k : LabelKind) → IsRole j → IsRole k → IsOn xs p n j → IsOn xs p n k → j ≡ k
 
 pub rule_role : (d : ℕ) → IsRole (rule_kind d)
 rule_role zero = tt
@@ -73,26 +64,6 @@ with_pair d xs = with_node d.pair (ByOverlap d.outer d.inner d.position) xs
 
 abbrev pub add_one : List Name → Deduced → List PlainNode → List PlainNode
 add_one l d xs = gains_equation (node_of (with_pair d xs) d.pair) l (with_pair d xs)
-
--- two rules of the process rewrite one well-formed term to the two sides of the pair, up to variants
-pub record IsDeducedFrom (g : Signature) (xs : List PlainNode) (p : Name) (pair : Pair) : Type 0 where
-  pub peak : Tree
-  pub s : Tree
-  pub t : Tree
-  pub well : IsWellFormed g peak
-  pub a : RuleRef
-  pub a_pair : Pair
-  pub a_on : IsOn xs p a.node (rule_kind a.dir)
-  pub a_there : pair_in xs a.node ≡ Some a_pair
-  pub a_at : List ℕ
-  pub a_step : RewritesAt (rule_of a_pair a.dir) a_at peak s
-  pub c : RuleRef
-  pub c_pair : Pair
-  pub c_on : IsOn xs p c.node (rule_kind c.dir)
-  pub c_there : pair_in xs c.node ≡ Some c_pair
-  pub c_at : List ℕ
-  pub c_step : RewritesAt (rule_of c_pair c.dir) c_at peak t
-  pub same : IsSameEquation (s, t) (sides pair)
 
 module _ (l : List Name) (d : Deduced) (xs : List PlainNode) (p : Name) (named : has l p ≡ true) where
   -- the node of the pair

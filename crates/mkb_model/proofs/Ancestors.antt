@@ -9,6 +9,7 @@ use Rattle.kb_label.specs.Names.{Name, has, is_beginning, bit_cmp}
 use Rattle.mkb_model.specs.Plain.{Plain, state_of, ancestor}
 use Rattle.mkb_model.specs.Journals.{Moment}
 use Rattle.mkb_model.specs.Headline.{states_before, states_of, EachCompletes}
+use Rattle.mkb_model.specs.Invariants.{AreApart}
 use Rattle.mkb_model.proofs.Lists.{clash, find_in, find_none, and_left, and_right, and_both}
 use Rattle.mkb_model.proofs.Endings.{has_in, in_has}
 
@@ -50,12 +51,8 @@ two_beginnings (x ∷ p) (y ∷ q) (z ∷ r) h k =
     ⊎_elim (λ j. inl (and_both (is_eq (bit_cmp x y)) (is_beginning p q) g j)) (λ j. inr (and_both (is_eq (bit_cmp y x)) (is_beginning q p) i j))
     (two_beginnings p q r (and_right (is_eq (bit_cmp x z)) (is_beginning p r) h) (and_right (is_eq (bit_cmp y z)) (is_beginning q r) k))
 
--- no name of the list begins another
-abbrev pub IsApart : List Name → Type 0
-IsApart l = (p q : Name) → has l p ≡ true → has l q ≡ true → is_beginning p q ≡ true → p ≡ q
-
 -- the living process that begins the name is its ancestor
-pub ancestor_is : (b : Plain) (p q : Name) → IsApart b.living → has b.living p ≡ true → is_beginning p q ≡ true → ancestor b q ≡ p
+pub ancestor_is : (b : Plain) (p q : Name) → AreApart b.living → has b.living p ≡ true → is_beginning p q ≡ true → ancestor b q ≡ p
 ancestor_is b p q apart lives begins = go (find (λ x. is_beginning x q) b.living) refl
   where
     go : (o : Option Name) → find (λ x. is_beginning x q) b.living ≡ o → unwrap_or o q ≡ p
@@ -74,7 +71,7 @@ Simulates g b c = (q : Name) → has c.living q ≡ true → (p : Name) × (has 
 -- each entry does so
 abbrev pub Simulating : Signature → List Moment → Plain → Type 0
 Simulating g [] c = ⊤
-Simulating g (m ∷ ms) c = Simulates g m.board c × IsApart m.board.living × Simulating g ms m.board
+Simulating g (m ∷ ms) c = Simulates g m.board c × AreApart m.board.living × Simulating g ms m.board
 
 -- a name and its beginning that lives have the same past
 same_past : (g : Signature) (ms : List Moment) (c : Plain) → Simulating g ms c → (p q : Name) → has c.living p ≡ true → is_beginning p q ≡ true → states_before ms q ≡ states_before ms p
@@ -92,7 +89,7 @@ follows_more g old [] x y (h, f) k = (h, (k, tt))
 follows_more g old (z ∷ xs) x y (h, f) k = (h, follows_more g z xs x y f k)
 
 -- the states of each living process and its ancestors are a run, where the first one is
-pub completes : (g : Signature) (start : KbState) (ms : List Moment) (c : Plain) → Simulating g ms c → IsApart c.living
+pub completes : (g : Signature) (start : KbState) (ms : List Moment) (c : Plain) → Simulating g ms c → AreApart c.living
     → ((first : Plain) → ms ≡ [] → (q : Name) → has c.living q ≡ true → KbReaches g start (state_of c q))
     → ((m : Moment) (past : List Moment) → ms ≡ m ∷ past → (q : Name) → has m.board.living q ≡ true → KbFollows g start (states_of past m.board q))
     → (q : Name) → has c.living q ≡ true → KbFollows g start (states_of ms c q)
@@ -113,7 +110,7 @@ first_board [] c = c
 first_board (m ∷ ms) c = first_board ms m.board
 
 -- where each entry simulates and the states of the first board are reached from the problem, each living process completes by itself
-pub simulating_completes : (P : Problem) (ms : List Moment) (c : Plain) → Simulating P.signature ms c → IsApart c.living
+pub simulating_completes : (P : Problem) (ms : List Moment) (c : Plain) → Simulating P.signature ms c → AreApart c.living
     → ((q : Name) → has (first_board ms c).living q ≡ true → KbReaches P.signature (kb_start P) (state_of (first_board ms c) q)) → EachCompletes P ms c
 simulating_completes P [] c s apart opens q lives = completes P.signature (kb_start P) [] c s apart (λ first e. opens) (λ m past e. absurd (cc)) q lives
 simulating_completes P (m ∷ ms) c (s, apart', rest) apart opens q lives =

@@ -5,12 +5,12 @@ use Rattle.kb_term.specs.Tree.{Tree}
 use Rattle.kb_term.specs.Pair.{Pair, numbered, IsCanonical, IsTrivial, IsSameEquation}
 use Rattle.kb_term.specs.Rule.{Rule, rule_of, IsVariantRule, rule_between}
 use Rattle.kb_label.specs.Names.{Name}
-use Rattle.mkb_model.specs.Plain.{Plain, PlainNode, rule_kind, constraint_kind, state_of}
+use Rattle.mkb_model.specs.Plain.{Plain, PlainNode, rule_kind, constraint_kind, state_of, pair_in, sides}
 use Rattle.kb_node.specs.declared.node.LabelKind.{LabelKind}
 use Rattle.kb_node.specs.declared.node.LabelKind.TheVariants.{E}
+use Rattle.mkb_model.specs.Ready.{IsOn, KeepsPairs}
 use Rattle.mkb_model.proofs.Lists.{some_is}
-use Rattle.mkb_model.proofs.Roles.{IsOn, kind_number}
-use Rattle.mkb_model.proofs.Pairs.{pair_in, KeepsPairs}
+use Rattle.mkb_model.proofs.Roles.{kind_number}
 use Rattle.mkb_model.proofs.Views.{same_itself, same_sym, same_trans, same_turned, rule_sym, rule_trans, rule_of-between, from_side, to_side, EqView, RuleView, equations-view, pair_back}
 use Rattle.mkb_model.proofs.Moves.{IsLean}
 
@@ -22,9 +22,6 @@ pub record Fits (xs : List PlainNode) : Type 0 where
 
 pub fits_before : (xs ys : List PlainNode) → KeepsPairs xs ys → Fits ys → Fits xs
 fits_before xs ys k f = record { canonical = λ n q h. f.canonical n q (k n q h); nontrivial = λ n q h. f.nontrivial n q (k n q h); distinct = λ n m q h i. f.distinct n m q (k n q h) (k m q i) }
-
-abbrev pub sides : Pair → Tree × Tree
-sides q = (q.first, q.second)
 
 -- canonical pairs that are the same equation are the same pair
 pub same_pair : (q r : Pair) → IsCanonical q → IsCanonical r → IsSameEquation (sides q) (sides r) → q ≡ r

@@ -13,7 +13,7 @@ use Rattle.kb_term.specs.declared.origin.RuleRef.{RuleRef}
 use Rattle.kb_term.specs.declared.origin.Found.{Found}
 use Rattle.kb_term.specs.declared.origin.Origin.TheVariants.{Rewrite as ByRewrite}
 use Rattle.kb_label.specs.Names.{Name, has, name_eq, child, meet, is_empty}
-use Rattle.mkb_model.specs.Plain.{Plain, PlainNode, label_at, rule_kind, constraint_kind, other, state_of, pair_at, rules_at, constraints_of, is_equation}
+use Rattle.mkb_model.specs.Plain.{Plain, PlainNode, label_at, rule_kind, constraint_kind, other, state_of, pair_at, rules_at, constraints_of, is_equation, pair_in}
 use Rattle.mkb_model.specs.Effects.{loses, gains, gains_rule, gains_equation, with_node, node_of, rewritten, rewrite_label, overlap_label, orient_label, direction, if_strict, on_nodes, oriented, added, applied, is_dropped, forked_node}
 use Rattle.kb_node.specs.declared.node.LabelKind.{LabelKind}
 use Rattle.kb_node.specs.declared.node.LabelKind.TheVariants.{E, X}
@@ -21,15 +21,16 @@ use Rattle.kb_node.specs.declared.job.Deduced.{Deduced}
 use Rattle.mkb_model.specs.declared.proposed.Proposed.{Proposed}
 use Rattle.mkb_model.specs.declared.proposed.Proposed.TheVariants.{Facts, Rewrite, One, Both, Refuse, Deduce, Unjoined, Closed, Limit}
 use Rattle.kb_label.proofs.Members.{has-meet, name_eq-eq, name_eq-refl}
+use Rattle.mkb_model.specs.Ready.{IsOn, KeepsPairs, OneRole, IsDeducedFrom, IsRewriteOn, IsReady, IsNew}
 use Rattle.mkb_model.proofs.Lists.{clash, decide, false_unless, and_off_right, some_is, none_some}
-use Rattle.mkb_model.proofs.Roles.{IsOn, on_there, on-gains, has-one, keeps-with_node, keeps-gains_rule, keeps-gains_equation, keeps-loses, keeps-fork, on-fork, KeepsRoles, keeps_trans, refused-no_rule, refused-no_constraint, kind_number}
-use Rattle.mkb_model.proofs.Pairs.{pair_in, KeepsPairs, same_kept, pairs-oriented, pairs-gains, pairs-added, pairs-rewritten, pairs-fork}
+use Rattle.mkb_model.proofs.Roles.{on_there, on-gains, has-one, keeps-with_node, keeps-gains_rule, keeps-gains_equation, keeps-loses, keeps-fork, on-fork, KeepsRoles, keeps_trans, refused-no_rule, refused-no_constraint, kind_number}
+use Rattle.mkb_model.proofs.Pairs.{same_kept, pairs-oriented, pairs-gains, pairs-added, pairs-rewritten, pairs-fork}
 use Rattle.mkb_model.proofs.Views.{SameRoles, same_view, equations-view, rules-view, constraints-view, iff_over, pair_back}
 use Rattle.mkb_model.proofs.Moves.{one_step, reaches_by_steps, reaches_same, same_state}
 use Rattle.mkb_model.proofs.Changes.{Fits}
 use Rattle.mkb_model.proofs.Orienting.{OrientRoles, orient-roles, orient_before, orient_after, keeps-oriented, orient_step}
-use Rattle.mkb_model.proofs.Adding.{OneRole, view-rules_only, IsDeducedFrom, adding_steps, keeps-added}
-use Rattle.mkb_model.proofs.Rewriting.{IsRewriteOn, source_of, if_strict-has}
+use Rattle.mkb_model.proofs.Adding.{view-rules_only, adding_steps, keeps-added}
+use Rattle.mkb_model.proofs.Rewriting.{source_of, if_strict-has}
 use Rattle.mkb_model.proofs.Rewritings.{lost_nodes, moved_nodes, rewriting_steps}
 
 -- ---- who is not named by a rewriting keeps its roles
@@ -62,20 +63,6 @@ keeps-rewritten l n w at a kind u z xs q h = moved (canonical_pair u (other_side
           (keeps_trans y1 y2 y3 q (keeps-gains_equation k (meet l (label_at xs n E)) y1 q (not_met (label_at xs n E))) (keeps-gains_equation k (if_strict kind (meet l (label_at xs n (rule_kind w)))) y2 q (not_strict (meet l (label_at xs n (rule_kind w))) (not_met (label_at xs n (rule_kind w))))))))
 
 -- ---- a proposal that is right on the board on which it is committed
-
--- what the proposal says holds on the board, for each process on which it acts
-abbrev pub IsReady : Signature → Plain → Proposed → Type 0
-IsReady g b (Facts fs) = ⊤
-IsReady g b (Rewrite n w at a kind t) =
-    (f : IsRewriteOn b.nodes n.0 w at a kind (tree_of t)) × ((p : Name) → IsOn b.nodes p a.node (rule_kind a.dir) → IsOn b.nodes p n.0 (rule_kind (other w)) → tree_of t ≢ other_side f.pair w)
-IsReady g b (One p n d c) = (q : Pair) × (pair_in b.nodes n.0 ≡ Some q) × IsOrderable g (rules_at b (constraints_of b p ++ record { node = n.0; dir = d } ∷ []))
-IsReady g b (Both p n c0 c1) = (q : Pair) × (pair_in b.nodes n.0 ≡ Some q)
-    × IsOrderable g (rules_at b (constraints_of b p ++ record { node = n.0; dir = 0 } ∷ [])) × IsOrderable g (rules_at b (constraints_of b p ++ record { node = n.0; dir = 1 } ∷ []))
-IsReady g b (Refuse p n) = ⊤
-IsReady g b (Deduce a c ds) = (p : Name) → IsTrue (has (overlap_label b a c) p) → (d : Deduced) → Contains ds d → IsDeducedFrom g b.nodes p d.pair
-IsReady g b (Unjoined p ds) = (d : Deduced) → Contains ds d → IsDeducedFrom g b.nodes p d.pair
-IsReady g b (Closed p) = ⊤
-IsReady g b (Limit j cause) = ⊤
 
 -- the proposal forks no process
 abbrev pub IsNoFork : Proposed → Type 0
@@ -187,10 +174,6 @@ pub record IsApartFrom (p q : Name) : Type 0 where
   pub not_itself : name_eq q p ≡ false
   pub not_first : name_eq q (child p false) ≡ false
   pub not_second : name_eq q (child p true) ≡ false
-
--- no label names a child of p yet
-abbrev pub IsNew : List PlainNode → Name → Type 0
-IsNew xs p = (bit : Bool) (m : ℕ) (j : LabelKind) → has (label_at xs m j) (child p bit) ≡ false
 
 -- another process keeps its state at a fork
 pub fork_other : (b : Plain) (p : Name) (n : ℕ) (q : Name) → IsApartFrom p q → KeepsRoles b.nodes (oriented (child p true) (record { node = n; dir = 1 }) (oriented (child p false) (record { node = n; dir = 0 }) (map (forked_node p) b.nodes))) q

@@ -22,6 +22,7 @@ use Rattle.mkb_model.specs.declared.entry.Ticket.{Ticket}
 use Rattle.mkb_model.specs.declared.entry.Entry.{Entry}
 use Rattle.mkb_model.specs.declared.entry.Entry.TheVariants.{Take, Commit, Drop, Abandon, Halt}
 use Rattle.kb_label.proofs.Members.{name_eq-eq, name_eq-refl}
+use Rattle.mkb_model.specs.Journals.{IsLeaving}
 use Rattle.mkb_model.proofs.Lists.{clash, decide, false_unless, and_left, and_right, and_both, or_one, or_left, or_right, not_of_false, some_is, none_some, none_in, in_filter, map_in, flat_map_in, in_flat_map, find_in, find_none, none_any, all_of}
 
 -- ---- names in lists
@@ -70,12 +71,6 @@ complete_is_closed b p h =
     (has_in b.living p f.0, and_right (no_members (equations_of b p)) (has b.closed p) f.1, no_members_is (equations_of b p) (and_left (no_members (equations_of b p)) (has b.closed p) f.1))
 
 -- ---- a verdict stays
-
--- nothing is taken, committed or dropped where a verdict stands
-abbrev pub IsLeaving : Entry → Type 0
-IsLeaving (Abandon w t) = Unit {0}
-IsLeaving Halt = Unit {0}
-IsLeaving e = ⊥
 
 pub verdict-stays : (May : Plain → Job → Type 0) (past : List Moment) (b : Plain) (e : Entry) (c : Plain) (v : Verdict) → Follows May past b e c → verdict b ≡ Some v → IsLeaving e × (verdict c ≡ Some v)
 verdict-stays May past b (Take w t j) c v f h = none_some (sym f.no_verdict ∙ h)

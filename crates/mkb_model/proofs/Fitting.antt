@@ -18,7 +18,7 @@ use Rattle.kb_term.proofs.Compared.{tree-is_eq}
 use Rattle.kb_term.proofs.Steps.{contains_cases, contains_behind, contains_first}
 use Rattle.kb_term.proofs.CanonicalPairs.{canonical_from_same, lesser_cases, flip, tree_flip}
 use Rattle.kb_label.specs.Names.{Name, root, child}
-use Rattle.mkb_model.specs.Plain.{Plain, PlainNode, pair_at}
+use Rattle.mkb_model.specs.Plain.{Plain, PlainNode, pair_at, pair_in, sides}
 use Rattle.mkb_model.specs.Effects.{with_node, new_node, node_of, is_present, pair_eq, gains, oriented, added, rewritten, rewrite_label, overlap_label, applied, effect, limit_of, give_up, effect_label, forked_node}
 use Rattle.mkb_model.specs.Proposals.{Proposes, AreDeduced, NamedOverlap, deduced_pair}
 use Rattle.mkb_model.specs.Journals.{Moment, Follows, IsRunBy, with_input, with_inputs}
@@ -31,10 +31,11 @@ use Rattle.mkb_model.specs.declared.proposed.Proposed.{Proposed}
 use Rattle.mkb_model.specs.declared.proposed.Proposed.TheVariants.{Facts, Rewrite, One, Both, Refuse, Deduce, Unjoined, Closed, Limit}
 use Rattle.mkb_model.specs.declared.entry.Entry.{Entry}
 use Rattle.mkb_model.specs.declared.entry.Entry.TheVariants.{Take, Commit, Drop, Abandon, Halt}
+use Rattle.mkb_model.specs.Ready.{KeepsPairs}
 use Rattle.mkb_model.proofs.Lists.{clash, or_left, or_right, some_is, none_some, none_in, map_in, in_map, flat_map_in}
-use Rattle.mkb_model.proofs.Pairs.{pair_in, KeepsPairs, SamePairs, pairs_trans, pairs-loses, pairs-oriented, pairs-gains, pairs-gains_equation, pairs-gains_rule, pairs-fork, pair_eq-refl}
+use Rattle.mkb_model.proofs.Pairs.{SamePairs, pairs_trans, pairs-loses, pairs-oriented, pairs-gains, pairs-gains_equation, pairs-gains_rule, pairs-fork, pair_eq-refl}
 use Rattle.mkb_model.proofs.Views.{numbered_variant}
-use Rattle.mkb_model.proofs.Changes.{Fits, sides}
+use Rattle.mkb_model.proofs.Changes.{Fits}
 use Rattle.mkb_model.proofs.Adding.{add_one, with_pair}
 use Rattle.mkb_model.proofs.Rewriting.{some_canonical}
 use Rattle.mkb_model.proofs.Rewritings.{lost_nodes, moved_nodes}

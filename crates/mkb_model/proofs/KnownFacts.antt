@@ -16,7 +16,7 @@ use Rattle.kb_term.specs.declared.origin.RuleRef.{RuleRef}
 use Rattle.kb_term.specs.declared.origin.Found.{Found}
 use Rattle.kb_term.specs.declared.origin.Found.TheVariants.{Strict}
 use Rattle.kb_term.proofs.Steps.{contains_cases}
-use Rattle.mkb_model.specs.Plain.{Plain, rule_at, known, cost}
+use Rattle.mkb_model.specs.Plain.{Plain, rule_at, known, cost, pair_in}
 use Rattle.mkb_model.specs.Jobs.{job_cmp}
 use Rattle.mkb_model.specs.DueJobs.{reducers, free_jobs, first_job}
 use Rattle.mkb_model.specs.Effects.{applied, effect, limit_of, give_up, effect_label}
@@ -32,8 +32,8 @@ use Rattle.mkb_model.specs.declared.proposed.Proposed.{Proposed}
 use Rattle.mkb_model.specs.declared.proposed.Proposed.TheVariants.{Facts, Rewrite, One, Both, Refuse, Deduce, Unjoined, Closed, Limit}
 use Rattle.mkb_model.specs.declared.entry.Entry.{Entry}
 use Rattle.mkb_model.specs.declared.entry.Entry.TheVariants.{Take, Commit, Drop, Abandon, Halt}
+use Rattle.mkb_model.specs.Ready.{KeepsPairs}
 use Rattle.mkb_model.proofs.Lists.{none_some, none_in, in_map, map_in, flat_map_in}
-use Rattle.mkb_model.proofs.Pairs.{pair_in, KeepsPairs}
 use Rattle.mkb_model.proofs.Readiness.{named_rule}
 use Rattle.mkb_model.proofs.Fitting.{pairs_follow, pairs_stay}
 use Rattle.mkb_model.proofs.Selections.{least-none}

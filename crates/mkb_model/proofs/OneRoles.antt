@@ -11,7 +11,7 @@ use Rattle.kb_overlap.specs.Trace.{side, other_side}
 use Rattle.kb_term.specs.declared.origin.RuleRef.{RuleRef}
 use Rattle.kb_term.specs.declared.origin.Found.{Found}
 use Rattle.kb_label.specs.Names.{Name, has, name_eq, child}
-use Rattle.mkb_model.specs.Plain.{Plain, PlainNode, rule_kind, other, state_of, pair_at}
+use Rattle.mkb_model.specs.Plain.{Plain, PlainNode, rule_kind, other, state_of, pair_at, pair_in}
 use Rattle.mkb_model.specs.Effects.{gains, oriented, added, rewritten, rewrite_label, overlap_label, direction, applied, is_dropped, forked_node}
 use Rattle.kb_node.specs.declared.node.LabelKind.{LabelKind}
 use Rattle.kb_node.specs.declared.node.LabelKind.TheVariants.{R0, R1, E, C0, C1, X}
@@ -19,17 +19,17 @@ use Rattle.kb_node.specs.declared.job.Deduced.{Deduced}
 use Rattle.mkb_model.specs.declared.proposed.Proposed.{Proposed}
 use Rattle.mkb_model.specs.declared.proposed.Proposed.TheVariants.{Facts, Rewrite, One, Both, Refuse, Deduce, Unjoined, Closed, Limit}
 use Rattle.kb_label.proofs.Members.{name_eq-eq}
+use Rattle.mkb_model.specs.Ready.{IsOn, IsRole, OneRole, IsRewriteOn, IsReady, IsNew}
 use Rattle.mkb_model.proofs.Lists.{decide, some_is, none_some}
-use Rattle.mkb_model.proofs.Roles.{IsOn, on_there, kinds_decide, on-gains, on-fork, equation-no_rule}
-use Rattle.mkb_model.proofs.Pairs.{pair_in}
+use Rattle.mkb_model.proofs.Roles.{on_there, kinds_decide, on-gains, on-fork, equation-no_rule}
 use Rattle.mkb_model.proofs.Views.{SameRoles, rule_sym, rule_trans, rule_of-between, rules-view, rule_listed}
 use Rattle.mkb_model.proofs.Changes.{Fits}
 use Rattle.mkb_model.proofs.Orienting.{OrientRoles, orient-roles, orient_before, orient_after, keeps-oriented}
-use Rattle.mkb_model.proofs.Adding.{IsRole, OneRole, rule_role, add_one, add-one_role, keeps-added}
-use Rattle.mkb_model.proofs.Rewriting.{IsRewriteOn, source_of, rule_of-other, direction-rule}
+use Rattle.mkb_model.proofs.Adding.{rule_role, add_one, add-one_role, keeps-added}
+use Rattle.mkb_model.proofs.Rewriting.{source_of, rule_of-other, direction-rule}
 use Rattle.mkb_model.proofs.Rewritings.{rewriting_one_role}
 use Rattle.mkb_model.proofs.Proper.{IsOrdered, composed_not_reversed}
-use Rattle.mkb_model.proofs.Commits.{IsReady, IsNoFork, IsNew, IsApartFrom, keeps-rewritten, orients, fork_other, children_differ}
+use Rattle.mkb_model.proofs.Commits.{IsNoFork, IsApartFrom, keeps-rewritten, orients, fork_other, children_differ}
 
 pub one_role_keeps : (xs ys : List PlainNode) (p q : Name) → SameRoles xs p ys q → OneRole xs p → OneRole ys q
 one_role_keeps xs ys p q s one n i j ri rj oi oj = one n i j ri rj ((s n i).0 oi) ((s n j).0 oj)

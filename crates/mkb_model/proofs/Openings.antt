@@ -6,13 +6,14 @@ use Rattle.kb_term.specs.Pair.{Pair, canonical, canonical_pair, IsSameEquation}
 use Rattle.kb_term.specs.Signature.{Signature, Problem}
 use Rattle.kb_term.specs.Rule.{IsVariantRule}
 use Rattle.kb_laws.specs.Completion.{KbState, KbReaches, Keeps, kb_start}
+use Rattle.mkb_model.specs.Ready.{IsOn, KeepsPairs, AllFine}
 use Rattle.mkb_model.proofs.MemberSteps.{delete}
 use Rattle.kb_term.specs.declared.origin.Origin.TheVariants.{Input}
 use Rattle.kb_term.proofs.Steps.{contains_cases, contains_behind, contains_first}
 use Rattle.kb_term.proofs.Instances.{trees_decide}
 use Rattle.kb_term.proofs.CanonicalPairs.{canonical_from_same, same_from_canonical}
 use Rattle.kb_label.specs.Names.{Name, root, has}
-use Rattle.mkb_model.specs.Plain.{Plain, PlainNode, rule_kind, constraint_kind, state_of}
+use Rattle.mkb_model.specs.Plain.{Plain, PlainNode, rule_kind, constraint_kind, state_of, pair_in, sides}
 use Rattle.mkb_model.specs.Effects.{with_node, node_of}
 use Rattle.mkb_model.specs.Journals.{Moment, IsRunBy, opening, with_input, with_inputs}
 use Rattle.mkb_model.specs.Headline.{EachCompletes}
@@ -20,16 +21,16 @@ use Rattle.kb_node.specs.declared.node.LabelKind.{LabelKind}
 use Rattle.kb_node.specs.declared.node.LabelKind.TheVariants.{R0, R1, E}
 use Rattle.kb_node.specs.declared.job.Job.{Job}
 use Rattle.mkb_model.proofs.Lists.{clash, some_is, none_some, none_in}
-use Rattle.mkb_model.proofs.Roles.{IsOn, keeps-with_node, equation-no_rule, equation-no_constraint}
-use Rattle.mkb_model.proofs.Pairs.{pair_in, KeepsPairs, pairs_trans, same_kept, pairs-with_node, pairs-gains_equation, node-with_node}
+use Rattle.mkb_model.proofs.Roles.{keeps-with_node, equation-no_rule, equation-no_constraint}
+use Rattle.mkb_model.proofs.Pairs.{pairs_trans, same_kept, pairs-with_node, pairs-gains_equation, node-with_node}
 use Rattle.mkb_model.proofs.Views.{same_itself, same_sym, same_trans, EqView, equations-view, rules-view, constraints-view, pair_back}
 use Rattle.mkb_model.proofs.Moves.{HasEq, IsLean, has_same}
-use Rattle.mkb_model.proofs.Changes.{sides, lean_state}
+use Rattle.mkb_model.proofs.Changes.{lean_state}
 use Rattle.mkb_model.proofs.Rewriting.{trivial_none, some_canonical}
 use Rattle.mkb_model.proofs.Rewritten.{eq_gain, others_gain}
 use Rattle.mkb_model.proofs.Fitting.{fits_run, canonical_same}
 use Rattle.mkb_model.proofs.Ancestors.{first_board, simulating_completes}
-use Rattle.mkb_model.proofs.Simulation.{AllFine, run_simulates}
+use Rattle.mkb_model.proofs.Simulation.{run_simulates}
 
 -- ---- the equations of the opening board
 

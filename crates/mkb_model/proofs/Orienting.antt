@@ -11,18 +11,18 @@ use Rattle.kb_term.specs.Signature.{Signature}
 use Rattle.kb_term.specs.Rule.{Rule, rule_of, IsVariantRule, rule_between}
 use Rattle.kb_cert.specs.Family.{IsOrderable}
 use Rattle.kb_laws.specs.Completion.{KbStep, Has, Gains}
+use Rattle.mkb_model.specs.Ready.{IsOn, KeepsPairs}
 use Rattle.mkb_model.proofs.MemberSteps.{orient}
 use Rattle.kb_term.specs.declared.origin.RuleRef.{RuleRef}
 use Rattle.kb_label.specs.Names.{Name, has, name_eq}
-use Rattle.mkb_model.specs.Plain.{Plain, PlainNode, rule_kind, constraint_kind, state_of, rules_at, rule_at, constraints_of}
+use Rattle.mkb_model.specs.Plain.{Plain, PlainNode, rule_kind, constraint_kind, state_of, rules_at, rule_at, constraints_of, pair_in, sides}
 use Rattle.mkb_model.specs.Effects.{loses, gains, oriented}
 use Rattle.kb_node.specs.declared.node.LabelKind.{LabelKind}
 use Rattle.kb_node.specs.declared.node.LabelKind.TheVariants.{E}
 use Rattle.kb_label.proofs.Members.{name_eq-refl}
-use Rattle.mkb_model.proofs.Roles.{IsOn, on-gains, on-loses, length-put, has-one, equation-no_rule, equation-no_constraint, rule-no_constraint, KeepsRoles, keeps_trans, keeps-gains, keeps-loses}
-use Rattle.mkb_model.proofs.Pairs.{pair_in, KeepsPairs}
+use Rattle.mkb_model.proofs.Roles.{on-gains, on-loses, length-put, has-one, equation-no_rule, equation-no_constraint, rule-no_constraint, KeepsRoles, keeps_trans, keeps-gains, keeps-loses}
 use Rattle.mkb_model.proofs.Views.{same_sym, same_trans, rule_itself, rule_sym, rule_trans, rule_of-between, from_side, to_side, EqView, RuleView, SameRoles, equations-view, rules-view, constraints-view}
-use Rattle.mkb_model.proofs.Changes.{Fits, sides, between_sides, rule_by_kind, constraint_by_kind, eq_change, rule_change}
+use Rattle.mkb_model.proofs.Changes.{Fits, between_sides, rule_by_kind, constraint_by_kind, eq_change, rule_change}
 
 -- the equation of the node is lost, its rule in a direction is gained, and the rule is a constraint too
 pub record OrientRoles (xs : List PlainNode) (p : Name) (ys : List PlainNode) (q : Name) (a : RuleRef) : Type 0 where

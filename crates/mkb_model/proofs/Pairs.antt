@@ -9,21 +9,14 @@ use Rattle.kb_term.specs.declared.origin.Origin.{Origin}
 use Rattle.kb_term.specs.declared.origin.Origin.TheVariants.{Overlap as ByOverlap}
 use Rattle.kb_term.specs.declared.origin.Found.{Found}
 use Rattle.kb_label.specs.Names.{Name}
-use Rattle.mkb_model.specs.Plain.{PlainNode}
+use Rattle.mkb_model.specs.Plain.{PlainNode, pair_in}
 use Rattle.mkb_model.specs.Effects.{with_label_in, with_label, loses, gains, gains_equation, gains_rule, oriented, with_node, new_node, is_present, node_of, pair_eq, forked_node, moved_to, rewritten, added, direction, if_strict}
 use Rattle.kb_node.specs.declared.node.LabelKind.{LabelKind}
 use Rattle.kb_node.specs.declared.node.LabelKind.TheVariants.{R0, R1, E, C0, C1, X}
 use Rattle.kb_node.specs.declared.job.Deduced.{Deduced}
 use Rattle.kb_term.proofs.CanonicalPairs.{pair_equal, pair_flip, flip}
+use Rattle.mkb_model.specs.Ready.{KeepsPairs}
 use Rattle.mkb_model.proofs.Lists.{clash, or_one, or_right, or_left, none_some}
-
--- the pair of a node of the list
-abbrev pub pair_in : List PlainNode → ℕ → Option Pair
-pair_in xs n = option_map (λ (x : PlainNode). x.pair) (slice_get xs n)
-
--- each pair stays where it is
-abbrev pub KeepsPairs : List PlainNode → List PlainNode → Type 0
-KeepsPairs xs ys = (n : ℕ) (q : Pair) → pair_in xs n ≡ Some q → pair_in ys n ≡ Some q
 
 pub pairs_trans : (xs ys zs : List PlainNode) → KeepsPairs xs ys → KeepsPairs ys zs → KeepsPairs xs zs
 pairs_trans xs ys zs h k n q e = k n q (h n q e)

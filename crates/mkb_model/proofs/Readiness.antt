@@ -12,20 +12,18 @@ use Rattle.kb_rewrite.specs.NormalForm.{IsFound}
 use Rattle.kb_term.specs.declared.origin.RuleRef.{RuleRef}
 use Rattle.kb_term.specs.declared.origin.Found.{Found}
 use Rattle.kb_label.specs.Names.{Name}
-use Rattle.mkb_model.specs.Plain.{Plain, rule_at, rule_kind, other, state_of, rules_of}
+use Rattle.mkb_model.specs.Plain.{Plain, rule_at, rule_kind, other, state_of, rules_of, pair_in}
 use Rattle.mkb_model.specs.DueJobs.{reducers}
 use Rattle.mkb_model.specs.Proposals.{NamedRule, named_rules, Proposes}
 use Rattle.kb_node.specs.declared.node.NodeId.{NodeId}
 use Rattle.kb_node.specs.declared.job.Job.TheVariants.{Reduce}
 use Rattle.mkb_model.specs.declared.proposed.Proposed.TheVariants.{Rewrite}
 use Rattle.kb_term.specs.declared.term.Term.{Term}
+use Rattle.mkb_model.specs.Ready.{IsOn, KeepsPairs, IsRewriteOn, IsReady}
 use Rattle.mkb_model.proofs.Lists.{clash, some_is, none_some, filter_in, filter_map_in, not_true}
-use Rattle.mkb_model.proofs.Roles.{IsOn}
-use Rattle.mkb_model.proofs.Pairs.{pair_in, KeepsPairs}
 use Rattle.mkb_model.proofs.Views.{rules-view, rule_listed}
-use Rattle.mkb_model.proofs.Rewriting.{IsRewriteOn, rule_of-other}
+use Rattle.mkb_model.proofs.Rewriting.{rule_of-other}
 use Rattle.mkb_model.proofs.Proper.{IsOrdered, composed_differs}
-use Rattle.mkb_model.proofs.Commits.{IsReady}
 
 -- the rule of a name is the rule of a pair
 pub named_rule : (b : Plain) (refs : List RuleRef) (a : RuleRef) (r : Rule) → Contains (named_rules b refs) (record { ref = a; rule = r }) → Contains refs a × ((q : Pair) × (pair_in b.nodes a.node ≡ Some q) × (rule_of q a.dir ≡ r))

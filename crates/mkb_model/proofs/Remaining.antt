@@ -1,26 +1,22 @@
 -- Statements that are not proved yet (types alone): with them, every possible run is one in which what is committed is ready.
 use Rattle.std.proofs.Common.{ℕ, ◌≡◌, ◌↔◌, List, Contains, All, Some}
 use Rattle.std.specs.Prelude.{IsTrue}
-use Rattle.kb_term.specs.Tree.{Tree}
-use Rattle.kb_term.specs.Signature.{Signature, Problem, IsWellFormed, IsRuleOver}
+use Rattle.kb_term.specs.Signature.{Signature, Problem, IsWithinLimits, IsRuleOver}
 use Rattle.kb_term.specs.Pair.{Pair}
 use Rattle.kb_term.specs.Rule.{rule_of}
 use Rattle.kb_term.specs.declared.origin.RuleRef.{RuleRef}
 use Rattle.kb_label.specs.Names.{Name, has}
-use Rattle.mkb_model.specs.Plain.{Plain, rule_kind, constraint_kind}
+use Rattle.mkb_model.specs.Plain.{Plain, rule_kind, constraint_kind, pair_in}
 use Rattle.mkb_model.specs.Proposals.{Proposes}
 use Rattle.mkb_model.specs.Invariants.{IsSound, LabelsAreLabels}
 use Rattle.mkb_model.specs.Headline.{EachCompletes}
-use Rattle.mkb_model.specs.Journals.{Moment, IsPossibleRun, IsFreeJob}
+use Rattle.mkb_model.specs.Journals.{Moment, IsPossibleRun, IsFreeJob, tickets}
 use Rattle.kb_node.specs.declared.node.NodeId.{NodeId}
 use Rattle.kb_node.specs.declared.job.Deduced.{Deduced}
 use Rattle.kb_node.specs.declared.job.Job.TheVariants.{Orient, Overlap, Close}
 use Rattle.mkb_model.specs.declared.proposed.Proposed.TheVariants.{Deduce}
 use Rattle.mkb_model.specs.declared.entry.Entry.TheVariants.{Take}
-use Rattle.mkb_model.proofs.Roles.{IsOn}
-use Rattle.mkb_model.proofs.Pairs.{pair_in, KeepsPairs}
-use Rattle.mkb_model.proofs.Adding.{IsDeducedFrom}
-use Rattle.mkb_model.proofs.Simulation.{AllFine}
+use Rattle.mkb_model.specs.Ready.{IsOn, KeepsPairs, IsDeducedFrom, AllFine}
 use Rattle.mkb_model.proofs.Openings.{run_completes}
 
 -- a process whose Orient is in flight lives, and has the constraints that it had when the ticket was taken
@@ -48,22 +44,18 @@ DeductionsAreRight =
 abbrev pub LabelsLive : Type 0
 LabelsLive = (P : Problem) (n : ℕ) (ms : List Moment) (c : Plain) → IsPossibleRun P n ms c → LabelsAreLabels c
 
--- the problem's equations are well formed
-abbrev pub IsProper : Problem → Type 0
-IsProper P = All (λ (e : Tree × Tree). IsWellFormed P.signature e.0 × IsWellFormed P.signature e.1) P.equations
-
 -- what is committed in a possible run is ready
 abbrev pub CommitsAreFine : Type 0
-CommitsAreFine = (P : Problem) (n : ℕ) (ms : List Moment) (c : Plain) → IsProper P → (run : IsPossibleRun P n ms c) → AllFine IsFreeJob P n ms c run
+CommitsAreFine = (P : Problem) (n : ℕ) (ms : List Moment) (c : Plain) → IsWithinLimits P → (run : IsPossibleRun P n ms c) → AllFine IsFreeJob P n ms c run
 
 -- the simulation without conditions: it follows from the one before and `run_completes`
 abbrev pub RunsComplete : Type 0
-RunsComplete = (P : Problem) (n : ℕ) (ms : List Moment) (c : Plain) → IsProper P → IsPossibleRun P n ms c → EachCompletes P ms c
+RunsComplete = (P : Problem) (n : ℕ) (ms : List Moment) (c : Plain) → IsWithinLimits P → IsPossibleRun P n ms c → EachCompletes P ms c
 
 -- all invariants
 abbrev pub BoardsAreSound : Type 0
-BoardsAreSound = (P : Problem) (n : ℕ) (ms : List Moment) (c : Plain) → IsProper P → IsPossibleRun P n ms c → IsSound c
+BoardsAreSound = (P : Problem) (n : ℕ) (ms : List Moment) (c : Plain) → IsWithinLimits P → IsPossibleRun P n ms c → IsSound (tickets ms) c
 
 -- what is committed is ready, so the runs complete
 pub completes_if_fine : CommitsAreFine → RunsComplete
-completes_if_fine fine P n ms c proper run = run_completes IsFreeJob P n ms c run (fine P n ms c proper run)
+completes_if_fine fine P n ms c within run = run_completes IsFreeJob P n ms c run (fine P n ms c within run)

@@ -11,19 +11,19 @@ use Rattle.kb_term.specs.declared.origin.RuleRef.{RuleRef}
 use Rattle.kb_term.specs.declared.origin.Found.{Found}
 use Rattle.kb_term.specs.declared.origin.Found.TheVariants.{No, Variant, Strict}
 use Rattle.kb_label.specs.Names.{Name, has, meet, join}
-use Rattle.mkb_model.specs.Plain.{Plain, PlainNode, label, label_at, rule_kind, other}
+use Rattle.mkb_model.specs.Plain.{Plain, PlainNode, label, label_at, rule_kind, other, pair_in, sides}
 use Rattle.mkb_model.specs.Effects.{loses, rewrite_label, direction, is_strict, if_strict, pair_eq}
 use Rattle.kb_node.specs.declared.node.LabelKind.{LabelKind}
 use Rattle.kb_node.specs.declared.node.LabelKind.TheVariants.{R0, R1, E, C0, C1, X}
 use Rattle.kb_label.proofs.Members.{has-meet, has-join}
 use Rattle.kb_term.proofs.Compared.{tree-is_eq}
 use Rattle.kb_term.proofs.CanonicalPairs.{lesser_cases, tree_equal}
+use Rattle.mkb_model.specs.Ready.{IsOn, IsRole, OneRole}
 use Rattle.mkb_model.proofs.Lists.{clash, false_unless, and_left, and_right, and_both, or_one, some_is, none_some}
-use Rattle.mkb_model.proofs.Roles.{IsOn, on-loses, kind_number}
-use Rattle.mkb_model.proofs.Pairs.{pair_in, pair_eq-eq, pair_eq-refl}
+use Rattle.mkb_model.proofs.Roles.{on-loses, kind_number}
+use Rattle.mkb_model.proofs.Pairs.{pair_eq-eq, pair_eq-refl}
 use Rattle.mkb_model.proofs.Views.{same_itself, same_turned, rule_sym, rule_trans, rule_of-between, numbered_variant, from_side, to_side}
-use Rattle.mkb_model.proofs.Changes.{sides}
-use Rattle.mkb_model.proofs.Adding.{IsRole, OneRole, rule_role}
+use Rattle.mkb_model.proofs.Adding.{rule_role}
 
 -- ---- small facts
 
@@ -122,16 +122,6 @@ one_role_kept xs ys p k one eqs rules n i j ri rj oi oj = go i j ri rj oi oj
     go i X ri rj oi oj = absurd rj
 
 -- ---- a rewriting
-
--- rule a, of another node than n, rewrites side w of the pair of n to the result
-pub record IsRewriteOn (xs : List PlainNode) (n w : ℕ) (at : List ℕ) (a : RuleRef) (kind : Found) (result : Tree) : Type 0 where
-  pub pair : Pair
-  pub there : pair_in xs n ≡ Some pair
-  pub by : Pair
-  pub by_there : pair_in xs a.node ≡ Some by
-  pub step : RewritesAt (rule_of by a.dir) at (side pair w) result
-  pub found : IsFound (side pair w) (rule_of by a.dir) kind
-  pub other_node : a.node ≢ n
 
 -- the three labels that a source may be
 abbrev pub IsSource : ℕ → Found → LabelKind → Type 0

@@ -8,19 +8,20 @@ use Rattle.kb_term.specs.declared.origin.RuleRef.{RuleRef}
 use Rattle.kb_term.specs.declared.origin.Found.{Found}
 use Rattle.kb_term.specs.declared.origin.Origin.TheVariants.{Rewrite as ByRewrite}
 use Rattle.kb_label.specs.Names.{Name, has, meet}
-use Rattle.mkb_model.specs.Plain.{Plain, PlainNode, label_at, rule_kind, constraint_kind, other, state_of}
+use Rattle.mkb_model.specs.Plain.{Plain, PlainNode, label_at, rule_kind, constraint_kind, other, state_of, pair_in, sides}
 use Rattle.mkb_model.specs.Effects.{loses, gains_rule, gains_equation, with_node, node_of, moved_to, rewritten, direction, if_strict, on_nodes}
 use Rattle.kb_node.specs.declared.node.LabelKind.{LabelKind}
 use Rattle.kb_node.specs.declared.node.LabelKind.TheVariants.{R0, R1, E, C0, C1, X}
 use Rattle.kb_term.proofs.CanonicalPairs.{same_from_canonical}
+use Rattle.mkb_model.specs.Ready.{IsOn, KeepsPairs, IsRole, OneRole, IsRewriteOn}
 use Rattle.mkb_model.proofs.Lists.{clash, decide, false_unless}
-use Rattle.mkb_model.proofs.Roles.{IsOn, kind_number, on-gains_rule, keeps-with_node, keeps-gains_rule, keeps-gains_equation, equation-no_rule, equation-no_constraint, rule-no_constraint, KeepsRoles, keeps_trans, length-put}
-use Rattle.mkb_model.proofs.Pairs.{pair_in, KeepsPairs, pairs_trans, pairs-gains_equation, pairs-gains_rule, pairs-loses, pairs-moved_to, node-with_node}
+use Rattle.mkb_model.proofs.Roles.{kind_number, on-gains_rule, keeps-with_node, keeps-gains_rule, keeps-gains_equation, equation-no_rule, equation-no_constraint, rule-no_constraint, KeepsRoles, keeps_trans, length-put}
+use Rattle.mkb_model.proofs.Pairs.{pairs_trans, pairs-gains_equation, pairs-gains_rule, pairs-loses, pairs-moved_to, node-with_node}
 use Rattle.mkb_model.proofs.Views.{same_trans, same_turned, pair_back}
 use Rattle.mkb_model.proofs.Moves.{Steps}
-use Rattle.mkb_model.proofs.Changes.{Fits, sides}
-use Rattle.mkb_model.proofs.Adding.{IsRole, OneRole, rule_role, settled_at}
-use Rattle.mkb_model.proofs.Rewriting.{trivial_none, some_canonical, direction-rule, one_role_kept, IsRewriteOn, IsSource, on-lost, gains_from, gains_own, has-if_strict, if_strict-has}
+use Rattle.mkb_model.proofs.Changes.{Fits}
+use Rattle.mkb_model.proofs.Adding.{rule_role, settled_at}
+use Rattle.mkb_model.proofs.Rewriting.{trivial_none, some_canonical, direction-rule, one_role_kept, IsSource, on-lost, gains_from, gains_own, has-if_strict, if_strict-has}
 use Rattle.mkb_model.proofs.Rewritten.{simplify_case, collapse_case, compose_case, eq_gain, others_gain}
 
 other-rule : (w : ℕ) → rule_kind w ≢ rule_kind (other w)

@@ -11,18 +11,18 @@ use Rattle.kb_laws.specs.Completion.{Keeps}
 use Rattle.kb_term.specs.declared.origin.RuleRef.{RuleRef}
 use Rattle.kb_term.specs.declared.origin.Found.{Found}
 use Rattle.kb_label.specs.Names.{Name, has}
-use Rattle.mkb_model.specs.Plain.{Plain, PlainNode, label_at, rule_kind, constraint_kind, other, state_of}
+use Rattle.mkb_model.specs.Plain.{Plain, PlainNode, label_at, rule_kind, constraint_kind, other, state_of, pair_in, sides}
 use Rattle.mkb_model.specs.Effects.{gains_equation, is_strict}
 use Rattle.kb_node.specs.declared.node.LabelKind.{LabelKind}
 use Rattle.kb_node.specs.declared.node.LabelKind.TheVariants.{R0, R1, E}
+use Rattle.mkb_model.specs.Ready.{IsOn, KeepsPairs, IsRewriteOn}
 use Rattle.mkb_model.proofs.Lists.{clash, decide, some_is}
-use Rattle.mkb_model.proofs.Roles.{IsOn, numbers_decide, on-gains_equation, KeepsRoles}
-use Rattle.mkb_model.proofs.Pairs.{pair_in, KeepsPairs}
+use Rattle.mkb_model.proofs.Roles.{numbers_decide, on-gains_equation, KeepsRoles}
 use Rattle.mkb_model.proofs.Views.{same_sym, same_trans, rule_sym, rule_trans, EqView, RuleView, iff_over, pair_back, equations-view, rules-view, constraints-view, rule_listed}
 use Rattle.mkb_model.proofs.Moves.{Steps, HasEq, HasRule, IsSettled, simplified, composed, collapsed}
-use Rattle.mkb_model.proofs.Changes.{Fits, sides, same_node, lean_state, same_from_rules, rule_by_kind, eq_change, rule_change}
+use Rattle.mkb_model.proofs.Changes.{Fits, same_node, lean_state, same_from_rules, rule_by_kind, eq_change, rule_change}
 use Rattle.mkb_model.proofs.Adding.{view-rules_only}
-use Rattle.mkb_model.proofs.Rewriting.{side_pair, rule_of-side, rule_of-other, strict_is, IsRewriteOn}
+use Rattle.mkb_model.proofs.Rewriting.{side_pair, rule_of-side, rule_of-other, strict_is}
 
 -- ---- the cases, by what becomes of the roles
 

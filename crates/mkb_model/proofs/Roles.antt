@@ -9,11 +9,8 @@ use Rattle.mkb_model.specs.Effects.{with_label_in, with_label, loses, gains, gai
 use Rattle.kb_node.specs.declared.node.LabelKind.{LabelKind}
 use Rattle.kb_node.specs.declared.node.LabelKind.TheVariants.{R0, R1, E, C0, C1, X}
 use Rattle.kb_label.proofs.Members.{has-minus, has-join, has-add, name_eq-refl}
+use Rattle.mkb_model.specs.Ready.{IsOn}
 use Rattle.mkb_model.proofs.Lists.{clash, false_unless, and_left, and_right, and_both, or_one, or_left, or_right, not_true, not_of_false}
-
--- the process q has the node m in the role j
-abbrev pub IsOn : List PlainNode → Name → ℕ → LabelKind → Type 0
-IsOn xs q m j = has (label_at xs m j) q ≡ true
 
 -- ---- kinds of label
 

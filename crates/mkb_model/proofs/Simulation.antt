@@ -15,14 +15,15 @@ use Rattle.mkb_model.specs.declared.proposed.Proposed.TheVariants.{Facts, Rewrit
 use Rattle.mkb_model.specs.declared.entry.Entry.{Entry}
 use Rattle.mkb_model.specs.declared.entry.Entry.TheVariants.{Take, Commit, Drop, Abandon, Halt}
 use Rattle.kb_label.proofs.Members.{has-add, has-minus, name_eq-eq, name_eq-refl}
+use Rattle.mkb_model.specs.Ready.{OneRole, IsReady, IsNew, IsFine, CommitsFine, AllFine}
+use Rattle.mkb_model.specs.Invariants.{AreApart}
 use Rattle.mkb_model.proofs.Lists.{clash, false_unless, and_left, and_right, or_one, not_true}
 use Rattle.mkb_model.proofs.Roles.{has-one}
 use Rattle.mkb_model.proofs.Moves.{reaches_same, same_state}
 use Rattle.mkb_model.proofs.Changes.{Fits}
-use Rattle.mkb_model.proofs.Adding.{OneRole}
-use Rattle.mkb_model.proofs.Commits.{IsReady, IsNew, IsApartFrom, applied_reaches, fork_reaches, orients}
+use Rattle.mkb_model.proofs.Commits.{IsApartFrom, applied_reaches, fork_reaches, orients}
 use Rattle.mkb_model.proofs.Fitting.{HasPairs, fits-applied, fits_run, proposed_pairs}
-use Rattle.mkb_model.proofs.Ancestors.{begins-refl, begins-trans, two_beginnings, IsApart, Simulates, Simulating}
+use Rattle.mkb_model.proofs.Ancestors.{begins-refl, begins-trans, two_beginnings, Simulates, Simulating}
 
 -- ---- children
 
@@ -62,7 +63,7 @@ forked_names p l q lives h = go (has l p) lives h
           (or_one (name_eq q (child p true)) (has (minus l (p ∷ [])) q) (sym (has-add (child p true) (minus l (p ∷ [])) q) ∙ i)))
         (or_one (name_eq q (child p false)) (has (add (child p true) (minus l (p ∷ []))) q) (sym (has-add (child p false) (add (child p true) (minus l (p ∷ []))) q) ∙ k))
 
-module _ (p : Name) (l : List Name) (lives : has l p ≡ true) (apart : IsApart l) where
+module _ (p : Name) (l : List Name) (lives : has l p ≡ true) (apart : AreApart l) where
   -- a child and another name: neither begins the other
   child_apart : (bit : Bool) (q : Name) → has l q ≡ true → q ≢ p → ¬ (is_beginning (child p bit) q ≡ true)
   child_apart bit q n d h = d (sym (apart p q lives n (begins-trans p (child p bit) q (begins-child p bit) h)))
@@ -77,7 +78,7 @@ module _ (p : Name) (l : List Name) (lives : has l p ≡ true) (apart : IsApart 
   two_children true false h = absurd (siblings' p h)
 
   -- after a fork no name begins another
-  pub fork_apart : IsApart (relabel p l)
+  pub fork_apart : AreApart (relabel p l)
   fork_apart q r hq hr h = go (forked_names p l q lives hq) (forked_names p l r lives hr)
     where
       go : ((bit : Bool) × (q ≡ child p bit)) ⊎ ((has l q ≡ true) × (q ≢ p)) → ((bit : Bool) × (r ≡ child p bit)) ⊎ ((has l r ≡ true) × (r ≢ p)) → q ≡ r
@@ -94,25 +95,14 @@ module _ (p : Name) (l : List Name) (lives : has l p ≡ true) (apart : IsApart 
 
 -- ---- entries
 
--- a forked process lives, and no label names its children yet
-abbrev pub IsForkable : Plain → Proposed → Type 0
-IsForkable b (Both p n c0 c1) = (has b.living p ≡ true) × IsNew b.nodes p
-IsForkable b x = ⊤
-
--- what is committed is ready, and each process has each node in one role
-pub record IsFine (g : Signature) (b : Plain) (x : Proposed) : Type 0 where
-  pub ready : IsReady g b x
-  pub one_role : (q : Name) → OneRole b.nodes q
-  pub forkable : IsForkable b x
-
 -- the same processes live, each with its state or more steps
-same_names : (g : Signature) (b c : Plain) → c.living ≡ b.living → IsApart b.living → ((q : Name) → KbReaches g (state_of b q) (state_of c q)) → Simulates g b c × IsApart c.living
-same_names g b c e apart h = ((λ q n. (q, subst {A = List Name} (λ l. has l q ≡ true) e n, begins-refl q, h q)), subst {A = List Name} IsApart (sym e) apart)
+same_names : (g : Signature) (b c : Plain) → c.living ≡ b.living → AreApart b.living → ((q : Name) → KbReaches g (state_of b q) (state_of c q)) → Simulates g b c × AreApart c.living
+same_names g b c e apart h = ((λ q n. (q, subst {A = List Name} (λ l. has l q ≡ true) e n, begins-refl q, h q)), subst {A = List Name} AreApart (sym e) apart)
 
-same_board : (g : Signature) (b c : Plain) → c.living ≡ b.living → c.nodes ≡ b.nodes → ((q : Name) → state_of c q ≡ state_of b q) → IsApart b.living → Simulates g b c × IsApart c.living
+same_board : (g : Signature) (b c : Plain) → c.living ≡ b.living → c.nodes ≡ b.nodes → ((q : Name) → state_of c q ≡ state_of b q) → AreApart b.living → Simulates g b c × AreApart c.living
 same_board g b c e f s apart = same_names g b c e apart (λ q. reaches_same g (state_of b q) (state_of c q) (subst {A = KbState} (λ z. IsSameState (state_of b q) z) (sym (s q)) (same_state (state_of b q))))
 
-applied_simulates : (g : Signature) (b : Plain) (x : Proposed) → IsFine g b x → HasPairs x → Fits b.nodes → IsFalse (is_dropped b x) → IsApart b.living → Simulates g b (applied b x) × IsApart (applied b x).living
+applied_simulates : (g : Signature) (b : Plain) (x : Proposed) → IsFine g b x → HasPairs x → Fits b.nodes → IsFalse (is_dropped b x) → AreApart b.living → Simulates g b (applied b x) × AreApart (applied b x).living
 applied_simulates g b (Both p n c0 c1) fine pairs fits acts apart = ((λ q named. go q (forked_names p b.living q fine.forkable.0 named)), fork_apart p b.living fine.forkable.0 apart)
   where
     r : KbReaches g (state_of b p) (state_of (applied b (Both p n c0 c1)) (child p false)) × KbReaches g (state_of b p) (state_of (applied b (Both p n c0 c1)) (child p true)) × ((q : Name) → IsApartFrom p q → KbReaches g (state_of b q) (state_of (applied b (Both p n c0 c1)) q))
@@ -135,41 +125,28 @@ applied_simulates g b (Closed p) fine pairs fits acts apart = same_names g b (ap
 applied_simulates g b (Limit j cause) fine pairs fits acts apart = same_names g b (applied b (Limit j cause)) refl apart (λ q. applied_reaches g b (Limit j cause) tt fine.ready acts q (fine.one_role q) (fits-applied b (Limit j cause) pairs fits))
 
 -- at a limit nothing changes but who gave up
-effect_simulates : (g : Signature) (b : Plain) (x : Proposed) → IsFine g b x → HasPairs x → Fits b.nodes → IsFalse (is_dropped b x) → IsApart b.living → Simulates g b (effect b x) × IsApart (effect b x).living
+effect_simulates : (g : Signature) (b : Plain) (x : Proposed) → IsFine g b x → HasPairs x → Fits b.nodes → IsFalse (is_dropped b x) → AreApart b.living → Simulates g b (effect b x) × AreApart (effect b x).living
 effect_simulates g b x fine pairs fits acts apart = go (limit_of b x)
   where
-    go : (o : Option Reason) → Simulates g b (option_map_or (λ r. give_up r (effect_label b x) b) o (applied b x)) × IsApart (option_map_or (λ r. give_up r (effect_label b x) b) o (applied b x)).living
+    go : (o : Option Reason) → Simulates g b (option_map_or (λ r. give_up r (effect_label b x) b) o (applied b x)) × AreApart (option_map_or (λ r. give_up r (effect_label b x) b) o (applied b x)).living
     go None = applied_simulates g b x fine pairs fits acts apart
     go (Some r) = same_board g b (give_up r (effect_label b x) b) refl refl (λ q. refl) apart
 
--- what a commit commits is fine; the other entries commit nothing
-abbrev pub CommitsFine : (May : Plain → Job → Type 0) → Signature → (past : List Moment) (b : Plain) (e : Entry) (c : Plain) → Follows May past b e c → Type 0
-CommitsFine May g past b (Take w t j) c f = ⊤
-CommitsFine May g past b (Commit w t e) c f = IsFine g b f.proposal
-CommitsFine May g past b (Drop w t p) c f = ⊤
-CommitsFine May g past b (Abandon w t) c f = ⊤
-CommitsFine May g past b Halt c f = ⊤
+pub follow_simulates : (May : Plain → Job → Type 0) (g : Signature) (past : List Moment) (b : Plain) (e : Entry) (c : Plain) (f : Follows May past b e c) → CommitsFine May g past b e c f → Fits b.nodes → AreApart b.living → Simulates g b c × AreApart c.living
+follow_simulates May g past b (Take w t j) c f fine fits apart = subst {A = Plain} (λ z. Simulates g b z × AreApart z.living) (sym f.leads_to) (same_board g b (in_flight w t j b) refl refl (λ q. refl) apart)
+follow_simulates May g past b (Commit w t e) c f fine fits apart = subst {A = Plain} (λ z. Simulates g b z × AreApart z.living) (sym f.leads_to) (effect_simulates g b f.proposal fine (proposed_pairs f.finishing.before f.job f.proposal f.finishing.proposed) fits f.acts apart)
+follow_simulates May g past b (Drop w t p) c f fine fits apart = subst {A = Plain} (λ z. Simulates g b z × AreApart z.living) (sym f.leads_to) (same_board g b (landed t b) refl refl (λ q. refl) apart)
+follow_simulates May g past b (Abandon w t) c f fine fits apart = subst {A = Plain} (λ z. Simulates g b z × AreApart z.living) (sym f.leads_to) (same_board g b (landed t b) refl refl (λ q. refl) apart)
+follow_simulates May g past b Halt c f fine fits apart = subst {A = Plain} (λ z. Simulates g b z × AreApart z.living) (sym f.1) (same_board g b b refl refl (λ q. refl) apart)
 
-pub follow_simulates : (May : Plain → Job → Type 0) (g : Signature) (past : List Moment) (b : Plain) (e : Entry) (c : Plain) (f : Follows May past b e c) → CommitsFine May g past b e c f → Fits b.nodes → IsApart b.living → Simulates g b c × IsApart c.living
-follow_simulates May g past b (Take w t j) c f fine fits apart = subst {A = Plain} (λ z. Simulates g b z × IsApart z.living) (sym f.leads_to) (same_board g b (in_flight w t j b) refl refl (λ q. refl) apart)
-follow_simulates May g past b (Commit w t e) c f fine fits apart = subst {A = Plain} (λ z. Simulates g b z × IsApart z.living) (sym f.leads_to) (effect_simulates g b f.proposal fine (proposed_pairs f.finishing.before f.job f.proposal f.finishing.proposed) fits f.acts apart)
-follow_simulates May g past b (Drop w t p) c f fine fits apart = subst {A = Plain} (λ z. Simulates g b z × IsApart z.living) (sym f.leads_to) (same_board g b (landed t b) refl refl (λ q. refl) apart)
-follow_simulates May g past b (Abandon w t) c f fine fits apart = subst {A = Plain} (λ z. Simulates g b z × IsApart z.living) (sym f.leads_to) (same_board g b (landed t b) refl refl (λ q. refl) apart)
-follow_simulates May g past b Halt c f fine fits apart = subst {A = Plain} (λ z. Simulates g b z × IsApart z.living) (sym f.1) (same_board g b b refl refl (λ q. refl) apart)
-
--- each commit of the run is fine
-abbrev pub AllFine : (May : Plain → Job → Type 0) (P : Problem) (n : ℕ) (ms : List Moment) (c : Plain) → IsRunBy May P n ms c → Type 0
-AllFine May P n [] c run = ⊤
-AllFine May P n (m ∷ ms) c run = CommitsFine May P.signature ms m.board m.entry c run.1 × AllFine May P n ms m.board run.0
-
-pub run_simulates : (May : Plain → Job → Type 0) (P : Problem) (n : ℕ) (ms : List Moment) (c : Plain) (run : IsRunBy May P n ms c) → AllFine May P n ms c run → Simulating P.signature ms c × IsApart c.living
-run_simulates May P n [] c run fine = (tt, subst {A = Plain} (λ z. IsApart z.living) (sym run) one)
+pub run_simulates : (May : Plain → Job → Type 0) (P : Problem) (n : ℕ) (ms : List Moment) (c : Plain) (run : IsRunBy May P n ms c) → AllFine May P n ms c run → Simulating P.signature ms c × AreApart c.living
+run_simulates May P n [] c run fine = (tt, subst {A = Plain} (λ z. AreApart z.living) (sym run) one)
   where
     is_root : (p : Name) → has ([] ∷ []) p ≡ true → p ≡ []
     is_root [] h = refl
     is_root (x ∷ p) h = clash h refl
 
-    one : IsApart ([] ∷ [])
+    one : AreApart ([] ∷ [])
     one p q hp hq h = is_root p hp ∙ sym (is_root q hq)
 run_simulates May P n (m ∷ ms) c run fine =
     let before = run_simulates May P n ms m.board run.0 fine.1 in

@@ -11,13 +11,13 @@ use Rattle.kb_term.specs.Rule.{Rule, rule_of, IsVariantRule, rule_between}
 use Rattle.kb_laws.specs.Completion.{IsSameState, Has}
 use Rattle.kb_term.specs.declared.origin.RuleRef.{RuleRef}
 use Rattle.kb_label.specs.Names.{Name, has}
-use Rattle.mkb_model.specs.Plain.{Plain, PlainNode, pair_at, rule_at, label_at, rule_kind, constraint_kind, node_numbers, directions, equations_of, rules_of, rules_at, is_equation, state_of}
+use Rattle.mkb_model.specs.Plain.{Plain, PlainNode, pair_at, rule_at, label_at, rule_kind, constraint_kind, node_numbers, directions, equations_of, rules_of, rules_at, is_equation, state_of, pair_in}
 use Rattle.kb_node.specs.declared.node.LabelKind.{LabelKind}
 use Rattle.kb_node.specs.declared.node.LabelKind.TheVariants.{E}
 use Rattle.std.proofs.lemmas.List.Elements.{Contains-append_left, Contains-append_right}
+use Rattle.mkb_model.specs.Ready.{IsOn, KeepsPairs}
 use Rattle.mkb_model.proofs.Lists.{some_is, none_some, filter_in, in_filter, map_in, in_map, in_flat_map, filter_map_in, in_filter_map, in_numbers}
-use Rattle.mkb_model.proofs.Roles.{IsOn, on_there}
-use Rattle.mkb_model.proofs.Pairs.{pair_in, KeepsPairs}
+use Rattle.mkb_model.proofs.Roles.{on_there}
 
 -- ---- sameness
 

@@ -1,7 +1,7 @@
 -- Whatever the order of the entries, the views of each living process are a completion run of that process alone.
 use Rattle.std.specs.Prelude.{ℕ, ◌≤◌, List, [], ◌∷◌, ◌++◌, ◌≡◌, IsTrue, Contains}
 use Rattle.std.specs.declared.option.Option.TheVariants.{Some}
-use Rattle.kb_term.specs.Signature.{Problem}
+use Rattle.kb_term.specs.Signature.{Problem, IsWithinLimits}
 use Rattle.kb_laws.specs.Completion.{KbState, IsKbRun}
 use Rattle.kb_label.specs.Names.{Name, has}
 use Rattle.mkb_model.specs.Plain.{Plain, state_of, ancestor}
@@ -33,8 +33,9 @@ EachCompletes P ms c = (p : Name) → IsTrue (has c.living p) → IsKbRun P (sta
 abbrev pub TakesAreBy : ℕ → List Entry → Type 0
 TakesAreBy workers J = (w t : ℕ) (j : Job) → Contains J (Take w t j) → (1 ≤ w) × (w ≤ workers)
 
--- the journal is legal for the problem, the budget and the workers, leads to the board, and each living process completes by itself
+-- the problem is within the limits, so its equations are well formed; the journal is legal for it, the budget and the workers, leads to the board, and each living process completes by itself
 pub record IsOutcome (P : Problem) (budget workers : ℕ) (J : List Entry) (c : Plain) : Type 0 where
+  pub within : IsWithinLimits P
   pub moments : List Moment
   pub run : IsRun P budget moments c
   pub journal : journal_of moments ≡ J

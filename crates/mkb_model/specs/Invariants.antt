@@ -1,5 +1,5 @@
 -- What holds of every board that a legal journal leads to.
-use Rattle.std.specs.Prelude.{ℕ, ◌≤◌, List, take, length, ◌≡◌, ◌≢◌, IsTrue, IsFalse, Contains, AllPairs, slice_get, option_map}
+use Rattle.std.specs.Prelude.{ℕ, ◌≤◌, List, take, length, ◌≡◌, ◌≢◌, IsTrue, IsFalse, Contains, AllPairs, slice_get}
 use Rattle.std.specs.declared.option.Option.TheVariants.{Some}
 use Rattle.kb_term.specs.Tree.{Tree}
 use Rattle.kb_term.specs.Pair.{Pair, IsCanonical, IsTrivial}
@@ -11,9 +11,11 @@ use Rattle.kb_term.specs.declared.origin.Found.TheVariants.{Strict}
 use Rattle.kb_term.specs.declared.origin.RuleRef.{RuleRef}
 use Rattle.kb_cert.specs.declared.certificate.Certificate.{Certificate}
 use Rattle.mkb_model.specs.Jobs.{clashes}
-use Rattle.kb_label.specs.Names.{Name, has, IsInNameOrder}
-use Rattle.mkb_model.specs.Plain.{Plain, PlainNode, Done, GivenUp, label_in, pair_at, rule_at, rules_at, is_equation, is_rule, constraints_of, is_over, certificate_of}
+use Rattle.kb_label.specs.Names.{Name, has, is_beginning, IsInNameOrder}
+use Rattle.kb_label.specs.Forks.{IsForked}
+use Rattle.mkb_model.specs.Plain.{Plain, PlainNode, Done, GivenUp, label_in, pair_in, pair_at, rule_at, rules_at, is_equation, is_rule, constraints_of, is_over, certificate_of}
 use Rattle.mkb_model.specs.DueJobs.{work_of, is_work_due}
+use Rattle.mkb_model.specs.Effects.{most_living}
 use Rattle.kb_rewrite.specs.NormalForm.{IsFound}
 use Rattle.mkb_model.specs.Proposals.{IsClosedOn}
 use Rattle.kb_node.specs.declared.job.Job.{Job}
@@ -86,15 +88,32 @@ pub record ClosedIsAtRest (b : Plain) (p : Name) : Type 0 where
   pub no_orient : IsTrue (has b.closed p) → (n : NodeId) → ¬ IsFlying b (Orient p n)
   pub no_close : IsTrue (has b.closed p) → ¬ IsFlying b (Close p)
 
--- 7: each pair is canonical, not trivial and follows from the input and earlier pairs as its origin says; no two are the same
-pub record PairsFollow (b : Plain) : Type 0 where
+-- 7: each pair is canonical and not trivial, and no two are the same
+pub record PairsDiffer (b : Plain) : Type 0 where
   pub canonical : (x : PlainNode) → Contains b.nodes x → IsCanonical x.pair × ¬ IsTrivial x.pair
   pub distinct : AllPairs (λ (x y : PlainNode). x.pair ≢ y.pair) b.nodes
-  pub origins : (n : ℕ) (x : PlainNode) → slice_get b.nodes n ≡ Some x
-      → IsRightOrigin b.problem.equations (λ k. option_map (λ (y : PlainNode). y.pair) (slice_get (take n b.nodes) k)) x.origin x.pair
 
--- all of it
-pub record IsSound (b : Plain) : Type 0 where
+-- 7, besides: each pair follows from the input and earlier pairs as its origin says
+abbrev pub PairsFollow : Plain → Type 0
+PairsFollow b = (n : ℕ) (x : PlainNode) → slice_get b.nodes n ≡ Some x → IsRightOrigin b.problem.equations (pair_in (take n b.nodes)) x.origin x.pair
+
+-- no name of the list begins another
+abbrev pub AreApart : List Name → Type 0
+AreApart l = (p q : Name) → IsTrue (has l p) → IsTrue (has l q) → IsTrue (is_beginning p q) → p ≡ q
+
+-- 9: the living names are what forks make of the first, none begins another, and they are at most 256
+pub record LivingIsForked (b : Plain) : Type 0 where
+  pub forked : IsForked b.living
+  pub apart : AreApart b.living
+  pub few : length b.living ≤ most_living
+
+-- 10: the tickets in flight have different numbers, from 1 to the number of takes
+pub record FlightIsNumbered (taken : ℕ) (b : Plain) : Type 0 where
+  pub distinct : AllPairs (λ (t u : Ticket). t.number ≢ u.number) b.flight
+  pub numbers : (t : Ticket) → Contains b.flight t → (1 ≤ t.number) × (t.number ≤ taken)
+
+-- all of it, after so many takes
+pub record IsSound (taken : ℕ) (b : Plain) : Type 0 where
   pub labels : LabelsAreLabels b
   pub one_role : (p : Name) (n : ℕ) → HasOneRole b p n
   pub certified : (p : Name) → IsTrue (has b.living p) → IsCertified b p
@@ -102,6 +121,9 @@ pub record IsSound (b : Plain) : Type 0 where
   pub facts_hold : FactsHold b
   pub flight_clear : FlightIsClear b
   pub at_rest : (p : Name) → ClosedIsAtRest b p
+  pub pairs_differ : PairsDiffer b
   pub pairs_follow : PairsFollow b
   -- 8: what is closed is closed
   pub closed : (p : Name) → IsTrue (has b.closed p) → IsClosedOn b p
+  pub living : LivingIsForked b
+  pub flight_numbered : FlightIsNumbered taken b

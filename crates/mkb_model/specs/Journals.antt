@@ -1,5 +1,5 @@
 -- Which journals are legal, and what board each leads to.
-use Rattle.std.specs.Prelude.{ℕ, ◌+◌, ◌≤◌, List, [], ◌∷◌, ◌++◌, map, length, Bool, true, false, ◌&&◌, not, ◌==◌, ◌≡◌, filter, Contains, take, IsSome, IsTrue, IsFalse}
+use Rattle.std.specs.Prelude.{ℕ, ◌+◌, ◌≤◌, List, [], ◌∷◌, ◌++◌, map, length, Bool, true, false, ◌&&◌, not, ◌==◌, ◌≡◌, filter, Contains, take, ⊤, IsSome, IsTrue, IsFalse}
 use Rattle.std.specs.List.{list_any}
 use Rattle.std.specs.declared.option.Option.{Option}
 use Rattle.std.specs.declared.option.Option.TheVariants.{Some, None}
@@ -139,6 +139,12 @@ Follows May past b (Commit w t e) c = IsCommitting past b w t e c
 Follows May past b (Drop w t p) c = IsDropping past b w t p c
 Follows May past b (Abandon w t) c = IsAbandoning b w t c
 Follows May past b Halt c = IsFalse (is_halted past) × (c ≡ b)
+
+-- the entry gives a ticket back, or halts
+abbrev pub IsLeaving : Entry → Type 0
+IsLeaving (Abandon w t) = ⊤
+IsLeaving Halt = ⊤
+IsLeaving e = ⊥
 
 -- these moments, the newest first, make up a journal of the problem and the budget whose takes are of jobs that may be taken, and lead to the board
 abbrev pub IsRunBy : (Plain → Job → Type 0) → Problem → ℕ → List Moment → Plain → Type 0

@@ -5,5 +5,6 @@ pub mod Effects
 pub mod Proposals
 pub mod Verdicts
 pub mod Journals
+pub mod Ready
 pub mod Headline
 pub mod Invariants

@@ -157,9 +157,17 @@ view b p = record { equations = equations_of b p; rules = rules_of b p; constrai
 
 -- ---- terms on the board
 
+-- the pair of a node of the list, if it is there
+abbrev pub pair_in : List PlainNode → ℕ → Option Pair
+pair_in xs n = option_map (λ (x : PlainNode). x.pair) (slice_get xs n)
+
 -- the pair of a node, if it is there
 abbrev pub pair_at : Plain → ℕ → Option Pair
-pair_at b n = option_map (λ (x : PlainNode). x.pair) (slice_get b.nodes n)
+pair_at b n = pair_in b.nodes n
+
+-- the two terms of a pair
+abbrev pub sides : Pair → Tree × Tree
+sides q = (q.first, q.second)
 
 -- the rule that the reference names, if its node is there
 abbrev pub rule_at : Plain → RuleRef → Option Rule
@@ -171,7 +179,7 @@ rules_at b refs = filter_map (rule_at b) refs
 
 -- the equations that the node numbers name
 abbrev pub equations_at : Plain → List ℕ → List (Tree × Tree)
-equations_at b ns = map (λ (q : Pair). (q.first, q.second)) (filter_map (pair_at b) ns)
+equations_at b ns = map sides (filter_map (pair_at b) ns)
 
 -- the process's equations, rules and constraints: the state of its own completion
 abbrev pub state_of : Plain → Name → KbState
