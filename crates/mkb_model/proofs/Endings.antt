@@ -37,38 +37,16 @@ in_has (q ∷ l) p h = ⊎_elim (λ e. subst {A = Name} (Contains (q ∷ l)) (sy
 
 -- ---- what a verdict says
 
-nones : {A : Type 0} (a b c d : Option A) → first_some (a ∷ b ∷ c ∷ d ∷ []) ≡ None → (a ≡ None) × (b ≡ None) × (c ≡ None) × (d ≡ None)
+pub nones : {A : Type 0} (a b c d : Option A) → first_some (a ∷ b ∷ c ∷ d ∷ []) ≡ None → (a ≡ None) × (b ≡ None) × (c ≡ None) × (d ≡ None)
 nones None None None None h = (refl, refl, refl, refl)
 nones None None None (Some d) h = none_some (sym h)
 nones None None (Some c) d h = none_some (sym h)
 nones None (Some b) c d h = none_some (sym h)
 nones (Some a) b c d h = none_some (sym h)
 
-complete_first : (a : Option Name) (f : Bool) (s : Bool) (o : Bool) (r : Option Reason) (p : Name)
-    → first_some (option_map Complete a ∷ some_if f AllFailed ∷ some_if s (IsSpent Commits) ∷ cond o (option_map (λ r. IsSpent (Over r)) r) None ∷ []) ≡ Some (Complete p) → a ≡ Some p
-complete_first (Some q) f s o r p h = ap Some (same (some_is h))
-  where
-    name_in : Verdict → Name
-    name_in (Complete q) = q
-    name_in v = []
-
-    same : Complete q ≡ Complete p → q ≡ p
-    same e = cc
-complete_first None true s o r p h = absurd (cc)
-complete_first None false true o r p h = absurd (cc)
-complete_first None false false true (Some r) p h = absurd (cc)
-complete_first None false false true None p h = none_some h
-complete_first None false false false r p h = none_some h
-
-no_members_is : {A : Type 0} (xs : List A) → no_members xs ≡ true → xs ≡ []
+pub no_members_is : {A : Type 0} (xs : List A) → no_members xs ≡ true → xs ≡ []
 no_members_is [] h = refl
 no_members_is (x ∷ xs) h = clash h refl
-
--- a process of which the verdict says that it is complete lives, is closed and has no equation
-pub complete_is_closed : (b : Plain) (p : Name) → verdict b ≡ Some (Complete p) → IsTrue (has b.living p) × IsTrue (has b.closed p) × (equations_of b p ≡ [])
-complete_is_closed b p h =
-    let f = find_in (is_complete b) b.living p (complete_first (find (is_complete b) b.living) (list_all (is_failed b) b.living) (b.commits == b.budget) (list_all (λ p. is_failed b p || is_over b p) b.living) (option_and_then (over_reason b) (first_over b)) p h) in
-    (has_in b.living p f.0, and_right (no_members (equations_of b p)) (has b.closed p) f.1, no_members_is (equations_of b p) (and_left (no_members (equations_of b p)) (has b.closed p) f.1))
 
 -- ---- a verdict stays
 
@@ -92,7 +70,7 @@ over_has_reason (g ∷ gs) p h = go (has g.names p) refl (λ k. over_has_reason 
     go false e ih (inr d) = ih d
 
 -- a job of the work of a process is that process's
-work_is_own : (b : Plain) (p : Name) (j : Job) → Contains (work_of b p) j → is_working b p ≡ true → is_work_due b j ≡ true → is_due b j ≡ true
+pub work_is_own : (b : Plain) (p : Name) (j : Job) → Contains (work_of b p) j → is_working b p ≡ true → is_work_due b j ≡ true → is_due b j ≡ true
 work_is_own b p j c w h = ⊎_elim reduces (λ d. ⊎_elim orients overlaps (Contains-append_cases (map (λ n. Orient p (record { 0 = n })) (node_numbers b)) (flat_map (λ (a : RuleRef). map (Overlap p a) (rules_of b p)) (rules_of b p)) j d))
     (Contains-append_cases (map (λ n. Reduce p (record { 0 = n })) (node_numbers b)) (map (λ n. Orient p (record { 0 = n })) (node_numbers b) ++ flat_map (λ (a : RuleRef). map (Overlap p a) (rules_of b p)) (rules_of b p)) j c)
   where

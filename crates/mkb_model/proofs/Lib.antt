@@ -2,6 +2,7 @@ pub mod MemberSteps
 pub mod Lists
 pub mod Roles
 pub mod Endings
+pub mod Meanings
 pub mod Selections
 pub mod Pairs
 pub mod Views
@@ -17,11 +18,13 @@ pub mod Fitting
 pub mod Ancestors
 pub mod Proper
 pub mod Flights
+pub mod Living
 pub mod Readiness
 pub mod Simulation
 pub mod OneRoles
 pub mod Openings
 pub mod KnownFacts
+pub mod Stated
 pub mod Remaining
 mod Rows
 mod MoreRows

@@ -4,6 +4,7 @@ use Rattle.std.specs.declared.option.Option.TheVariants.{Some}
 use Rattle.kb_term.specs.Tree.{Tree}
 use Rattle.kb_term.specs.Pair.{Pair, IsCanonical, IsTrivial}
 use Rattle.kb_term.specs.Rule.{Rule}
+use Rattle.kb_term.specs.Signature.{Problem}
 use Rattle.kb_term.specs.Proving.{IsChain}
 use Rattle.kb_cert.specs.Family.{Orders, family}
 use Rattle.kb_overlap.specs.Trace.{IsRightOrigin, side}
@@ -111,6 +112,12 @@ pub record LivingIsForked (b : Plain) : Type 0 where
 pub record FlightIsNumbered (taken : ℕ) (b : Plain) : Type 0 where
   pub distinct : AllPairs (λ (t u : Ticket). t.number ≢ u.number) b.flight
   pub numbers : (t : Ticket) → Contains b.flight t → (1 ≤ t.number) × (t.number ≤ taken)
+
+-- 11: the board is of the problem and the budget, and its commits are within it
+pub record IsWithinBudget (P : Problem) (n : ℕ) (b : Plain) : Type 0 where
+  pub problem : b.problem ≡ P
+  pub budget : b.budget ≡ n
+  pub commits : b.commits ≤ n
 
 -- all of it, after so many takes
 pub record IsSound (taken : ℕ) (b : Plain) : Type 0 where
