@@ -19,6 +19,7 @@ pub mod Ancestors
 pub mod Proper
 pub mod Flights
 pub mod Living
+pub mod Labels
 pub mod Readiness
 pub mod Simulation
 pub mod OneRoles

@@ -112,7 +112,7 @@ length-put [] n k l = refl
 length-put (x ∷ xs) zero k l = refl
 length-put (x ∷ xs) (suc n) k l = ap suc (length-put xs n k l)
 
-below : (n m : ℕ) → (n < m) ⊎ (m ≤ n)
+pub below : (n m : ℕ) → (n < m) ⊎ (m ≤ n)
 below n zero = inr (omega arith)
 below zero (suc m) = inl (omega arith)
 below (suc n) (suc m) = ⊎_elim (λ h. inl (omega (arith, h))) (λ h. inr (omega (arith, h))) (below n m)
@@ -257,7 +257,7 @@ keeps-with_node p o xs q m j = ((λ h. sym (ap (λ z. has z q) (label-with_node 
 
 -- ---- forks
 
-label-fork : (p : Name) (xs : List PlainNode) (m : ℕ) (j : LabelKind) → label_at (map (forked_node p) xs) m j ≡ relabel p (label_at xs m j)
+pub label-fork : (p : Name) (xs : List PlainNode) (m : ℕ) (j : LabelKind) → label_at (map (forked_node p) xs) m j ≡ relabel p (label_at xs m j)
 label-fork p [] m j = refl
 label-fork p (x ∷ xs) zero R0 = refl
 label-fork p (x ∷ xs) zero R1 = refl

@@ -15,3 +15,6 @@ pub use laws::{
     verdicts_stay, work_goes_on,
 };
 pub use proposed::{DeducedList, FactList, Proposed};
+
+#[cfg(test)]
+mod tests;
