@@ -112,7 +112,7 @@ pub record IsSoundState (g : Signature) (a : KbState) : Type 0 where
 has_well : (g : Signature) (ds : List (Tree × Tree)) → ((d : Tree × Tree) → Contains ds d → AreSidesWell g d) → (e : Tree × Tree) → Has IsSameEquation ds e → AreSidesWell g e
 has_well g ds h e (d, i, v) = well_same g d e (h d i) v
 
-has_over : (g : Signature) (qs : List Rule) → ((q : Rule) → Contains qs q → IsRuleOver g q) → (r : Rule) → Has IsVariantRule qs r → IsRuleOver g r
+pub has_over : (g : Signature) (qs : List Rule) → ((q : Rule) → Contains qs q → IsRuleOver g q) → (r : Rule) → Has IsVariantRule qs r → IsRuleOver g r
 has_over g qs h r (q, i, v) = rule_variant g q r (h q i) v
 
 kept_equations : (g : Signature) (ds es : List (Tree × Tree)) → ((d : Tree × Tree) → Contains ds d → AreSidesWell g d) → Keeps IsSameEquation ds es → (e : Tree × Tree) → Contains es e → AreSidesWell g e

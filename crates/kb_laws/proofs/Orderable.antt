@@ -18,7 +18,7 @@ orders_variants c qs rs h o = all_from (λ (r : Rule). IsGreater c r.left r.righ
     go : (r : Rule) → Has IsVariantRule qs r → IsGreater c r.left r.right
     go r (q, j, (f, back, n, k)) = subst₂ (IsGreater c) n.there k.there (greater_renamed c f q.left q.right (All-contains (λ (q : Rule). IsGreater c q.left q.right) qs q o j))
 
-orderable_variants : (g : Signature) (qs rs : List Rule) → ((r : Rule) → Contains rs r → Has IsVariantRule qs r) → IsOrderable g qs → IsOrderable g rs
+pub orderable_variants : (g : Signature) (qs rs : List Rule) → ((r : Rule) → Contains rs r → Has IsVariantRule qs r) → IsOrderable g qs → IsOrderable g rs
 orderable_variants g qs rs h (c, m, o) = (c, m, orders_variants c qs rs h o)
 
 kept_orderable : (g : Signature) (a b : KbState) → Keeps IsVariantRule a.constraints b.constraints → IsOrderable g a.constraints → IsOrderable g b.constraints

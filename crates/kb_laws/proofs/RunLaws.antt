@@ -24,7 +24,7 @@ chain_map R S f h s t (u, r, c) = (f u, h s u r, reaches_map R S f (λ x y k. re
 chain_reaches : {A : Type 0} (R : A → A → Type 0) (s t : A) → Chain R s t → Reaches R s t
 chain_reaches R s t (u, r, c) = reaches_step R s u t r c
 
-chain_trans : {A : Type 0} (R : A → A → Type 0) (s t u : A) → Chain R s t → Chain R t u → Chain R s u
+pub chain_trans : {A : Type 0} (R : A → A → Type 0) (s t u : A) → Chain R s t → Chain R t u → Chain R s u
 chain_trans R s t u (v, r, c) d = (v, r, reaches_trans R v t u c (chain_reaches R t u d))
 
 chain_instance : (P : Rule → Type 0) (m : ℕ → Tree) (s t : Tree) → Chain (Step P) s t → Chain (Step P) (instance m s) (instance m t)
@@ -32,7 +32,7 @@ chain_instance P m s t c = chain_map (Step P) (Step P) (instance m) (λ x y h. s
 
 -- a step by rules each of which is a chain is a chain
 mutual
-  step_chain : (P Q : Rule → Type 0) → ((r : Rule) → P r → Chain (Step Q) r.left r.right) → {s t : Tree} → Step P s t → Chain (Step Q) s t
+  pub step_chain : (P Q : Rule → Type 0) → ((r : Rule) → P r → Chain (Step Q) r.left r.right) → {s t : Tree} → Step P s t → Chain (Step Q) s t
   step_chain P Q h (at_root (r, m, i, e, d)) = subst₂ (Chain (Step Q)) (sym e) (sym d) (chain_instance Q m r.left r.right (h r i))
   step_chain P Q h (inside {f = f} {ts = ts} {us = us} k) = chain_map (StepIn Q) (Step Q) (apply f) (λ x y l. inside l) ts us (step_in_chain P Q h k)
 
@@ -61,7 +61,7 @@ AreChains a = (r : Rule) → Contains a.rules r → Chain (Step (Contains a.cons
 chain_variant : (P : Rule → Type 0) (q r : Rule) → IsVariantRule q r → Chain (Step P) q.left q.right → Chain (Step P) r.left r.right
 chain_variant P q r (f, back, n, k) c = subst₂ (Chain (Step P)) n.there k.there (chain_instance P (λ x. variable (f x)) q.left q.right c)
 
-has_chain : (a : KbState) → AreChains a → (r : Rule) → Has IsVariantRule a.rules r → Chain (Step (Contains a.constraints)) r.left r.right
+pub has_chain : (a : KbState) → AreChains a → (r : Rule) → Has IsVariantRule a.rules r → Chain (Step (Contains a.constraints)) r.left r.right
 has_chain a h r (q, i, v) = chain_variant (Contains a.constraints) q r v (h q i)
 
 -- a chain of the old constraint rules is one of the new

@@ -1,0 +1,77 @@
+-- The whole run on no equations at all: one close, and the process is complete.
+use Rattle.std.specs.Prelude.{List, [], ◌∷◌, refl, Contains}
+use Rattle.std.proofs.Common.{arith}
+use Rattle.kb_term.specs.Signature.{Problem}
+use Rattle.kb_label.specs.Names.{Name}
+use Rattle.mkb_model.specs.Plain.{Plain}
+use Rattle.mkb_model.specs.Effects.{effect}
+use Rattle.mkb_model.specs.Proposals.{IsClosedOn}
+use Rattle.mkb_model.specs.Journals.{Moment, IsFirstJob, opening, in_flight, landed, IsTaking, IsCommitting, IsFinishing, After, Alone}
+use Rattle.kb_node.specs.declared.job.Job.TheVariants.{Close}
+use Rattle.mkb_model.specs.declared.proposed.Proposed.TheVariants.{Closed}
+use Rattle.mkb_model.specs.declared.entry.Effect.TheVariants.{Made}
+use Rattle.mkb_model.specs.declared.entry.Entry.{Entry}
+use Rattle.mkb_model.specs.declared.entry.Entry.TheVariants.{Take, Commit}
+
+none_in : {X : Type 0} {x : X} {P : Type 0} → Contains [] x → P
+none_in c = absurd (omega (arith, c.1))
+
+abbrev row2 : Problem
+row2 = record { signature = []; equations = [] }
+
+abbrev e : Name
+e = []
+
+abbrev before : Plain
+before = opening row2 100
+
+abbrev taken : Plain
+taken = in_flight 1 1 (Close e) before
+
+abbrev ended : Plain
+ended = landed 1 (effect taken (Closed e))
+
+row2_closed : IsClosedOn before e
+row2_closed = record { overlaps = []; all = refl; joined = λ o c. none_in c; formed = λ h x c. none_in c }
+
+row2_take : IsTaking IsFirstJob [] before 1 1 (Close e) taken
+row2_take = record {
+  no_verdict = refl;
+  no_halt = refl;
+  worker_least = omega arith;
+  worker_most = omega arith;
+  next_number = refl;
+  picked = refl;
+  leads_to = refl;
+}
+
+abbrev first_moment : Moment
+first_moment = record { board = before; entry = Take 1 1 (Close e) }
+
+row2_finish : IsFinishing (first_moment ∷ []) taken 1 1 (Close e) (Closed e)
+row2_finish = record {
+  no_verdict = refl;
+  flying = (0, omega arith, refl);
+  before = before;
+  taken = (0, omega arith, refl);
+  proposed = (refl, row2_closed);
+}
+
+row2_commit : IsCommitting (first_moment ∷ []) taken 1 1 (Made (Closed e)) ended
+row2_commit = record {
+  job = Close e;
+  proposal = Closed e;
+  finishing = row2_finish;
+  acts = refl;
+  names_effect = refl;
+  leads_to = refl;
+}
+
+abbrev journal : List Entry
+journal = Take 1 1 (Close e) ∷ Commit 1 1 (Made (Closed e)) ∷ []
+
+row2_after : After row2 100 journal ended
+row2_after = (record { board = taken; entry = Commit 1 1 (Made (Closed e)) } ∷ first_moment ∷ [], refl, ((refl, row2_take), row2_commit))
+
+row2_alone : Alone row2 100 journal ended
+row2_alone = record { legal = row2_after; in_turn = refl; ended = refl }

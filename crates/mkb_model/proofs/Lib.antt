@@ -1,0 +1,36 @@
+pub mod MemberSteps
+pub mod Lists
+pub mod Roles
+pub mod Endings
+pub mod Meanings
+pub mod Selections
+pub mod Pairs
+pub mod Views
+pub mod Moves
+pub mod Changes
+pub mod Orienting
+pub mod Adding
+pub mod Rewriting
+pub mod Rewritten
+pub mod Rewritings
+pub mod Commits
+pub mod Fitting
+pub mod Ancestors
+pub mod Proper
+pub mod Flights
+pub mod Living
+pub mod Labels
+pub mod Readiness
+pub mod Simulation
+pub mod OneRoles
+pub mod Openings
+pub mod KnownFacts
+pub mod Stated
+pub mod Remaining
+mod Rows
+mod MoreRows
+mod Runs
+mod EmptyRun
+mod ForkRun
+mod ForkViews
+mod Replays

@@ -1,0 +1,5 @@
+use Rattle.mkb_model.proofs.Openings.{opening_reached}
+use Rattle.mkb_model.proofs.laws.opening_is_reached.Goals as goal
+
+pub returns : goal.returns
+returns c = opening_reached

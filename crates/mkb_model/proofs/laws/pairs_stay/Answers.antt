@@ -1,0 +1,10 @@
+use Rattle.mkb_model.specs.Journals.{IsFreeJob}
+use Rattle.mkb_model.proofs.Fitting.{pairs_stay}
+use Rattle.mkb_model.proofs.Stated.{run_pairs_differ}
+use Rattle.mkb_model.proofs.laws.pairs_stay.Goals as goal
+
+pub returns-clause-differ : goal.returns-clause-differ
+returns-clause-differ c = run_pairs_differ
+
+pub returns-clause-numbers : goal.returns-clause-numbers
+returns-clause-numbers c = λ P n ms b m run i. pairs_stay IsFreeJob P n ms b run m i

@@ -1,0 +1,10 @@
+pub mod Jobs
+pub mod Plain
+pub mod DueJobs
+pub mod Effects
+pub mod Proposals
+pub mod Verdicts
+pub mod Journals
+pub mod Ready
+pub mod Headline
+pub mod Invariants

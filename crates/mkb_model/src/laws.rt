@@ -1,0 +1,75 @@
+// The laws. A run lists its moments, each a board and the entry made on it, the newest first.
+ghost use Rattle.std.specs.Prelude.{◌≡◌, ◌≢◌, ℕ, List, [], Contains, Some, None};
+ghost use Rattle.kb_term.specs.Signature.{Problem};
+ghost use Rattle.kb_label.specs.Names.{root};
+ghost use Rattle.kb_label.specs.declared.verdict.Verdict.{Verdict};
+ghost use Rattle.kb_laws.specs.Completion.{KbReaches, kb_start};
+ghost use Rattle.mkb_model.specs.Plain.{Plain, state_of};
+ghost use Rattle.mkb_model.specs.DueJobs.{first_job, free_jobs};
+ghost use Rattle.mkb_model.specs.Verdicts.{verdict, VerdictMeans};
+ghost use Rattle.mkb_model.specs.Journals.{Moment, Follows, IsFreeJob, IsPossibleRun, IsRun, IsLeaving, opening, tickets};
+ghost use Rattle.mkb_model.specs.Ready.{KeepsPairs, AllFine};
+ghost use Rattle.mkb_model.specs.Headline.{EachCompletes};
+ghost use Rattle.mkb_model.specs.Invariants.{FactsHold, FlightIsClear, FlightIsNumbered, LivingIsForked, PairsDiffer, IsWithinBudget};
+ghost use Rattle.mkb_model.specs.declared.entry.Entry.{Entry};
+
+/// A legal run, in which each take is of the first job, is a possible run, in which each take is of any due job that clashes
+/// with none in flight.
+pub fn legal_runs_are_possible()
+    ensures { (problem : Problem) (budget : ℕ) (past : List Moment) (board : Plain) → IsRun problem budget past board → IsPossibleRun problem budget past board }
+{}
+
+/// What is known of a side of a node and a rule is true, and is never that the redex is strict.
+pub fn facts_hold()
+    ensures { (problem : Problem) (budget : ℕ) (past : List Moment) (board : Plain) → IsPossibleRun problem budget past board → FactsHold board }
+{}
+
+/// No ticket in flight clashes with one that was taken before it; the tickets in flight have different numbers, from 1 to
+/// the number of takes.
+pub fn flight_is_in_order()
+    ensures clear { (problem : Problem) (budget : ℕ) (past : List Moment) (board : Plain) → IsPossibleRun problem budget past board → FlightIsClear board }
+    ensures numbered { (problem : Problem) (budget : ℕ) (past : List Moment) (board : Plain) → IsPossibleRun problem budget past board → FlightIsNumbered (tickets past) board }
+{}
+
+/// The living names are what forks of living processes make of the first one, none begins another, and they are at most 256.
+pub fn living_names_come_of_forks()
+    ensures { (problem : Problem) (budget : ℕ) (past : List Moment) (board : Plain) → IsPossibleRun problem budget past board → LivingIsForked board }
+{}
+
+/// The pairs of the nodes are canonical, not trivial, and no two are the same; each stays at its number.
+pub fn pairs_stay()
+    ensures differ { (problem : Problem) (budget : ℕ) (past : List Moment) (board : Plain) → IsPossibleRun problem budget past board → PairsDiffer board }
+    ensures numbers { (problem : Problem) (budget : ℕ) (past : List Moment) (board : Plain) (earlier : Moment) → IsPossibleRun problem budget past board → Contains past earlier → KeepsPairs earlier.board.nodes board.nodes }
+{}
+
+/// The board is of the run's problem and budget, and has at most as many commits as the budget.
+pub fn commits_stay_within_the_budget()
+    ensures { (problem : Problem) (budget : ℕ) (past : List Moment) (board : Plain) → IsPossibleRun problem budget past board → IsWithinBudget problem budget board }
+{}
+
+/// What a verdict says of the processes, on any board. A verdict that stands stays, and then tickets are only given back or a
+/// halt is made.
+pub fn verdicts_stay()
+    ensures means { (board : Plain) (v : Verdict) → verdict board ≡ Some v → VerdictMeans board v }
+    ensures leaves { (past : List Moment) (board : Plain) (entry : Entry) (next : Plain) (v : Verdict) → Follows IsFreeJob past board entry next → verdict board ≡ Some v → IsLeaving entry }
+    ensures stays { (past : List Moment) (board : Plain) (entry : Entry) (next : Plain) (v : Verdict) → Follows IsFreeJob past board entry next → verdict board ≡ Some v → verdict next ≡ Some v }
+{}
+
+/// Where no verdict stands and no job may be taken, a ticket is in flight, on any board. There is a first job where there is one
+/// that may be taken.
+pub fn work_goes_on()
+    ensures free { (board : Plain) → verdict board ≡ None → free_jobs board ≡ [] → board.flight ≢ [] }
+    ensures first { (board : Plain) → verdict board ≡ None → first_job board ≡ None → board.flight ≢ [] }
+{}
+
+/// The first process begins with the problem's equations: its state on the opening board is reached from them by completion,
+/// in which the trivial ones are deleted.
+pub fn opening_is_reached()
+    ensures { (problem : Problem) (budget : ℕ) → KbReaches problem.signature (kb_start problem) (state_of (opening problem budget) root) }
+{}
+
+/// Where each commit of a possible run is fine for the board on which it is made, the views of each living process are a run
+/// of completion of that process alone.
+pub fn fine_runs_complete()
+    ensures { (problem : Problem) (budget : ℕ) (past : List Moment) (board : Plain) (run : IsPossibleRun problem budget past board) → AllFine IsFreeJob problem budget past board run → EachCompletes problem past board }
+{}

@@ -1,0 +1,20 @@
+//! The shared board of all processes as a model, and its theorems.
+//!
+//! Nothing runs here. The definitions say which jobs are due, what each proposes, what a commit does and which journals are
+//! legal. Each function of the laws has an empty body: its clauses are theorems over these definitions.
+#![tactic(auto)]
+
+mod entry;
+mod laws;
+mod proposed;
+
+pub use entry::{Effect, Entry, Ticket};
+pub use laws::{
+    commits_stay_within_the_budget, facts_hold, fine_runs_complete, flight_is_in_order,
+    legal_runs_are_possible, living_names_come_of_forks, opening_is_reached, pairs_stay,
+    verdicts_stay, work_goes_on,
+};
+pub use proposed::{DeducedList, FactList, Proposed};
+
+#[cfg(test)]
+mod tests;
