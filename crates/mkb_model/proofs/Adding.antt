@@ -83,12 +83,14 @@ module _ (l : List Name) (d : Deduced) (xs : List PlainNode) (p : Name) (named :
   pub add-equations : (m : ℕ) → IsOn (add_one l d xs) p m E ↔ (IsOn xs p m E ⊎ ((m ≡ place) × IsNoRule))
   add-equations m = (
     (λ o. ⊎_elim (λ h. inl ((keeps-with_node d.pair (ByOverlap d.outer d.inner d.position) xs p m E).0 h)) (λ h. inr (h.0.0, (h.3, h.4))) ((on-gains_equation place l (with_pair d xs) p m E).0 o)),
-    λ h. (on-gains_equation place l (with_pair d xs) p m E).1 (⊎_elim (λ k. inl ((keeps-with_node d.pair (ByOverlap d.outer d.inner d.position) xs p m E).1 k)) (λ k. inr ((k.0, refl), (node-with_node d.pair (ByOverlap d.outer d.inner d.position) xs).1, named, k.1.0, k.1.1)) h))
+    λ h. (on-gains_equation place l (with_pair d xs) p m E).1 (⊎_elim (λ k. inl ((keeps-with_node d.pair (ByOverlap d.outer d.inner d.position) xs p m E).1 k)) (λ k. inr ((k.0, refl), (node-with_node d.pair (ByOverlap d.outer d.inner d.position) xs).1, named, k.1.0, k.1.1)) h),
+  )
 
   pub add-others : (m : ℕ) (j : LabelKind) → j ≢ E → IsOn (add_one l d xs) p m j ↔ IsOn xs p m j
   add-others m j n = (
     (λ o. ⊎_elim (λ h. (keeps-with_node d.pair (ByOverlap d.outer d.inner d.position) xs p m j).0 h) (λ h. absurd (n h.0.1)) ((on-gains_equation place l (with_pair d xs) p m j).0 o)),
-    λ h. (on-gains_equation place l (with_pair d xs) p m j).1 (inl ((keeps-with_node d.pair (ByOverlap d.outer d.inner d.position) xs p m j).1 h)))
+    λ h. (on-gains_equation place l (with_pair d xs) p m j).1 (inl ((keeps-with_node d.pair (ByOverlap d.outer d.inner d.position) xs p m j).1 h)),
+  )
 
   rule_is_other : (d : ℕ) → rule_kind d ≢ E
   rule_is_other d e = equation-no_rule d (sym e)
@@ -128,22 +130,36 @@ module _ (l : List Name) (d : Deduced) (xs : List PlainNode) (p : Name) (named :
   -- what follows from rules of the process still follows from them
   pub add-deduced : (g : Signature) (pair : Pair) → IsDeducedFrom g xs p pair → IsDeducedFrom g (add_one l d xs) p pair
   add-deduced g pair f = record {
-    peak = f.peak; s = f.s; t = f.t; well = f.well;
-    a = f.a; a_pair = f.a_pair; a_on = (add-others f.a.node (rule_kind f.a.dir) (rule_is_other f.a.dir)).1 f.a_on; a_there = add-pairs f.a.node f.a_pair f.a_there; a_at = f.a_at; a_step = f.a_step;
-    c = f.c; c_pair = f.c_pair; c_on = (add-others f.c.node (rule_kind f.c.dir) (rule_is_other f.c.dir)).1 f.c_on; c_there = add-pairs f.c.node f.c_pair f.c_there; c_at = f.c_at; c_step = f.c_step;
-    same = f.same }
+    peak = f.peak;
+    s = f.s;
+    t = f.t;
+    well = f.well;
+    a = f.a;
+    a_pair = f.a_pair;
+    a_on = (add-others f.a.node (rule_kind f.a.dir) (rule_is_other f.a.dir)).1 f.a_on;
+    a_there = add-pairs f.a.node f.a_pair f.a_there;
+    a_at = f.a_at;
+    a_step = f.a_step;
+    c = f.c;
+    c_pair = f.c_pair;
+    c_on = (add-others f.c.node (rule_kind f.c.dir) (rule_is_other f.c.dir)).1 f.c_on;
+    c_there = add-pairs f.c.node f.c_pair f.c_there;
+    c_at = f.c_at;
+    c_step = f.c_step;
+    same = f.same;
+  }
 
 -- a process that gains one pair makes one deduction, and drops its equation where it is a rule already
 pub adding_step : (g : Signature) (b : Plain) (p : Name) (l : List Name) (d : Deduced) → has l p ≡ true → OneRole b.nodes p → Fits (add_one l d b.nodes) → IsDeducedFrom g b.nodes p d.pair
     → Steps g (state_of b p) (state_of (on_nodes (add_one l d) b) p)
 adding_step g b p l d named one fits f =
     deduced g (state_of b p) (state_of c p) (lean_state c p fits) f.peak f.s f.t f.well
-      (rule_of f.a_pair f.a.dir, rule_listed b p f.a f.a_pair f.a_on f.a_there, f.a_at, f.a_step)
-      (rule_of f.c_pair f.c.dir, rule_listed b p f.c f.c_pair f.c_on f.c_there, f.c_at, f.c_step)
-      eqs
-      (λ r. iff_over (rules-view b p r) (rules-view c p r) (view-rules_only rule_kind b.nodes c.nodes p p (λ m e. add-others l d b.nodes p named m (rule_kind e) (λ h. equation-no_rule e (sym h))) keeps r))
-      (λ r. iff_over (constraints-view b p r) (constraints-view c p r) (view-rules_only constraint_kind b.nodes c.nodes p p (λ m e. add-others l d b.nodes p named m (constraint_kind e) (λ h. equation-no_constraint e (sym h))) keeps r))
-      (settled_at c p fits (add-one_role l d b.nodes p named one) n d.pair (add-place l d b.nodes p named) (f.s, f.t) f.same (outcome (decide (has (label_at (with_pair d b.nodes) n R0) p)) (decide (has (label_at (with_pair d b.nodes) n R1) p))))
+    (rule_of f.a_pair f.a.dir, rule_listed b p f.a f.a_pair f.a_on f.a_there, f.a_at, f.a_step)
+    (rule_of f.c_pair f.c.dir, rule_listed b p f.c f.c_pair f.c_on f.c_there, f.c_at, f.c_step)
+    eqs
+    (λ r. iff_over (rules-view b p r) (rules-view c p r) (view-rules_only rule_kind b.nodes c.nodes p p (λ m e. add-others l d b.nodes p named m (rule_kind e) (λ h. equation-no_rule e (sym h))) keeps r))
+    (λ r. iff_over (constraints-view b p r) (constraints-view c p r) (view-rules_only constraint_kind b.nodes c.nodes p p (λ m e. add-others l d b.nodes p named m (constraint_kind e) (λ h. equation-no_constraint e (sym h))) keeps r))
+    (settled_at c p fits (add-one_role l d b.nodes p named one) n d.pair (add-place l d b.nodes p named) (f.s, f.t) f.same (outcome (decide (has (label_at (with_pair d b.nodes) n R0) p)) (decide (has (label_at (with_pair d b.nodes) n R1) p))))
   where
     c : Plain
     c = on_nodes (add_one l d) b
@@ -164,7 +180,8 @@ adding_step g b p l d named one fits f =
     eqs : (y : Tree × Tree) → (HasEq (state_of b p).equations y ⊎ IsSameEquation (f.s, f.t) y) ↔ (HasEq (state_of c p).equations y ⊎ IsSameEquation (f.s, f.t) y)
     eqs y = (
       (λ h. ⊎_elim (λ k. inl ((equations-view c p y).1 ((view y).1 (inl ((equations-view b p y).0 k, λ i. i.1))))) (λ k. inr k) h),
-      λ h. ⊎_elim (λ k. ⊎_elim (λ v. inl ((equations-view b p y).1 v.0)) (λ v. inr (same_trans (f.s, f.t) (sides d.pair) y f.same v.0)) ((view y).0 ((equations-view c p y).0 k))) (λ k. inr k) h)
+      λ h. ⊎_elim (λ k. ⊎_elim (λ v. inl ((equations-view b p y).1 v.0)) (λ v. inr (same_trans (f.s, f.t) (sides d.pair) y f.same v.0)) ((view y).0 ((equations-view c p y).0 k))) (λ k. inr k) h,
+    )
 
     to_new : (j : LabelKind) → j ≢ E → has (label_at (with_pair d b.nodes) n j) p ≡ true → IsOn (add_one l d b.nodes) p n j
     to_new j h o = (on-gains_equation n l (with_pair d b.nodes) p n j).1 (inl o)
@@ -182,8 +199,8 @@ adding_steps g [] b p l named one fits f = no_steps g (state_of b p)
 adding_steps g (d ∷ ds) b p l named one fits f =
     let c : Plain = on_nodes (add_one l d) b in
     steps_more g (state_of b p) (state_of c p) (state_of (on_nodes (added l ds) c) p)
-      (adding_step g b p l d named one (fits_before (add_one l d b.nodes) (added l ds (add_one l d b.nodes)) (pairs-added l ds (add_one l d b.nodes)) fits) (f d (contains_first d ds)))
-      (adding_steps g ds c p l named (add-one_role l d b.nodes p named one) fits (λ e i. add-deduced l d b.nodes p named g e.pair (f e (contains_behind d ds e i))))
+    (adding_step g b p l d named one (fits_before (add_one l d b.nodes) (added l ds (add_one l d b.nodes)) (pairs-added l ds (add_one l d b.nodes)) fits) (f d (contains_first d ds)))
+    (adding_steps g ds c p l named (add-one_role l d b.nodes p named one) fits (λ e i. add-deduced l d b.nodes p named g e.pair (f e (contains_behind d ds e i))))
 
 -- who is not named keeps all its roles
 pub keeps-added : (l : List Name) (ds : List Deduced) (xs : List PlainNode) (q : Name) → has l q ≡ false → KeepsRoles xs (added l ds xs) q

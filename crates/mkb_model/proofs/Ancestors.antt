@@ -102,7 +102,7 @@ completes g start (m ∷ ms) c (s, apart', rest) apart opens later q lives =
     let i : ancestor c q ≡ q = ancestor_is c q q apart lives (begins-refl q) in
     let f : KbFollows g start (states_before ms q ++ state_of m.board (ancestor m.board q) ∷ []) = subst {A = List KbState} (KbFollows g start) (ap₂ (λ (xs : List KbState) (a : Name). xs ++ state_of m.board a ∷ []) (sym e) (k ∙ sym h)) (later m ms refl o.0 o.1) in
     follows_more g start (states_before ms q) (state_of m.board (ancestor m.board q)) (state_of c (ancestor c q)) f
-      (subst {A = Name} (λ z. KbReaches g (state_of m.board (ancestor m.board q)) (state_of c z)) (sym i) (subst {A = Name} (λ z. KbReaches g (state_of m.board z) (state_of c q)) (sym h) o.3))
+    (subst {A = Name} (λ z. KbReaches g (state_of m.board (ancestor m.board q)) (state_of c z)) (sym i) (subst {A = Name} (λ z. KbReaches g (state_of m.board z) (state_of c q)) (sym h) o.3))
 
 -- the first board of the moments, or the last one where there are none
 abbrev pub first_board : List Moment → Plain → Plain
@@ -115,7 +115,7 @@ pub simulating_completes : (P : Problem) (ms : List Moment) (c : Plain) → Simu
 simulating_completes P [] c s apart opens q lives = completes P.signature (kb_start P) [] c s apart (λ first e. opens) (λ m past e. absurd (cc)) q lives
 simulating_completes P (m ∷ ms) c (s, apart', rest) apart opens q lives =
     completes P.signature (kb_start P) (m ∷ ms) c (s, apart', rest) apart (λ first e. absurd (cc))
-      (λ x past e. subst {A = List Moment} (λ ys. (q : Name) → has (board_of ys).living q ≡ true → KbFollows P.signature (kb_start P) (states_of (past_of ys) (board_of ys) q)) e (simulating_completes P ms m.board rest apart' opens)) q lives
+    (λ x past e. subst {A = List Moment} (λ ys. (q : Name) → has (board_of ys).living q ≡ true → KbFollows P.signature (kb_start P) (states_of (past_of ys) (board_of ys) q)) e (simulating_completes P ms m.board rest apart' opens)) q lives
   where
     board_of : List Moment → Plain
     board_of [] = c

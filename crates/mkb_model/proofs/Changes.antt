@@ -49,7 +49,7 @@ between_sides q (suc d) = same_turned q.first q.second
 pub same_from_rules : (q r : Pair) (c d : ℕ) → IsVariantRule (rule_of q c) (rule_of r d) → IsSameEquation (sides q) (sides r)
 same_from_rules q r c d h =
     let k : IsVariantRule (rule_between (from_side q c) (to_side q c)) (rule_between (from_side r d) (to_side r d)) =
-        rule_trans (rule_between (from_side q c) (to_side q c)) (rule_of q c) (rule_between (from_side r d) (to_side r d)) (rule_sym (rule_of q c) (rule_between (from_side q c) (to_side q c)) (rule_of-between q c)) (rule_trans (rule_of q c) (rule_of r d) (rule_between (from_side r d) (to_side r d)) h (rule_of-between r d)) in
+    rule_trans (rule_between (from_side q c) (to_side q c)) (rule_of q c) (rule_between (from_side r d) (to_side r d)) (rule_sym (rule_of q c) (rule_between (from_side q c) (to_side q c)) (rule_of-between q c)) (rule_trans (rule_of q c) (rule_of r d) (rule_between (from_side r d) (to_side r d)) h (rule_of-between r d)) in
     same_trans (sides q) (from_side q c, to_side q c) (sides r) (between_sides q c) (same_trans (from_side q c, to_side q c) (from_side r d, to_side r d) (sides r) (inl k) (same_sym (sides r) (from_side r d, to_side r d) (between_sides r d)))
 
 -- labels of the same kind have the same rules
@@ -99,9 +99,12 @@ module _ (xs ys : List PlainNode) (p p' : Name) (fits : Fits ys) (keeps : KeepsP
       to (m, d, w, o, h, s) = go ((roles m d).0 o)
         where
           go : (IsOn xs p m (kind d) × ¬ ((m ≡ n) × (kind d ≡ kind dl) × Lost)) ⊎ ((m ≡ k) × (kind d ≡ kind dg) × Gained) → (RuleView kind xs p r × ¬ (IsVariantRule (rule_of q dl) r × Lost)) ⊎ (IsVariantRule (rule_of z dg) r × Gained)
-          go (inl (o', away)) = inl ((m, d, w, o', pair_back xs ys p m (kind d) w keeps o' h, s), λ l.
-              let e : m ≡ n = (same_node ys fits m n w q h (keeps n q hq) (same_from_rules w q d dl (rule_trans (rule_of w d) r (rule_of q dl) s (rule_sym (rule_of q dl) r l.0)))).1 in
-              away (e, alone d l.1 (subst {A = ℕ} (λ i. IsOn xs p i (kind d)) e o'), l.1))
+          go (inl (o', away)) = inl (
+            (m, d, w, o', pair_back xs ys p m (kind d) w keeps o' h, s),
+            λ l.
+                let e : m ≡ n = (same_node ys fits m n w q h (keeps n q hq) (same_from_rules w q d dl (rule_trans (rule_of w d) r (rule_of q dl) s (rule_sym (rule_of q dl) r l.0)))).1 in
+                away (e, alone d l.1 (subst {A = ℕ} (λ i. IsOn xs p i (kind d)) e o'), l.1),
+          )
           go (inr (i, f, g)) = inr (subst {A = Rule} (λ v. IsVariantRule v r) (by_kind d dg w f ∙ ap (λ v. rule_of v dg) (some_is (sym h ∙ ap (pair_in ys) i ∙ hz))) s, g)
 
       from : (RuleView kind xs p r × ¬ (IsVariantRule (rule_of q dl) r × Lost)) ⊎ (IsVariantRule (rule_of z dg) r × Gained) → RuleView kind ys p' r

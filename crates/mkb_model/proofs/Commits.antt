@@ -47,7 +47,7 @@ keeps-rewritten l n w at a kind u z xs q h = moved (canonical_pair u (other_side
     lost : KeepsRoles xs (lost_nodes l n w kind xs) q
     lost = keeps_trans xs (loses n (rule_kind w) (if_strict kind l) xs) (lost_nodes l n w kind xs) q (keeps-loses n (rule_kind w) (if_strict kind l) xs q (not_strict l h))
         (keeps_trans (loses n (rule_kind w) (if_strict kind l) xs) (loses n (rule_kind (other w)) l (loses n (rule_kind w) (if_strict kind l) xs)) (lost_nodes l n w kind xs) q
-          (keeps-loses n (rule_kind (other w)) l (loses n (rule_kind w) (if_strict kind l) xs) q h) (keeps-loses n E l (loses n (rule_kind (other w)) l (loses n (rule_kind w) (if_strict kind l) xs)) q h))
+        (keeps-loses n (rule_kind (other w)) l (loses n (rule_kind w) (if_strict kind l) xs) q h) (keeps-loses n E l (loses n (rule_kind (other w)) l (loses n (rule_kind w) (if_strict kind l) xs)) q h))
 
     moved : (o : Option Pair) → KeepsRoles xs (moved_nodes l n w at a kind u z o xs) q
     moved None = lost
@@ -60,7 +60,7 @@ keeps-rewritten l n w at a kind u z xs q h = moved (canonical_pair u (other_side
         let y2 : List PlainNode = gains_equation k (meet l (label_at xs n E)) y1 in
         let y3 : List PlainNode = gains_equation k (if_strict kind (meet l (label_at xs n (rule_kind w)))) y2 in
         keeps_trans xs x3 y3 q lost (keeps_trans x3 ws y3 q (keeps-with_node y (ByRewrite n w at a) x3 q) (keeps_trans ws y1 y3 q (keeps-gains_rule r (meet l (label_at xs n (rule_kind (other w)))) ws q (not_met (label_at xs n (rule_kind (other w)))))
-          (keeps_trans y1 y2 y3 q (keeps-gains_equation k (meet l (label_at xs n E)) y1 q (not_met (label_at xs n E))) (keeps-gains_equation k (if_strict kind (meet l (label_at xs n (rule_kind w)))) y2 q (not_strict (meet l (label_at xs n (rule_kind w))) (not_met (label_at xs n (rule_kind w))))))))
+        (keeps_trans y1 y2 y3 q (keeps-gains_equation k (meet l (label_at xs n E)) y1 q (not_met (label_at xs n E))) (keeps-gains_equation k (if_strict kind (meet l (label_at xs n (rule_kind w)))) y2 q (not_strict (meet l (label_at xs n (rule_kind w))) (not_met (label_at xs n (rule_kind w))))))))
 
 -- ---- a proposal that is right on the board on which it is committed
 
@@ -122,10 +122,10 @@ applied_reaches g b (Rewrite n w at a kind t) plain (f, proper) acts q one fits 
     at_pair : (z : Pair) → z ≡ f.pair → Fits (rewritten (rewrite_label b n.0 w a kind) n.0 w at a kind (tree_of t) f.pair b.nodes) → KbReaches g (state_of b q) (state_of (on_nodes (rewritten (rewrite_label b n.0 w a kind) n.0 w at a kind (tree_of t) f.pair) b) q)
     at_pair z e fits = ⊎_elim
         (λ h. let s = source_of b n.0 w a kind q h in
-          reaches_by_steps g (state_of b q) (state_of (on_nodes (rewritten (rewrite_label b n.0 w a kind) n.0 w at a kind (tree_of t) f.pair) b) q)
-            (rewriting_steps g b q (rewrite_label b n.0 w a kind) h n.0 w at a kind (tree_of t) f s.0 one fits (proper q s.0) s.1.0 s.1.1 s.1.2))
+        reaches_by_steps g (state_of b q) (state_of (on_nodes (rewritten (rewrite_label b n.0 w a kind) n.0 w at a kind (tree_of t) f.pair) b) q)
+        (rewriting_steps g b q (rewrite_label b n.0 w a kind) h n.0 w at a kind (tree_of t) f s.0 one fits (proper q s.0) s.1.0 s.1.1 s.1.2))
         (λ h. reaches_same g (state_of b q) (state_of (on_nodes (rewritten (rewrite_label b n.0 w a kind) n.0 w at a kind (tree_of t) f.pair) b) q)
-          (same_view b (on_nodes (rewritten (rewrite_label b n.0 w a kind) n.0 w at a kind (tree_of t) f.pair) b) q q (keeps-rewritten (rewrite_label b n.0 w a kind) n.0 w at a kind (tree_of t) f.pair b.nodes q h) (pairs-rewritten (rewrite_label b n.0 w a kind) n.0 w at a kind (tree_of t) f.pair b.nodes)))
+        (same_view b (on_nodes (rewritten (rewrite_label b n.0 w a kind) n.0 w at a kind (tree_of t) f.pair) b) q q (keeps-rewritten (rewrite_label b n.0 w a kind) n.0 w at a kind (tree_of t) f.pair b.nodes q h) (pairs-rewritten (rewrite_label b n.0 w a kind) n.0 w at a kind (tree_of t) f.pair b.nodes)))
         (decide (has (rewrite_label b n.0 w a kind) q))
 
     go : (o : Option Pair) → o ≡ Some f.pair → Fits (option_map_or (λ z. rewritten (rewrite_label b n.0 w a kind) n.0 w at a kind (tree_of t) z) o (λ xs. xs) b.nodes)
@@ -146,7 +146,7 @@ applied_reaches g b (One p n d c) plain (r, there, orders) acts q one fits = ⊎
     at_p : name_eq q p ≡ true → KbReaches g (state_of b q) (state_of (on_nodes (oriented p (record { node = n.0; dir = d })) b) q)
     at_p e = subst {A = Name} (λ z. KbReaches g (state_of b z) (state_of (on_nodes (oriented p (record { node = n.0; dir = d })) b) z)) (sym (name_eq-eq q p e))
         (reaches_by_steps g (state_of b p) (state_of (on_nodes (oriented p (record { node = n.0; dir = d })) b) p) (one_step g (state_of b p) (state_of (on_nodes (oriented p (record { node = n.0; dir = d })) b) p)
-          (orient_step g b (on_nodes (oriented p (record { node = n.0; dir = d })) b) p p (record { node = n.0; dir = d }) r (orient-roles p (record { node = n.0; dir = d }) b.nodes (on_there b.nodes p n.0 E has_it)) (pairs-applied b (One p n d c)) fits there has_it orders)))
+        (orient_step g b (on_nodes (oriented p (record { node = n.0; dir = d })) b) p p (record { node = n.0; dir = d }) r (orient-roles p (record { node = n.0; dir = d }) b.nodes (on_there b.nodes p n.0 E has_it)) (pairs-applied b (One p n d c)) fits there has_it orders)))
 
     elsewhere : name_eq q p ≡ false → KbReaches g (state_of b q) (state_of (on_nodes (oriented p (record { node = n.0; dir = d })) b) q)
     elsewhere e = reaches_same g (state_of b q) (state_of (on_nodes (oriented p (record { node = n.0; dir = d })) b) q) (same_view b (on_nodes (oriented p (record { node = n.0; dir = d })) b) q q (keeps-oriented p (record { node = n.0; dir = d }) b.nodes q e) (pairs-applied b (One p n d c)))
@@ -195,10 +195,10 @@ pub fork_reaches : (g : Signature) (b : Plain) (p : Name) (n : ℕ) (c : Plain) 
     → IsOrderable g (rules_at b (constraints_of b p ++ record { node = n; dir = 0 } ∷ [])) → IsOrderable g (rules_at b (constraints_of b p ++ record { node = n; dir = 1 } ∷ []))
     → KbReaches g (state_of b p) (state_of c (child p false)) × KbReaches g (state_of b p) (state_of c (child p true)) × ((q : Name) → IsApartFrom p q → KbReaches g (state_of b q) (state_of c q))
 fork_reaches g b p n c nodes fits new on r there orders0 orders1 = (
-    reaches_by_steps g (state_of b p) (state_of c (child p false)) (one_step g (state_of b p) (state_of c (child p false)) (orient_step g b c p (child p false) a0 r roles0 keeps fits there on orders0)),
-    reaches_by_steps g (state_of b p) (state_of c (child p true)) (one_step g (state_of b p) (state_of c (child p true)) (orient_step g b c p (child p true) a1 r roles1 keeps fits there on orders1)),
-    λ q h. reaches_same g (state_of b q) (state_of c q) (same_view b c q q (subst {A = List PlainNode} (λ ys. KeepsRoles b.nodes ys q) (sym nodes) (fork_other b p n q h)) keeps),
-  )
+  reaches_by_steps g (state_of b p) (state_of c (child p false)) (one_step g (state_of b p) (state_of c (child p false)) (orient_step g b c p (child p false) a0 r roles0 keeps fits there on orders0)),
+  reaches_by_steps g (state_of b p) (state_of c (child p true)) (one_step g (state_of b p) (state_of c (child p true)) (orient_step g b c p (child p true) a1 r roles1 keeps fits there on orders1)),
+  λ q h. reaches_same g (state_of b q) (state_of c q) (same_view b c q q (subst {A = List PlainNode} (λ ys. KeepsRoles b.nodes ys q) (sym nodes) (fork_other b p n q h)) keeps),
+)
   where
     a0 : RuleRef
     a0 = record { node = n; dir = 0 }

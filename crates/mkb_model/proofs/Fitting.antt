@@ -98,7 +98,8 @@ fits-with_node z o xs c t f = go (is_present xs z) refl
     go false e = record {
       canonical = λ n q h. ⊎_elim (λ i. f.canonical n q i) (λ i. subst {A = Pair} IsCanonical (sym i.1) c) (appended xs (new_node z o) n q h);
       nontrivial = λ n q h. ⊎_elim (λ i. f.nontrivial n q i) (λ i. subst {A = Pair} (λ w. ¬ IsTrivial w) (sym i.1) t) (appended xs (new_node z o) n q h);
-      distinct = λ n m q h k. two n m q (appended xs (new_node z o) n q h) (appended xs (new_node z o) m q k) }
+      distinct = λ n m q h k. two n m q (appended xs (new_node z o) n q h) (appended xs (new_node z o) m q k);
+    }
       where
         old : (n : ℕ) (q : Pair) → pair_in xs n ≡ Some q → q ≡ z → ⊥
         old n q h i = clash (subst {A = Pair} (λ w. is_present xs w ≡ true) i (present_at xs n q h)) e

@@ -76,9 +76,10 @@ fact_stays b c f keeps t = record { pair = t.pair; rule = t.rule; pair_there = k
 -- what a Reduce proposes as facts is true, and never of a strict redex
 facts_true : (b : Plain) (j : Job) (fs : List Fact) → Proposes b j (Facts fs) → (f : Fact) → Contains fs f → IsTrueFact b f × (f.found ≢ Strict)
 facts_true b (Reduce p n) fs (pair, there, missing) f i = (
-    record { pair = pair; rule = t.0; pair_there = ap (pair_in b.nodes) (missing.at_node f i) ∙ there; rule_there = rule_there; found = t.2 },
-    λ e. let s = encompassed_rewrites (side pair f.side) t.0 (subst {A = Found} (IsFound (side pair f.side) t.0) e t.2).0 in
-      missing.none_usable f.side s.0 f.rule Strict s.1 (record { rule = t.0; listed = t.1; is_side = sided; rewrites = s.2; found = subst {A = Found} (IsFound (side pair f.side) t.0) e t.2; may_be = refl }))
+  record { pair = pair; rule = t.0; pair_there = ap (pair_in b.nodes) (missing.at_node f i) ∙ there; rule_there = rule_there; found = t.2 },
+  λ e. let s = encompassed_rewrites (side pair f.side) t.0 (subst {A = Found} (IsFound (side pair f.side) t.0) e t.2).0 in
+      missing.none_usable f.side s.0 f.rule Strict s.1 (record { rule = t.0; listed = t.1; is_side = sided; rewrites = s.2; found = subst {A = Found} (IsFound (side pair f.side) t.0) e t.2; may_be = refl }),
+)
   where
     t : (rule : Rule) × Contains (named_rules b (reducers b p n.0)) (record { ref = f.rule; rule = rule }) × IsFound (side pair f.side) rule f.found
     t = missing.are_true f i

@@ -42,7 +42,8 @@ module _ (living : List Name) where
   pub label-add : (p : Name) (l : List Name) → has living p ≡ true → IsLabelOf living l → IsLabelOf living (add p l)
   label-add p l n h = record {
     ordered = ordered-add p l h.ordered;
-    lives = λ q i. ⊎_elim (λ j. subst {A = Name} (λ z. has living z ≡ true) (sym (name_eq-eq q p j)) n) (λ j. h.lives q j) (or_one (name_eq q p) (has l q) (sym (has-add p l q) ∙ i)) }
+    lives = λ q i. ⊎_elim (λ j. subst {A = Name} (λ z. has living z ≡ true) (sym (name_eq-eq q p j)) n) (λ j. h.lives q j) (or_one (name_eq q p) (has l q) (sym (has-add p l q) ∙ i));
+  }
 
   pub label-strict : (kind : Found) (l : List Name) → IsLabelOf living l → IsLabelOf living (if_strict kind l)
   label-strict No l h = label-none
@@ -76,10 +77,11 @@ label-relabel p living l h = go (has l p) refl
     go true e = record {
       ordered = subst {A = List Name} IsInNameOrder (sym (relabelled p l e)) (ordered-add (child p false) (add (child p true) (minus l (p ∷ []))) (ordered-add (child p true) (minus l (p ∷ [])) (ordered-filter (λ q. not (has (p ∷ []) q)) l h.ordered)));
       lives = λ q k. ⊎_elim (λ s. subst {A = Name} (λ z. has (relabel p living) z ≡ true) (sym (name_eq-eq q (child p false) s)) (child_lives p false living (h.lives p e)))
-        (λ i. ⊎_elim (λ s. subst {A = Name} (λ z. has (relabel p living) z ≡ true) (sym (name_eq-eq q (child p true) s)) (child_lives p true living (h.lives p e)))
+          (λ i. ⊎_elim (λ s. subst {A = Name} (λ z. has (relabel p living) z ≡ true) (sym (name_eq-eq q (child p true) s)) (child_lives p true living (h.lives p e)))
           (λ s. other_lives p q living (false_unless (name_eq q p) (λ r. clash (and_left (not (name_eq q p)) (has l q) s) (subst {A = Bool} (λ z. not z ≡ false) (sym r) refl))) (h.lives q (and_right (not (name_eq q p)) (has l q) s)))
           (or_one (name_eq q (child p true)) (not (name_eq q p) && has l q) i))
-        (or_one (name_eq q (child p false)) (name_eq q (child p true) || (not (name_eq q p) && has l q)) (sym (has-relabel p q l e) ∙ k)) }
+          (or_one (name_eq q (child p false)) (name_eq q (child p true) || (not (name_eq q p) && has l q)) (sym (has-relabel p q l e) ∙ k));
+    }
 
 -- ---- nodes
 
@@ -129,16 +131,16 @@ module _ (living : List Name) where
       let n : ℕ = node_of ws q in
       let a : RuleRef = record { node = n; dir = direction rest result q } in
       labels-gains_equation n ll (gains_equation n le (gains_rule a lr ws))
-        (labels-gains_equation n le (gains_rule a lr ws) (labels-gains_rule a lr ws (labels-with_node q o xs h) hr) he) hl
+      (labels-gains_equation n le (gains_rule a lr ws) (labels-gains_rule a lr ws (labels-with_node q o xs h) hr) he) hl
 
   pub labels-rewritten : (l : List Name) (n w : ℕ) (at : List ℕ) (a : RuleRef) (kind : Found) (u : Tree) (q : Pair) (xs : List PlainNode) → IsLabelOf living l → AreLabels living xs → AreLabels living (rewritten l n w at a kind u q xs)
   labels-rewritten l n w at a kind u q xs i h =
       labels-moved (canonical_pair u (other_side q w)) (ByRewrite n w at a) (other_side q w) u
-        (meet l (label_at xs n E)) (meet l (label_at xs n (rule_kind (other w)))) (if_strict kind (meet l (label_at xs n (rule_kind w))))
-        (loses n E l (loses n (rule_kind (other w)) l (loses n (rule_kind w) (if_strict kind l) xs)))
-        (met (label_at xs n E)) (met (label_at xs n (rule_kind (other w)))) (label-strict living kind (meet l (label_at xs n (rule_kind w))) (met (label_at xs n (rule_kind w))))
-        (labels-loses n E l (loses n (rule_kind (other w)) l (loses n (rule_kind w) (if_strict kind l) xs))
-          (labels-loses n (rule_kind (other w)) l (loses n (rule_kind w) (if_strict kind l) xs) (labels-loses n (rule_kind w) (if_strict kind l) xs h)))
+      (meet l (label_at xs n E)) (meet l (label_at xs n (rule_kind (other w)))) (if_strict kind (meet l (label_at xs n (rule_kind w))))
+      (loses n E l (loses n (rule_kind (other w)) l (loses n (rule_kind w) (if_strict kind l) xs)))
+      (met (label_at xs n E)) (met (label_at xs n (rule_kind (other w)))) (label-strict living kind (meet l (label_at xs n (rule_kind w))) (met (label_at xs n (rule_kind w))))
+      (labels-loses n E l (loses n (rule_kind (other w)) l (loses n (rule_kind w) (if_strict kind l) xs))
+      (labels-loses n (rule_kind (other w)) l (loses n (rule_kind w) (if_strict kind l) xs) (labels-loses n (rule_kind w) (if_strict kind l) xs h)))
     where
       met : (m : List Name) → IsLabelOf living (meet l m)
       met m = label-filter living (has m) l i

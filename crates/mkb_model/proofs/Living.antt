@@ -88,14 +88,16 @@ Differ t u = t.number ≢ u.number
 fewer : (taken t : ℕ) (b c : Plain) → c.flight ≡ filter (λ (x : Ticket). not (x.number == t)) b.flight → FlightIsNumbered taken b → FlightIsNumbered taken c
 fewer taken t b c e h = record {
   distinct = subst {A = List Ticket} (AllPairs Differ) (sym e) (AllPairs-filter Differ (λ (x : Ticket). not (x.number == t)) b.flight h.distinct);
-  numbers = λ u i. h.numbers u (filter_in (λ (x : Ticket). not (x.number == t)) b.flight u (subst {A = List Ticket} (λ ts. Contains ts u) e i)).0 }
+  numbers = λ u i. h.numbers u (filter_in (λ (x : Ticket). not (x.number == t)) b.flight u (subst {A = List Ticket} (λ ts. Contains ts u) e i)).0;
+}
 
 one_more : (taken w t : ℕ) (j : Job) (b c : Plain) → t ≡ taken + 1 → c.flight ≡ b.flight ++ record { number = t; worker = w; job = j } ∷ [] → FlightIsNumbered taken b → FlightIsNumbered (suc taken) c
 one_more taken w t j b c next e h = record {
   distinct = subst {A = List Ticket} (AllPairs Differ) (sym e) (all_pairs_push Differ b.flight new h.distinct (λ k d l q. let r = (h.numbers (get_or b.flight k d) (Contains-get_or b.flight k d l)).1 in omega (arith, r, q, next)));
   numbers = λ u i. ⊎_elim (λ k. let r = h.numbers u k in (r.0, omega (arith, r.1)))
-    (λ k. ⊎_elim (λ q. let r : t ≡ u.number = ap (λ (z : Ticket). z.number) q in (omega (arith, r, next), omega (arith, r, next))) (λ q. none_in q) (contains_cases new [] u k))
-    (Contains-append_cases b.flight (new ∷ []) u (subst {A = List Ticket} (λ ts. Contains ts u) e i)) }
+      (λ k. ⊎_elim (λ q. let r : t ≡ u.number = ap (λ (z : Ticket). z.number) q in (omega (arith, r, next), omega (arith, r, next))) (λ q. none_in q) (contains_cases new [] u k))
+      (Contains-append_cases b.flight (new ∷ []) u (subst {A = List Ticket} (λ ts. Contains ts u) e i));
+}
   where
     new : Ticket
     new = record { number = t; worker = w; job = j }
@@ -138,8 +140,10 @@ effect_setting b x = let k = go (limit_of b x) in (k.0, k.1, ap (λ m. m + 1) k.
 budget_follow : (May : Plain → Job → Type 0) (P : Problem) (n : ℕ) (past : List Moment) (b : Plain) (e : Entry) (c : Plain) → Follows May past b e c → IsWithinBudget P n b → IsWithinBudget P n c
 budget_follow May P n past b (Take w t j) c f h = subst {A = Plain} (IsWithinBudget P n) (sym f.leads_to) (record { problem = h.problem; budget = h.budget; commits = h.commits })
 budget_follow May P n past b (Commit w t e) c f h = subst {A = Plain} (IsWithinBudget P n) (sym f.leads_to) (record {
-  problem = k.0 ∙ h.problem; budget = k.1 ∙ h.budget;
-  commits = ⊎_elim (λ q. absurd (budget_left b f.finishing.no_verdict (q ∙ sym h.budget))) (λ l. subst {A = ℕ} (λ m. m ≤ n) (sym k.2) l) (equal_or_more b.commits n h.commits) })
+  problem = k.0 ∙ h.problem;
+  budget = k.1 ∙ h.budget;
+  commits = ⊎_elim (λ q. absurd (budget_left b f.finishing.no_verdict (q ∙ sym h.budget))) (λ l. subst {A = ℕ} (λ m. m ≤ n) (sym k.2) l) (equal_or_more b.commits n h.commits);
+})
   where
     k : ((effect b f.proposal).problem ≡ b.problem) × ((effect b f.proposal).budget ≡ b.budget) × ((effect b f.proposal).commits ≡ b.commits + 1)
     k = effect_setting b f.proposal

@@ -75,7 +75,8 @@ module _ (b : Plain) (p : Name) (lives : has b.living p ≡ true) (failed : is_f
     no_job = no_job;
     closed = closed;
     refused = refused;
-    irreducible = irreducible }
+    irreducible = irreducible;
+  }
 
 -- ---- verdicts
 
@@ -105,7 +106,8 @@ verdict_means b v h = go v (comes_of (find (is_complete b) b.living) (list_all (
       each = λ p lives. ⊎_elim (λ i. inl (has_failed b p lives i)) (λ i. inr i) (or_one (is_failed b p) (is_over b p) (of_all (λ p. is_failed b p || is_over b p) b.living all p (in_has b.living p lives)));
       some = q;
       lives = has_in b.living q (find_in (is_over b) b.living q e).0;
-      reason = k }
+      reason = k;
+    }
 
     go : (v : Verdict) → ComesOf (find (is_complete b) b.living) (list_all (is_failed b) b.living) (b.commits == b.budget) (list_all (λ p. is_failed b p || is_over b p) b.living) (option_and_then (over_reason b) (first_over b)) v → VerdictMeans b v
     go (Complete p) c =

@@ -83,19 +83,23 @@ IsLean b = (u : Tree) → ¬ HasEq b.equations (u, u)
 module _ (g : Signature) (b : KbState) (lean : IsLean b) where
   -- the trivial equation of u is deleted
   deleted : (u : Tree) → KbStep g (with_equation b (u, u)) b
-  deleted u = delete u
-      (((has_more b.equations (u, u) (u, u)).1 (inr (same_itself (u, u)))),
-      λ y. ((λ h. ⊎_elim (λ k. k) (λ k. absurd (h.1 k)) ((has_more b.equations (u, u) y).0 h.0)), λ h. ((has_more b.equations (u, u) y).1 (inl h), λ s. lean u (has_same b.equations y (u, u) h (same_sym (u, u) y s)))))
+  deleted u = delete u (
+    ((has_more b.equations (u, u) (u, u)).1 (inr (same_itself (u, u)))),
+    λ y. ((λ h. ⊎_elim (λ k. k) (λ k. absurd (h.1 k)) ((has_more b.equations (u, u) y).0 h.0)), λ h. ((has_more b.equations (u, u) y).1 (inl h), λ s. lean u (has_same b.equations y (u, u) h (same_sym (u, u) y s)))),
+  )
       (λ y. ((λ h. h), λ h. h)) (λ y. ((λ h. h), λ h. h))
 
   -- the equation of a rule is simplified by it, and deleted
   absorbed : (s t : Tree) (e : Tree × Tree) → IsSameEquation e (s, t) → ¬ HasEq b.equations e → HasRule b.rules s t → Steps g (with_equation b e) b
   absorbed s t e same new r = step_more g (with_equation b e) (with_equation b (t, t)) b
-      (simplify s t t (step_by_rule b.rules s t r)
-        ((has_more b.equations e (s, t)).1 (inr same),
-        λ y. ((λ h. ⊎_elim (λ k. (has_more b.equations (t, t) y).1 (inl (⊎_elim (λ o. o) (λ o. absurd (k.1 (same_trans (s, t) e y (same_sym e (s, t) same) o))) ((has_more b.equations e y).0 k.0)))) (λ k. (has_more b.equations (t, t) y).1 (inr k)) h),
-          λ h. ⊎_elim (λ k. inl ((has_more b.equations e y).1 (inl k), λ o. new (has_same b.equations y e k (same_sym e y (same_trans e (s, t) y same o))))) (λ k. inr k) ((has_more b.equations (t, t) y).0 h)))
-        (λ y. ((λ h. h), λ h. h)) (λ y. ((λ h. h), λ h. h)))
+      (simplify s t t (step_by_rule b.rules s t r) (
+        (has_more b.equations e (s, t)).1 (inr same),
+        λ y. (
+          (λ h. ⊎_elim (λ k. (has_more b.equations (t, t) y).1 (inl (⊎_elim (λ o. o) (λ o. absurd (k.1 (same_trans (s, t) e y (same_sym e (s, t) same) o))) ((has_more b.equations e y).0 k.0)))) (λ k. (has_more b.equations (t, t) y).1 (inr k)) h),
+          λ h. ⊎_elim (λ k. inl ((has_more b.equations e y).1 (inl k), λ o. new (has_same b.equations y e k (same_sym e y (same_trans e (s, t) y same o))))) (λ k. inr k) ((has_more b.equations (t, t) y).0 h),
+        ),
+      )
+      (λ y. ((λ h. h), λ h. h)) (λ y. ((λ h. h), λ h. h)))
       (one_step g (with_equation b (t, t)) b (deleted t))
 
   pub settled : (a : KbState) (e : Tree × Tree) → IsSettled b e

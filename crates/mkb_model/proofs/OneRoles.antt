@@ -86,9 +86,9 @@ no_reverse : (g : Signature) (b : Plain) (p : Name) (n w : ℕ) (at : List ℕ) 
     → (z : Pair) (k d : ℕ) → canonical_pair u (other_side f.pair w) ≡ Some z → IsOn b.nodes p n (rule_kind (other w)) → IsOn b.nodes p k (rule_kind d) → pair_in b.nodes k ≡ Some z → rule_kind d ≡ rule_kind (direction (other_side f.pair w) u z)
 no_reverse g b p n w at a kind u f has_rule ordered z k d some on o there = ⊎_elim (λ e. e)
     (λ h. absurd (composed_not_reversed g (state_of b p) ordered (other_side f.pair w) (side f.pair w) u
-      ((rules-view b p (rule_between (other_side f.pair w) (side f.pair w))).1 (n, other w, f.pair, on, f.there, rule_of-other f.pair w))
-      (rule_of f.by a.dir, rule_listed b p a f.by has_rule f.by_there, at, f.step)
-      ((rules-view b p (rule_between u (other_side f.pair w))).1 (k, d, z, o, there, reversed_rule z d (direction (other_side f.pair w) u z) (other_side f.pair w) u h (direction-rule (other_side f.pair w) u z some)))))
+    ((rules-view b p (rule_between (other_side f.pair w) (side f.pair w))).1 (n, other w, f.pair, on, f.there, rule_of-other f.pair w))
+    (rule_of f.by a.dir, rule_listed b p a f.by has_rule f.by_there, at, f.step)
+    ((rules-view b p (rule_between u (other_side f.pair w))).1 (k, d, z, o, there, reversed_rule z d (direction (other_side f.pair w) u z) (other_side f.pair w) u h (direction-rule (other_side f.pair w) u z some)))))
     (kinds_decide (rule_kind d) (rule_kind (direction (other_side f.pair w) u z)))
 
 -- each commit but a fork keeps one role
@@ -99,7 +99,7 @@ one_role_applied g b (Rewrite n w at a kind t) (f, proper) acts ordered fits pla
     at_pair : Fits (rewritten (rewrite_label b n.0 w a kind) n.0 w at a kind (tree_of t) f.pair b.nodes) → OneRole (rewritten (rewrite_label b n.0 w a kind) n.0 w at a kind (tree_of t) f.pair b.nodes) q
     at_pair fits = ⊎_elim
         (λ h. let s = source_of b n.0 w a kind q h in
-          rewriting_one_role g b q (rewrite_label b n.0 w a kind) h n.0 w at a kind (tree_of t) f s.0 one (no_reverse g b q n.0 w at a kind (tree_of t) f s.0 (ordered q)) fits s.1.0 s.1.1 s.1.2)
+        rewriting_one_role g b q (rewrite_label b n.0 w a kind) h n.0 w at a kind (tree_of t) f s.0 one (no_reverse g b q n.0 w at a kind (tree_of t) f s.0 (ordered q)) fits s.1.0 s.1.1 s.1.2)
         (λ h. one_role_keeps b.nodes (rewritten (rewrite_label b n.0 w a kind) n.0 w at a kind (tree_of t) f.pair b.nodes) q q (keeps-rewritten (rewrite_label b n.0 w a kind) n.0 w at a kind (tree_of t) f.pair b.nodes q h) one)
         (decide (has (rewrite_label b n.0 w a kind) q))
 
@@ -109,7 +109,7 @@ one_role_applied g b (Rewrite n w at a kind t) (f, proper) acts ordered fits pla
     go (Some z) e fits = rw (some_is e) (at_pair (subst {A = Pair} (λ y. Fits (rewritten (rewrite_label b n.0 w a kind) n.0 w at a kind (tree_of t) y b.nodes)) (some_is e) fits))
 one_role_applied g b (One p n d c) ready acts ordered fits plain q one = ⊎_elim
     (λ e. subst {A = Name} (λ z. OneRole (oriented p (record { node = n.0; dir = d }) b.nodes) z) (sym (name_eq-eq q p e))
-      (one_role_oriented b.nodes (oriented p (record { node = n.0; dir = d }) b.nodes) p p (record { node = n.0; dir = d }) (orient-roles p (record { node = n.0; dir = d }) b.nodes (on_there b.nodes p n.0 E (orients b p n.0 acts))) (orients b p n.0 acts) (subst {A = Name} (OneRole b.nodes) (name_eq-eq q p e) one)))
+    (one_role_oriented b.nodes (oriented p (record { node = n.0; dir = d }) b.nodes) p p (record { node = n.0; dir = d }) (orient-roles p (record { node = n.0; dir = d }) b.nodes (on_there b.nodes p n.0 E (orients b p n.0 acts))) (orients b p n.0 acts) (subst {A = Name} (OneRole b.nodes) (name_eq-eq q p e) one)))
     (λ e. one_role_keeps b.nodes (oriented p (record { node = n.0; dir = d }) b.nodes) q q (keeps-oriented p (record { node = n.0; dir = d }) b.nodes q e) one)
     (decide (name_eq q p))
 one_role_applied g b (Both p n c0 c1) ready acts ordered fits plain q one = absurd plain

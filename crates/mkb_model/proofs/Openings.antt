@@ -64,7 +64,8 @@ module _ (z : Pair) (i : ℕ) (xs : List PlainNode) (only : IsEquational xs) whe
   input_view : (y : Tree × Tree) → EqView (with_input (Some z) i xs) root y ↔ (EqView xs root y ⊎ IsSameEquation (sides z) y)
   input_view y = (
     (λ v. ⊎_elim (λ o. inl (v.0, v.1, o, pair_back xs (with_input (Some z) i xs) root v.0 E v.1 input_keeps o v.3, v.4)) (λ o. inr (subst {A = Pair} (λ w. IsSameEquation (sides w) y) (some_is (sym v.3 ∙ ap (pair_in (with_input (Some z) i xs)) o.0 ∙ input_there)) v.4)) ((input_roles v.0).0 v.2)),
-    λ h. ⊎_elim (λ v. (v.0, v.1, (input_roles v.0).1 (inl v.2), input_keeps v.0 v.1 v.3, v.4)) (λ s. (k, z, (input_roles k).1 (inr (refl, (only k R0 (λ e. equation-no_rule 0 (sym e)), only k R1 (λ e. equation-no_rule 1 (sym e))))), input_there, s)) h)
+    λ h. ⊎_elim (λ v. (v.0, v.1, (input_roles v.0).1 (inl v.2), input_keeps v.0 v.1 v.3, v.4)) (λ s. (k, z, (input_roles k).1 (inr (refl, (only k R0 (λ e. equation-no_rule 0 (sym e)), only k R1 (λ e. equation-no_rule 1 (sym e))))), input_there, s)) h,
+  )
 
 inputs_view : (i : ℕ) (es : List (Tree × Tree)) (xs : List PlainNode) → IsEquational xs → IsEquational (with_inputs i es xs) × ((y : Tree × Tree) → EqView (with_inputs i es xs) root y ↔ (EqView xs root y ⊎ FromInputs es y))
 inputs_view i [] xs only = (only, λ y. ((λ v. inl v), λ h. ⊎_elim (λ v. v) (λ f. none_in f.1) h))
@@ -72,13 +73,21 @@ inputs_view i (e ∷ es) xs only = go (canonical_pair e.0 e.1) refl (λ ys o. in
   where
     go : (o : Option Pair) → canonical_pair e.0 e.1 ≡ o → ((ys : List PlainNode) → IsEquational ys → IsEquational (with_inputs (i + 1) es ys) × ((y : Tree × Tree) → EqView (with_inputs (i + 1) es ys) root y ↔ (EqView ys root y ⊎ FromInputs es y)))
         → IsEquational (with_inputs (i + 1) es (with_input o i xs)) × ((y : Tree × Tree) → EqView (with_inputs (i + 1) es (with_input o i xs)) root y ↔ (EqView xs root y ⊎ FromInputs (e ∷ es) y))
-    go None h ih = let r = ih xs only in (r.0, λ y. (
-      (λ v. ⊎_elim (λ a. inl a) (λ f. inr (f.0, contains_behind e es f.0 f.1, f.2)) ((r.1 y).0 v)),
-      λ u. (r.1 y).1 (⊎_elim (λ a. inl a) (λ f. ⊎_elim (λ q. none_some (sym h ∙ ap (λ (d : Tree × Tree). canonical_pair d.0 d.1) q ∙ f.2.1)) (λ j. inr (f.0, j, f.2)) (contains_cases e es f.0 f.1)) u)))
-    go (Some z) h ih = let r = ih (with_input (Some z) i xs) (input_only z i xs only) in (r.0, λ y. (
-      (λ v. ⊎_elim (λ a. ⊎_elim (λ b. inl b) (λ s. inr (e, contains_first e es, (z, h, s))) ((input_view z i xs only y).0 a)) (λ f. inr (f.0, contains_behind e es f.0 f.1, f.2)) ((r.1 y).0 v)),
-      λ u. (r.1 y).1 (⊎_elim (λ a. inl ((input_view z i xs only y).1 (inl a)))
-        (λ f. ⊎_elim (λ q. inl ((input_view z i xs only y).1 (inr (subst {A = Pair} (λ w. IsSameEquation (sides w) y) (some_is (sym f.2.1 ∙ ap (λ (d : Tree × Tree). canonical_pair d.0 d.1) (sym q) ∙ h)) f.2.2)))) (λ j. inr (f.0, j, f.2)) (contains_cases e es f.0 f.1)) u)))
+    go None h ih = let r = ih xs only in (
+      r.0,
+      λ y. (
+        (λ v. ⊎_elim (λ a. inl a) (λ f. inr (f.0, contains_behind e es f.0 f.1, f.2)) ((r.1 y).0 v)),
+        λ u. (r.1 y).1 (⊎_elim (λ a. inl a) (λ f. ⊎_elim (λ q. none_some (sym h ∙ ap (λ (d : Tree × Tree). canonical_pair d.0 d.1) q ∙ f.2.1)) (λ j. inr (f.0, j, f.2)) (contains_cases e es f.0 f.1)) u),
+      ),
+    )
+    go (Some z) h ih = let r = ih (with_input (Some z) i xs) (input_only z i xs only) in (
+      r.0,
+      λ y. (
+        (λ v. ⊎_elim (λ a. ⊎_elim (λ b. inl b) (λ s. inr (e, contains_first e es, (z, h, s))) ((input_view z i xs only y).0 a)) (λ f. inr (f.0, contains_behind e es f.0 f.1, f.2)) ((r.1 y).0 v)),
+        λ u. (r.1 y).1 (⊎_elim (λ a. inl ((input_view z i xs only y).1 (inl a)))
+            (λ f. ⊎_elim (λ q. inl ((input_view z i xs only y).1 (inr (subst {A = Pair} (λ w. IsSameEquation (sides w) y) (some_is (sym f.2.1 ∙ ap (λ (d : Tree × Tree). canonical_pair d.0 d.1) (sym q) ∙ h)) f.2.2)))) (λ j. inr (f.0, j, f.2)) (contains_cases e es f.0 f.1)) u),
+      ),
+    )
 
 -- ---- trivial equations are deleted
 
@@ -120,18 +129,28 @@ deleting g b lean (t ∷ ts) trivial a eqs rules constraints = go (has_decides t
 
     go : HasEq ts t ⊎ (HasEq ts t → ⊥) → ((c : KbState) → ((y : Tree × Tree) → HasEq c.equations y ↔ (HasEq b.equations y ⊎ HasEq ts y)) → Keeps IsVariantRule c.rules b.rules → Keeps IsVariantRule c.constraints b.constraints → KbReaches g c b) → KbReaches g a b
     go (inl h) ih = ih a (λ y. (
-        (λ k. ⊎_elim (λ q. inl q) (λ q. inr (⊎_elim (λ s. has_same ts t y h s) (λ r. r) (has_cases t ts y q))) ((eqs y).0 k)),
-        λ k. (eqs y).1 (⊎_elim (λ q. inl q) (λ q. inr (q.0, contains_behind t ts q.0 q.1, q.2)) k))) rules constraints
+      (λ k. ⊎_elim (λ q. inl q) (λ q. inr (⊎_elim (λ s. has_same ts t y h s) (λ r. r) (has_cases t ts y q))) ((eqs y).0 k)),
+      λ k. (eqs y).1 (⊎_elim (λ q. inl q) (λ q. inr (q.0, contains_behind t ts q.0 q.1, q.2)) k),
+    )) rules constraints
     go (inr n) ih =
-        let r = ih (record a { equations = b.equations ++ ts }) (λ y. has_append b.equations ts y) rules constraints in
-        (record a { equations = b.equations ++ ts } ∷ r.0, r.1, (delete t.0
-          (subst {A = Tree} (λ u. HasEq a.equations (t.0, u)) (sym equal) more,
-          λ y. (
-            (λ k. (has_append b.equations ts y).1 (⊎_elim (λ q. inl q) (λ q. ⊎_elim (λ s. absurd (k.1 (subst {A = Tree} (λ u. IsSameEquation (t.0, u) y) (sym equal) s))) (λ q. inr q) (has_cases t ts y q)) ((eqs y).0 k.0))),
-            λ k. ⊎_elim (λ q. ((eqs y).1 (inl q), λ s. not_lean y q (subst {A = Tree} (λ u. IsSameEquation (t.0, u) y) equal s)))
-              (λ q. ((eqs y).1 (inr (q.0, contains_behind t ts q.0 q.1, q.2)), λ s. n (has_same ts y t q (same_sym t y (subst {A = Tree} (λ u. IsSameEquation (t.0, u) y) equal s)))))
-              ((has_append b.equations ts y).0 k)))
-          (λ y. ((λ h. h), λ h. h)) (λ y. ((λ h. h), λ h. h)), r.2), r.3)
+        let r = ih (record a { equations = b.equations ++ ts }) (λ y. has_append b.equations ts y) rules constraints in (
+          record a { equations = b.equations ++ ts } ∷ r.0,
+          r.1,
+          (
+            delete t.0 (
+              subst {A = Tree} (λ u. HasEq a.equations (t.0, u)) (sym equal) more,
+              λ y. (
+                (λ k. (has_append b.equations ts y).1 (⊎_elim (λ q. inl q) (λ q. ⊎_elim (λ s. absurd (k.1 (subst {A = Tree} (λ u. IsSameEquation (t.0, u) y) (sym equal) s))) (λ q. inr q) (has_cases t ts y q)) ((eqs y).0 k.0))),
+                λ k. ⊎_elim (λ q. ((eqs y).1 (inl q), λ s. not_lean y q (subst {A = Tree} (λ u. IsSameEquation (t.0, u) y) equal s)))
+                    (λ q. ((eqs y).1 (inr (q.0, contains_behind t ts q.0 q.1, q.2)), λ s. n (has_same ts y t q (same_sym t y (subst {A = Tree} (λ u. IsSameEquation (t.0, u) y) equal s)))))
+                    ((has_append b.equations ts y).0 k),
+              ),
+            )
+                (λ y. ((λ h. h), λ h. h)) (λ y. ((λ h. h), λ h. h)),
+            r.2,
+          ),
+          r.3,
+        )
 
 -- the trivial equations of a list
 trivial_of : (es : List (Tree × Tree)) → (ts : List (Tree × Tree)) × ((t : Tree × Tree) → Contains ts t → t.0 ≡ t.1) × ((t : Tree × Tree) → Contains ts t → Contains es t) × ((e : Tree × Tree) → Contains es e → e.0 ≡ e.1 → Contains ts e)
@@ -140,9 +159,12 @@ trivial_of (e ∷ es) = go (trees_decide e.0 e.1) (trivial_of es)
   where
     go : (e.0 ≡ e.1) ⊎ (e.0 ≡ e.1 → ⊥) → ((ts : List (Tree × Tree)) × ((t : Tree × Tree) → Contains ts t → t.0 ≡ t.1) × ((t : Tree × Tree) → Contains ts t → Contains es t) × ((e : Tree × Tree) → Contains es e → e.0 ≡ e.1 → Contains ts e))
         → (ts : List (Tree × Tree)) × ((t : Tree × Tree) → Contains ts t → t.0 ≡ t.1) × ((t : Tree × Tree) → Contains ts t → Contains (e ∷ es) t) × ((d : Tree × Tree) → Contains (e ∷ es) d → d.0 ≡ d.1 → Contains ts d)
-    go (inl q) (ts, trivial, old, all) = (e ∷ ts, (λ t c. ⊎_elim (λ i. subst {A = Tree × Tree} (λ d. d.0 ≡ d.1) i q) (λ i. trivial t i) (contains_cases e ts t c)),
-        (λ t c. ⊎_elim (λ i. subst {A = Tree × Tree} (Contains (e ∷ es)) i (contains_first e es)) (λ i. contains_behind e es t (old t i)) (contains_cases e ts t c)),
-        λ d c h. ⊎_elim (λ i. subst {A = Tree × Tree} (Contains (e ∷ ts)) i (contains_first e ts)) (λ i. contains_behind e ts d (all d i h)) (contains_cases e es d c))
+    go (inl q) (ts, trivial, old, all) = (
+      e ∷ ts,
+      (λ t c. ⊎_elim (λ i. subst {A = Tree × Tree} (λ d. d.0 ≡ d.1) i q) (λ i. trivial t i) (contains_cases e ts t c)),
+      (λ t c. ⊎_elim (λ i. subst {A = Tree × Tree} (Contains (e ∷ es)) i (contains_first e es)) (λ i. contains_behind e es t (old t i)) (contains_cases e ts t c)),
+      λ d c h. ⊎_elim (λ i. subst {A = Tree × Tree} (Contains (e ∷ ts)) i (contains_first e ts)) (λ i. contains_behind e ts d (all d i h)) (contains_cases e es d c),
+    )
     go (inr n) (ts, trivial, old, all) = (ts, trivial, (λ t c. contains_behind e es t (old t c)), λ d c h. ⊎_elim (λ i. absurd (n (subst {A = Tree × Tree} (λ x. x.0 ≡ x.1) (sym i) h))) (λ i. all d i h) (contains_cases e es d c))
 
 -- the first process begins with the equations of the problem, the trivial ones deleted
@@ -163,7 +185,8 @@ opening_reached P n = deleting P.signature (state_of (opening P n) root) (lean_s
     eqs : (y : Tree × Tree) → HasEq P.equations y ↔ (HasEq (state_of (opening P n) root).equations y ⊎ HasEq ts.0 y)
     eqs y = (
       (λ h. go h (canonical_pair h.0.0 h.0.1) refl),
-      λ h. ⊎_elim (λ k. ⊎_elim (λ v. clash v.2 refl) (λ f. (f.0, f.1, same_trans f.0 (sides f.2.0) y (same_as f.0 f.2.0 f.2.1) f.2.2)) ((view.1 y).0 ((equations-view (opening P n) root y).0 k))) (λ k. (k.0, ts.2 k.0 k.1, k.2)) h)
+      λ h. ⊎_elim (λ k. ⊎_elim (λ v. clash v.2 refl) (λ f. (f.0, f.1, same_trans f.0 (sides f.2.0) y (same_as f.0 f.2.0 f.2.1) f.2.2)) ((view.1 y).0 ((equations-view (opening P n) root y).0 k))) (λ k. (k.0, ts.2 k.0 k.1, k.2)) h,
+    )
       where
         go : (h : HasEq P.equations y) (o : Option Pair) → canonical_pair h.0.0 h.0.1 ≡ o → HasEq (state_of (opening P n) root).equations y ⊎ HasEq ts.0 y
         go h None e = inr (h.0, ts.3 h.0 h.1 (trivial_none h.0.0 h.0.1 e), h.2)

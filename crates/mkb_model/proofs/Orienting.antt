@@ -59,13 +59,16 @@ module _ (p : Name) (a : RuleRef) (xs : List PlainNode) (there : a.node < length
   orient-roles = record {
     equations = λ m. (
       (λ o. ⊎_elim (λ u. ⊎_elim (λ v. let w = (one m E).0 v in inl (w.0, λ l. w.1 ((l.0, refl), self p))) (λ v. absurd (equation-no_rule a.dir v.0.1)) ((two m E).0 u)) (λ u. absurd (equation-no_constraint a.dir u.0.1)) ((three m E).0 o)),
-      λ h. ⊎_elim (λ u. (three m E).1 (inl ((two m E).1 (inl ((one m E).1 (u.0, λ i. u.1 (i.0.0, tt))))))) (λ u. absurd u.1) h);
+      λ h. ⊎_elim (λ u. (three m E).1 (inl ((two m E).1 (inl ((one m E).1 (u.0, λ i. u.1 (i.0.0, tt))))))) (λ u. absurd u.1) h,
+    );
     rules = λ m d. (
       (λ o. ⊎_elim (λ u. ⊎_elim (λ v. inl (((one m (rule_kind d)).0 v).0, λ l. l.2)) (λ v. inr (v.0.0, v.0.1, tt)) ((two m (rule_kind d)).0 u)) (λ u. absurd (rule-no_constraint d a.dir u.0.1)) ((three m (rule_kind d)).0 o)),
-      λ h. ⊎_elim (λ u. (three m (rule_kind d)).1 (inl ((two m (rule_kind d)).1 (inl ((one m (rule_kind d)).1 (u.0, λ i. equation-no_rule d (sym i.0.1))))))) (λ u. (three m (rule_kind d)).1 (inl ((two m (rule_kind d)).1 (inr ((u.0, u.1), there1, self p))))) h);
+      λ h. ⊎_elim (λ u. (three m (rule_kind d)).1 (inl ((two m (rule_kind d)).1 (inl ((one m (rule_kind d)).1 (u.0, λ i. equation-no_rule d (sym i.0.1))))))) (λ u. (three m (rule_kind d)).1 (inl ((two m (rule_kind d)).1 (inr ((u.0, u.1), there1, self p))))) h,
+    );
     constraints = λ m d. (
       (λ o. ⊎_elim (λ u. ⊎_elim (λ v. inl (((one m (constraint_kind d)).0 v).0, λ l. l.2)) (λ v. absurd (rule-no_constraint a.dir d (sym v.0.1))) ((two m (constraint_kind d)).0 u)) (λ u. inr (u.0.0, u.0.1, tt)) ((three m (constraint_kind d)).0 o)),
-      λ h. ⊎_elim (λ u. (three m (constraint_kind d)).1 (inl ((two m (constraint_kind d)).1 (inl ((one m (constraint_kind d)).1 (u.0, λ i. equation-no_constraint d (sym i.0.1))))))) (λ u. (three m (constraint_kind d)).1 (inr ((u.0, u.1), there2, self p))) h);
+      λ h. ⊎_elim (λ u. (three m (constraint_kind d)).1 (inl ((two m (constraint_kind d)).1 (inl ((one m (constraint_kind d)).1 (u.0, λ i. equation-no_constraint d (sym i.0.1))))))) (λ u. (three m (constraint_kind d)).1 (inr ((u.0, u.1), there2, self p))) h,
+    );
   }
 
 -- who has the roles of p before, and who has those of q after
@@ -96,23 +99,24 @@ keeps-oriented p a xs q h =
 pub rules_gained : (old new : List Rule) (before after lost : Rule → Type 0) → ((r : Rule) → Has IsVariantRule old r ↔ before r) → ((r : Rule) → Has IsVariantRule new r ↔ after r) → ((r : Rule) → ¬ lost r) → (v x : Rule) → IsVariantRule v x
     → ((r : Rule) → after r ↔ ((before r × ¬ lost r) ⊎ (IsVariantRule v r × ⊤))) → Gains IsVariantRule old new x
 rules_gained old new before after lost o n never v x s h r = (
-    (λ u. (n r).1 ((h r).1 (⊎_elim (λ k. inl ((o r).0 k, never r)) (λ k. inr (rule_trans v x r s k, tt)) u))),
-    λ u. ⊎_elim (λ k. inl ((o r).1 k.0)) (λ k. inr (rule_trans x v r (rule_sym v x s) k.0)) ((h r).0 ((n r).0 u)))
+  (λ u. (n r).1 ((h r).1 (⊎_elim (λ k. inl ((o r).0 k, never r)) (λ k. inr (rule_trans v x r s k, tt)) u))),
+  λ u. ⊎_elim (λ k. inl ((o r).1 k.0)) (λ k. inr (rule_trans x v r (rule_sym v x s) k.0)) ((h r).0 ((n r).0 u)),
+)
 
 -- the process that turns its equation into a rule makes one step
 pub orient_step : (g : Signature) (b c : Plain) (p q : Name) (a : RuleRef) (r : Pair) → OrientRoles b.nodes p c.nodes q a → KeepsPairs b.nodes c.nodes → Fits c.nodes → pair_in b.nodes a.node ≡ Some r → IsOn b.nodes p a.node E
     → IsOrderable g (rules_at b (constraints_of b p ++ a ∷ [])) → KbStep g (state_of b p) (state_of c q)
-orient_step g b c p q a r roles keeps fits there on orders = orient s t orderable
-    (
-      (equations-view b p (s, t)).1 (a.node, r, on, there, between_sides r a.dir),
-      λ y. (
-        (λ h. (equations-view c q y).1 ((eqs y).1 (inl ((equations-view b p y).0 h.0, λ l. h.1 (same_trans (s, t) (sides r) y (same_sym (sides r) (s, t) (between_sides r a.dir)) l.0))))),
-        λ h. ⊎_elim (λ k. ((equations-view b p y).1 k.0, λ l. k.1 (same_trans (sides r) (s, t) y (between_sides r a.dir) l, tt))) (λ k. absurd k.1) ((eqs y).0 ((equations-view c q y).0 h))),
-    )
+orient_step g b c p q a r roles keeps fits there on orders = orient s t orderable (
+  (equations-view b p (s, t)).1 (a.node, r, on, there, between_sides r a.dir),
+  λ y. (
+    (λ h. (equations-view c q y).1 ((eqs y).1 (inl ((equations-view b p y).0 h.0, λ l. h.1 (same_trans (s, t) (sides r) y (same_sym (sides r) (s, t) (between_sides r a.dir)) l.0))))),
+    λ h. ⊎_elim (λ k. ((equations-view b p y).1 k.0, λ l. k.1 (same_trans (sides r) (s, t) y (between_sides r a.dir) l, tt))) (λ k. absurd k.1) ((eqs y).0 ((equations-view c q y).0 h)),
+  ),
+)
     (rules_gained (state_of b p).rules (state_of c q).rules (RuleView rule_kind b.nodes p) (RuleView rule_kind c.nodes q) (λ y. IsVariantRule (rule_of r a.dir) y × ⊥) (rules-view b p) (rules-view c q) (λ y l. l.1) (rule_of r a.dir) (rule_between s t) (rule_of-between r a.dir)
-      (rule_change b.nodes c.nodes p q fits keeps rule_kind rule_by_kind a.node a.dir r ⊥ there (λ d l. absurd l) a.node a.dir r ⊤ (keeps a.node r there) roles.rules))
+    (rule_change b.nodes c.nodes p q fits keeps rule_kind rule_by_kind a.node a.dir r ⊥ there (λ d l. absurd l) a.node a.dir r ⊤ (keeps a.node r there) roles.rules))
     (rules_gained (state_of b p).constraints (state_of c q).constraints (RuleView constraint_kind b.nodes p) (RuleView constraint_kind c.nodes q) (λ y. IsVariantRule (rule_of r a.dir) y × ⊥) (constraints-view b p) (constraints-view c q) (λ y l. l.1) (rule_of r a.dir) (rule_between s t) (rule_of-between r a.dir)
-      (rule_change b.nodes c.nodes p q fits keeps constraint_kind constraint_by_kind a.node a.dir r ⊥ there (λ d l. absurd l) a.node a.dir r ⊤ (keeps a.node r there) roles.constraints))
+    (rule_change b.nodes c.nodes p q fits keeps constraint_kind constraint_by_kind a.node a.dir r ⊥ there (λ d l. absurd l) a.node a.dir r ⊤ (keeps a.node r there) roles.constraints))
   where
     s : Tree
     s = from_side r a.dir

@@ -59,6 +59,9 @@ rewrite_ready before b p n m w at a kind t (e, (pair, there, rw')) keeps =
 -- where the states of the processes are ordered, no composed rule is trivial, so the rewriting is ready
 pub rewriting_ready : (g : Signature) (b : Plain) (m : NodeId) (w : ℕ) (at : List ℕ) (a : RuleRef) (kind : Found) (t : Term) (f : IsRewriteOn b.nodes m.0 w at a kind (tree_of t))
     → ((p : Name) → IsOn b.nodes p a.node (rule_kind a.dir) → IsOrdered g (state_of b p)) → IsReady g b (Rewrite m w at a kind t)
-rewriting_ready g b m w at a kind t f ordered = (f, λ p has_rule on. composed_differs g (state_of b p) (ordered p has_rule) (other_side f.pair w) (side f.pair w) (tree_of t)
-    ((rules-view b p (rule_between (other_side f.pair w) (side f.pair w))).1 (m.0, other w, f.pair, on, f.there, rule_of-other f.pair w))
-    (rule_of f.by a.dir, rule_listed b p a f.by has_rule f.by_there, at, f.step))
+rewriting_ready g b m w at a kind t f ordered = (
+  f,
+  λ p has_rule on. composed_differs g (state_of b p) (ordered p has_rule) (other_side f.pair w) (side f.pair w) (tree_of t)
+      ((rules-view b p (rule_between (other_side f.pair w) (side f.pair w))).1 (m.0, other w, f.pair, on, f.there, rule_of-other f.pair w))
+      (rule_of f.by a.dir, rule_listed b p a f.by has_rule f.by_there, at, f.step),
+)

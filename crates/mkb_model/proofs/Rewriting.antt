@@ -146,12 +146,13 @@ has-if_strict Strict l p e h = h
 pub source_of : (b : Plain) (n w : ℕ) (a : RuleRef) (kind : Found) (p : Name) → has (rewrite_label b n w a kind) p ≡ true → IsOn b.nodes p a.node (rule_kind a.dir) × ((s : LabelKind) × IsSource w kind s × IsOn b.nodes p n s)
 source_of b n w a kind p h =
     let k = sym (has-meet (label b a.node (rule_kind a.dir)) (join (label b n E) (join (label b n (rule_kind (other w))) (if_strict kind (label b n (rule_kind w))))) p) ∙ h in
-    let i = sym (has-join (label b n E) (join (label b n (rule_kind (other w))) (if_strict kind (label b n (rule_kind w)))) p) ∙ and_left (has (join (label b n E) (join (label b n (rule_kind (other w))) (if_strict kind (label b n (rule_kind w))))) p) (has (label b a.node (rule_kind a.dir)) p) k in
-    (and_right (has (join (label b n E) (join (label b n (rule_kind (other w))) (if_strict kind (label b n (rule_kind w))))) p) (has (label b a.node (rule_kind a.dir)) p) k,
-    ⊎_elim (λ o. (E, inl refl, o))
-      (λ o. ⊎_elim (λ u. (rule_kind (other w), inr (inl refl), u)) (λ u. let v = if_strict-has kind (label b n (rule_kind w)) p u in (rule_kind w, inr (inr (refl, v.0)), v.1))
-        (or_one (has (label b n (rule_kind (other w))) p) (has (if_strict kind (label b n (rule_kind w))) p) (sym (has-join (label b n (rule_kind (other w))) (if_strict kind (label b n (rule_kind w))) p) ∙ o)))
-      (or_one (has (label b n E) p) (has (join (label b n (rule_kind (other w))) (if_strict kind (label b n (rule_kind w)))) p) i))
+    let i = sym (has-join (label b n E) (join (label b n (rule_kind (other w))) (if_strict kind (label b n (rule_kind w)))) p) ∙ and_left (has (join (label b n E) (join (label b n (rule_kind (other w))) (if_strict kind (label b n (rule_kind w))))) p) (has (label b a.node (rule_kind a.dir)) p) k in (
+      and_right (has (join (label b n E) (join (label b n (rule_kind (other w))) (if_strict kind (label b n (rule_kind w))))) p) (has (label b a.node (rule_kind a.dir)) p) k,
+      ⊎_elim (λ o. (E, inl refl, o))
+          (λ o. ⊎_elim (λ u. (rule_kind (other w), inr (inl refl), u)) (λ u. let v = if_strict-has kind (label b n (rule_kind w)) p u in (rule_kind w, inr (inr (refl, v.0)), v.1))
+          (or_one (has (label b n (rule_kind (other w))) p) (has (if_strict kind (label b n (rule_kind w))) p) (sym (has-join (label b n (rule_kind (other w))) (if_strict kind (label b n (rule_kind w))) p) ∙ o)))
+          (or_one (has (label b n E) p) (has (join (label b n (rule_kind (other w))) (if_strict kind (label b n (rule_kind w)))) p) i),
+    )
 
 -- the roles of a process of the label, after the sources lost it
 module _ (l : List Name) (n w : ℕ) (kind : Found) (xs : List PlainNode) (p : Name) (named : has l p ≡ true) (one : OneRole xs p) (s : LabelKind) (source : IsSource w kind s) (on : IsOn xs p n s) where

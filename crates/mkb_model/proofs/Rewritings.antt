@@ -117,17 +117,17 @@ module _ (g : Signature) (b : Plain) (p : Name) (l : List Name) (named : has l p
   trivial_steps none fits proper s (inl e) on =
       let on' : IsOn b.nodes p n E = subst {A = LabelKind} (IsOn b.nodes p n) e on in
       simplify_case g b p n w at a kind u f has_rule (after None) (keeps None) fits (λ m d. away E (inl refl) on' m (constraint_kind d) (λ i. equation-no_constraint d (sym i))) on' n f.pair ⊥ (keeps None n f.pair f.there)
-        (λ m. ((λ o. let h = (on-lost l n w kind b.nodes p named one E (inl refl) on' m E).0 o in inl (h.0, λ i. h.1 (i.0, refl))), λ o. ⊎_elim (λ h. (on-lost l n w kind b.nodes p named one E (inl refl) on' m E).1 (h.0, λ i. h.1 (i.0, tt))) (λ h. absurd h.1) o))
-        (λ m d. away E (inl refl) on' m (rule_kind d) (λ i. equation-no_rule d (sym i)))
-        (λ h. absurd h) (inr (inl (trivial_none u (other_side f.pair w) none)))
+      (λ m. ((λ o. let h = (on-lost l n w kind b.nodes p named one E (inl refl) on' m E).0 o in inl (h.0, λ i. h.1 (i.0, refl))), λ o. ⊎_elim (λ h. (on-lost l n w kind b.nodes p named one E (inl refl) on' m E).1 (h.0, λ i. h.1 (i.0, tt))) (λ h. absurd h.1) o))
+      (λ m d. away E (inl refl) on' m (rule_kind d) (λ i. equation-no_rule d (sym i)))
+      (λ h. absurd h) (inr (inl (trivial_none u (other_side f.pair w) none)))
   trivial_steps none fits proper s (inr (inl e)) on = absurd (proper (subst {A = LabelKind} (IsOn b.nodes p n) e on) (trivial_none u (other_side f.pair w) none))
   trivial_steps none fits proper s (inr (inr e)) on =
       let on' : IsOn b.nodes p n (rule_kind w) = subst {A = LabelKind} (IsOn b.nodes p n) e.0 on in
       let so : IsSource w kind (rule_kind w) = inr (inr (refl, e.1)) in
       collapse_case g b p n w at a kind u f has_rule (after None) (keeps None) fits (λ m d. away (rule_kind w) so on' m (constraint_kind d) (λ i. rule-no_constraint w d (sym i))) on' e.1 (λ d o. one n (rule_kind d) (rule_kind w) (rule_role d) (rule_role w) o on') n f.pair ⊥ (keeps None n f.pair f.there)
-        (λ m. ((λ o. inl ((away (rule_kind w) so on' m E (equation-no_rule w)).0 o, λ i. i.1)), λ o. ⊎_elim (λ h. (away (rule_kind w) so on' m E (equation-no_rule w)).1 h.0) (λ h. absurd h.1) o))
-        (λ m d. ((λ o. let h = (on-lost l n w kind b.nodes p named one (rule_kind w) so on' m (rule_kind d)).0 o in inl (h.0, λ i. h.1 (i.0, i.1))), λ o. ⊎_elim (λ h. (on-lost l n w kind b.nodes p named one (rule_kind w) so on' m (rule_kind d)).1 (h.0, λ i. h.1 (i.0, i.1, tt))) (λ h. absurd h.2) o))
-        (λ h. absurd h) (inr (inl (trivial_none u (other_side f.pair w) none)))
+      (λ m. ((λ o. inl ((away (rule_kind w) so on' m E (equation-no_rule w)).0 o, λ i. i.1)), λ o. ⊎_elim (λ h. (away (rule_kind w) so on' m E (equation-no_rule w)).1 h.0) (λ h. absurd h.1) o))
+      (λ m d. ((λ o. let h = (on-lost l n w kind b.nodes p named one (rule_kind w) so on' m (rule_kind d)).0 o in inl (h.0, λ i. h.1 (i.0, i.1))), λ o. ⊎_elim (λ h. (on-lost l n w kind b.nodes p named one (rule_kind w) so on' m (rule_kind d)).1 (h.0, λ i. h.1 (i.0, i.1, tt))) (λ h. absurd h.2) o))
+      (λ h. absurd h) (inr (inl (trivial_none u (other_side f.pair w) none)))
 
   -- a pair that is not trivial: its node is found or made
   module _ (z : Pair) (some : canonical_pair u (other_side f.pair w) ≡ Some z) (fits : Fits (moved_nodes l n w at a kind u f.pair (Some z) b.nodes)) where
@@ -198,11 +198,11 @@ module _ (g : Signature) (b : Plain) (p : Name) (l : List Name) (named : has l p
         let others : (m : ℕ) (j : LabelKind) → j ≢ E → IsOn y3 p m j ↔ IsOn x3 p m j = others_gain x3 y1 y3 p k le (w1 off_r) (keeps-gains_equation k ll y2 p off_l) in
         let lost : (m : ℕ) (j : LabelKind) → IsOn x3 p m j ↔ (IsOn b.nodes p m j × ¬ ((m ≡ n) × (j ≡ E))) = on-lost l n w kind b.nodes p named one E so on' in
         simplify_case g b p n w at a kind u f has_rule (after (Some z)) (keeps (Some z)) fits
-          (λ m d. ((λ o. ((lost m (constraint_kind d)).0 ((others m (constraint_kind d) (λ i. equation-no_constraint d (sym i))).0 o)).0), λ o. (others m (constraint_kind d) (λ i. equation-no_constraint d (sym i))).1 ((lost m (constraint_kind d)).1 (o, λ i. equation-no_constraint d (sym i.1)))))
-          on' k z ((¬ IsOn x3 p k R0) × (¬ IsOn x3 p k R1)) pair3
-          (λ m. ((λ o. ⊎_elim (λ h. let v = (lost m E).0 h in inl (v.0, λ i. v.1 (i.0, refl))) (λ h. inr h) ((eqs m).0 o)), λ o. (eqs m).1 (⊎_elim (λ h. inl ((lost m E).1 (h.0, λ i. h.1 (i.0, tt)))) (λ h. inr h) o)))
-          (λ m d. ((λ o. ((lost m (rule_kind d)).0 ((others m (rule_kind d) (λ i. equation-no_rule d (sym i))).0 o)).0), λ o. (others m (rule_kind d) (λ i. equation-no_rule d (sym i))).1 ((lost m (rule_kind d)).1 (o, λ i. equation-no_rule d (sym i.1)))))
-          (λ h. same) (settled_at (after (Some z)) p fits (one_after others eqs (λ m j o. ((lost m j).0 o).0)) k z pair3 (u, other_side f.pair w) same (outcome others eqs))
+        (λ m d. ((λ o. ((lost m (constraint_kind d)).0 ((others m (constraint_kind d) (λ i. equation-no_constraint d (sym i))).0 o)).0), λ o. (others m (constraint_kind d) (λ i. equation-no_constraint d (sym i))).1 ((lost m (constraint_kind d)).1 (o, λ i. equation-no_constraint d (sym i.1)))))
+        on' k z ((¬ IsOn x3 p k R0) × (¬ IsOn x3 p k R1)) pair3
+        (λ m. ((λ o. ⊎_elim (λ h. let v = (lost m E).0 h in inl (v.0, λ i. v.1 (i.0, refl))) (λ h. inr h) ((eqs m).0 o)), λ o. (eqs m).1 (⊎_elim (λ h. inl ((lost m E).1 (h.0, λ i. h.1 (i.0, tt)))) (λ h. inr h) o)))
+        (λ m d. ((λ o. ((lost m (rule_kind d)).0 ((others m (rule_kind d) (λ i. equation-no_rule d (sym i))).0 o)).0), λ o. (others m (rule_kind d) (λ i. equation-no_rule d (sym i))).1 ((lost m (rule_kind d)).1 (o, λ i. equation-no_rule d (sym i.1)))))
+        (λ h. same) (settled_at (after (Some z)) p fits (one_after others eqs (λ m j o. ((lost m j).0 o).0)) k z pair3 (u, other_side f.pair w) same (outcome others eqs))
     move_steps s (inr (inr e)) on =
         let on' : IsOn b.nodes p n (rule_kind w) = subst {A = LabelKind} (IsOn b.nodes p n) e.0 on in
         let so : IsSource w kind (rule_kind w) = inr (inr (refl, e.1)) in
@@ -214,11 +214,11 @@ module _ (g : Signature) (b : Plain) (p : Name) (l : List Name) (named : has l p
         let others : (m : ℕ) (j : LabelKind) → j ≢ E → IsOn y3 p m j ↔ IsOn x3 p m j = others_gain x3 y2 y3 p k ll w2 (λ m j. ((λ o. o), λ o. o)) in
         let lost : (m : ℕ) (j : LabelKind) → IsOn x3 p m j ↔ (IsOn b.nodes p m j × ¬ ((m ≡ n) × (j ≡ rule_kind w))) = on-lost l n w kind b.nodes p named one (rule_kind w) so on' in
         collapse_case g b p n w at a kind u f has_rule (after (Some z)) (keeps (Some z)) fits
-          (λ m d. ((λ o. ((lost m (constraint_kind d)).0 ((others m (constraint_kind d) (λ i. equation-no_constraint d (sym i))).0 o)).0), λ o. (others m (constraint_kind d) (λ i. equation-no_constraint d (sym i))).1 ((lost m (constraint_kind d)).1 (o, λ i. rule-no_constraint w d (sym i.1)))))
-          on' e.1 (λ d o. one n (rule_kind d) (rule_kind w) (rule_role d) (rule_role w) o on') k z ((¬ IsOn x3 p k R0) × (¬ IsOn x3 p k R1)) pair3
-          (λ m. ((λ o. ⊎_elim (λ h. inl (((lost m E).0 h).0, λ i. i.1)) (λ h. inr h) ((eqs m).0 o)), λ o. (eqs m).1 (⊎_elim (λ h. inl ((lost m E).1 (h.0, λ i. equation-no_rule w i.1))) (λ h. inr h) o)))
-          (λ m d. ((λ o. let v = (lost m (rule_kind d)).0 ((others m (rule_kind d) (λ i. equation-no_rule d (sym i))).0 o) in inl (v.0, λ i. v.1 (i.0, i.1))), λ o. ⊎_elim (λ h. (others m (rule_kind d) (λ i. equation-no_rule d (sym i))).1 ((lost m (rule_kind d)).1 (h.0, λ i. h.1 (i.0, i.1, tt)))) (λ h. absurd h.2) o))
-          (λ h. same) (settled_at (after (Some z)) p fits (one_after others eqs (λ m j o. ((lost m j).0 o).0)) k z pair3 (u, other_side f.pair w) same (outcome others eqs))
+        (λ m d. ((λ o. ((lost m (constraint_kind d)).0 ((others m (constraint_kind d) (λ i. equation-no_constraint d (sym i))).0 o)).0), λ o. (others m (constraint_kind d) (λ i. equation-no_constraint d (sym i))).1 ((lost m (constraint_kind d)).1 (o, λ i. rule-no_constraint w d (sym i.1)))))
+        on' e.1 (λ d o. one n (rule_kind d) (rule_kind w) (rule_role d) (rule_role w) o on') k z ((¬ IsOn x3 p k R0) × (¬ IsOn x3 p k R1)) pair3
+        (λ m. ((λ o. ⊎_elim (λ h. inl (((lost m E).0 h).0, λ i. i.1)) (λ h. inr h) ((eqs m).0 o)), λ o. (eqs m).1 (⊎_elim (λ h. inl ((lost m E).1 (h.0, λ i. equation-no_rule w i.1))) (λ h. inr h) o)))
+        (λ m d. ((λ o. let v = (lost m (rule_kind d)).0 ((others m (rule_kind d) (λ i. equation-no_rule d (sym i))).0 o) in inl (v.0, λ i. v.1 (i.0, i.1))), λ o. ⊎_elim (λ h. (others m (rule_kind d) (λ i. equation-no_rule d (sym i))).1 ((lost m (rule_kind d)).1 (h.0, λ i. h.1 (i.0, i.1, tt)))) (λ h. absurd h.2) o))
+        (λ h. same) (settled_at (after (Some z)) p fits (one_after others eqs (λ m j o. ((lost m j).0 o).0)) k z pair3 (u, other_side f.pair w) same (outcome others eqs))
     move_steps s (inr (inl e)) on =
         let on' : IsOn b.nodes p n (rule_kind (other w)) = subst {A = LabelKind} (IsOn b.nodes p n) e on in
         let so : IsSource w kind (rule_kind (other w)) = inr (inl refl) in
@@ -230,18 +230,21 @@ module _ (g : Signature) (b : Plain) (p : Name) (l : List Name) (named : has l p
         let found : KeepsRoles x3 ws p = keeps-with_node z (ByRewrite n w at a) x3 p in
         let lost : (m : ℕ) (j : LabelKind) → IsOn x3 p m j ↔ (IsOn b.nodes p m j × ¬ ((m ≡ n) × (j ≡ rule_kind (other w)))) = on-lost l n w kind b.nodes p named one (rule_kind (other w)) so on' in
         compose_case g b p n w at a kind u f has_rule (after (Some z)) (keeps (Some z)) fits
-          (λ m d. (
-            (λ o. ⊎_elim (λ h. ((lost m (constraint_kind d)).0 ((found m (constraint_kind d)).0 h.0)).0) (λ h. absurd (rule-no_constraint dir d (sym h.0.1))) ((made m (constraint_kind d)).0 ((last m (constraint_kind d)).0 o))),
-            λ o. (last m (constraint_kind d)).1 ((made m (constraint_kind d)).1 (inl ((found m (constraint_kind d)).1 ((lost m (constraint_kind d)).1 (o, λ i. rule-no_constraint (other w) d (sym i.1))), λ i. equation-no_constraint d (sym i.0.1))))))
-          on' (λ d o. one n (rule_kind d) (rule_kind (other w)) (rule_role d) (rule_role (other w)) o on') k dir z pair3 (direction-rule (other_side f.pair w) u z some)
-          ((last k (rule_kind dir)).1 ((made k (rule_kind dir)).1 (inr ((refl, refl), there_ws, own))))
-          (λ m. (
-            (λ o. ⊎_elim (λ h. (((lost m E).0 ((found m E).0 h.0)).0, λ i. h.1 ((i, refl), own))) (λ h. absurd (equation-no_rule dir h.0.1)) ((made m E).0 ((last m E).0 o))),
-            λ o. (last m E).1 ((made m E).1 (inl ((found m E).1 ((lost m E).1 (o.0, λ i. equation-no_rule (other w) i.1)), λ i. o.1 i.0.0)))))
-          (λ m d. (
-            (λ o. ⊎_elim (λ h. let v = (lost m (rule_kind d)).0 ((found m (rule_kind d)).0 h.0) in inl (v.0, λ i. v.1 (i.0, i.1))) (λ h. inr (h.0.0, h.0.1, tt)) ((made m (rule_kind d)).0 ((last m (rule_kind d)).0 o))),
-            λ o. (last m (rule_kind d)).1 ((made m (rule_kind d)).1 (⊎_elim (λ h. inl ((found m (rule_kind d)).1 ((lost m (rule_kind d)).1 (h.0, λ i. h.1 (i.0, i.1, tt))), λ i. equation-no_rule d (sym i.0.1))) (λ h. inr ((h.0, h.1), there_ws, own)) o))))
-          (same_trans (other_side f.pair w, u) (u, other_side f.pair w) (sides z) (same_turned (other_side f.pair w) u) same)
+        (λ m d. (
+          (λ o. ⊎_elim (λ h. ((lost m (constraint_kind d)).0 ((found m (constraint_kind d)).0 h.0)).0) (λ h. absurd (rule-no_constraint dir d (sym h.0.1))) ((made m (constraint_kind d)).0 ((last m (constraint_kind d)).0 o))),
+          λ o. (last m (constraint_kind d)).1 ((made m (constraint_kind d)).1 (inl ((found m (constraint_kind d)).1 ((lost m (constraint_kind d)).1 (o, λ i. rule-no_constraint (other w) d (sym i.1))), λ i. equation-no_constraint d (sym i.0.1)))),
+        ))
+        on' (λ d o. one n (rule_kind d) (rule_kind (other w)) (rule_role d) (rule_role (other w)) o on') k dir z pair3 (direction-rule (other_side f.pair w) u z some)
+        ((last k (rule_kind dir)).1 ((made k (rule_kind dir)).1 (inr ((refl, refl), there_ws, own))))
+        (λ m. (
+          (λ o. ⊎_elim (λ h. (((lost m E).0 ((found m E).0 h.0)).0, λ i. h.1 ((i, refl), own))) (λ h. absurd (equation-no_rule dir h.0.1)) ((made m E).0 ((last m E).0 o))),
+          λ o. (last m E).1 ((made m E).1 (inl ((found m E).1 ((lost m E).1 (o.0, λ i. equation-no_rule (other w) i.1)), λ i. o.1 i.0.0))),
+        ))
+        (λ m d. (
+          (λ o. ⊎_elim (λ h. let v = (lost m (rule_kind d)).0 ((found m (rule_kind d)).0 h.0) in inl (v.0, λ i. v.1 (i.0, i.1))) (λ h. inr (h.0.0, h.0.1, tt)) ((made m (rule_kind d)).0 ((last m (rule_kind d)).0 o))),
+          λ o. (last m (rule_kind d)).1 ((made m (rule_kind d)).1 (⊎_elim (λ h. inl ((found m (rule_kind d)).1 ((lost m (rule_kind d)).1 (h.0, λ i. h.1 (i.0, i.1, tt))), λ i. equation-no_rule d (sym i.0.1))) (λ h. inr ((h.0, h.1), there_ws, own)) o)),
+        ))
+        (same_trans (other_side f.pair w, u) (u, other_side f.pair w) (sides z) (same_turned (other_side f.pair w) u) same)
 
     -- the process keeps one role for each node, where it has no rule that is the reverse of a composed one
     move_one_role : ((d : ℕ) → IsOn b.nodes p n (rule_kind (other w)) → IsOn b.nodes p k (rule_kind d) → rule_kind d ≡ rule_kind dir) → (s : LabelKind) → IsSource w kind s → IsOn b.nodes p n s → OneRole (moved_nodes l n w at a kind u f.pair (Some z) b.nodes) p
@@ -269,9 +272,9 @@ module _ (g : Signature) (b : Plain) (p : Name) (l : List Name) (named : has l p
         let made : (m : ℕ) (j : LabelKind) → IsOn y1 p m j ↔ ((IsOn ws p m j × ¬ (((m ≡ k) × (j ≡ E)) × (has lr p ≡ true))) ⊎ (((m ≡ k) × (j ≡ rule_kind dir)) × (k < length ws) × (has lr p ≡ true))) = on-gains_rule (record { node = k; dir = dir }) lr ws p in
         let found : KeepsRoles x3 ws p = keeps-with_node z (ByRewrite n w at a) x3 p in
         one_role_composed b.nodes y3 p k dir one
-          (λ m o. ⊎_elim (λ h. (((on-lost l n w kind b.nodes p named one (rule_kind (other w)) so on' m E).0 ((found m E).0 h.0)).0, λ i. h.1 ((i, refl), own))) (λ h. absurd (equation-no_rule dir h.0.1)) ((made m E).0 ((last m E).0 o)))
-          (λ m d o. ⊎_elim (λ h. inl ((on-lost l n w kind b.nodes p named one (rule_kind (other w)) so on' m (rule_kind d)).0 ((found m (rule_kind d)).0 h.0)).0) (λ h. inr h.0) ((made m (rule_kind d)).0 ((last m (rule_kind d)).0 o)))
-          (λ d o. proper d on' o)
+        (λ m o. ⊎_elim (λ h. (((on-lost l n w kind b.nodes p named one (rule_kind (other w)) so on' m E).0 ((found m E).0 h.0)).0, λ i. h.1 ((i, refl), own))) (λ h. absurd (equation-no_rule dir h.0.1)) ((made m E).0 ((last m E).0 o)))
+        (λ m d o. ⊎_elim (λ h. inl ((on-lost l n w kind b.nodes p named one (rule_kind (other w)) so on' m (rule_kind d)).0 ((found m (rule_kind d)).0 h.0)).0) (λ h. inr h.0) ((made m (rule_kind d)).0 ((last m (rule_kind d)).0 o)))
+        (λ d o. proper d on' o)
 
   moves : (o : Option Pair) → canonical_pair u (other_side f.pair w) ≡ o → Fits (moved_nodes l n w at a kind u f.pair o b.nodes) → (IsOn b.nodes p n (rule_kind (other w)) → u ≢ other_side f.pair w) → (s : LabelKind) → IsSource w kind s → IsOn b.nodes p n s → Steps g (state_of b p) (state_of (after o) p)
   moves None e fits proper s source on = trivial_steps e fits proper s source on

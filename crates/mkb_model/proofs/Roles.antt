@@ -182,34 +182,40 @@ on-loses n k l xs q m j = (to (here_or_other n k m j) (below n (length xs)), fro
 pub on-gains_equation : (n : ℕ) (l : List Name) (xs : List PlainNode) (q : Name) (m : ℕ) (j : LabelKind)
     → IsOn (gains_equation n l xs) q m j ↔ (IsOn xs q m j ⊎ (IsHere n E m j × (n < length xs) × (has l q ≡ true) × (¬ IsOn xs q n R0) × (¬ IsOn xs q n R1)))
 on-gains_equation n l xs q m j = (
-    (λ o. ⊎_elim (λ h. inl h) (λ h. inr (to h)) ((on-gains n E (minus (minus l (label_at xs n R0)) (label_at xs n R1)) xs q m j).0 o)),
-    λ o. (on-gains n E (minus (minus l (label_at xs n R0)) (label_at xs n R1)) xs q m j).1 (⊎_elim (λ h. inl h) (λ h. inr (from h)) o),
-  )
+  (λ o. ⊎_elim (λ h. inl h) (λ h. inr (to h)) ((on-gains n E (minus (minus l (label_at xs n R0)) (label_at xs n R1)) xs q m j).0 o)),
+  λ o. (on-gains n E (minus (minus l (label_at xs n R0)) (label_at xs n R1)) xs q m j).1 (⊎_elim (λ h. inl h) (λ h. inr (from h)) o),
+)
   where
     to : IsHere n E m j × (n < length xs) × (has (minus (minus l (label_at xs n R0)) (label_at xs n R1)) q ≡ true) → IsHere n E m j × (n < length xs) × (has l q ≡ true) × (¬ IsOn xs q n R0) × (¬ IsOn xs q n R1)
     to (i, b, h) =
         let h1 = sym (has-minus (minus l (label_at xs n R0)) (label_at xs n R1) q) ∙ h in
         let h2 = and_right (not (has (label_at xs n R1) q)) (has (minus l (label_at xs n R0)) q) h1 in
-        let h3 = sym (has-minus l (label_at xs n R0) q) ∙ h2 in
-        (i, b, and_right (not (has (label_at xs n R0) q)) (has l q) h3,
-        (λ t. clash t (not_true (and_left (not (has (label_at xs n R0) q)) (has l q) h3))),
-        λ t. clash t (not_true (and_left (not (has (label_at xs n R1) q)) (has (minus l (label_at xs n R0)) q) h1)))
+        let h3 = sym (has-minus l (label_at xs n R0) q) ∙ h2 in (
+          i,
+          b,
+          and_right (not (has (label_at xs n R0) q)) (has l q) h3,
+          (λ t. clash t (not_true (and_left (not (has (label_at xs n R0) q)) (has l q) h3))),
+          λ t. clash t (not_true (and_left (not (has (label_at xs n R1) q)) (has (minus l (label_at xs n R0)) q) h1)),
+        )
 
     from : IsHere n E m j × (n < length xs) × (has l q ≡ true) × (¬ IsOn xs q n R0) × (¬ IsOn xs q n R1) → IsHere n E m j × (n < length xs) × (has (minus (minus l (label_at xs n R0)) (label_at xs n R1)) q ≡ true)
-    from (i, b, h, n0, n1) = (i, b,
-        has-minus (minus l (label_at xs n R0)) (label_at xs n R1) q
-        ∙ and_both (not (has (label_at xs n R1) q)) (has (minus l (label_at xs n R0)) q) (not_of_false (false_unless (has (label_at xs n R1) q) n1))
-        (has-minus l (label_at xs n R0) q ∙ and_both (not (has (label_at xs n R0) q)) (has l q) (not_of_false (false_unless (has (label_at xs n R0) q) n0)) h))
+    from (i, b, h, n0, n1) = (
+      i,
+      b,
+      has-minus (minus l (label_at xs n R0)) (label_at xs n R1) q
+          ∙ and_both (not (has (label_at xs n R1) q)) (has (minus l (label_at xs n R0)) q) (not_of_false (false_unless (has (label_at xs n R1) q) n1))
+          (has-minus l (label_at xs n R0) q ∙ and_both (not (has (label_at xs n R0) q)) (has l q) (not_of_false (false_unless (has (label_at xs n R0) q) n0)) h),
+    )
 
 pub on-gains_rule : (a : RuleRef) (l : List Name) (xs : List PlainNode) (q : Name) (m : ℕ) (j : LabelKind)
     → IsOn (gains_rule a l xs) q m j
     ↔ ((IsOn xs q m j × ¬ (IsHere a.node E m j × (has l q ≡ true))) ⊎ (IsHere a.node (rule_kind a.dir) m j × (a.node < length xs) × (has l q ≡ true)))
 on-gains_rule a l xs q m j = (
-    (λ o. ⊎_elim (λ h. inl ((on-loses a.node E l xs q m j).0 h)) (λ h. inr (h.0, subst {A = ℕ} (λ z. a.node < z) (length-put xs a.node E (minus (label_at xs a.node E) l)) h.1, h.2))
-        ((on-gains a.node (rule_kind a.dir) l (loses a.node E l xs) q m j).0 o)),
-    λ o. (on-gains a.node (rule_kind a.dir) l (loses a.node E l xs) q m j).1
-        (⊎_elim (λ h. inl ((on-loses a.node E l xs q m j).1 h)) (λ h. inr (h.0, subst {A = ℕ} (λ z. a.node < z) (sym (length-put xs a.node E (minus (label_at xs a.node E) l))) h.1, h.2)) o),
-  )
+  (λ o. ⊎_elim (λ h. inl ((on-loses a.node E l xs q m j).0 h)) (λ h. inr (h.0, subst {A = ℕ} (λ z. a.node < z) (length-put xs a.node E (minus (label_at xs a.node E) l)) h.1, h.2))
+      ((on-gains a.node (rule_kind a.dir) l (loses a.node E l xs) q m j).0 o)),
+  λ o. (on-gains a.node (rule_kind a.dir) l (loses a.node E l xs) q m j).1
+      (⊎_elim (λ h. inl ((on-loses a.node E l xs q m j).1 h)) (λ h. inr (h.0, subst {A = ℕ} (λ z. a.node < z) (sym (length-put xs a.node E (minus (label_at xs a.node E) l))) h.1, h.2)) o),
+)
 
 -- ---- who is not named keeps all its roles
 

@@ -58,9 +58,9 @@ forked_names p l q lives h = go (has l p) lives h
     go false e k = clash e refl
     go true e k = ⊎_elim (λ i. inl (false, name_eq-eq q (child p false) i))
         (λ i. ⊎_elim (λ j. inl (true, name_eq-eq q (child p true) j))
-          (λ j. let m = sym (has-minus l (p ∷ []) q) ∙ j in
-            inr (and_right (not (has (p ∷ []) q)) (has l q) m, λ r. clash (has-one p q ∙ subst {A = Name} (λ z. name_eq z p ≡ true) (sym r) (name_eq-refl p)) (not_true (and_left (not (has (p ∷ []) q)) (has l q) m))))
-          (or_one (name_eq q (child p true)) (has (minus l (p ∷ [])) q) (sym (has-add (child p true) (minus l (p ∷ [])) q) ∙ i)))
+        (λ j. let m = sym (has-minus l (p ∷ []) q) ∙ j in
+        inr (and_right (not (has (p ∷ []) q)) (has l q) m, λ r. clash (has-one p q ∙ subst {A = Name} (λ z. name_eq z p ≡ true) (sym r) (name_eq-refl p)) (not_true (and_left (not (has (p ∷ []) q)) (has l q) m))))
+        (or_one (name_eq q (child p true)) (has (minus l (p ∷ [])) q) (sym (has-add (child p true) (minus l (p ∷ [])) q) ∙ i)))
         (or_one (name_eq q (child p false)) (has (add (child p true) (minus l (p ∷ []))) q) (sym (has-add (child p false) (add (child p true) (minus l (p ∷ []))) q) ∙ k))
 
 module _ (p : Name) (l : List Name) (lives : has l p ≡ true) (apart : AreApart l) where
@@ -91,7 +91,8 @@ module _ (p : Name) (l : List Name) (lives : has l p ≡ true) (apart : AreApart
   apart_from q n d = record {
     not_itself = differ q p d;
     not_first = differ q (child p false) (λ e. apart_child false q n d (subst {A = Name} (λ z. is_beginning z (child p false) ≡ true) (sym e) (begins-refl (child p false))));
-    not_second = differ q (child p true) (λ e. apart_child true q n d (subst {A = Name} (λ z. is_beginning z (child p true) ≡ true) (sym e) (begins-refl (child p true)))) }
+    not_second = differ q (child p true) (λ e. apart_child true q n d (subst {A = Name} (λ z. is_beginning z (child p true) ≡ true) (sym e) (begins-refl (child p true))));
+  }
 
 -- ---- entries
 

@@ -25,11 +25,12 @@ at_number xs k d l = ap (option_map (λ (x : PlainNode). x.pair)) (slice_get-get
 pub pairs_differ : (b : Plain) → Fits b.nodes → PairsDiffer b
 pairs_differ b f = record {
   canonical = λ x i.
-    let e : pair_in b.nodes i.0 ≡ Some x.pair = at_number b.nodes i.0 x i.1 ∙ ap (λ (y : PlainNode). Some y.pair) i.2 in
-    (f.canonical i.0 x.pair e, f.nontrivial i.0 x.pair e);
+      let e : pair_in b.nodes i.0 ≡ Some x.pair = at_number b.nodes i.0 x i.1 ∙ ap (λ (y : PlainNode). Some y.pair) i.2 in
+      (f.canonical i.0 x.pair e, f.nontrivial i.0 x.pair e);
   distinct = λ i j d h l e.
-    let k : i ≡ j = f.distinct i j (get_or b.nodes i d).pair (at_number b.nodes i d (omega (arith, h, l))) (at_number b.nodes j d l ∙ ap Some (sym e)) in
-    omega (arith, h, k) }
+      let k : i ≡ j = f.distinct i j (get_or b.nodes i d).pair (at_number b.nodes i d (omega (arith, h, l))) (at_number b.nodes j d l ∙ ap Some (sym e)) in
+      omega (arith, h, k);
+}
 
 pub run_pairs_differ : (P : Problem) (n : ℕ) (ms : List Moment) (b : Plain) → IsPossibleRun P n ms b → PairsDiffer b
 run_pairs_differ P n ms b run = pairs_differ b (fits_run IsFreeJob P n ms b run)

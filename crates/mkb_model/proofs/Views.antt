@@ -44,9 +44,12 @@ rule_trans p q r h k = variants_from_numbered p.left p.right r.left r.right (num
 
 -- the numbered pair is a variant of the two terms
 pub numbered_variant : (s t : Tree) → IsVariantEquation (s, t) ((numbered s t).first, (numbered s t).second)
-numbered_variant s t = (place_in (variables_of_pair s t), (λ n. get_or (variables_of_pair s t) n 0),
-    record { there = refl; back_again = unnumbered s t s (λ x c. Contains-append_left (variables_of s) (variables_of t) x c) },
-    record { there = refl; back_again = unnumbered s t t (λ x c. Contains-append_right (variables_of s) (variables_of t) x c) })
+numbered_variant s t = (
+  place_in (variables_of_pair s t),
+  (λ n. get_or (variables_of_pair s t) n 0),
+  record { there = refl; back_again = unnumbered s t s (λ x c. Contains-append_left (variables_of s) (variables_of t) x c) },
+  record { there = refl; back_again = unnumbered s t t (λ x c. Contains-append_right (variables_of s) (variables_of t) x c) },
+)
 
 -- the rule of a pair in a direction leads between its two sides, up to variants
 abbrev pub from_side : Pair → ℕ → Tree
@@ -82,11 +85,12 @@ equations-view b p e = (to, from)
         (f.0, m.0, g.1, f.2, subst {A = Tree × Tree} (λ z. IsSameEquation z e) (sym m.2) s)
 
     from : EqView b.nodes p e → Has IsSameEquation (state_of b p).equations e
-    from (n, q, o, h, s) =
-        ((q.first, q.second),
-        in_map (λ (q : Pair). (q.first, q.second)) (filter_map (pair_at b) (equations_of b p)) q
-            (in_filter_map (pair_at b) (equations_of b p) n q (in_filter (is_equation b p) (node_numbers b) n (in_numbers 0 (length b.nodes) n (omega arith) (let l = on_there b.nodes p n E o in omega (arith, l))) o) h),
-        s)
+    from (n, q, o, h, s) = (
+      (q.first, q.second),
+      in_map (λ (q : Pair). (q.first, q.second)) (filter_map (pair_at b) (equations_of b p)) q
+          (in_filter_map (pair_at b) (equations_of b p) n q (in_filter (is_equation b p) (node_numbers b) n (in_numbers 0 (length b.nodes) n (omega arith) (let l = on_there b.nodes p n E o in omega (arith, l))) o) h),
+      s,
+    )
 
 -- a list of references by a test on direction and node
 module _ (b : Plain) (p : Name) (kind : ℕ → LabelKind) (kind_more : (d : ℕ) → kind (suc d) ≡ kind 1) where

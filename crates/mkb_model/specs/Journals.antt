@@ -47,7 +47,8 @@ opening P n = record {
   over = nobody_over;
   commits = 0;
   flight = [];
-  certificates = map (λ c. record { name = root; certificate = c }) (take 1 (family P.signature)) }
+  certificates = map (λ c. record { name = root; certificate = c }) (take 1 (family P.signature));
+}
 
 -- ---- runs
 

@@ -19,8 +19,8 @@ use kb_report::{
 };
 use kb_syntax::read_one_equation;
 use kb_term::{
-    Memory, Pair, Problem, Rule, Signature, Term, canonical, has_few_arguments, has_variables_below,
-    is_rule_below, rule_of,
+    Memory, Pair, Problem, Rule, Signature, Term, canonical, has_few_arguments,
+    has_variables_below, is_rule_below, rule_of,
 };
 use std::alloc::Global;
 
