@@ -1,6 +1,5 @@
 -- What a parse that succeeds has found.
-use Rattle.std.specs.Prelude.{ℕ, ◌≡◌, ◌≤◌, Some, codes, is_some, pos, true}
-use Rattle.std.specs.Str.Parse.{digits_value, without_leading_plus}
+use Rattle.std.specs.Prelude.{◌≡◌, Some, codes, is_some, pos, true}
 use Rattle.clap.specs.Lexer.{without_minus}
 use Rattle.clap.specs.Matches.{first_value, one_text}
 use Rattle.clap.specs.Values.{IsSignedIn}
@@ -20,11 +19,3 @@ pub record HasMode (f : Found) : Type 0 where
   pub name : Text
   pub given : first_value f (codes "mode") ≡ Some name
   pub known : is_some (mode_of name) ≡ true
-
--- n is the number that the option's text writes, and lies within its bounds
-pub record ReadsNumber (o : NumberOption) (f : Found) (n : ℕ) : Type 0 where
-  pub text : Text
-  pub given : one_text f o.name ≡ Some text
-  pub value : n ≡ digits_value 10 (without_leading_plus text)
-  pub low : o.low ≤ n
-  pub high : n ≤ o.high

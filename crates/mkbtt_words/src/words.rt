@@ -1,10 +1,10 @@
 // What the words of a command line come to.
 ghost use Rattle.std.specs.Prelude.{◌≡◌, ℕ, List, Some, IfOk, Err, codes, map};
-ghost use Rattle.clap.specs.Words.{first_value, found_of};
+ghost use Rattle.clap.specs.Words.{first_value, found_of, rows_of};
 ghost use Rattle.mkbtt_words.specs.Command.{budget, number, workers};
 ghost use Rattle.mkbtt_words.specs.Modes.{mode_of};
-ghost use Rattle.mkbtt_words.specs.Parsed.{HasMode, HasNumber, ReadsNumber};
-ghost use Rattle.mkbtt_words.specs.Reading.{AreRead, AreRefused};
+ghost use Rattle.mkbtt_words.specs.Parsed.{HasMode, HasNumber};
+ghost use Rattle.mkbtt_words.specs.Reading.{AreRead, AreRefused, HoldsNumber};
 
 use crate::command::command;
 use crate::fault::{WordsFault, fault_of};
@@ -32,9 +32,9 @@ fn words_of(matches: &ArgMatches<'_>) -> Words
     requires budget { HasNumber budget (found_of matches.now) }
     requires number { HasNumber number (found_of matches.now) }
     ensures mode { (name : List ℕ) → first_value (found_of matches.now) (codes "mode") ≡ Some name → mode_of name ≡ Some result.mode }
-    ensures workers { ReadsNumber workers (found_of matches.now) result.workers }
-    ensures budget { ReadsNumber budget (found_of matches.now) result.budget }
-    ensures number { ReadsNumber number (found_of matches.now) result.number }
+    ensures workers { HoldsNumber workers (rows_of (found_of matches.now)) result.workers }
+    ensures budget { HoldsNumber budget (rows_of (found_of matches.now)) result.budget }
+    ensures number { HoldsNumber number (rows_of (found_of matches.now)) result.number }
 {
     let name = matches.get_str("mode").unwrap();
     Words {

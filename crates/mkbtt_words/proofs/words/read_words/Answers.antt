@@ -1,31 +1,19 @@
-use Rattle.std.proofs.Common.{◌≡◌, ◌∙◌, ap, ℕ, List, map, codes, sym, true, inl, inr, subst}
+use Rattle.std.proofs.Common.{◌≡◌, ◌∙◌, ap, List, map, codes, sym, true, inl, inr, subst}
 use Rattle.std.specs.Prelude.{Result, Ok, Err}
 use Rattle.clap.specs.Kinds.{HasKind, IsAmong}
 use Rattle.clap.specs.Values.{kind_of}
-use Rattle.clap.specs.Walk.{Row, Text, first_of, one_of, rows_of}
+use Rattle.clap.specs.Walk.{Row, Text, first_of, rows_of}
 use Rattle.clap.specs.Simple.{app_of, matches_of}
 use Rattle.clap.specs.Faults.{fault_of, is_simple_and_free}
 use Rattle.clap.specs.Matches.{found_of}
-use Rattle.clap.specs.declared.parser.matches.Found.{Found}
-use Rattle.clap.proofs.WalkLemmas.{first_value-rows, one_text-rows, both}
+use Rattle.clap.proofs.WalkLemmas.{first_value-rows, both}
 use Rattle.mkbtt_words.specs.declared.fault.WordsFault.{WordsFault}
 use Rattle.mkbtt_words.specs.declared.fault.WordsFault.TheVariants.{Memory}
 use Rattle.mkbtt_words.specs.declared.words.Words.{Words}
-use Rattle.mkbtt_words.specs.Command.{NumberOption}
-use Rattle.mkbtt_words.specs.Parsed.{ReadsNumber}
+use Rattle.mkbtt_words.specs.Command.{budget, number, workers}
 use Rattle.mkbtt_words.specs.Reading.{HoldsNumber}
 use Rattle.mkbtt_words.proofs.Commands.{budget_found, mode_found, number_found, simple_command, workers_found}
 use Rattle.mkbtt_words.proofs.words.read_words.Goals as goal
-
--- a number that is read of what was found is read of the rows of the matches
-holds : (o : NumberOption) (f : Found) (rows : List Row) (n : ℕ) → rows_of f ≡ rows → ReadsNumber o f n → HoldsNumber o rows n
-holds o f rows n is h = record {
-  text = h.text;
-  given = ap (one_of o.name) (sym is) ∙ sym (one_text-rows f o.name) ∙ h.given;
-  value = h.value;
-  low = h.low;
-  high = h.high;
-}
 
 pub words_of-requires-clause-mode : goal.words_of-requires-clause-mode
 words_of-requires-clause-mode c = mode_found c.in_ok-command.command c.in-Ok.matches c.in-Ok.ensures.parsed _ c.in_ok-command.ensures (ap (map (λ n. n.now)) c.deref.ensures.value ∙ c.in_ok-names.ensures)
@@ -55,9 +43,9 @@ returns-in-Ok-clause-read c =
       name = mode.name;
       named = ap (first_of (codes "mode")) (sym rows) ∙ sym (first_value-rows found (codes "mode")) ∙ mode.given;
       mode = c.words_of.ensures.mode mode.name mode.given;
-      workers_read = holds _ found _ _ rows c.words_of.ensures.workers;
-      budget_read = holds _ found _ _ rows c.words_of.ensures.budget;
-      number_read = holds _ found _ _ rows c.words_of.ensures.number;
+      workers_read = subst (λ (rs : List Row). HoldsNumber workers rs c.words_of.result.workers) rows c.words_of.ensures.workers;
+      budget_read = subst (λ (rs : List Row). HoldsNumber budget rs c.words_of.result.budget) rows c.words_of.ensures.budget;
+      number_read = subst (λ (rs : List Row). HoldsNumber number rs c.words_of.result.number) rows c.words_of.ensures.number;
     }
 
 abbrev fault_in : Result Words WordsFault → WordsFault

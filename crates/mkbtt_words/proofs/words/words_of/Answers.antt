@@ -4,7 +4,9 @@ use Rattle.std.specs.Str.Parse.{ParsesUnsigned, ExplainsUnsignedError, HasUnsign
 use Rattle.clap.specs.Matches.{ReadsOne, one_text}
 use Rattle.clap.specs.declared.parser.matches.Found.{Found}
 use Rattle.mkbtt_words.specs.Command.{NumberOption, budget, number, workers}
-use Rattle.mkbtt_words.specs.Parsed.{HasNumber, ReadsNumber}
+use Rattle.mkbtt_words.specs.Parsed.{HasNumber}
+use Rattle.mkbtt_words.specs.Reading.{HoldsNumber}
+use Rattle.clap.specs.Walk.{rows_of}
 use Rattle.mkbtt_words.proofs.Numbers.{number_read}
 use Rattle.mkbtt_words.proofs.words.words_of.Goals as goal
 
@@ -15,10 +17,10 @@ module _ (o : NumberOption) (f : Found) (h : HasNumber o f) (E : Type 0) (G : Li
       let got = number_read o f h E G k r reads only fits in
       rw got.1 (search rules)
 
-  is_read : (n : ℕ) → r ≡ Some n → ReadsNumber o f n
+  is_read : (n : ℕ) → r ≡ Some n → HoldsNumber o (rows_of f) n
   is_read n is =
       let got = number_read o f h E G k r reads only fits in
-      subst (λ (w : ℕ). ReadsNumber o f w) (ap (λ (w : Option ℕ). unwrap_or w n) (sym got.1 ∙ is)) got.2
+      subst (λ (w : ℕ). HoldsNumber o (rows_of f) w) (ap (λ (w : Option ℕ). unwrap_or w n) (sym got.1 ∙ is)) got.2
 
 pub unwrap-requires-2 : goal.unwrap-requires-2
 unwrap-requires-2 c = is_there workers _ c.requires.workers _ (λ bs r. ParsesUnsigned 8 10 bs r × ExplainsUnsignedError 10 bs r × HasUnsignedDigitsIfOk bs r) 8 c.get_one.result c.get_one.ensures.value (λ u x g. g.0) (omega arith)
