@@ -1,0 +1,4 @@
+pub mod ModeLists
+pub mod Entries
+pub mod Numbers
+pub mod Commands

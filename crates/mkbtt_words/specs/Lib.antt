@@ -1,0 +1,4 @@
+pub mod Modes
+pub mod Command
+pub mod Reading
+pub mod Parsed

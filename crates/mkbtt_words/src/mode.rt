@@ -1,0 +1,69 @@
+// The modes of the program and their names.
+ghost use Rattle.std.specs.Prelude.{◌≡◌, IfOk, map};
+ghost use Rattle.mkbtt_words.specs.Modes.{mode_names, mode_of, named};
+
+use std::alloc::{AllocError, Global};
+
+/// What the program is to do.
+#[derive(Clone, Copy, Debug, PartialEq, Eq)]
+pub enum Mode {
+    /// Complete a problem and write the answer.
+    Complete,
+    /// Check an answer.
+    Check,
+    /// Complete a generated problem and write the summary of the run.
+    Summary,
+    /// Complete a problem and write the journal of the run.
+    Journal,
+    /// Replay a journal and write the summary of its board.
+    Replay,
+    /// Write a generated problem.
+    Gen,
+}
+
+/// Each mode under its name.
+static MODES: [(&str, Mode); 6] = [
+    ("complete", Mode::Complete),
+    ("check", Mode::Check),
+    ("summary", Mode::Summary),
+    ("journal", Mode::Journal),
+    ("replay", Mode::Replay),
+    ("gen", Mode::Gen),
+];
+
+// The names of these modes, in their order.
+fn names_in<'a>(alloc: Global, modes: &[(&'a str, Mode)]) -> Result<Vec<&'a str>, AllocError>
+    ensures { IfOk result (λ names. map (λ n. n.now) names.items ≡ map (λ m. m.0.now) modes.now) }
+{
+    let mut names = Vec::new(alloc);
+    for mode in modes {
+        names.push(mode.0)?;
+    }
+    Ok(names)
+}
+
+// The first of these modes that has this name.
+fn named_in(modes: &[(&str, Mode)], name: &str) -> Option<Mode>
+    ensures { result ≡ named (map (λ m. (m.0.now, m.1)) modes.now) name.now }
+{
+    for mode in modes {
+        if mode.0 == name {
+            return Some(mode.1);
+        }
+    }
+    None
+}
+
+/// The names of all modes.
+pub(crate) fn mode_names(alloc: Global) -> Result<Vec<&'static str>, AllocError>
+    ensures { IfOk result (λ names. map (λ n. n.now) names.items ≡ mode_names) }
+{
+    names_in(alloc, &MODES)
+}
+
+/// The mode of this name.
+pub(crate) fn mode_of(name: &str) -> Option<Mode>
+    ensures { result ≡ mode_of name.now }
+{
+    named_in(&MODES, name)
+}

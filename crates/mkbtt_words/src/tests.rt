@@ -1,0 +1,110 @@
+// Words of command lines, with ample memory.
+use crate::*;
+use std::alloc::Global;
+use std::test::Fail;
+
+fn words(mode: Mode, workers: u8, budget: u32, number: u32) -> Words {
+    Words {
+        mode,
+        workers,
+        budget,
+        number,
+    }
+}
+
+fn reads(alloc: Global, line: &[&str], want: Words) -> bool {
+    read_words(alloc, line) == Ok(want)
+}
+
+fn refuses(alloc: Global, line: &[&str]) -> bool {
+    read_words(alloc, line) == Err(WordsFault::Refused)
+}
+
+#[test]
+fn every_mode_has_the_standard_numbers(rt: HostRuntime) {
+    for (name, mode) in [
+        ("complete", Mode::Complete),
+        ("check", Mode::Check),
+        ("summary", Mode::Summary),
+        ("journal", Mode::Journal),
+        ("replay", Mode::Replay),
+        ("gen", Mode::Gen),
+    ] {
+        let want = words(mode, 4, 20_000, 8);
+        assert!(rt; reads(rt.alloc(), &[name], want), "{name}");
+    }
+}
+
+#[test]
+fn options_stand_in_any_place(rt: HostRuntime) {
+    let alloc = rt.alloc();
+    let three = words(Mode::Complete, 3, 20_000, 8);
+    assert!(rt; reads(alloc, &["complete", "--workers=3"], three));
+    assert!(rt; reads(alloc, &["--workers", "3", "complete"], three));
+    assert!(rt; reads(alloc, &["complete", "--workers", "03"], three));
+    assert!(rt; reads(alloc, &["--workers=+3", "complete"], three));
+    let least = words(Mode::Gen, 1, 1, 1);
+    assert!(rt;
+        reads(
+            alloc,
+            &["--number", "1", "gen", "--budget=1", "--workers", "1"],
+            least
+        )
+    );
+    let most = words(Mode::Summary, 16, 100_000, 64);
+    assert!(rt;
+        reads(
+            alloc,
+            &[
+                "--workers=16",
+                "--budget",
+                "100000",
+                "--number=64",
+                "--",
+                "summary",
+            ],
+            most
+        )
+    );
+}
+
+#[test]
+fn other_words_are_refused(rt: HostRuntime) {
+    let alloc = rt.alloc();
+    assert!(rt; refuses(alloc, &[]));
+    for word in [
+        "--help",
+        "-h",
+        "help",
+        "--version",
+        "Complete",
+        "complet",
+        "",
+        "--workers",
+        "--workers=3",
+    ] {
+        assert!(rt; refuses(alloc, &[word]), "{word}");
+    }
+    for word in [
+        "--workers=0",
+        "--workers=17",
+        "--workers=257",
+        "--workers=-1",
+        "--workers=",
+        "--workers=three",
+        "--budget=0",
+        "--budget=100001",
+        "--number=0",
+        "--number=65",
+        "--numbers=1",
+        "--help",
+        "-w",
+        "complete",
+        "check",
+    ] {
+        assert!(rt; refuses(alloc, &["complete", word]), "complete {word}");
+    }
+    assert!(rt; refuses(alloc, &["complete", "--workers", "17"]));
+    assert!(rt; refuses(alloc, &["--number", "complete"]));
+    assert!(rt; refuses(alloc, &["complete", "--workers=3", "--workers=3"]));
+}
