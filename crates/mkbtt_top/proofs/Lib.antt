@@ -1,2 +1,1 @@
 mod OneRule
-mod WordLaws

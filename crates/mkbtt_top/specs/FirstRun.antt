@@ -1,5 +1,5 @@
 -- What a run on one equation comes to.
-use Rattle.std.specs.Prelude.{ℕ, ◌≡◌, ◌≤◌, List, [], ◌∷◌, Option, Some, codes, Contains, true, IsTrue, ⊤}
+use Rattle.std.specs.Prelude.{ℕ, ◌≡◌, ◌≢◌, ◌⊎◌, ◌≤◌, List, [], ◌∷◌, Option, Some, Contains, true, IsTrue, ⊤}
 use Rattle.kb_io.specs.Bytes.{TakesAll, Appends, AppendsPart}
 use Rattle.kb_term.specs.Pair.{Pair, canonical_pair}
 use Rattle.kb_term.specs.Rule.{Rule, rule_of}
@@ -16,8 +16,12 @@ use Rattle.kb_report.specs.Answers.{Answer, AnswerSpelled, one_rule_answer}
 use Rattle.kb_cert.specs.CertificateText.{are_rows}
 use Rattle.kb_cert.specs.declared.certificate.Certificate.TheVariants.{Linear}
 use Rattle.kb_syntax.specs.declared.kind.Kind.TheVariants.{NotBuilt}
+use Rattle.mkbtt_words.specs.Reading.{AreRead, AreRefused}
+use Rattle.mkbtt_words.specs.declared.mode.Mode.TheVariants.{Complete}
+use Rattle.mkbtt_words.specs.declared.words.Words.{Words}
 use Rattle.mkbtt_top.specs.declared.status.Status.{Status}
-use Rattle.mkbtt_top.specs.declared.status.Status.TheVariants.{Done, Refused, ReadFault, WriteFault, Memory, Words}
+use Rattle.mkbtt_top.specs.declared.status.Status.TheVariants.{Done, Refused, ReadFault, WriteFault, Memory}
+use Rattle.mkbtt_top.specs.declared.status.Status.TheVariants as status
 
 -- the pair is the canonical pair of the one equation of the problem
 pub record IsEquationOf (problem : Problem) (pair : Pair) : Type 0 where
@@ -78,9 +82,21 @@ pub record AnswersInPart (left_old left_new written_old written_new : Option (Li
   pub answer : IsAnswerTo bytes text
   pub written : AppendsPart written_old text written_new
 
--- the one word that is accepted
-abbrev pub complete_words : List (List ℕ)
-complete_words = codes "complete" ∷ []
+-- the command takes the words, and they ask for a completion
+pub record AskForCompletion (words : List (List ℕ)) : Type 0 where
+  pub read : Words
+  pub are_read : AreRead words read
+  pub mode : read.mode ≡ Complete
+
+-- the command takes the words, and they ask for a mode that isn't built yet
+pub record AskForAnother (words : List (List ℕ)) : Type 0 where
+  pub read : Words
+  pub are_read : AreRead words read
+  pub mode : read.mode ≢ Complete
+
+-- the command refuses the words, or they ask for a mode that isn't built yet
+abbrev pub AreBadWords : List (List ℕ) → Type 0
+AreBadWords words = AreRefused words ⊎ AskForAnother words
 
 -- what is refused is refused as not built, at place 0
 abbrev pub IsNotBuilt : Status → Type 0
@@ -89,7 +105,7 @@ IsNotBuilt (Refused kind at) = (kind ≡ NotBuilt) × (at ≡ 0)
 IsNotBuilt ReadFault = ⊤
 IsNotBuilt WriteFault = ⊤
 IsNotBuilt Memory = ⊤
-IsNotBuilt Words = ⊤
+IsNotBuilt status.Words = ⊤
 
 -- unless the answer was written, whole or in part, nothing is
 abbrev pub WritesNothing : Status → Option (List ℕ) → Option (List ℕ) → Type 0
@@ -98,4 +114,4 @@ WritesNothing (Refused kind at) old new = new ≡ old
 WritesNothing ReadFault old new = new ≡ old
 WritesNothing WriteFault old new = ⊤
 WritesNothing Memory old new = new ≡ old
-WritesNothing Words old new = new ≡ old
+WritesNothing status.Words old new = new ≡ old

@@ -36,7 +36,14 @@ fn an_equation_without_an_order_is_not_built(rt: HostRuntime) -> Result<(), Fail
     let alloc = rt.alloc();
     let mut source = source_of(alloc, "(VAR x y)(RULES f(x,y) == f(y,x))")?;
     let mut sink = MemorySink::new(alloc, 1000, Vec::new(alloc), 9)?;
-    let outcome = run(&rt, alloc, &["complete"], &mut source, &mut sink, &OpenGate);
+    let outcome = run(
+        &rt,
+        alloc,
+        &["complete", "--workers", "3"],
+        &mut source,
+        &mut sink,
+        &OpenGate,
+    );
     assert_eq!(rt; outcome.status, Status::Refused(Kind::NotBuilt, 0));
     assert!(rt; sink.bytes().is_empty());
     let line = status_line(alloc, &outcome.status).map_err(|_| AllocError)?;

@@ -1,12 +1,14 @@
 // The top call.
-ghost use Rattle.std.specs.Prelude.{◌≡◌, ◌≤◌, ◌↔◌, map, IsTrue};
+ghost use Rattle.std.specs.Prelude.{◌≡◌, ◌≤◌, ◌↔◌, map, Ok, true, false, IsTrue};
 ghost use Rattle.kb_io.specs.Bytes.{Rose};
-ghost use Rattle.mkbtt_top.specs.FirstRun.{Answers, AnswersInPart, IsNotBuilt, WritesNothing, complete_words};
+ghost use Rattle.mkbtt_top.specs.FirstRun.{Answers, AnswersInPart, AreBadWords, AskForCompletion, IsNotBuilt, WritesNothing};
 
 use crate::complete::complete;
 use crate::status::Status;
 use kb_io::{Gate, ReadAllFault, Sink, Source, read_all, write_all};
 use kb_syntax::Kind;
+use kb_term::Memory;
+use mkbtt_words::{Mode, WordsFault, read_words};
 use std::alloc::Global;
 use std::sync::Wait;
 use std::thread::Threads;
@@ -20,13 +22,25 @@ pub struct Outcome {
     pub status: Status,
 }
 
-fn is_complete(words: &[&str]) -> bool
-    ensures { IsTrue result ↔ (map (λ w. w.now) words.now ≡ complete_words) }
+fn is_completion(mode: Mode) -> bool
+    ensures { IsTrue result ↔ (mode ≡ Mode.Complete) }
 {
-    if words.len() != 1 {
-        return false;
+    match mode {
+        Mode::Complete => true,
+        _ => false,
     }
-    words[0].as_bytes() == b"complete".as_slice()
+}
+
+// Whether the words ask for a completion; false also where they are refused.
+fn ask_for_completion(alloc: Global, words: &[&str]) -> Result<bool, Memory>
+    ensures asked { result ≡ Ok true → AskForCompletion (map (λ w. w.now) words.now) }
+    ensures bad { result ≡ Ok false → AreBadWords (map (λ w. w.now) words.now) }
+{
+    match read_words(alloc, words) {
+        Ok(read) => Ok(is_completion(read.mode)),
+        Err(WordsFault::Refused) => Ok(false),
+        Err(WordsFault::Memory) => Err(Memory),
+    }
 }
 
 // What is read, and answered where that is built.
@@ -59,7 +73,8 @@ fn answer_source<S: Source, K: Sink>(alloc: Global, source: &mut S, sink: &mut K
 
 /// Reads a problem from the source, completes it, and writes the answer to the sink.
 ///
-/// The one word is `complete`. What is answered in this version is a problem with one equation that isn't trivial, one
+/// The words are those of `read_words`; the mode is `complete`, and its numbers aren't used yet: other modes are refused
+/// like words that the command doesn't take. What is answered in this version is a problem with one equation that isn't trivial, one
 /// direction of which a linear interpretation of the family orders; everything else that is read is refused as not built.
 /// The answer is made whole before its first byte is written.
 pub fn run<R: Threads + Wait + Sync, S: Source, K: Sink, G: Gate>(
@@ -76,7 +91,8 @@ pub fn run<R: Threads + Wait + Sync, S: Source, K: Sink, G: Gate>(
     ensures write_fault { result.status ≡ Status.WriteFault → AnswersInPart (S.left source.old) (S.left source.new) (K.written sink.old) (K.written sink.new) }
 
     // Causes.
-    ensures words { (result.status ≡ Status.Words) ↔ ¬ (map (λ w. w.now) words.now ≡ complete_words) }
+    ensures words { result.status ≡ Status.Words → AreBadWords (map (λ w. w.now) words.now) }
+    ensures taken { ¬ (result.status ≡ Status.Words) → ¬ (result.status ≡ Status.Memory) → AskForCompletion (map (λ w. w.now) words.now) }
     ensures read_cause { result.status ≡ Status.ReadFault → Rose (S.faults source.old) (S.faults source.new) }
     ensures write_cause { result.status ≡ Status.WriteFault → Rose (K.faults sink.old) (K.faults sink.new) }
     ensures refused { IsNotBuilt result.status }
@@ -87,12 +103,10 @@ pub fn run<R: Threads + Wait + Sync, S: Source, K: Sink, G: Gate>(
     ensures source_count { S.faults source.old ≤ S.faults source.new }
     ensures sink_count { K.faults sink.old ≤ K.faults sink.new }
 {
-    if !is_complete(words) {
-        return Outcome {
-            status: Status::Words,
-        };
-    }
-    Outcome {
-        status: answer_source(alloc, source, sink),
-    }
+    let status = match ask_for_completion(alloc, words) {
+        Ok(true) => answer_source(alloc, source, sink),
+        Ok(false) => Status::Words,
+        Err(Memory) => Status::Memory,
+    };
+    Outcome { status }
 }
