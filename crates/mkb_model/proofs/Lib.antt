@@ -34,3 +34,4 @@ mod EmptyRun
 mod ForkRun
 mod ForkViews
 mod Replays
+pub mod OneRun

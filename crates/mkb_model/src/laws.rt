@@ -7,7 +7,7 @@ ghost use Rattle.kb_laws.specs.Completion.{KbReaches, kb_start};
 ghost use Rattle.mkb_model.specs.Plain.{Plain, state_of};
 ghost use Rattle.mkb_model.specs.DueJobs.{first_job, free_jobs};
 ghost use Rattle.mkb_model.specs.Verdicts.{verdict, VerdictMeans};
-ghost use Rattle.mkb_model.specs.Journals.{Moment, Follows, IsFreeJob, IsPossibleRun, IsRun, IsLeaving, opening, tickets};
+ghost use Rattle.mkb_model.specs.Journals.{Moment, Follows, IsFreeJob, IsPossibleRun, IsRun, IsLeaving, journal_of, opening, tickets};
 ghost use Rattle.mkb_model.specs.Ready.{KeepsPairs, AllFine};
 ghost use Rattle.mkb_model.specs.Headline.{EachCompletes};
 ghost use Rattle.mkb_model.specs.Invariants.{FactsHold, FlightIsClear, FlightIsNumbered, LivingIsForked, PairsDiffer, IsWithinBudget};
@@ -72,4 +72,9 @@ pub fn opening_is_reached()
 /// of completion of that process alone.
 pub fn fine_runs_complete()
     ensures { (problem : Problem) (budget : ℕ) (past : List Moment) (board : Plain) (run : IsPossibleRun problem budget past board) → AllFine IsFreeJob problem budget past board run → EachCompletes problem past board }
+{}
+
+/// A journal has one run, and so leads to one board.
+pub fn journals_have_one_run()
+    ensures { (problem : Problem) (budget : ℕ) (past others : List Moment) (board other : Plain) → IsPossibleRun problem budget past board → IsPossibleRun problem budget others other → journal_of past ≡ journal_of others → (past ≡ others) × (board ≡ other) }
 {}
