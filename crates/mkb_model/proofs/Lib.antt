@@ -35,3 +35,4 @@ mod ForkRun
 mod ForkViews
 mod Replays
 pub mod OneRun
+pub mod Drops

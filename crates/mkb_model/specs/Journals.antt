@@ -173,6 +173,24 @@ After P n J c = (ms : List Moment) × (journal_of ms ≡ J) × IsRun P n ms c
 abbrev pub IsLegal : Problem → ℕ → List Entry → Type 0
 IsLegal P n J = (c : Plain) × After P n J c
 
+-- the entry commits
+abbrev pub is_commit : Entry → Bool
+is_commit (Commit w t e) = true
+is_commit e = false
+
+-- a commit was made since the ticket was taken
+pub record HasCommitSince (past : List Moment) (t : ℕ) : Type 0 where
+  pub later : List Moment
+  pub take : Moment
+  pub earlier : List Moment
+  pub parts : past ≡ later ++ take ∷ earlier
+  pub worker : ℕ
+  pub job : Job
+  pub taken : take.entry ≡ Take worker t job
+  pub commit : Moment
+  pub since : Contains later commit
+  pub commits : IsTrue (is_commit commit.entry)
+
 -- ---- workers
 
 -- the worker that an entry names, and 0 for a halt

@@ -1,13 +1,13 @@
 // The laws. A run lists its moments, each a board and the entry made on it, the newest first.
 ghost use Rattle.std.specs.Prelude.{◌≡◌, ◌≢◌, ℕ, List, [], Contains, Some, None};
 ghost use Rattle.kb_term.specs.Signature.{Problem};
-ghost use Rattle.kb_label.specs.Names.{root};
+ghost use Rattle.kb_label.specs.Names.{Name, root};
 ghost use Rattle.kb_label.specs.declared.verdict.Verdict.{Verdict};
 ghost use Rattle.kb_laws.specs.Completion.{KbReaches, kb_start};
 ghost use Rattle.mkb_model.specs.Plain.{Plain, state_of};
 ghost use Rattle.mkb_model.specs.DueJobs.{first_job, free_jobs};
 ghost use Rattle.mkb_model.specs.Verdicts.{verdict, VerdictMeans};
-ghost use Rattle.mkb_model.specs.Journals.{Moment, Follows, IsFreeJob, IsPossibleRun, IsRun, IsLeaving, journal_of, opening, tickets};
+ghost use Rattle.mkb_model.specs.Journals.{Moment, Follows, IsFreeJob, IsPossibleRun, IsRun, IsLeaving, HasCommitSince, journal_of, opening, tickets};
 ghost use Rattle.mkb_model.specs.Ready.{KeepsPairs, AllFine};
 ghost use Rattle.mkb_model.specs.Headline.{EachCompletes};
 ghost use Rattle.mkb_model.specs.Invariants.{FactsHold, FlightIsClear, FlightIsNumbered, LivingIsForked, PairsDiffer, IsWithinBudget};
@@ -77,4 +77,9 @@ pub fn fine_runs_complete()
 /// A journal has one run, and so leads to one board.
 pub fn journals_have_one_run()
     ensures { (problem : Problem) (budget : ℕ) (past others : List Moment) (board other : Plain) → IsPossibleRun problem budget past board → IsPossibleRun problem budget others other → journal_of past ≡ journal_of others → (past ≡ others) × (board ≡ other) }
+{}
+
+/// A job that is taken has something to act on, so where its ticket is dropped, a commit was made since the take.
+pub fn drops_follow_commits()
+    ensures { (problem : Problem) (budget : ℕ) (past : List Moment) (board : Plain) (worker ticket : ℕ) (process : Name) (next : Plain) → IsPossibleRun problem budget past board → Follows IsFreeJob past board (Entry.Drop worker ticket process) next → HasCommitSince past ticket }
 {}
