@@ -36,3 +36,4 @@ mod ForkViews
 mod Replays
 pub mod OneRun
 pub mod Drops
+pub mod Answering

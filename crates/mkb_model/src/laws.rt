@@ -1,16 +1,16 @@
 // The laws. A run lists its moments, each a board and the entry made on it, the newest first.
 ghost use Rattle.std.specs.Prelude.{◌≡◌, ◌≢◌, ℕ, List, [], Contains, Some, None};
-ghost use Rattle.kb_term.specs.Signature.{Problem};
+ghost use Rattle.kb_term.specs.Signature.{Problem, IsWithinLimits};
 ghost use Rattle.kb_label.specs.Names.{Name, root};
 ghost use Rattle.kb_label.specs.declared.verdict.Verdict.{Verdict};
 ghost use Rattle.kb_laws.specs.Completion.{KbReaches, kb_start};
 ghost use Rattle.mkb_model.specs.Plain.{Plain, state_of};
 ghost use Rattle.mkb_model.specs.DueJobs.{first_job, free_jobs};
-ghost use Rattle.mkb_model.specs.Verdicts.{verdict, VerdictMeans};
+ghost use Rattle.mkb_model.specs.Verdicts.{verdict, HasCompleted, VerdictMeans};
 ghost use Rattle.mkb_model.specs.Journals.{Moment, Follows, IsFreeJob, IsPossibleRun, IsRun, IsLeaving, HasCommitSince, journal_of, opening, tickets};
 ghost use Rattle.mkb_model.specs.Ready.{KeepsPairs, AllFine};
-ghost use Rattle.mkb_model.specs.Headline.{EachCompletes};
-ghost use Rattle.mkb_model.specs.Invariants.{FactsHold, FlightIsClear, FlightIsNumbered, LivingIsForked, PairsDiffer, IsWithinBudget};
+ghost use Rattle.mkb_model.specs.Headline.{EachCompletes, IsAnswered};
+ghost use Rattle.mkb_model.specs.Invariants.{FactsHold, FlightIsClear, FlightIsNumbered, LivingIsForked, PairsDiffer, IsWithinBudget, IsSound};
 ghost use Rattle.mkb_model.specs.declared.entry.Entry.{Entry};
 
 /// A legal run, in which each take is of the first job, is a possible run, in which each take is of any due job that clashes
@@ -82,4 +82,10 @@ pub fn journals_have_one_run()
 /// A job that is taken has something to act on, so where its ticket is dropped, a commit was made since the take.
 pub fn drops_follow_commits()
     ensures { (problem : Problem) (budget : ℕ) (past : List Moment) (board : Plain) (worker ticket : ℕ) (process : Name) (next : Plain) → IsPossibleRun problem budget past board → Follows IsFreeJob past board (Entry.Drop worker ticket process) next → HasCommitSince past ticket }
+{}
+
+/// On a sound board of a problem within the limits, on which the states of each living process are a run of completion, the
+/// rules of a process that is closed and has no equation are a complete system for the problem.
+pub fn sound_boards_answer()
+    ensures { (problem : Problem) (taken : ℕ) (past : List Moment) (board : Plain) (process : Name) → IsWithinLimits problem → board.problem ≡ problem → IsSound taken board → EachCompletes problem past board → HasCompleted board process → IsAnswered problem board process }
 {}

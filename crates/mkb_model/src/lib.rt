@@ -12,7 +12,7 @@ pub use entry::{Effect, Entry, Ticket};
 pub use laws::{
     commits_stay_within_the_budget, drops_follow_commits, facts_hold, fine_runs_complete, flight_is_in_order, journals_have_one_run,
     legal_runs_are_possible, living_names_come_of_forks, opening_is_reached, pairs_stay,
-    verdicts_stay, work_goes_on,
+    sound_boards_answer, verdicts_stay, work_goes_on,
 };
 pub use proposed::{DeducedList, FactList, Proposed};
 
