@@ -37,3 +37,5 @@ mod Replays
 pub mod OneRun
 pub mod Drops
 pub mod Answering
+pub mod Renamings
+pub mod Alike
