@@ -114,7 +114,7 @@ at_places (z ∷ xs) h (suc i) (suc j) x y e f = at_places xs h.1 i j x y e f �
 
 -- ---- the overlaps of a closed process
 
-named_as : (b : Plain) (refs : List RuleRef) → as_rules (named_rules b refs) ≡ rules_at b refs
+pub named_as : (b : Plain) (refs : List RuleRef) → as_rules (named_rules b refs) ≡ rules_at b refs
 named_as b [] = refl
 named_as b (a ∷ refs) = go (rule_at b a) (named_as b refs)
   where

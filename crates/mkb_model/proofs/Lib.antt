@@ -39,3 +39,4 @@ pub mod Drops
 pub mod Answering
 pub mod Renamings
 pub mod Alike
+pub mod OneProposal

@@ -53,18 +53,18 @@ numbers_equal [] (y ∷ ys) h = absurd (cc)
 numbers_equal (x ∷ xs) [] h = absurd (cc)
 numbers_equal (x ∷ xs) (y ∷ ys) h = let e = then_equal (nat_cmp x y) (numbers_cmp xs ys) h in ap₂ {C = List ℕ} (λ z zs. z ∷ zs) (nat_equal x y e.0) (numbers_equal xs ys e.1)
 
-redex_flip : (v : ℕ) (at : List ℕ) (a : RuleRef) (w : ℕ) (pos : List ℕ) (c : RuleRef) → redex_cmp w pos c v at a ≡ flip (redex_cmp v at a w pos c)
+pub redex_flip : (v : ℕ) (at : List ℕ) (a : RuleRef) (w : ℕ) (pos : List ℕ) (c : RuleRef) → redex_cmp w pos c v at a ≡ flip (redex_cmp v at a w pos c)
 redex_flip v at a w pos c =
     let dirs = ap₂ ordering_then (nat_flip a.node c.node) (nat_flip a.dir c.dir) ∙ then_flip (nat_cmp a.node c.node) (nat_cmp a.dir c.dir) in
     let places = ap₂ ordering_then (numbers_flip at pos) dirs ∙ then_flip (numbers_cmp at pos) (ordering_then (nat_cmp a.node c.node) (nat_cmp a.dir c.dir)) in
     ap₂ ordering_then (nat_flip v w) places ∙ then_flip (nat_cmp v w) (ordering_then (numbers_cmp at pos) (ordering_then (nat_cmp a.node c.node) (nat_cmp a.dir c.dir)))
 
-neither_greater : (o : Ordering) → o ≢ Greater → flip o ≢ Greater → o ≡ Equal
+pub neither_greater : (o : Ordering) → o ≢ Greater → flip o ≢ Greater → o ≡ Equal
 neither_greater Less h k = absurd (k refl)
 neither_greater Equal h k = refl
 neither_greater Greater h k = absurd (h refl)
 
-redex_equal : (v : ℕ) (at : List ℕ) (a : RuleRef) (w : ℕ) (pos : List ℕ) (c : RuleRef) → redex_cmp v at a w pos c ≡ Equal → (v ≡ w) × (at ≡ pos) × (a ≡ c)
+pub redex_equal : (v : ℕ) (at : List ℕ) (a : RuleRef) (w : ℕ) (pos : List ℕ) (c : RuleRef) → redex_cmp v at a w pos c ≡ Equal → (v ≡ w) × (at ≡ pos) × (a ≡ c)
 redex_equal v at a w pos c h =
     let sides = then_equal (nat_cmp v w) (ordering_then (numbers_cmp at pos) (ordering_then (nat_cmp a.node c.node) (nat_cmp a.dir c.dir))) h in
     let places = then_equal (numbers_cmp at pos) (ordering_then (nat_cmp a.node c.node) (nat_cmp a.dir c.dir)) sides.1 in
@@ -85,7 +85,7 @@ found_alike t rule Variant Strict e f g = absurd (g.1 f)
 found_alike t rule Strict Variant e f g = absurd (f.1 g)
 found_alike t rule Strict Strict e f g = refl
 
-named_alike : (b : Plain) (refs : List RuleRef) (a : RuleRef) (r s : Rule) → Contains (named_rules b refs) (record { ref = a; rule = r }) → Contains (named_rules b refs) (record { ref = a; rule = s }) → r ≡ s
+pub named_alike : (b : Plain) (refs : List RuleRef) (a : RuleRef) (r s : Rule) → Contains (named_rules b refs) (record { ref = a; rule = r }) → Contains (named_rules b refs) (record { ref = a; rule = s }) → r ≡ s
 named_alike b refs a r s i j =
     let x = (named_rule b refs a r i).1 in
     let y = (named_rule b refs a s j).1 in
@@ -222,8 +222,8 @@ take_numbers May P n (m ∷ ms) c (run, f) b w t j i = ⊎_elim here (λ k. let 
 first_take : (May : Plain → Job → Type 0) (ms : List Moment) (m : Moment) (c b : Plain) (w t : ℕ) (j : Job) → Follows May ms m.board m.entry c → m ≡ record { board = b; entry = Take w t j } → t ≡ tickets ms + 1
 first_take May ms m c b w t j f e = (subst {A = Moment} (λ z. Follows May ms z.board z.entry c) e f).next_number
 
-one_take : (May : Plain → Job → Type 0) (P : Problem) (n : ℕ) (ms : List Moment) (c : Plain) → IsRunBy May P n ms c → (a b : Plain) (v w t : ℕ) (i j : Job)
-    → Contains ms (record { board = a; entry = Take v t i }) → Contains ms (record { board = b; entry = Take w t j }) → (a ≡ b) × (i ≡ j)
+pub one_take : (May : Plain → Job → Type 0) (P : Problem) (n : ℕ) (ms : List Moment) (c : Plain) → IsRunBy May P n ms c → (a b : Plain) (v w t : ℕ) (i j : Job)
+    → Contains ms (record { board = a; entry = Take v t i }) → Contains ms (record { board = b; entry = Take w t j }) → (a ≡ b) × (i ≡ j) × (v ≡ w)
 one_take May P n [] c run a b v w t i j k l = none_in k
 one_take May P n (m ∷ ms) c (run, f) a b v w t i j k l = go (λ p q. one_take May P n ms m.board run a b v w t i j p q) (contains_cases m ms one k) (contains_cases m ms two l)
   where
@@ -233,13 +233,16 @@ one_take May P n (m ∷ ms) c (run, f) a b v w t i j k l = go (λ p q. one_take 
     two : Moment
     two = record { board = b; entry = Take w t j }
 
-    same : one ≡ two → (a ≡ b) × (i ≡ j)
-    same e = (ap (λ (z : Moment). z.board) e, taken (ap (λ (z : Moment). z.entry) e))
+    same : one ≡ two → (a ≡ b) × (i ≡ j) × (v ≡ w)
+    same e = (ap (λ (z : Moment). z.board) e, taken (ap (λ (z : Moment). z.entry) e), by (ap (λ (z : Moment). z.entry) e))
       where
         taken : Take v t i ≡ Take w t j → i ≡ j
         taken q = cc
 
-    go : (Contains ms one → Contains ms two → (a ≡ b) × (i ≡ j)) → (m ≡ one) ⊎ Contains ms one → (m ≡ two) ⊎ Contains ms two → (a ≡ b) × (i ≡ j)
+        by : Take v t i ≡ Take w t j → v ≡ w
+        by q = cc
+
+    go : (Contains ms one → Contains ms two → (a ≡ b) × (i ≡ j) × (v ≡ w)) → (m ≡ one) ⊎ Contains ms one → (m ≡ two) ⊎ Contains ms two → (a ≡ b) × (i ≡ j) × (v ≡ w)
     go later (inl p) (inl q) = same (sym p ∙ q)
     go later (inl p) (inr q) = let x = first_take May ms m c a v t i f p in let y = take_numbers May P n ms m.board run b w t j q in absurd (omega (arith, x, y))
     go later (inr p) (inl q) = let x = first_take May ms m c b w t j f q in let y = take_numbers May P n ms m.board run a v t i p in absurd (omega (arith, x, y))
@@ -261,11 +264,11 @@ follow_alike May P n past b (Drop w t p) c d run f g = f.leads_to ∙ sym g.lead
 follow_alike May P n past b (Abandon w t) c d run f g = f.leads_to ∙ sym g.leads_to
 follow_alike May P n past b Halt c d run f g = f.1 ∙ sym g.1
 
-no_end : {X : Type 0} (xs : List X) (x : X) → [] ≢ xs ++ x ∷ []
+pub no_end : {X : Type 0} (xs : List X) (x : X) → [] ≢ xs ++ x ∷ []
 no_end [] x h = absurd (cc)
 no_end (y ∷ ys) x h = absurd (cc)
 
-same_ends : {X : Type 0} (xs ys : List X) (x y : X) → xs ++ x ∷ [] ≡ ys ++ y ∷ [] → (xs ≡ ys) × (x ≡ y)
+pub same_ends : {X : Type 0} (xs ys : List X) (x y : X) → xs ++ x ∷ [] ≡ ys ++ y ∷ [] → (xs ≡ ys) × (x ≡ y)
 same_ends {X} [] [] x y h = let e : x ≡ y = cc in (refl, e)
 same_ends {X} [] (v ∷ ys) x y h = let e : [] ≡ ys ++ y ∷ [] = cc in absurd (no_end ys y e)
 same_ends {X} (u ∷ xs) [] x y h = let e : [] ≡ xs ++ x ∷ [] = cc in absurd (no_end xs x e)
