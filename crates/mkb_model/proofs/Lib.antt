@@ -20,6 +20,8 @@ pub mod Proper
 pub mod Flights
 pub mod Living
 pub mod Labels
+pub mod Flyers
+pub mod LivingLabels
 pub mod Readiness
 pub mod Simulation
 pub mod OneRoles

@@ -1,6 +1,6 @@
 use super::{
     commits_stay_within_the_budget, facts_hold, fine_runs_complete, flight_is_in_order,
-    legal_runs_are_possible, living_names_come_of_forks, opening_is_reached, pairs_stay,
+    labels_name_the_living, legal_runs_are_possible, living_names_come_of_forks, opening_is_reached, pairs_stay,
     verdicts_stay, work_goes_on,
 };
 
@@ -9,6 +9,7 @@ fn each_law_is_called(_rt: HostRuntime) {
     legal_runs_are_possible();
     facts_hold();
     flight_is_in_order();
+    labels_name_the_living();
     living_names_come_of_forks();
     pairs_stay();
     commits_stay_within_the_budget();
