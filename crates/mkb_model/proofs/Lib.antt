@@ -22,6 +22,8 @@ pub mod Living
 pub mod Labels
 pub mod Flyers
 pub mod LivingLabels
+pub mod Unmoved
+pub mod Resting
 pub mod Readiness
 pub mod Simulation
 pub mod OneRoles
