@@ -24,6 +24,7 @@ pub mod Flyers
 pub mod LivingLabels
 pub mod Unmoved
 pub mod Resting
+pub mod Restful
 pub mod Readiness
 pub mod Simulation
 pub mod OneRoles

@@ -30,7 +30,7 @@ use Rattle.kb_node.specs.declared.node.LabelKind.TheVariants.{R0, R1, E, C0, C1,
 use Rattle.mkb_model.specs.Jobs.{process_of, kind_number, ref_eq, ref_le}
 use Rattle.mkb_model.specs.Plain.{Plain, PlainNode, label, label_at, rule_kind, other, directions, node_numbers, is_equation, is_rule, rules_of, done_of, is_over, known, pair_at, rule_at}
 use Rattle.mkb_model.specs.DueJobs.{is_usable, is_open, reducers, is_node_of, is_reducible, is_working, is_work_due, is_close_due, is_due, work_of}
-use Rattle.mkb_model.specs.Effects.{rewrite_label, overlap_label, orient_label, effect_label, limit_label, redex_label, not_over}
+use Rattle.mkb_model.specs.Effects.{rewrite_label, overlap_label, orient_label, effect_label, limit_label, redex_label, not_over, is_strict}
 use Rattle.mkb_model.specs.Invariants.{FactsHold, IsTrueFact, IsAtRest}
 use Rattle.mkb_model.specs.Proposals.{NamedRule, named_rules, IsUsableRedex, Proposes}
 use Rattle.mkb_model.specs.Ready.{IsOn, KeepsPairs}
@@ -229,6 +229,11 @@ known_true b n w a kind v facts r h =
 rewrite_unnamed : (b : Plain) (p : Name) (n w : ℕ) (a : RuleRef) (kind : Found) → FactsHold b → Rests b p → IsRedexOn b n w a kind → has (rewrite_label b n w a kind) p ≡ false
 rewrite_unnamed b p n w a kind facts rest r = false_unless (has (rewrite_label b n w a kind) p) (λ h. let s = source_of b n w a kind p h in go s.0 s.1.0 s.1.1 s.1.2)
   where
+    strict : (k : Found) → is_strict k ≡ true → k ≡ Strict
+    strict No e = clash e refl
+    strict Variant e = clash e refl
+    strict Strict e = refl
+
     node_one : (d : ℕ) → IsOn b.nodes p n (rule_kind d) → is_node_of b p n ≡ true
     node_one zero o = or_right (is_equation b p n) (is_rule b p (record { node = n; dir = 0 }) || is_rule b p (record { node = n; dir = 1 })) (or_left (is_rule b p (record { node = n; dir = 0 })) (is_rule b p (record { node = n; dir = 1 })) o)
     node_one (suc d) o = or_right (is_equation b p n) (is_rule b p (record { node = n; dir = 0 }) || is_rule b p (record { node = n; dir = 1 })) (or_right (is_rule b p (record { node = n; dir = 0 })) (is_rule b p (record { node = n; dir = 1 })) o)
@@ -245,10 +250,10 @@ rewrite_unnamed b p n w a kind facts rest r = false_unless (has (rewrite_label b
         let t = known_true b n w a kind k.0 facts r k.1 in
         by k.0 t.0 t.1 k.2 kind r.found s
 
-    go : is_rule b p a ≡ true → (s : LabelKind) → (s ≡ E) ⊎ ((s ≡ rule_kind (other w)) ⊎ ((s ≡ rule_kind w) × (kind ≡ Strict))) → IsOn b.nodes p n s → ⊥
+    go : is_rule b p a ≡ true → (s : LabelKind) → (s ≡ E) ⊎ ((s ≡ rule_kind (other w)) ⊎ ((s ≡ rule_kind w) × (is_strict kind ≡ true))) → IsOn b.nodes p n s → ⊥
     go has_rule s (inl e) o = let i = subst {A = LabelKind} (IsOn b.nodes p n) e o in at has_rule (or_left (is_equation b p n) (is_rule b p (record { node = n; dir = 0 }) || is_rule b p (record { node = n; dir = 1 })) i) (inl (or_left (is_equation b p n) (is_rule b p (record { node = n; dir = other w })) i))
     go has_rule s (inr (inl e)) o = let i = subst {A = LabelKind} (IsOn b.nodes p n) e o in at has_rule (node_one (other w) i) (inl (or_right (is_equation b p n) (is_rule b p (record { node = n; dir = other w })) i))
-    go has_rule s (inr (inr e)) o = at has_rule (node_one w (subst {A = LabelKind} (IsOn b.nodes p n) e.0 o)) (inr e.1)
+    go has_rule s (inr (inr e)) o = at has_rule (node_one w (subst {A = LabelKind} (IsOn b.nodes p n) e.0 o)) (inr (strict kind e.1))
 
 -- no overlapping acts on a process at rest
 overlap_unnamed : (b : Plain) (p : Name) (a c : RuleRef) → Rests b p → IsBit a.dir → IsBit c.dir → ref_le a c ≡ true → has (overlap_label b a c) p ≡ false
@@ -314,24 +319,24 @@ not_over_unnamed b l p h = has-filter (λ q. not (is_over b q)) l p ∙ and_off_
 
 -- what the job of another process proposes does not act on a process at rest
 pub rest_unnamed : (before b : Plain) (j : Job) (x : Proposed) (p : Name) → Proposes before j x → IsKnownJob j → KeepsPairs before.nodes b.nodes → FactsHold b → Rests b p → (is_own j ≡ true → process_of j ≢ p) → has (effect_label b x) p ≡ false
-rest_unnamed before b j (Facts fs) p h k keeps facts rest other = refl
-rest_unnamed before b (Reduce r m) (Rewrite n w at a kind t) p h k keeps facts rest other =
-    rewrite_unnamed b p n.0 w a kind facts rest (subst {A = NodeId} (λ z. IsRedexOn b z.0 w a kind) (sym h.0) (redex_on before b r m.0 h.1 (is_usable before r m.0) w at a kind (tree_of t) h.2 keeps h.3.first.is_redex))
-rest_unnamed before b j (One q n d c) p h k keeps facts rest other = let o = own_of before j (One q n d c) h in orient_unnamed b q p n.0 (λ e. other o.0 (o.1 ∙ e))
-rest_unnamed before b j (Both q n c0 c1) p h k keeps facts rest other = let o = own_of before j (Both q n c0 c1) h in orient_unnamed b q p n.0 (λ e. other o.0 (o.1 ∙ e))
-rest_unnamed before b j (Refuse q n) p h k keeps facts rest other = let o = own_of before j (Refuse q n) h in orient_unnamed b q p n.0 (λ e. other o.0 (o.1 ∙ e))
-rest_unnamed before b (Overlap r d e) (Deduce a c ds) p h k keeps facts rest other = overlap_unnamed b p a c rest (subst {A = RuleRef} (λ z. IsBit z.dir) (sym h.0) k.0) (subst {A = RuleRef} (λ z. IsBit z.dir) (sym h.1) k.1) (ap (λ z. ref_le z c) h.0 ∙ ap (ref_le d) h.1 ∙ k.2)
-rest_unnamed before b j (Unjoined q ds) p h k keeps facts rest other = let o = own_of before j (Unjoined q ds) h in one_unnamed p q (λ e. other o.0 (o.1 ∙ e))
-rest_unnamed before b j (Closed q) p h k keeps facts rest other = let o = own_of before j (Closed q) h in one_unnamed p q (λ e. other o.0 (o.1 ∙ e))
-rest_unnamed before b (Reduce r m) (Limit i cause) p h k keeps facts rest other = subst {A = Job} (λ z. has (not_over b (limit_label b z cause)) p ≡ false) (sym h.0)
-    (not_over_unnamed b (redex_label b m.0 cause.redex) p (subst {A = Option (ℕ × RuleRef × Found)} (λ z. has (redex_label b m.0 z) p ≡ false) (sym h.3.redex_is)
-    (rewrite_unnamed b p m.0 h.3.side h.3.rule h.3.kind facts rest (redex_on before b r m.0 h.1 (is_usable before r m.0) h.3.side h.3.at h.3.rule h.3.kind h.3.result h.2 keeps h.3.first.is_redex))))
-rest_unnamed before b (Overlap r a c) (Limit i cause) p h k keeps facts rest other = subst {A = Job} (λ z. has (not_over b (limit_label b z cause)) p ≡ false) (sym h.0) (not_over_unnamed b (overlap_label b a c) p (overlap_unnamed b p a c rest k.0 k.1 k.2))
-rest_unnamed before b (Close r) (Limit i cause) p h k keeps facts rest other = subst {A = Job} (λ z. has (not_over b (limit_label b z cause)) p ≡ false) (sym h.0) (not_over_unnamed b (r ∷ []) p (one_unnamed p r (other refl)))
-rest_unnamed before b (Orient r m) (Limit i cause) p h k keeps facts rest other = absurd h
-rest_unnamed before b (Orient r m) (Rewrite n w at a kind t) p h k keeps facts rest other = absurd h
-rest_unnamed before b (Overlap r d e) (Rewrite n w at a kind t) p h k keeps facts rest other = absurd h
-rest_unnamed before b (Close r) (Rewrite n w at a kind t) p h k keeps facts rest other = absurd h
-rest_unnamed before b (Reduce r m) (Deduce a c ds) p h k keeps facts rest other = absurd h
-rest_unnamed before b (Orient r m) (Deduce a c ds) p h k keeps facts rest other = absurd h
-rest_unnamed before b (Close r) (Deduce a c ds) p h k keeps facts rest other = absurd h
+rest_unnamed before b j (Facts fs) p h k keeps facts rest away = refl
+rest_unnamed before b (Reduce r m) (Rewrite n w at a kind t) p h k keeps facts rest away =
+    rewrite_unnamed b p n.0 w a kind facts rest (subst {A = NodeId} (λ z. IsRedexOn b z.0 w a kind) (sym h.0) (redex_on before b r m.0 h.1.0 (is_usable before r m.0) w at a kind (tree_of t) h.1.1 keeps h.1.2.first.is_redex))
+rest_unnamed before b j (One q n d c) p h k keeps facts rest away = let o = own_of before j (One q n d c) h in orient_unnamed b q p n.0 (λ e. away o.0 (o.1 ∙ e))
+rest_unnamed before b j (Both q n c0 c1) p h k keeps facts rest away = let o = own_of before j (Both q n c0 c1) h in orient_unnamed b q p n.0 (λ e. away o.0 (o.1 ∙ e))
+rest_unnamed before b j (Refuse q n) p h k keeps facts rest away = let o = own_of before j (Refuse q n) h in orient_unnamed b q p n.0 (λ e. away o.0 (o.1 ∙ e))
+rest_unnamed before b (Overlap r d e) (Deduce a c ds) p h k keeps facts rest away = overlap_unnamed b p a c rest (subst {A = RuleRef} (λ z. IsBit z.dir) (sym h.0) k.0) (subst {A = RuleRef} (λ z. IsBit z.dir) (sym h.1) k.1) (ap (λ z. ref_le z c) h.0 ∙ ap (ref_le d) h.1 ∙ k.2)
+rest_unnamed before b j (Unjoined q ds) p h k keeps facts rest away = let o = own_of before j (Unjoined q ds) h in one_unnamed p q (λ e. away o.0 (o.1 ∙ e))
+rest_unnamed before b j (Closed q) p h k keeps facts rest away = let o = own_of before j (Closed q) h in one_unnamed p q (λ e. away o.0 (o.1 ∙ e))
+rest_unnamed before b (Reduce r m) (Limit i cause) p h k keeps facts rest away = subst {A = Job} (λ z. has (not_over b (limit_label b z cause)) p ≡ false) (sym h.0)
+    (not_over_unnamed b (redex_label b m.0 cause.redex) p (subst {A = Option (ℕ × RuleRef × Found)} (λ z. has (redex_label b m.0 z) p ≡ false) (sym h.1.2.redex_is)
+    (rewrite_unnamed b p m.0 h.1.2.side h.1.2.rule h.1.2.kind facts rest (redex_on before b r m.0 h.1.0 (is_usable before r m.0) h.1.2.side h.1.2.at h.1.2.rule h.1.2.kind h.1.2.result h.1.1 keeps h.1.2.first.is_redex))))
+rest_unnamed before b (Overlap r a c) (Limit i cause) p h k keeps facts rest away = subst {A = Job} (λ z. has (not_over b (limit_label b z cause)) p ≡ false) (sym h.0) (not_over_unnamed b (overlap_label b a c) p (overlap_unnamed b p a c rest k.0 k.1 k.2))
+rest_unnamed before b (Close r) (Limit i cause) p h k keeps facts rest away = subst {A = Job} (λ z. has (not_over b (limit_label b z cause)) p ≡ false) (sym h.0) (not_over_unnamed b (r ∷ []) p (one_unnamed p r (away refl)))
+rest_unnamed before b (Orient r m) (Limit i cause) p h k keeps facts rest away = absurd h
+rest_unnamed before b (Orient r m) (Rewrite n w at a kind t) p h k keeps facts rest away = absurd h
+rest_unnamed before b (Overlap r d e) (Rewrite n w at a kind t) p h k keeps facts rest away = absurd h
+rest_unnamed before b (Close r) (Rewrite n w at a kind t) p h k keeps facts rest away = absurd h
+rest_unnamed before b (Reduce r m) (Deduce a c ds) p h k keeps facts rest away = absurd h
+rest_unnamed before b (Orient r m) (Deduce a c ds) p h k keeps facts rest away = absurd h
+rest_unnamed before b (Close r) (Deduce a c ds) p h k keeps facts rest away = absurd h
