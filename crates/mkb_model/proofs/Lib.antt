@@ -25,6 +25,7 @@ pub mod LivingLabels
 pub mod Unmoved
 pub mod Resting
 pub mod Restful
+pub mod Staying
 pub mod Readiness
 pub mod Simulation
 pub mod OneRoles

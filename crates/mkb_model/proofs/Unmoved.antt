@@ -98,11 +98,11 @@ not_oriented b q p n e h = go (is_equation b q n) e h
     go true e h = sym (has-one q p) ∙ h
     go false e h = clash e refl
 
-same_roles : (xs : List PlainNode) (p : Name) → KeepsRoles xs xs p
+pub same_roles : (xs : List PlainNode) (p : Name) → KeepsRoles xs xs p
 same_roles xs p m j = ((λ o. o), λ o. o)
 
 -- the fork of a living process leaves another living process alone
-apart_forked : (b : Plain) (q p : Name) → AreApart b.living → has b.living q ≡ true → has b.living p ≡ true → p ≢ q → IsApartFrom q p
+pub apart_forked : (b : Plain) (q p : Name) → AreApart b.living → has b.living q ≡ true → has b.living p ≡ true → p ≢ q → IsApartFrom q p
 apart_forked b q p apart lives named d = apart_from q b.living lives apart p named d
 
 unmoved_applied : (b : Plain) (x : Proposed) (p : Name) → IsFalse (is_dropped b x) → has (effect_label b x) p ≡ false → AreApart b.living → ((q : Name) (n : ℕ) → is_equation b q n ≡ true → has b.living q ≡ true) → has b.living p ≡ true → IsUnmoved b (applied b x) p
