@@ -26,6 +26,7 @@ pub mod Unmoved
 pub mod Resting
 pub mod Restful
 pub mod Staying
+pub mod Deductions
 pub mod Readiness
 pub mod Simulation
 pub mod OneRoles
