@@ -27,6 +27,7 @@ pub mod Resting
 pub mod Restful
 pub mod Staying
 pub mod Deductions
+pub mod AllFine
 pub mod Readiness
 pub mod Simulation
 pub mod OneRoles
