@@ -32,7 +32,7 @@ use Rattle.mkb_model.specs.Plain.{Plain, PlainNode, label, label_at, rule_kind, 
 use Rattle.mkb_model.specs.DueJobs.{is_due, is_work_due, is_working}
 use Rattle.mkb_model.specs.Effects.{applied, effect, limit_of, give_up, effect_label, is_dropped, overlap_label, with_node, node_of, gains_equation}
 use Rattle.mkb_model.specs.Proposals.{NamedRule, named_rules, Proposes, OrientsBy, both_ways, all_ways, rules_on}
-use Rattle.mkb_model.specs.Invariants.{AreApart}
+use Rattle.mkb_model.specs.Invariants.{AreApart, HasOneRole}
 use Rattle.mkb_model.specs.Headline.{EachCompletes, states_before, states_of}
 use Rattle.mkb_model.specs.Journals.{Moment, Follows, IsPossibleRun, IsFreeJob, IsRunBy, IsFinishing, opening, with_input, with_inputs}
 use Rattle.mkb_model.specs.Ready.{IsOn, IsRole, KeepsPairs, OneRole, IsNew, IsReady, IsForkable, IsFine, CommitsFine, AllFine, CanOrient, IsDeducedFrom}
@@ -43,7 +43,7 @@ use Rattle.mkb_model.specs.declared.entry.Ticket.{Ticket}
 use Rattle.mkb_model.specs.declared.entry.Entry.{Entry}
 use Rattle.mkb_model.specs.declared.entry.Entry.TheVariants.{Take, Commit, Drop, Abandon, Halt}
 use Rattle.mkb_model.proofs.Lists.{clash, decide, false_unless, and_left, and_right, some_is, none_some, none_in, filter_in, in_filter, flat_map_in, in_flat_map, filter_map_in, in_filter_map, in_numbers, map_in}
-use Rattle.mkb_model.proofs.Roles.{KeepsRoles, on_there, put_other, label-with_node, equation-no_rule}
+use Rattle.mkb_model.proofs.Roles.{kind_number, KeepsRoles, on_there, put_other, label-with_node, equation-no_rule}
 use Rattle.mkb_model.proofs.Views.{rule_listed}
 use Rattle.mkb_model.proofs.Changes.{Fits}
 use Rattle.mkb_model.proofs.Proper.{IsOrdered}
@@ -380,3 +380,16 @@ commits_fine P n ms c within run = (goes P n ms c within run).0
 -- so the states of each living process and its ancestors are a run of completion
 pub runs_complete : (P : Problem) (n : ℕ) (ms : List Moment) (c : Plain) → IsWithinLimits P → IsPossibleRun P n ms c → EachCompletes P ms c
 runs_complete P n ms c within run = run_completes IsFreeJob P n ms c run (commits_fine P n ms c within run)
+
+-- each process has each node as an equation, as one of the two rules, or not at all
+pub runs_one_role : (P : Problem) (n : ℕ) (ms : List Moment) (c : Plain) → IsWithinLimits P → IsPossibleRun P n ms c → (p : Name) (m : ℕ) → HasOneRole c p m
+runs_one_role P n ms c within run p m = record {
+  not_both_rules = λ h. false_unless (has (label_at c.nodes m R1) p) (λ k. rules_differ (one m R0 R1 tt tt h k));
+  no_rule = λ h. (false_unless (has (label_at c.nodes m R0) p) (λ k. equation-no_rule 0 (one m E R0 tt tt h k)), false_unless (has (label_at c.nodes m R1) p) (λ k. equation-no_rule 1 (one m E R1 tt tt h k)));
+}
+  where
+    one : OneRole c.nodes p
+    one = (goes P n ms c within run).1 p
+
+    rules_differ : R0 ≢ R1
+    rules_differ e = omega (arith, ap kind_number e)

@@ -1,7 +1,7 @@
 // The laws. A run lists its moments, each a board and the entry made on it, the newest first.
 ghost use Rattle.std.specs.Prelude.{◌≡◌, ◌≢◌, ℕ, List, [], Contains, Some, None};
-ghost use Rattle.kb_term.specs.Signature.{Problem};
-ghost use Rattle.kb_label.specs.Names.{root};
+ghost use Rattle.kb_term.specs.Signature.{Problem, IsWithinLimits};
+ghost use Rattle.kb_label.specs.Names.{Name, root};
 ghost use Rattle.kb_label.specs.declared.verdict.Verdict.{Verdict};
 ghost use Rattle.kb_laws.specs.Completion.{KbReaches, kb_start};
 ghost use Rattle.mkb_model.specs.Plain.{Plain, state_of};
@@ -10,7 +10,7 @@ ghost use Rattle.mkb_model.specs.Verdicts.{verdict, VerdictMeans};
 ghost use Rattle.mkb_model.specs.Journals.{Moment, Follows, IsFreeJob, IsPossibleRun, IsRun, IsLeaving, opening, tickets};
 ghost use Rattle.mkb_model.specs.Ready.{KeepsPairs, AllFine};
 ghost use Rattle.mkb_model.specs.Headline.{EachCompletes};
-ghost use Rattle.mkb_model.specs.Invariants.{FactsHold, FlightIsClear, FlightIsNumbered, LabelsAreLabels, LivingIsForked, PairsDiffer, IsWithinBudget};
+ghost use Rattle.mkb_model.specs.Invariants.{ClosedIsAtRest, FactsHold, FlightIsClear, FlightIsNumbered, HasOneRole, LabelsAreLabels, LivingIsForked, PairsDiffer, IsWithinBudget};
 ghost use Rattle.mkb_model.specs.declared.entry.Entry.{Entry};
 
 /// A legal run, in which each take is of the first job, is a possible run, in which each take is of any due job that clashes
@@ -74,8 +74,17 @@ pub fn opening_is_reached()
     ensures { (problem : Problem) (budget : ℕ) → KbReaches problem.signature (kb_start problem) (state_of (opening problem budget) root) }
 {}
 
-/// Where each commit of a possible run is fine for the board on which it is made, the views of each living process are a run
-/// of completion of that process alone.
-pub fn fine_runs_complete()
-    ensures { (problem : Problem) (budget : ℕ) (past : List Moment) (board : Plain) (run : IsPossibleRun problem budget past board) → AllFine IsFreeJob problem budget past board run → EachCompletes problem past board }
+/// In each possible run of a problem within the limits: each commit is fine for the board on which it is made; each process has
+/// each node as an equation, as one of its two rules, or not at all; and the views of each living process are a run of
+/// completion of that process alone.
+pub fn runs_complete()
+    ensures fine { (problem : Problem) (budget : ℕ) (past : List Moment) (board : Plain) → IsWithinLimits problem → (run : IsPossibleRun problem budget past board) → AllFine IsFreeJob problem budget past board run }
+    ensures one_role { (problem : Problem) (budget : ℕ) (past : List Moment) (board : Plain) → IsWithinLimits problem → IsPossibleRun problem budget past board → (p : Name) (n : ℕ) → HasOneRole board p n }
+    ensures completes { (problem : Problem) (budget : ℕ) (past : List Moment) (board : Plain) → IsWithinLimits problem → IsPossibleRun problem budget past board → EachCompletes problem past board }
+{}
+
+/// In each possible run: nothing but a closing is due for a process that is closed or being closed, and it has not given up; and
+/// a closed one is neither oriented nor closed again.
+pub fn closed_processes_rest()
+    ensures { (problem : Problem) (budget : ℕ) (past : List Moment) (board : Plain) → IsPossibleRun problem budget past board → (p : Name) → ClosedIsAtRest board p }
 {}
