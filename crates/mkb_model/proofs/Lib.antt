@@ -28,6 +28,7 @@ pub mod Restful
 pub mod Staying
 pub mod Deductions
 pub mod AllFine
+pub mod StillClosed
 pub mod Readiness
 pub mod Simulation
 pub mod OneRoles

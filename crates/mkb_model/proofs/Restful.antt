@@ -94,12 +94,12 @@ closing_job b (Orient p n) q h = absurd h
 closing_job b (Overlap p a c) q h = absurd h
 
 -- a closed process is forked
-abbrev IsForkOfClosed : Plain → Proposed → Type 0
+abbrev pub IsForkOfClosed : Plain → Proposed → Type 0
 IsForkOfClosed b (Both q n c0 c1) = has b.closed q ≡ true
 IsForkOfClosed b x = ⊥
 
 -- the proposal closes the process, and leaves it at rest
-abbrev Closes : Plain → Proposed → Plain → Name → Type 0
+abbrev pub Closes : Plain → Proposed → Plain → Name → Type 0
 Closes b x c p = (x ≡ Closed p) × (Rests b p → Rests c p)
 
 applied_closed : (b : Plain) (x : Proposed) (p : Name) → has (applied b x).closed p ≡ true → (has b.closed p ≡ true) ⊎ (Closes b x (counted (applied b x)) p ⊎ IsForkOfClosed b x)
@@ -113,7 +113,7 @@ applied_closed b (Deduce a c ds) p h = inl h
 applied_closed b (Unjoined q ds) p h = inl h
 applied_closed b (Limit j cause) p h = inl h
 
-effect_closed : (b : Plain) (x : Proposed) (p : Name) → has (effect b x).closed p ≡ true → (has b.closed p ≡ true) ⊎ (Closes b x (effect b x) p ⊎ IsForkOfClosed b x)
+pub effect_closed : (b : Plain) (x : Proposed) (p : Name) → has (effect b x).closed p ≡ true → (has b.closed p ≡ true) ⊎ (Closes b x (effect b x) p ⊎ IsForkOfClosed b x)
 effect_closed b x p = go (limit_of b x)
   where
     go : (o : Option Reason) → has (option_map_or (λ r. give_up r (effect_label b x) b) o (applied b x)).closed p ≡ true → (has b.closed p ≡ true) ⊎ (Closes b x (counted (option_map_or (λ r. give_up r (effect_label b x) b) o (applied b x))) p ⊎ IsForkOfClosed b x)
@@ -141,7 +141,7 @@ module _ (before b : Plain) (w t : ℕ) (j : Job) (x : Proposed) (proposed : Pro
   closed_stays : (p : Name) → has b.closed p ≡ true → Rests (effect b x) p
   closed_stays p c = rests_unmoved b (effect b x) p (stays p (h.closed p c) (s.labelled.closed.lives p c) (λ own. h.no_own p c (record { number = t; worker = w; job = j }) flying own)) (h.closed p c)
 
-  not_forked : (y : Proposed) → Proposes before j y → ¬ IsForkOfClosed b y
+  pub not_forked : (y : Proposed) → Proposes before j y → ¬ IsForkOfClosed b y
   not_forked (Both q n c0 c1) k c = let o = own_of before j (Both q n c0 c1) k in h.no_own q c (record { number = t; worker = w; job = j }) flying o.0 o.1
   not_forked (Facts fs) k c = c
   not_forked (Rewrite n w at a kind u) k c = c
