@@ -75,7 +75,7 @@ pair_there (x ∷ xs) zero l = (x.pair, refl)
 pair_there (x ∷ xs) (suc n) l = pair_there xs n (omega (arith, l))
 
 -- a rule whose node was there is the same on a later board
-rule_back : (b c : Plain) (a : RuleRef) (r : Rule) → KeepsPairs b.nodes c.nodes → a.node < length b.nodes → rule_at c a ≡ Some r → rule_at b a ≡ Some r
+pub rule_back : (b c : Plain) (a : RuleRef) (r : Rule) → KeepsPairs b.nodes c.nodes → a.node < length b.nodes → rule_at c a ≡ Some r → rule_at b a ≡ Some r
 rule_back b c a r keeps l h =
     let q = pair_there b.nodes a.node l in
     ap (option_map (λ q. rule_of q a.dir)) q.1 ∙ sym (ap (option_map (λ q. rule_of q a.dir)) (keeps a.node q.0 q.1)) ∙ h
@@ -121,7 +121,7 @@ states_ordered P n ms c within run fine p = go (has c.living p) refl
 
 -- ---- orienting
 
-constraints_in : (b : Plain) (p : Name) (a : RuleRef) → Contains (constraints_of b p) a → IsOn b.nodes p a.node (constraint_kind a.dir) × Contains (directions a.node) a
+pub constraints_in : (b : Plain) (p : Name) (a : RuleRef) → Contains (constraints_of b p) a → IsOn b.nodes p a.node (constraint_kind a.dir) × Contains (directions a.node) a
 constraints_in b p a i =
     let f = filter_in (is_constraint b p) (flat_map directions (node_numbers b)) a i in
     let m = flat_map_in directions (node_numbers b) a f.0 in
@@ -131,13 +131,16 @@ constraints_in b p a i =
     node : (k : ℕ) → Contains (directions k) a → k ≡ a.node
     node k i = ⊎_elim (λ e. ap (λ (z : RuleRef). z.node) e) (λ j. ⊎_elim (λ e. ap (λ (z : RuleRef). z.node) e) (λ q. none_in q) (contains_cases (record { node = k; dir = 1 }) [] a j)) (contains_cases (record { node = k; dir = 0 }) (record { node = k; dir = 1 } ∷ []) a i)
 
-in_constraints : (b : Plain) (p : Name) (a : RuleRef) → IsOn b.nodes p a.node (constraint_kind a.dir) → Contains (directions a.node) a → Contains (constraints_of b p) a
+pub in_constraints : (b : Plain) (p : Name) (a : RuleRef) → IsOn b.nodes p a.node (constraint_kind a.dir) → Contains (directions a.node) a → Contains (constraints_of b p) a
 in_constraints b p a o i = in_filter (is_constraint b p) (flat_map directions (node_numbers b)) a (in_flat_map directions (node_numbers b) a.node a (in_numbers 0 (length b.nodes) a.node (omega arith) (let l = on_there b.nodes p a.node (constraint_kind a.dir) o in omega (arith, l))) i) o
 
--- what orders the constraints with the new rule at the take orders them at the commit
-can_orient : (g : Signature) (before b : Plain) (p : Name) (n d : ℕ) (c : Certificate) → before.problem.signature ≡ g → OrientsBy before p n d (Some c) → KeepsPairs before.nodes b.nodes → KeepsConstraints before.nodes b.nodes p → n < length before.nodes → CanOrient g b p n d
-can_orient g before b p n d c e first keeps same l = (
-  c,
+-- the member of the family orders the constraints of the process with the new rule
+abbrev pub OrdersWith : Signature → Plain → Name → ℕ → ℕ → Certificate → Type 0
+OrdersWith g b p n d c = Contains (family g) c × Orders c (rules_at b (constraints_of b p ++ record { node = n; dir = d } ∷ []))
+
+-- what orders them at the take orders them at the commit
+orders_with : (g : Signature) (before b : Plain) (p : Name) (n d : ℕ) (c : Certificate) → before.problem.signature ≡ g → OrientsBy before p n d (Some c) → KeepsPairs before.nodes b.nodes → KeepsConstraints before.nodes b.nodes p → n < length before.nodes → OrdersWith g b p n d c
+orders_with g before b p n d c e first keeps same l = (
   subst {A = Signature} (λ z. Contains (family z) c) e (subst {A = List Certificate} (λ xs. Contains xs c) (sym first.3) (Contains-append_right first.1 (c ∷ first.2) c (contains_first c first.2))),
   all_from (λ (r : Rule). IsGreater c r.left r.right) (rules_at b (constraints_of b p ++ new ∷ [])) (λ r i. All-contains (λ (r : Rule). IsGreater c r.left r.right) (rules_at before (constraints_of before p ++ new ∷ [])) r first.0 (back r i)),
 )
@@ -166,7 +169,7 @@ child_other [] bit e = absurd (cc)
 child_other (x ∷ p) bit e = child_other p bit (ap rest_of e)
 
 -- no label names a child of a living process
-children_new : (b : Plain) (p : Name) → Stands b → has b.living p ≡ true → IsNew b.nodes p
+pub children_new : (b : Plain) (p : Name) → Stands b → has b.living p ≡ true → IsNew b.nodes p
 children_new b p s lives bit m j = false_unless (has (label_at b.nodes m j) (child p bit)) (λ o. child_other p bit (s.apart p (child p bit) lives ((s.labelled.nodes m j).lives (child p bit) o) (begins-child p bit)))
 
 -- ---- what is committed is ready
@@ -218,10 +221,13 @@ module _ (P : Problem) (n : ℕ) (past : List Moment) (b : Plain) (run : IsPossi
   same_signature : f.before.problem.signature ≡ P.signature
   same_signature = ap (λ (z : Problem). z.signature) (let r = earlier_run IsFreeJob P n past b run (record { board = f.before; entry = Take w t j }) f.taken in (within_budget IsFreeJob P n r.0 f.before r.1).problem)
 
-  orient_ready : (p : Name) (m : NodeId) (d : ℕ) (c : Certificate) → j ≡ Orient p m → OrientsBy f.before p m.0 d (Some c) → CanOrient P.signature b p m.0 d
-  orient_ready p m d c e o = can_orient P.signature f.before b p m.0 d c same_signature o keeps
+  pub orient_orders : (p : Name) (m : NodeId) (d : ℕ) (c : Certificate) → j ≡ Orient p m → OrientsBy f.before p m.0 d (Some c) → OrdersWith P.signature b p m.0 d c
+  orient_orders p m d c e o = orders_with P.signature f.before b p m.0 d c same_signature o keeps
       (orienters_stay P n past b run f.before w t p m (subst {A = Job} (λ z. Contains past (record { board = f.before; entry = Take w t z })) e f.taken) (subst {A = Job} (λ z. Contains b.flight (record { number = t; worker = w; job = z })) e f.flying)).1
       (on_there f.before.nodes p m.0 E (due_equation f.before p m (subst {A = Job} (IsFreeJob f.before) e (taken_free P n past b run f.before w t j f.taken).0)))
+
+  orient_ready : (p : Name) (m : NodeId) (d : ℕ) (c : Certificate) → j ≡ Orient p m → OrientsBy f.before p m.0 d (Some c) → CanOrient P.signature b p m.0 d
+  orient_ready p m d c e o = let r = orient_orders p m d c e o in (c, r.0, r.1)
 
   -- the node of an equation of the process has a pair
   equation_pair : (p : Name) (m : ℕ) → is_equation b p m ≡ true → (q : Pair) × (pair_in b.nodes m ≡ Some q)
@@ -308,7 +314,7 @@ role_effect g b x fine acts ordered s fits q = go (limit_of b x)
     go (Some r) l = fine.one_role q
 
 -- the opening board has equations alone
-inputs_only : (i : ℕ) (es : List (Tree × Tree)) (xs : List PlainNode) (m : ℕ) (j : LabelKind) → j ≢ E → label_at (with_inputs i es xs) m j ≡ label_at xs m j
+pub inputs_only : (i : ℕ) (es : List (Tree × Tree)) (xs : List PlainNode) (m : ℕ) (j : LabelKind) → j ≢ E → label_at (with_inputs i es xs) m j ≡ label_at xs m j
 inputs_only i [] xs m j d = refl
 inputs_only i (e ∷ es) xs m j d = inputs_only (i + 1) es (with_input (canonical_pair e.0 e.1) i xs) m j d ∙ go (canonical_pair e.0 e.1)
   where

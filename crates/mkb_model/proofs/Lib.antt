@@ -29,6 +29,7 @@ pub mod Staying
 pub mod Deductions
 pub mod AllFine
 pub mod StillClosed
+pub mod Certificates
 pub mod Readiness
 pub mod Simulation
 pub mod OneRoles

@@ -158,12 +158,12 @@ by_roles : (xs ys : List PlainNode) (p : Name) → KeepsRoles xs ys p → KeepsC
 by_roles xs ys p h k d = h k (constraint_kind d)
 
 -- the proposal orients for another process
-abbrev IsOthers : Proposed → Name → Type 0
+abbrev pub IsOthers : Proposed → Name → Type 0
 IsOthers (One q n d c) p = p ≢ q
 IsOthers (Both q n c0 c1) p = IsApartFrom q p
 IsOthers x p = ⊤
 
-constraints_applied : (b : Plain) (x : Proposed) (p : Name) → IsOthers x p → KeepsConstraints b.nodes (applied b x).nodes p
+pub constraints_applied : (b : Plain) (x : Proposed) (p : Name) → IsOthers x p → KeepsConstraints b.nodes (applied b x).nodes p
 constraints_applied b (Facts fs) p o = by_roles b.nodes b.nodes p (same_roles b.nodes p)
 constraints_applied b (Rewrite n w at a kind t) p o = go (pair_at b n.0)
   where
