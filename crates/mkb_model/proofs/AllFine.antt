@@ -102,7 +102,7 @@ module _ (g : Signature) (b : Plain) (p : Name) (nowhere : (m : ℕ) (j : LabelK
     orderable = ((nothing_orderable g).0, (nothing_orderable g).1, all_from (λ (r : Rule). IsGreater (nothing_orderable g).0 r.left r.right) (state_of b p).constraints (λ r i. absurd (no_rule_of constraint_kind r i)));
   }
 
-well_inputs : (P : Problem) → IsWithinLimits P → All (λ (d : Tree × Tree). IsWellFormed P.signature d.0 × IsWellFormed P.signature d.1) P.equations
+pub well_inputs : (P : Problem) → IsWithinLimits P → All (λ (d : Tree × Tree). IsWellFormed P.signature d.0 × IsWellFormed P.signature d.1) P.equations
 well_inputs P within = all_from (λ (d : Tree × Tree). IsWellFormed P.signature d.0 × IsWellFormed P.signature d.1) P.equations (λ d i. let e = All-contains (IsEquationWithinLimits P.signature) P.equations d within.each i in (e.left.well_formed, e.right.well_formed))
 
 -- the state of each process is ordered

@@ -30,6 +30,7 @@ pub mod Deductions
 pub mod AllFine
 pub mod StillClosed
 pub mod Certificates
+pub mod Completed
 pub mod Readiness
 pub mod Simulation
 pub mod OneRoles

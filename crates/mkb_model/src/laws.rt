@@ -1,16 +1,19 @@
 // The laws. A run lists its moments, each a board and the entry made on it, the newest first.
-ghost use Rattle.std.specs.Prelude.{◌≡◌, ◌≢◌, ℕ, List, [], Contains, Some, None};
+ghost use Rattle.std.specs.Prelude.{◌≡◌, ◌≢◌, ℕ, List, [], Contains, Some, None, IsTrue};
 ghost use Rattle.kb_term.specs.Signature.{Problem, IsWithinLimits};
-ghost use Rattle.kb_label.specs.Names.{Name, root};
+ghost use Rattle.kb_label.specs.Names.{Name, root, has};
 ghost use Rattle.kb_label.specs.declared.verdict.Verdict.{Verdict};
+ghost use Rattle.kb_label.specs.declared.verdict.Verdict.TheVariants.{Complete};
 ghost use Rattle.kb_laws.specs.Completion.{KbReaches, kb_start};
 ghost use Rattle.mkb_model.specs.Plain.{Plain, state_of};
 ghost use Rattle.mkb_model.specs.DueJobs.{first_job, free_jobs};
 ghost use Rattle.mkb_model.specs.Verdicts.{verdict, VerdictMeans};
 ghost use Rattle.mkb_model.specs.Journals.{Moment, Follows, IsFreeJob, IsPossibleRun, IsRun, IsLeaving, opening, tickets};
 ghost use Rattle.mkb_model.specs.Ready.{KeepsPairs, AllFine};
+ghost use Rattle.mkb_model.specs.GoodAnswers.{IsGoodAnswer};
+ghost use Rattle.mkb_model.specs.Proposals.{IsClosedOn};
 ghost use Rattle.mkb_model.specs.Headline.{EachCompletes};
-ghost use Rattle.mkb_model.specs.Invariants.{ClosedIsAtRest, FactsHold, FlightIsClear, FlightIsNumbered, HasOneRole, LabelsAreLabels, LivingIsForked, PairsDiffer, IsWithinBudget};
+ghost use Rattle.mkb_model.specs.Invariants.{ClosedIsAtRest, RulesFollow, IsCertified, FactsHold, FlightIsClear, FlightIsNumbered, HasOneRole, LabelsAreLabels, LivingIsForked, PairsDiffer, IsWithinBudget};
 ghost use Rattle.mkb_model.specs.declared.entry.Entry.{Entry};
 
 /// A legal run, in which each take is of the first job, is a possible run, in which each take is of any due job that clashes
@@ -84,7 +87,23 @@ pub fn runs_complete()
 {}
 
 /// In each possible run: nothing but a closing is due for a process that is closed or being closed, and it has not given up; and
-/// a closed one is neither oriented nor closed again.
+/// a closed one is neither oriented nor closed again. What is closed stays closed: the terms of each overlap of its rules
+/// normalise to one term or to an equation that it has.
 pub fn closed_processes_rest()
-    ensures { (problem : Problem) (budget : ℕ) (past : List Moment) (board : Plain) → IsPossibleRun problem budget past board → (p : Name) → ClosedIsAtRest board p }
+    ensures rest { (problem : Problem) (budget : ℕ) (past : List Moment) (board : Plain) → IsPossibleRun problem budget past board → (p : Name) → ClosedIsAtRest board p }
+    ensures closed { (problem : Problem) (budget : ℕ) (past : List Moment) (board : Plain) → IsPossibleRun problem budget past board → (p : Name) → IsTrue (has board.closed p) → IsClosedOn board p }
+{}
+
+/// In each possible run of a problem within the limits: the certificate of each living process is of the family and orders its
+/// constraints; and each rule of a process leads from its left to its right side by its constraints, in one step or more.
+pub fn certificates_order()
+    ensures certified { (problem : Problem) (budget : ℕ) (past : List Moment) (board : Plain) → IsWithinLimits problem → IsPossibleRun problem budget past board → (p : Name) → IsTrue (has board.living p) → IsCertified board p }
+    ensures rules_follow { (problem : Problem) (budget : ℕ) (past : List Moment) (board : Plain) → IsWithinLimits problem → IsPossibleRun problem budget past board → (p : Name) → RulesFollow board p }
+{}
+
+/// Where the verdict of a possible run of a problem within the limits is that a process is complete, its rules, ordered by its
+/// certificate, are terminating and confluent and prove exactly what the problem proves; all their overlaps join, and the sides
+/// of each input equation have one normal form.
+pub fn complete_is_good()
+    ensures { (problem : Problem) (budget : ℕ) (past : List Moment) (board : Plain) (p : Name) → IsWithinLimits problem → IsPossibleRun problem budget past board → verdict board ≡ Some (Complete p) → IsGoodAnswer problem board p }
 {}
