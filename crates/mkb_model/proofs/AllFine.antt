@@ -185,9 +185,10 @@ module _ (g : Signature) (before b : Plain) (keeps : KeepsPairs before.nodes b.n
       go None k h = none_some h
       go (Some q) k h = has_named p a q r k (some_is h) on
 
-  -- overlapping
-  deduce_ready : (q : Name) (d e a c : RuleRef) (ds : List Deduced) → Proposes before (Overlap q d e) (Deduce a c ds) → IsReady g b (Deduce a c ds)
-  deduce_ready q d e a c ds h p named z i =
+  -- each process of the effect label has the two rules that were overlapped
+  pub deduce_named : (q : Name) (d e a c : RuleRef) (ds : List Deduced) (h : Proposes before (Overlap q d e) (Deduce a c ds)) (p : Name) → has (overlap_label b a c) p ≡ true
+      → (u : NamedRule × NamedRule) → Contains (both_ways (record { ref = d; rule = h.2.0 }) (record { ref = e; rule = h.2.1 })) u → HasNamed g b.nodes p u.0 × HasNamed g b.nodes p u.1
+  deduce_named q d e a c ds h p named u i =
       let k = sym (has-minus (meet (label b a.node (rule_kind a.dir)) (label b c.node (rule_kind c.dir))) (done_of b a c) p) ∙ named in
       let m = sym (has-meet (label b a.node (rule_kind a.dir)) (label b c.node (rule_kind c.dir)) p) ∙ and_right (not (has (done_of b a c) p)) (has (meet (label b a.node (rule_kind a.dir)) (label b c.node (rule_kind c.dir))) p) k in
       let on_a : IsOn b.nodes p a.node (rule_kind a.dir) = and_right (has (label b c.node (rule_kind c.dir)) p) (has (label b a.node (rule_kind a.dir)) p) m in
@@ -196,19 +197,26 @@ module _ (g : Signature) (before b : Plain) (keeps : KeepsPairs before.nodes b.n
       let y : NamedRule = record { ref = e; rule = h.2.1 } in
       let hx : HasNamed g b.nodes p x = at_rule p d h.2.0 h.2.2 (subst {A = RuleRef} (λ z. IsOn b.nodes p z.node (rule_kind z.dir)) h.0 on_a) in
       let hy : HasNamed g b.nodes p y = at_rule p e h.2.1 h.2.3 (subst {A = RuleRef} (λ z. IsOn b.nodes p z.node (rule_kind z.dir)) h.1 on_c) in
-      overlaps_deduced g b.nodes p (both_ways x y) h.2.4.overlaps h.2.4.overlaps ds h.2.4.all (λ o k. k)
-      (λ u k. ⊎_elim (λ v. (subst {A = NamedRule} (HasNamed g b.nodes p) (sym v.0) hx, subst {A = NamedRule} (HasNamed g b.nodes p) (sym v.1) hy)) (λ v. (subst {A = NamedRule} (HasNamed g b.nodes p) (sym v.0) hy, subst {A = NamedRule} (HasNamed g b.nodes p) (sym v.1) hx)) (both_ways_in x y u k))
-      h.2.4.proposed z i
+      ⊎_elim (λ v. (subst {A = NamedRule} (HasNamed g b.nodes p) (sym v.0) hx, subst {A = NamedRule} (HasNamed g b.nodes p) (sym v.1) hy)) (λ v. (subst {A = NamedRule} (HasNamed g b.nodes p) (sym v.0) hy, subst {A = NamedRule} (HasNamed g b.nodes p) (sym v.1) hx)) (both_ways_in x y u i)
 
-  -- closing
-  unjoined_ready : (p q : Name) (ds : List Deduced) → Proposes before (Close p) (Unjoined q ds) → KeepsRoles before.nodes b.nodes p → IsReady g b (Unjoined q ds)
-  unjoined_ready p q ds h roles z i = subst {A = Name} (λ v. IsDeducedFrom g b.nodes v z.pair) (sym h.0)
-      (overlaps_deduced g b.nodes p (all_ways (rules_on before p)) h.1.overlaps h.1.listed ds h.1.all (λ o k. picks_in _ h.1.overlaps h.1.listed h.1.picked o k) (λ u k. let w = all_ways_in (rules_on before p) u k in (mine u.0 w.0, mine u.1 w.1)) h.1.proposed z i)
+  -- overlapping
+  deduce_ready : (q : Name) (d e a c : RuleRef) (ds : List Deduced) → Proposes before (Overlap q d e) (Deduce a c ds) → IsReady g b (Deduce a c ds)
+  deduce_ready q d e a c ds h p named z i =
+      overlaps_deduced g b.nodes p (both_ways (record { ref = d; rule = h.2.0 }) (record { ref = e; rule = h.2.1 })) h.2.4.overlaps h.2.4.overlaps ds h.2.4.all (λ o k. k) (deduce_named q d e a c ds h p named) h.2.4.proposed z i
+
+  -- a closing process has the rules that were overlapped
+  pub unjoined_named : (p : Name) → KeepsRoles before.nodes b.nodes p → (u : NamedRule × NamedRule) → Contains (all_ways (rules_on before p)) u → HasNamed g b.nodes p u.0 × HasNamed g b.nodes p u.1
+  unjoined_named p roles u k = let w = all_ways_in (rules_on before p) u k in (mine u.0 w.0, mine u.1 w.1)
     where
       mine : (x : NamedRule) → Contains (rules_on before p) x → HasNamed g b.nodes p x
       mine x k =
           let r = named_rule before (rules_of before p) x.ref x.rule k in
           has_named p x.ref r.1.0 x.rule r.1.1 r.1.2 ((roles x.ref.node (rule_kind x.ref.dir)).1 (rules_in before p x.ref r.0).1)
+
+  -- closing
+  unjoined_ready : (p q : Name) (ds : List Deduced) → Proposes before (Close p) (Unjoined q ds) → KeepsRoles before.nodes b.nodes p → IsReady g b (Unjoined q ds)
+  unjoined_ready p q ds h roles z i = subst {A = Name} (λ v. IsDeducedFrom g b.nodes v z.pair) (sym h.0)
+      (overlaps_deduced g b.nodes p (all_ways (rules_on before p)) h.1.overlaps h.1.listed ds h.1.all (λ o k. picks_in _ h.1.overlaps h.1.listed h.1.picked o k) (unjoined_named p roles) h.1.proposed z i)
 
 -- an orienting that is taken names an equation of the process
 due_equation : (b : Plain) (p : Name) (n : NodeId) → IsFreeJob b (Orient p n) → is_equation b p n.0 ≡ true

@@ -141,11 +141,14 @@ overlaps_close rs rules inputs e apart closed i j outer inner hi hj =
     let x = slice_map (λ (r : NamedRule). r.rule) rs i outer (ap (λ zs. slice_get zs i) e ∙ hi) in
     let y = slice_map (λ (r : NamedRule). r.rule) rs j inner (ap (λ zs. slice_get zs j) e ∙ hj) in
     let k = overlaps_among (all_ways rs) closed.overlaps closed.all (x.0, y.0) (both_in rs x.0 y.0 (slice_in rs i x.0 x.1) (slice_in rs j y.0 y.1)) in
-    let lists : IsOverlapList outer inner (i == j) k.1.0 = subst {A = Bool} (λ b. IsOverlapList outer inner b k.1.0) (names_numbers rs apart i j x.0 y.0 x.1 y.1) (subst {A = Rule} (λ r. IsOverlapList outer r (ref_eq x.0.ref y.0.ref) k.1.0) y.2 (subst {A = Rule} (λ r. IsOverlapList r y.0.rule (ref_eq x.0.ref y.0.ref) k.1.0) x.2 k.1.1)) in
-    (k.1.0, lists, λ o c.
-    let named : NamedOverlap = record { outer = x.0.ref; inner = y.0.ref; overlap = o } in
-    let joins = closed.joined named (k.2 named (subst {A = List NamedOverlap} (λ zs. Contains zs named) (sym k.1.2) (in_map (λ o. record { outer = x.0.ref; inner = y.0.ref; overlap = o }) k.1.0 o c))) in
-    (joins.0.0, joins.0.1, joins.1, one_form rs rules joins.0.0 joins.0.1 joins.2.0 joins.2.1 e joins.2.2 joins.2.3 (⊎_elim (λ q. q) (λ q. none_in q.2) joins.2.4)))
+    let lists : IsOverlapList outer inner (i == j) k.1.0 = subst {A = Bool} (λ b. IsOverlapList outer inner b k.1.0) (names_numbers rs apart i j x.0 y.0 x.1 y.1) (subst {A = Rule} (λ r. IsOverlapList outer r (ref_eq x.0.ref y.0.ref) k.1.0) y.2 (subst {A = Rule} (λ r. IsOverlapList r y.0.rule (ref_eq x.0.ref y.0.ref) k.1.0) x.2 k.1.1)) in (
+      k.1.0,
+      lists,
+      λ o c.
+          let named : NamedOverlap = record { outer = x.0.ref; inner = y.0.ref; overlap = o } in
+          let joins = closed.joined named (k.2 named (subst {A = List NamedOverlap} (λ zs. Contains zs named) (sym k.1.2) (in_map (λ o. record { outer = x.0.ref; inner = y.0.ref; overlap = o }) k.1.0 o c))) in
+          (joins.0.0, joins.0.1, joins.1, one_form rs rules joins.0.0 joins.0.1 joins.2.0 joins.2.1 e joins.2.2 joins.2.3 (⊎_elim (λ q. q) (λ q. none_in q.2) joins.2.4)),
+    )
 
 -- ---- normal forms
 

@@ -135,10 +135,13 @@ overlap_deduced g xs p x y o hx hy l u v sided q canonical = record {
   c_on = hy.on;
   c_there = hy.there;
   c_at = o.position;
-  c_step = subst {A = Rule} (λ r. RewritesAt r o.position (instance l.m x.rule.left) v) (sym hy.is) ((λ n. instance l.m (variable (variant.0 n))), record {
-    redex = subtree-instance l.m o.position x.rule.left l.overlaps.subterm l.overlaps.there ∙ ap Some (l.overlaps.unifier.unifies ∙ renamed_is y.rule.left l.renamed.left variant.2.there);
-    result = ap (replace_at (instance l.m x.rule.left) o.position) (sym (renamed_is y.rule.right l.renamed.right variant.3.there)) ∙ l.pair.by_inner ∙ ap Some equal.1;
-  });
+  c_step = subst {A = Rule} (λ r. RewritesAt r o.position (instance l.m x.rule.left) v) (sym hy.is) (
+    (λ n. instance l.m (variable (variant.0 n))),
+    record {
+      redex = subtree-instance l.m o.position x.rule.left l.overlaps.subterm l.overlaps.there ∙ ap Some (l.overlaps.unifier.unifies ∙ renamed_is y.rule.left l.renamed.left variant.2.there);
+      result = ap (replace_at (instance l.m x.rule.left) o.position) (sym (renamed_is y.rule.right l.renamed.right variant.3.there)) ∙ l.pair.by_inner ∙ ap Some equal.1;
+    },
+  );
   same = subst {A = Pair} (λ w. IsSameEquation (u, v) (sides w)) (some_canonical u v q canonical) (canonical_same u v);
 }
   where

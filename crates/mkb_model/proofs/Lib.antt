@@ -31,13 +31,14 @@ pub mod AllFine
 pub mod StillClosed
 pub mod Certificates
 pub mod Completed
+pub mod Origins
+pub mod Sound
 pub mod Readiness
 pub mod Simulation
 pub mod OneRoles
 pub mod Openings
 pub mod KnownFacts
 pub mod Stated
-pub mod Remaining
 mod Rows
 mod MoreRows
 mod Runs

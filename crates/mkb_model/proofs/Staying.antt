@@ -84,9 +84,9 @@ closers_stay P n ms c run before w t p i k = (owners_live P n ms c run (record {
         let g = stands_run P n past b run in
         let r = resting_run P n past b run in
         let u = stays f.finishing.before b v s f.job f.proposal f.finishing.proposed (taken_free P n past b run f.finishing.before v s f.job f.finishing.taken).0
-            (pairs_stay IsFreeJob P n past b run (record { board = f.finishing.before; entry = Take v s f.job }) f.finishing.taken) f.finishing.flying f.acts g r p
-            (r.closing (record { number = t; worker = w; job = Close p }) p k refl) (owners_live P n past b run (record { number = t; worker = w; job = Close p }) k refl)
-            (λ own. owners_differ b g.clear (record { number = s; worker = v; job = f.job }) (record { number = t; worker = w; job = Close p }) f.finishing.flying k (λ q. away (sym q)) own refl) in
+        (pairs_stay IsFreeJob P n past b run (record { board = f.finishing.before; entry = Take v s f.job }) f.finishing.taken) f.finishing.flying f.acts g r p
+        (r.closing (record { number = t; worker = w; job = Close p }) p k refl) (owners_live P n past b run (record { number = t; worker = w; job = Close p }) k refl)
+        (λ own. owners_differ b g.clear (record { number = s; worker = v; job = f.job }) (record { number = t; worker = w; job = Close p }) f.finishing.flying k (λ q. away (sym q)) own refl) in
         keeps_trans before.nodes b.nodes (effect b f.proposal).nodes p h u.roles
 
 -- ---- orienting

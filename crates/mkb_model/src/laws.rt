@@ -13,7 +13,7 @@ ghost use Rattle.mkb_model.specs.Ready.{KeepsPairs, AllFine};
 ghost use Rattle.mkb_model.specs.GoodAnswers.{IsGoodAnswer};
 ghost use Rattle.mkb_model.specs.Proposals.{IsClosedOn};
 ghost use Rattle.mkb_model.specs.Headline.{EachCompletes};
-ghost use Rattle.mkb_model.specs.Invariants.{ClosedIsAtRest, RulesFollow, IsCertified, FactsHold, FlightIsClear, FlightIsNumbered, HasOneRole, LabelsAreLabels, LivingIsForked, PairsDiffer, IsWithinBudget};
+ghost use Rattle.mkb_model.specs.Invariants.{IsSound, ClosedIsAtRest, RulesFollow, IsCertified, FactsHold, FlightIsClear, FlightIsNumbered, HasOneRole, LabelsAreLabels, LivingIsForked, PairsDiffer, IsWithinBudget};
 ghost use Rattle.mkb_model.specs.declared.entry.Entry.{Entry};
 
 /// A legal run, in which each take is of the first job, is a possible run, in which each take is of any due job that clashes
@@ -99,6 +99,12 @@ pub fn closed_processes_rest()
 pub fn certificates_order()
     ensures certified { (problem : Problem) (budget : ℕ) (past : List Moment) (board : Plain) → IsWithinLimits problem → IsPossibleRun problem budget past board → (p : Name) → IsTrue (has board.living p) → IsCertified board p }
     ensures rules_follow { (problem : Problem) (budget : ℕ) (past : List Moment) (board : Plain) → IsWithinLimits problem → IsPossibleRun problem budget past board → (p : Name) → RulesFollow board p }
+{}
+
+/// All invariants at once, of each board of a possible run of a problem within the limits: beside what the other laws say, each
+/// pair follows from the input equations and earlier pairs as its origin says.
+pub fn boards_are_sound()
+    ensures { (problem : Problem) (budget : ℕ) (past : List Moment) (board : Plain) → IsWithinLimits problem → IsPossibleRun problem budget past board → IsSound (tickets past) board }
 {}
 
 /// Where the verdict of a possible run of a problem within the limits is that a process is complete, its rules, ordered by its

@@ -1,6 +1,7 @@
 use super::{
-    certificates_order, closed_processes_rest, commits_stay_within_the_budget, complete_is_good, facts_hold, flight_is_in_order,
-    labels_name_the_living, legal_runs_are_possible, living_names_come_of_forks, opening_is_reached, pairs_stay,
+    boards_are_sound, certificates_order, closed_processes_rest, commits_stay_within_the_budget,
+    complete_is_good, facts_hold, flight_is_in_order, labels_name_the_living,
+    legal_runs_are_possible, living_names_come_of_forks, opening_is_reached, pairs_stay,
     runs_complete, verdicts_stay, work_goes_on,
 };
 
@@ -19,5 +20,6 @@ fn each_law_is_called(_rt: HostRuntime) {
     runs_complete();
     closed_processes_rest();
     certificates_order();
+    boards_are_sound();
     complete_is_good();
 }
