@@ -40,7 +40,7 @@ use Rattle.mkb_model.specs.declared.proposed.Proposed.{Proposed}
 use Rattle.mkb_model.specs.declared.proposed.Proposed.TheVariants.{Facts, Rewrite, One, Both, Refuse, Deduce, Unjoined, Closed, Limit}
 use Rattle.mkb_model.proofs.Lists.{none_some, some_is, filter_in, in_map, map_in, in_filter_map}
 use Rattle.mkb_model.proofs.Readiness.{named_rule}
-use Rattle.mkb_model.proofs.Answering.{named_as}
+use Rattle.mkb_model.proofs.Completed.{named_are}
 use Rattle.mkb_model.proofs.OneRun.{neither_greater, redex_flip, redex_equal, named_alike}
 use Rattle.mkb_model.proofs.Alike.{Both as Paired, both_first, both_in, both_picked, AreAlike, overlaps_both, alike_swapped, alike_limit, deduced_same, formed_alike, joined_alike, unjoined_alike, stopped_alike, forms_no_pass, passes_one, formed_not_stopped, joined_formed, joined_not_unjoined, stopped_one}
 
@@ -185,7 +185,7 @@ module _ (b : Plain) (p : Name) (holds : HoldVariables (rules_at b (rules_of b p
       holds rule (in_filter_map (rule_at b) (rules_of b p) m.0.ref rule (filter_in (λ (c : RuleRef). not (c.node == n)) (rules_of b p) m.0.ref k.0).0 (there ∙ ap Some m.2))
 
   own_hold : HoldVariables (as_rules (rules_on b p))
-  own_hold = subst {A = List Rule} HoldVariables (sym (named_as b (rules_of b p))) holds
+  own_hold = subst {A = List Rule} HoldVariables (sym (named_are (rule_at b) (rules_of b p))) holds
 
   module _ (n : NodeId) where
     abbrev Redexes : ℕ → List ℕ → RuleRef → Found → Tree → Pair → Type 0

@@ -2,14 +2,9 @@
 use Rattle.std.specs.Prelude.{ℕ, ◌≤◌, List, [], ◌∷◌, ◌++◌, ◌≡◌, IsTrue, Contains}
 use Rattle.std.specs.declared.option.Option.TheVariants.{Some}
 use Rattle.kb_term.specs.Signature.{Problem, IsWithinLimits}
-use Rattle.kb_term.specs.Tree.{Tree}
-use Rattle.kb_cert.specs.Family.{Orders}
-use Rattle.kb_cert.specs.declared.certificate.Certificate.{Certificate}
-use Rattle.kb_laws.specs.Complete.{IsCompleteSystem}
 use Rattle.kb_laws.specs.Completion.{KbState, IsKbRun}
-use Rattle.kb_laws.specs.Overlaps.{OverlapsClose, HaveOneNormalForm}
 use Rattle.kb_label.specs.Names.{Name, has}
-use Rattle.mkb_model.specs.Plain.{Plain, state_of, ancestor, certificate_of, constraints_of, rules_of, rules_at}
+use Rattle.mkb_model.specs.Plain.{Plain, state_of, ancestor}
 use Rattle.mkb_model.specs.Verdicts.{verdict}
 use Rattle.mkb_model.specs.Journals.{Moment, IsRun, journal_of}
 use Rattle.kb_label.specs.declared.verdict.Verdict.{Verdict}
@@ -33,17 +28,6 @@ states_of ms c p = states_before ms p ++ past_state p c ∷ []
 -- the views of each living process are a completion run of the problem
 abbrev pub EachCompletes : Problem → List Moment → Plain → Type 0
 EachCompletes P ms c = (p : Name) → IsTrue (has c.living p) → IsKbRun P (states_of ms c p)
-
--- The process's certificate orders its constraints and its rules. The rules are a complete system for the problem: they halt, are
--- confluent, and prove exactly what the problem proves. The terms of each of their overlaps, and the sides of each equation of the
--- problem, normalise to one, within the limits.
-pub record IsAnswered (P : Problem) (c : Plain) (p : Name) : Type 0 where
-  pub certificate : Certificate
-  pub there : certificate_of c p ≡ Some certificate
-  pub constraints : Orders certificate (rules_at c (constraints_of c p))
-  pub system : IsCompleteSystem P certificate (rules_at c (rules_of c p))
-  pub overlaps : OverlapsClose (rules_at c (rules_of c p))
-  pub equations : (e : Tree × Tree) → Contains P.equations e → HaveOneNormalForm (rules_at c (rules_of c p)) e.0 e.1
 
 -- each take names a worker from 1 to the number of workers
 abbrev pub TakesAreBy : ℕ → List Entry → Type 0
