@@ -20,13 +20,25 @@ pub mod Proper
 pub mod Flights
 pub mod Living
 pub mod Labels
+pub mod Flyers
+pub mod LivingLabels
+pub mod Unmoved
+pub mod Resting
+pub mod Restful
+pub mod Staying
+pub mod Deductions
+pub mod AllFine
+pub mod StillClosed
+pub mod Certificates
+pub mod Completed
+pub mod Origins
+pub mod Sound
 pub mod Readiness
 pub mod Simulation
 pub mod OneRoles
 pub mod Openings
 pub mod KnownFacts
 pub mod Stated
-pub mod Remaining
 mod Rows
 mod MoreRows
 mod Runs
@@ -34,3 +46,9 @@ mod EmptyRun
 mod ForkRun
 mod ForkViews
 mod Replays
+pub mod OneRun
+pub mod Drops
+pub mod Renamings
+pub mod Alike
+pub mod OneProposal
+pub mod OneJournal

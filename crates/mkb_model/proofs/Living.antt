@@ -130,7 +130,7 @@ applied_setting b (Unjoined p ds) = (refl, refl, refl)
 applied_setting b (Closed p) = (refl, refl, refl)
 applied_setting b (Limit j cause) = (refl, refl, refl)
 
-effect_setting : (b : Plain) (x : Proposed) → ((effect b x).problem ≡ b.problem) × ((effect b x).budget ≡ b.budget) × ((effect b x).commits ≡ b.commits + 1)
+pub effect_setting : (b : Plain) (x : Proposed) → ((effect b x).problem ≡ b.problem) × ((effect b x).budget ≡ b.budget) × ((effect b x).commits ≡ b.commits + 1)
 effect_setting b x = let k = go (limit_of b x) in (k.0, k.1, ap (λ m. m + 1) k.2)
   where
     go : (o : Option Reason) → HaveSameSetting b (option_map_or (λ r. give_up r (effect_label b x) b) o (applied b x))

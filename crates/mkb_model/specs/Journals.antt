@@ -173,6 +173,43 @@ After P n J c = (ms : List Moment) × (journal_of ms ≡ J) × IsRun P n ms c
 abbrev pub IsLegal : Problem → ℕ → List Entry → Type 0
 IsLegal P n J = (c : Plain) × After P n J c
 
+-- what each line of a journal text keeps of an entry: of a take its worker, ticket and job, of every other but a halt the ticket
+pub data Move : Type 0 where
+  takes : ℕ → ℕ → Job → Move
+  ends : ℕ → Move
+  gives_back : ℕ → Move
+  halts : Move
+
+-- the move of an entry; that of a commit doesn't differ from that of a drop
+abbrev pub move_of : Entry → Move
+move_of (Take w t j) = takes w t j
+move_of (Commit w t e) = ends t
+move_of (Drop w t p) = ends t
+move_of (Abandon w t) = gives_back t
+move_of Halt = halts
+
+-- the moves of a run, the newest first
+abbrev pub moves_of : List Moment → List Move
+moves_of ms = map (λ (m : Moment). move_of m.entry) ms
+
+-- the entry commits
+abbrev pub is_commit : Entry → Bool
+is_commit (Commit w t e) = true
+is_commit e = false
+
+-- a commit was made since the ticket was taken
+pub record HasCommitSince (past : List Moment) (t : ℕ) : Type 0 where
+  pub later : List Moment
+  pub take : Moment
+  pub earlier : List Moment
+  pub parts : past ≡ later ++ take ∷ earlier
+  pub worker : ℕ
+  pub job : Job
+  pub taken : take.entry ≡ Take worker t job
+  pub commit : Moment
+  pub since : Contains later commit
+  pub commits : IsTrue (is_commit commit.entry)
+
 -- ---- workers
 
 -- the worker that an entry names, and 0 for a halt

@@ -8,3 +8,4 @@ pub mod Journals
 pub mod Ready
 pub mod Headline
 pub mod Invariants
+pub mod GoodAnswers

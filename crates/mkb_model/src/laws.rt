@@ -1,17 +1,22 @@
 // The laws. A run lists its moments, each a board and the entry made on it, the newest first.
-ghost use Rattle.std.specs.Prelude.{◌≡◌, ◌≢◌, ℕ, List, [], Contains, Some, None};
-ghost use Rattle.kb_term.specs.Signature.{Problem};
-ghost use Rattle.kb_label.specs.Names.{root};
+ghost use Rattle.std.specs.Prelude.{◌≡◌, ◌≢◌, ℕ, List, [], Contains, Some, None, IsTrue};
+ghost use Rattle.kb_term.specs.Signature.{Problem, IsWithinLimits};
+ghost use Rattle.kb_label.specs.Names.{Name, root, has};
 ghost use Rattle.kb_label.specs.declared.verdict.Verdict.{Verdict};
+ghost use Rattle.kb_label.specs.declared.verdict.Verdict.TheVariants.{Complete};
 ghost use Rattle.kb_laws.specs.Completion.{KbReaches, kb_start};
 ghost use Rattle.mkb_model.specs.Plain.{Plain, state_of};
 ghost use Rattle.mkb_model.specs.DueJobs.{first_job, free_jobs};
 ghost use Rattle.mkb_model.specs.Verdicts.{verdict, VerdictMeans};
-ghost use Rattle.mkb_model.specs.Journals.{Moment, Follows, IsFreeJob, IsPossibleRun, IsRun, IsLeaving, opening, tickets};
+ghost use Rattle.mkb_model.specs.Journals.{Moment, Follows, IsFreeJob, IsPossibleRun, IsRun, IsLeaving, HasCommitSince, journal_of, moves_of, opening, tickets};
 ghost use Rattle.mkb_model.specs.Ready.{KeepsPairs, AllFine};
+ghost use Rattle.mkb_model.specs.GoodAnswers.{IsGoodAnswer};
+ghost use Rattle.mkb_model.specs.Proposals.{IsClosedOn, Proposes};
 ghost use Rattle.mkb_model.specs.Headline.{EachCompletes};
-ghost use Rattle.mkb_model.specs.Invariants.{FactsHold, FlightIsClear, FlightIsNumbered, LivingIsForked, PairsDiffer, IsWithinBudget};
+ghost use Rattle.mkb_model.specs.Invariants.{IsSound, ClosedIsAtRest, RulesFollow, IsCertified, FactsHold, FlightIsClear, FlightIsNumbered, HasOneRole, LabelsAreLabels, LivingIsForked, PairsDiffer, IsWithinBudget};
 ghost use Rattle.mkb_model.specs.declared.entry.Entry.{Entry};
+ghost use Rattle.mkb_model.specs.declared.proposed.Proposed.{Proposed};
+ghost use Rattle.kb_node.specs.declared.job.Job.{Job};
 
 /// A legal run, in which each take is of the first job, is a possible run, in which each take is of any due job that clashes
 /// with none in flight.
@@ -29,6 +34,12 @@ pub fn facts_hold()
 pub fn flight_is_in_order()
     ensures clear { (problem : Problem) (budget : ℕ) (past : List Moment) (board : Plain) → IsPossibleRun problem budget past board → FlightIsClear board }
     ensures numbered { (problem : Problem) (budget : ℕ) (past : List Moment) (board : Plain) → IsPossibleRun problem budget past board → FlightIsNumbered (tickets past) board }
+{}
+
+/// Every label names living processes, each once, in name order: those of the nodes, of the overlapped rules, of the closed
+/// processes and of those that gave up.
+pub fn labels_name_the_living()
+    ensures { (problem : Problem) (budget : ℕ) (past : List Moment) (board : Plain) → IsPossibleRun problem budget past board → LabelsAreLabels board }
 {}
 
 /// The living names are what forks of living processes make of the first one, none begins another, and they are at most 256.
@@ -68,8 +79,53 @@ pub fn opening_is_reached()
     ensures { (problem : Problem) (budget : ℕ) → KbReaches problem.signature (kb_start problem) (state_of (opening problem budget) root) }
 {}
 
-/// Where each commit of a possible run is fine for the board on which it is made, the views of each living process are a run
-/// of completion of that process alone.
-pub fn fine_runs_complete()
-    ensures { (problem : Problem) (budget : ℕ) (past : List Moment) (board : Plain) (run : IsPossibleRun problem budget past board) → AllFine IsFreeJob problem budget past board run → EachCompletes problem past board }
+/// In each possible run of a problem within the limits: each commit is fine for the board on which it is made; each process has
+/// each node as an equation, as one of its two rules, or not at all; and the views of each living process are a run of
+/// completion of that process alone.
+pub fn runs_complete()
+    ensures fine { (problem : Problem) (budget : ℕ) (past : List Moment) (board : Plain) → IsWithinLimits problem → (run : IsPossibleRun problem budget past board) → AllFine IsFreeJob problem budget past board run }
+    ensures one_role { (problem : Problem) (budget : ℕ) (past : List Moment) (board : Plain) → IsWithinLimits problem → IsPossibleRun problem budget past board → (p : Name) (n : ℕ) → HasOneRole board p n }
+    ensures completes { (problem : Problem) (budget : ℕ) (past : List Moment) (board : Plain) → IsWithinLimits problem → IsPossibleRun problem budget past board → EachCompletes problem past board }
+{}
+
+/// In each possible run: nothing but a closing is due for a process that is closed or being closed, and it has not given up; and
+/// a closed one is neither oriented nor closed again. What is closed stays closed: the terms of each overlap of its rules
+/// normalise to one term or to an equation that it has.
+pub fn closed_processes_rest()
+    ensures rest { (problem : Problem) (budget : ℕ) (past : List Moment) (board : Plain) → IsPossibleRun problem budget past board → (p : Name) → ClosedIsAtRest board p }
+    ensures closed { (problem : Problem) (budget : ℕ) (past : List Moment) (board : Plain) → IsPossibleRun problem budget past board → (p : Name) → IsTrue (has board.closed p) → IsClosedOn board p }
+{}
+
+/// In each possible run of a problem within the limits: the certificate of each living process is of the family and orders its
+/// constraints; and each rule of a process leads from its left to its right side by its constraints, in one step or more.
+pub fn certificates_order()
+    ensures certified { (problem : Problem) (budget : ℕ) (past : List Moment) (board : Plain) → IsWithinLimits problem → IsPossibleRun problem budget past board → (p : Name) → IsTrue (has board.living p) → IsCertified board p }
+    ensures rules_follow { (problem : Problem) (budget : ℕ) (past : List Moment) (board : Plain) → IsWithinLimits problem → IsPossibleRun problem budget past board → (p : Name) → RulesFollow board p }
+{}
+
+/// All invariants at once, of each board of a possible run of a problem within the limits: beside what the other laws say, each
+/// pair follows from the input equations and earlier pairs as its origin says.
+pub fn boards_are_sound()
+    ensures { (problem : Problem) (budget : ℕ) (past : List Moment) (board : Plain) → IsWithinLimits problem → IsPossibleRun problem budget past board → IsSound (tickets past) board }
+{}
+
+/// Where the verdict of a possible run of a problem within the limits is that a process is complete, its rules, ordered by its
+/// certificate, are terminating and confluent and prove exactly what the problem proves; all their overlaps join, and the sides
+/// of each input equation have one normal form.
+pub fn complete_is_good()
+    ensures { (problem : Problem) (budget : ℕ) (past : List Moment) (board : Plain) (p : Name) → IsWithinLimits problem → IsPossibleRun problem budget past board → verdict board ≡ Some (Complete p) → IsGoodAnswer problem board p }
+{}
+
+/// A job that is taken has something to act on, so where its ticket is dropped, a commit was made since the take.
+pub fn drops_follow_commits()
+    ensures { (problem : Problem) (budget : ℕ) (past : List Moment) (board : Plain) (worker ticket : ℕ) (process : Name) (next : Plain) → IsPossibleRun problem budget past board → Follows IsFreeJob past board (Entry.Drop worker ticket process) next → HasCommitSince past ticket }
+{}
+
+/// What a job proposes is a function of the board. So at most one possible run of a problem within the limits has the moves that
+/// the lines of a journal text keep: the worker, the ticket and the job of each take, and the ticket of each other entry. A
+/// journal has one run without any condition.
+pub fn journals_have_one_run()
+    ensures proposals { (problem : Problem) (budget : ℕ) (past : List Moment) (board : Plain) → IsWithinLimits problem → IsPossibleRun problem budget past board → (job : Job) (one other : Proposed) → Proposes board job one → Proposes board job other → one ≡ other }
+    ensures moves { (problem : Problem) (budget : ℕ) → IsWithinLimits problem → (past others : List Moment) (board other : Plain) → IsPossibleRun problem budget past board → IsPossibleRun problem budget others other → moves_of past ≡ moves_of others → (past ≡ others) × (board ≡ other) }
+    ensures entries { (problem : Problem) (budget : ℕ) (past others : List Moment) (board other : Plain) → IsPossibleRun problem budget past board → IsPossibleRun problem budget others other → journal_of past ≡ journal_of others → (past ≡ others) × (board ≡ other) }
 {}

@@ -10,9 +10,10 @@ mod proposed;
 
 pub use entry::{Effect, Entry, Ticket};
 pub use laws::{
-    commits_stay_within_the_budget, facts_hold, fine_runs_complete, flight_is_in_order,
+    boards_are_sound, certificates_order, closed_processes_rest, commits_stay_within_the_budget,
+    complete_is_good, drops_follow_commits, facts_hold, flight_is_in_order, journals_have_one_run, labels_name_the_living,
     legal_runs_are_possible, living_names_come_of_forks, opening_is_reached, pairs_stay,
-    verdicts_stay, work_goes_on,
+    runs_complete, verdicts_stay, work_goes_on,
 };
 pub use proposed::{DeducedList, FactList, Proposed};
 

@@ -1,7 +1,8 @@
 use super::{
-    commits_stay_within_the_budget, facts_hold, fine_runs_complete, flight_is_in_order,
+    boards_are_sound, certificates_order, closed_processes_rest, commits_stay_within_the_budget,
+    complete_is_good, facts_hold, flight_is_in_order, labels_name_the_living,
     legal_runs_are_possible, living_names_come_of_forks, opening_is_reached, pairs_stay,
-    verdicts_stay, work_goes_on,
+    runs_complete, verdicts_stay, work_goes_on,
 };
 
 #[test]
@@ -9,11 +10,16 @@ fn each_law_is_called(_rt: HostRuntime) {
     legal_runs_are_possible();
     facts_hold();
     flight_is_in_order();
+    labels_name_the_living();
     living_names_come_of_forks();
     pairs_stay();
     commits_stay_within_the_budget();
     verdicts_stay();
     work_goes_on();
     opening_is_reached();
-    fine_runs_complete();
+    runs_complete();
+    closed_processes_rest();
+    certificates_order();
+    boards_are_sound();
+    complete_is_good();
 }

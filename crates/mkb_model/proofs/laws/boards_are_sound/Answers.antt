@@ -1,0 +1,5 @@
+use Rattle.mkb_model.proofs.Sound.{boards_sound}
+use Rattle.mkb_model.proofs.laws.boards_are_sound.Goals as goal
+
+pub returns : goal.returns
+returns c = boards_sound

@@ -1,0 +1,5 @@
+use Rattle.mkb_model.proofs.Completed.{good_answer}
+use Rattle.mkb_model.proofs.laws.complete_is_good.Goals as goal
+
+pub returns : goal.returns
+returns c = good_answer
