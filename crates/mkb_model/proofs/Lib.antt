@@ -33,6 +33,7 @@ pub mod Certificates
 pub mod Completed
 pub mod Origins
 pub mod Sound
+pub mod Drops
 pub mod Readiness
 pub mod Simulation
 pub mod OneRoles

@@ -8,8 +8,10 @@ ghost use Rattle.kb_laws.specs.Completion.{KbReaches, kb_start};
 ghost use Rattle.mkb_model.specs.Plain.{Plain, state_of};
 ghost use Rattle.mkb_model.specs.DueJobs.{first_job, free_jobs};
 ghost use Rattle.mkb_model.specs.Verdicts.{verdict, VerdictMeans};
-ghost use Rattle.mkb_model.specs.Journals.{Moment, Follows, IsFreeJob, IsPossibleRun, IsRun, IsLeaving, opening, tickets};
+ghost use Rattle.mkb_model.specs.Journals.{Moment, Follows, IsFreeJob, IsPossibleRun, IsRun, IsLeaving, IsDropping, opening, tickets};
 ghost use Rattle.mkb_model.specs.Ready.{KeepsPairs, AllFine};
+ghost use Rattle.kb_node.specs.declared.job.Job.TheVariants.{Close};
+ghost use Rattle.mkb_model.specs.Tickets.{CommitCameSince};
 ghost use Rattle.mkb_model.specs.GoodAnswers.{IsGoodAnswer};
 ghost use Rattle.mkb_model.specs.Proposals.{IsClosedOn};
 ghost use Rattle.mkb_model.specs.Headline.{EachCompletes};
@@ -112,4 +114,10 @@ pub fn boards_are_sound()
 /// of each input equation have one normal form.
 pub fn complete_is_good()
     ensures { (problem : Problem) (budget : ℕ) (past : List Moment) (board : Plain) (p : Name) → IsWithinLimits problem → IsPossibleRun problem budget past board → verdict board ≡ Some (Complete p) → IsGoodAnswer problem board p }
+{}
+
+/// In each possible run a ticket is dropped only where a commit was made since its take; and a closing is never dropped.
+pub fn tickets_are_dropped_after_commits()
+    ensures since { (problem : Problem) (budget : ℕ) (past : List Moment) (board : Plain) (worker ticket : ℕ) (p : Name) (next : Plain) → IsPossibleRun problem budget past board → (drop : IsDropping past board worker ticket p next) → CommitCameSince past drop.finishing.before worker ticket drop.job }
+    ensures closings { (problem : Problem) (budget : ℕ) (past : List Moment) (board : Plain) (worker ticket : ℕ) (p : Name) (next : Plain) → IsPossibleRun problem budget past board → (drop : IsDropping past board worker ticket p next) → (q : Name) → drop.job ≢ Close q }
 {}
