@@ -34,6 +34,7 @@ pub mod Completed
 pub mod Origins
 pub mod Sound
 pub mod Drops
+pub mod Unique
 pub mod Readiness
 pub mod Simulation
 pub mod OneRoles

@@ -8,7 +8,7 @@ ghost use Rattle.kb_laws.specs.Completion.{KbReaches, kb_start};
 ghost use Rattle.mkb_model.specs.Plain.{Plain, state_of};
 ghost use Rattle.mkb_model.specs.DueJobs.{first_job, free_jobs};
 ghost use Rattle.mkb_model.specs.Verdicts.{verdict, VerdictMeans};
-ghost use Rattle.mkb_model.specs.Journals.{Moment, Follows, IsFreeJob, IsPossibleRun, IsRun, IsLeaving, IsDropping, opening, tickets};
+ghost use Rattle.mkb_model.specs.Journals.{Moment, Follows, IsFreeJob, IsPossibleRun, IsRun, IsLeaving, IsDropping, After, journal_of, opening, tickets};
 ghost use Rattle.mkb_model.specs.Ready.{KeepsPairs, AllFine};
 ghost use Rattle.kb_node.specs.declared.job.Job.TheVariants.{Close};
 ghost use Rattle.mkb_model.specs.Tickets.{CommitCameSince};
@@ -120,4 +120,11 @@ pub fn complete_is_good()
 pub fn tickets_are_dropped_after_commits()
     ensures since { (problem : Problem) (budget : ℕ) (past : List Moment) (board : Plain) (worker ticket : ℕ) (p : Name) (next : Plain) → IsPossibleRun problem budget past board → (drop : IsDropping past board worker ticket p next) → CommitCameSince past drop.finishing.before worker ticket drop.job }
     ensures closings { (problem : Problem) (budget : ℕ) (past : List Moment) (board : Plain) (worker ticket : ℕ) (p : Name) (next : Plain) → IsPossibleRun problem budget past board → (drop : IsDropping past board worker ticket p next) → (q : Name) → drop.job ≢ Close q }
+{}
+
+/// A journal decides its run: two possible runs of one problem and budget with the same entries have the same boards. So a legal
+/// journal leads to one board.
+pub fn journals_decide_runs()
+    ensures runs { (problem : Problem) (budget : ℕ) (past other : List Moment) (board end : Plain) → IsPossibleRun problem budget past board → IsPossibleRun problem budget other end → journal_of past ≡ journal_of other → (past ≡ other) × (board ≡ end) }
+    ensures after { (problem : Problem) (budget : ℕ) (journal : List Entry) (board end : Plain) → After problem budget journal board → After problem budget journal end → board ≡ end }
 {}
