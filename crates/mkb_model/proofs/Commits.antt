@@ -1,6 +1,6 @@
 -- What each commit is for each process: zero or more steps of completion.
 use Rattle.std.proofs.Common.{ℕ, ◌≡◌, ◌≢◌, ◌↔◌, inl, refl, sym, ap, ◌∙◌, subst, arith, List, [], ◌∷◌, ◌++◌, map, Option, Some, None, ⊎_elim, Bool, true, false, cond, Contains}
-use Rattle.std.specs.Prelude.{⊤, IsFalse, IsTrue}
+use Rattle.std.specs.Prelude.{⊤, IsFalse}
 use Rattle.std.specs.Option.{option_map_or}
 use Rattle.kb_term.specs.Tree.{Tree}
 use Rattle.kb_term.specs.View.{tree_of}
@@ -21,7 +21,7 @@ use Rattle.kb_node.specs.declared.job.Deduced.{Deduced}
 use Rattle.mkb_model.specs.declared.proposed.Proposed.{Proposed}
 use Rattle.mkb_model.specs.declared.proposed.Proposed.TheVariants.{Facts, Rewrite, One, Both, Refuse, Deduce, Unjoined, Closed, Limit}
 use Rattle.kb_label.proofs.Members.{has-meet, name_eq-eq, name_eq-refl}
-use Rattle.mkb_model.specs.Ready.{IsOn, KeepsPairs, OneRole, IsDeducedFrom, IsRewriteOn, IsReady, IsNew}
+use Rattle.mkb_model.specs.Ready.{IsOn, KeepsPairs, OneRole, IsDeducedFrom, IsReady, IsNew}
 use Rattle.mkb_model.proofs.Lists.{clash, decide, false_unless, and_off_right, some_is, none_some}
 use Rattle.mkb_model.proofs.Roles.{on_there, on-gains, has-one, keeps-with_node, keeps-gains_rule, keeps-gains_equation, keeps-loses, keeps-fork, on-fork, KeepsRoles, keeps_trans, refused-no_rule, refused-no_constraint, kind_number}
 use Rattle.mkb_model.proofs.Pairs.{same_kept, pairs-oriented, pairs-gains, pairs-added, pairs-rewritten, pairs-fork}

@@ -1,25 +1,23 @@
 -- A ticket is dropped only where a commit came since its take, and a closing never.
-use Rattle.std.proofs.Common.{ℕ, zero, suc, ◌≡◌, ◌≢◌, ◌⊎◌, inl, inr, refl, sym, ap, ◌∙◌, subst, List, [], ◌∷◌, ◌++◌, filter, Contains, Bool, true, false, cond, not, ◌&&◌, ◌||◌, ◌==◌, Option, Some, None, ⊎_elim}
-use Rattle.std.specs.Prelude.{IsTrue}
+use Rattle.std.proofs.Common.{ℕ, zero, suc, ◌≡◌, ◌≢◌, ◌⊎◌, inl, inr, refl, sym, ap, ◌∙◌, subst, List, [], ◌∷◌, ◌++◌, Contains, Bool, true, false, cond, not, ◌&&◌, ◌||◌, ◌==◌, Option, Some, None, ⊎_elim}
 use Rattle.std.specs.List.{list_any}
-use Rattle.kb_term.proofs.Steps.{contains_cases, contains_behind, contains_first}
+use Rattle.kb_term.proofs.Steps.{contains_cases}
 use Rattle.kb_term.specs.Tree.{Tree}
 use Rattle.kb_term.specs.Pair.{Pair}
 use Rattle.kb_term.specs.Signature.{Problem}
 use Rattle.kb_term.specs.declared.origin.RuleRef.{RuleRef}
 use Rattle.kb_term.specs.declared.origin.Found.{Found}
 use Rattle.kb_term.specs.declared.origin.Found.TheVariants.{No, Variant, Strict}
-use Rattle.kb_label.specs.Names.{Name, has, is_empty, join, meet, minus}
+use Rattle.kb_label.specs.Names.{Name, has, is_empty, join, meet}
 use Rattle.kb_label.proofs.Members.{has-filter, has-join, has-meet, has-minus, name_eq-refl}
 use Rattle.kb_node.specs.declared.job.Job.{Job}
 use Rattle.kb_node.specs.declared.job.Job.TheVariants.{Reduce, Orient, Overlap, Close}
-use Rattle.kb_node.specs.declared.job.LimitCause.{LimitCause}
 use Rattle.kb_node.specs.declared.node.NodeId.{NodeId}
 use Rattle.kb_node.specs.declared.node.LabelKind.TheVariants.{R0, R1, E, X}
 use Rattle.mkb_model.specs.Jobs.{ref_le, process_of}
-use Rattle.mkb_model.specs.Plain.{Plain, PlainNode, Done, GivenUp, label, rule_kind, other, rules_of, is_equation, is_rule, is_over, done_of}
-use Rattle.mkb_model.specs.DueJobs.{is_due, is_work_due, is_close_due, is_working, is_node_of, is_reducible, is_usable, reducers}
-use Rattle.mkb_model.specs.Effects.{rewrite_label, overlap_label, orient_label, redex_label, limit_label, effect_label, not_over, if_strict, is_dropped}
+use Rattle.mkb_model.specs.Plain.{Plain, label, rule_kind, other, rules_of, is_equation, is_rule, is_over, done_of}
+use Rattle.mkb_model.specs.DueJobs.{is_due, is_work_due, is_working, is_node_of, is_reducible, is_usable, reducers}
+use Rattle.mkb_model.specs.Effects.{rewrite_label, overlap_label, orient_label, redex_label, limit_label, not_over, if_strict, is_dropped}
 use Rattle.mkb_model.specs.Proposals.{Proposes, IsUsableRedex, named_rules}
 use Rattle.mkb_model.specs.Journals.{Moment, Follows, IsRunBy, IsPossibleRun, IsFreeJob, IsDropping}
 use Rattle.mkb_model.specs.Tickets.{is_commit, CommitCameSince}
@@ -27,11 +25,11 @@ use Rattle.mkb_model.specs.declared.proposed.Proposed.{Proposed}
 use Rattle.mkb_model.specs.declared.proposed.Proposed.TheVariants.{Facts, Rewrite, One, Both, Refuse, Deduce, Unjoined, Closed, Limit}
 use Rattle.mkb_model.specs.declared.entry.Entry.{Entry}
 use Rattle.mkb_model.specs.declared.entry.Entry.TheVariants.{Take, Commit, Drop, Abandon, Halt}
-use Rattle.mkb_model.proofs.Lists.{clash, decide, and_left, and_right, and_both, or_one, or_left, or_right, not_true, not_of_false, none_in, any_in, any_none, filter_in}
+use Rattle.mkb_model.proofs.Lists.{clash, and_left, and_right, and_both, or_one, or_left, or_right, not_true, not_of_false, none_in, any_in, filter_in}
 use Rattle.mkb_model.proofs.Readiness.{named_rule}
 use Rattle.mkb_model.proofs.Flyers.{taken_free, free_due, due_working}
 use Rattle.mkb_model.proofs.Resting.{IsBit, rules_in}
-use Rattle.mkb_model.proofs.Restful.{IsResting, resting_run}
+use Rattle.mkb_model.proofs.Restful.{resting_run}
 
 -- ---- labels that name somebody
 

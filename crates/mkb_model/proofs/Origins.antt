@@ -1,23 +1,22 @@
 -- In a possible run each pair follows from the input equations and earlier pairs, as its origin says.
-use Rattle.std.proofs.Common.{ℕ, zero, suc, ◌+◌, ◌≤◌, ◌<◌, ◌≡◌, ◌≢◌, ◌⊎◌, inl, inr, refl, sym, ap, ap₂, ◌∙◌, subst, arith, List, [], ◌∷◌, ◌++◌, map, flat_map, length, Contains, Bool, true, false, cond, not, Option, Some, None, ⊎_elim}
-use Rattle.std.specs.Prelude.{⊤, IsFalse, Result, Ok, Err, option_map, option_to_list, slice_get, take}
+use Rattle.std.proofs.Common.{ℕ, zero, suc, ◌+◌, ◌≡◌, ◌⊎◌, inl, inr, refl, sym, ap, ◌∙◌, subst, arith, List, [], ◌∷◌, ◌++◌, map, length, Contains, Bool, true, false, cond, Option, Some, None, ⊎_elim}
+use Rattle.std.specs.Prelude.{IsFalse, Result, Ok, Err, option_map, option_to_list, slice_get, take}
 use Rattle.std.specs.Option.{option_map_or}
 use Rattle.kb_term.proofs.Steps.{contains_cases, contains_behind, contains_first}
 use Rattle.kb_term.specs.Tree.{Tree}
 use Rattle.kb_term.specs.View.{tree_of}
 use Rattle.kb_term.specs.Pair.{Pair, canonical_pair}
 use Rattle.kb_term.specs.Rule.{Rule, IsRule, rule_of}
-use Rattle.kb_term.specs.Signature.{Signature, Problem, IsWithinLimits, IsRuleOver}
+use Rattle.kb_term.specs.Signature.{Signature, Problem, IsWithinLimits}
 use Rattle.kb_term.specs.declared.limit.Limit.{Limit as TermLimit}
 use Rattle.kb_term.specs.declared.origin.RuleRef.{RuleRef}
 use Rattle.kb_term.specs.declared.origin.Found.{Found}
 use Rattle.kb_term.specs.declared.origin.Origin.{Origin}
 use Rattle.kb_term.specs.declared.origin.Origin.TheVariants.{Input, Rewrite as ByRewrite, Overlap as ByOverlap}
-use Rattle.kb_overlap.specs.Trace.{item, other_side, IsRightOrigin, IsRightRewrite, IsRightOverlap}
+use Rattle.kb_overlap.specs.Trace.{item, other_side, IsRightOrigin, IsRightOverlap}
 use Rattle.kb_overlap.specs.Overlap.{Overlap as Listed, IsOverlapOrLimit}
-use Rattle.kb_label.specs.Names.{Name, root, has, child, is_empty, join, minus}
+use Rattle.kb_label.specs.Names.{Name, root, has, child, is_empty, join}
 use Rattle.kb_label.proofs.Members.{name_eq-refl}
-use Rattle.kb_node.specs.declared.node.NodeId.{NodeId}
 use Rattle.kb_node.specs.declared.node.LabelKind.{LabelKind}
 use Rattle.kb_node.specs.declared.node.LabelKind.TheVariants.{R0, R1, E, C0, C1, X}
 use Rattle.kb_node.specs.declared.job.Deduced.{Deduced}
@@ -28,7 +27,7 @@ use Rattle.mkb_model.specs.Effects.{with_label_in, with_label, gains, loses, gai
 use Rattle.mkb_model.specs.Proposals.{Proposes, NamedRule, NamedOverlap, OverlapsOfAll, AreDeduced, deduced_pair, both_ways, all_ways, rules_on}
 use Rattle.mkb_model.specs.Invariants.{PairsFollow}
 use Rattle.mkb_model.specs.Journals.{Moment, Follows, IsPossibleRun, IsFreeJob, IsFinishing, opening, with_input, with_inputs}
-use Rattle.mkb_model.specs.Ready.{IsOn, KeepsPairs, IsRewriteOn}
+use Rattle.mkb_model.specs.Ready.{KeepsPairs, IsRewriteOn}
 use Rattle.mkb_model.specs.declared.proposed.Proposed.{Proposed}
 use Rattle.mkb_model.specs.declared.proposed.Proposed.TheVariants.{Facts, Rewrite, One, Both, Refuse, Deduce, Unjoined, Closed, Limit}
 use Rattle.mkb_model.specs.declared.entry.Entry.{Entry}

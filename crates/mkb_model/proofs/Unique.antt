@@ -1,5 +1,5 @@
 -- At most one possible run has a given journal.
-use Rattle.std.proofs.Common.{ℕ, zero, suc, ◌+◌, ◌≤◌, ◌<◌, ◌≡◌, ◌≢◌, ◌⊎◌, inl, inr, refl, sym, ap, ap₂, ◌∙◌, subst, arith, List, [], ◌∷◌, ◌++◌, map, filter, Contains, Bool, true, false, cond, not, ◌==◌, get_or, Option, Some, None, Ordering, Less, Equal, Greater, ⊎_elim}
+use Rattle.std.proofs.Common.{ℕ, ◌+◌, ◌<◌, ◌≡◌, ◌≢◌, ◌⊎◌, inl, inr, refl, sym, ap, ap₂, ◌∙◌, subst, arith, List, [], ◌∷◌, ◌++◌, map, filter, Contains, Bool, true, false, cond, not, get_or, Option, Some, None, Ordering, Less, Equal, Greater, ⊎_elim}
 use Rattle.std.specs.Prelude.{AllPairs}
 use Rattle.std.specs.Option.{option_map_or}
 use Rattle.std.specs.Ordering.{ordering_then, nat_cmp}
@@ -23,20 +23,18 @@ use Rattle.kb_node.specs.declared.node.NodeId.{NodeId}
 use Rattle.kb_node.specs.declared.job.Job.{Job}
 use Rattle.kb_node.specs.declared.job.Job.TheVariants.{Reduce, Orient, Overlap, Close}
 use Rattle.mkb_model.specs.Jobs.{numbers_cmp}
-use Rattle.mkb_model.specs.Plain.{Plain, GivenUp, is_over, pair_at, pair_in}
+use Rattle.mkb_model.specs.Plain.{Plain, GivenUp, is_over, pair_at}
 use Rattle.mkb_model.specs.DueJobs.{reducers, is_usable}
 use Rattle.mkb_model.specs.Effects.{applied, effect, effect_entry, limit_of, give_up, counted, effect_label, rewrite_label, overlap_label, orient_label, redex_label, limit_label, not_over, reason_eq}
-use Rattle.mkb_model.specs.Proposals.{NamedRule, named_rules, redex_cmp, IsUsableRedex, IsFirstRedex, IsIrreducible, Proposes}
-use Rattle.mkb_model.specs.Invariants.{FlightIsNumbered}
+use Rattle.mkb_model.specs.Proposals.{named_rules, redex_cmp, IsUsableRedex, IsFirstRedex, IsIrreducible, Proposes}
 use Rattle.mkb_model.specs.Journals.{Moment, Follows, IsPossibleRun, IsFreeJob, After, landed, journal_of, tickets}
 use Rattle.mkb_model.specs.declared.proposed.Proposed.{Proposed}
 use Rattle.mkb_model.specs.declared.proposed.Proposed.TheVariants.{Facts, Rewrite, One, Both, Refuse, Deduce, Unjoined, Closed, Limit}
 use Rattle.mkb_model.specs.declared.entry.Ticket.{Ticket}
-use Rattle.mkb_model.specs.declared.entry.Effect.{Effect}
 use Rattle.mkb_model.specs.declared.entry.Effect.TheVariants.{Over, Made}
 use Rattle.mkb_model.specs.declared.entry.Entry.{Entry}
 use Rattle.mkb_model.specs.declared.entry.Entry.TheVariants.{Take, Commit, Drop, Abandon, Halt}
-use Rattle.mkb_model.proofs.Lists.{some_is, none_some, none_in, clash}
+use Rattle.mkb_model.proofs.Lists.{some_is, none_in}
 use Rattle.mkb_model.proofs.Roles.{below}
 use Rattle.mkb_model.proofs.Lists.{equal_or_more}
 use Rattle.mkb_model.proofs.Readiness.{named_rule}
