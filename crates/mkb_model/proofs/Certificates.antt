@@ -37,8 +37,7 @@ use Rattle.mkb_model.proofs.Lists.{clash, decide, some_is, none_some, none_in, f
 use Rattle.mkb_model.proofs.Roles.{kind_number, on_there}
 use Rattle.mkb_model.proofs.Views.{rule_listed}
 use Rattle.mkb_model.proofs.Orienting.{OrientRoles, orient-roles}
-use Rattle.mkb_model.proofs.Commits.{IsApartFrom, pairs-applied, orients, children_differ}
-use Rattle.mkb_model.proofs.OneRoles.{fork_roles, bit_number}
+use Rattle.mkb_model.proofs.Commits.{IsApartFrom, pairs-applied, orients, children_differ, bit_number, fork_roles}
 use Rattle.mkb_model.proofs.Simulation.{forked_names, apart_from}
 use Rattle.mkb_model.proofs.Living.{within_budget}
 use Rattle.mkb_model.proofs.Flyers.{unlike}

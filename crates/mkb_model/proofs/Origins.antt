@@ -38,7 +38,7 @@ use Rattle.mkb_model.proofs.Views.{rule_listed}
 use Rattle.mkb_model.proofs.Proper.{IsOrdered}
 use Rattle.mkb_model.proofs.Rewriting.{source_of}
 use Rattle.mkb_model.proofs.Rewritings.{lost_nodes, moved_nodes}
-use Rattle.mkb_model.proofs.Fitting.{effect_cases, pairs_stay}
+use Rattle.mkb_model.proofs.Fitting.{deduced_from, effect_cases, pairs_stay}
 use Rattle.mkb_model.proofs.Readiness.{rewrite_ready}
 use Rattle.mkb_model.proofs.Living.{within_budget}
 use Rattle.mkb_model.proofs.Deductions.{HasNamed, named_overlap, picks_in}
@@ -181,26 +181,6 @@ right_rewritten es xs l n w p a kind u f rule r = go (canonical_pair u (other_si
 
 -- ---- deduced pairs
 
--- a deduced pair comes of two rules of a process, and names them
-deduced_origin : (ds : List Deduced) (os : List NamedOverlap) → AreDeduced ds os → (d : Deduced) → Contains ds d
-    → (o : NamedOverlap) × Contains os o × (s : Tree) × (t : Tree) × (o.overlap.sides ≡ Ok (s, t)) × (canonical_pair s t ≡ Some d.pair) × (o.outer ≡ d.outer) × (o.inner ≡ d.inner) × (o.overlap.position ≡ d.position)
-deduced_origin ds os h d i =
-    let f : Deduced → RuleRef × RuleRef × List ℕ × Pair = λ d. (d.outer, d.inner, d.position, d.pair) in
-    let j = subst {A = List (RuleRef × RuleRef × List ℕ × Pair)} (λ ts. Contains ts (f d)) h (in_map f ds d i) in
-    let k = flat_map_in (λ (o : NamedOverlap). deduced_pair o o.overlap.sides) os (f d) j in
-    let r = go k.0 k.0.overlap.sides refl k.2 in
-    (k.0, k.1, r.0, r.1, r.2, r.3, r.4, r.5, r.6)
-  where
-    in_list : (o : Option Pair) (q : Pair) → Contains (option_to_list o) q → o ≡ Some q
-    in_list None q c = none_in c
-    in_list (Some z) q c = ⊎_elim (λ e. ap Some e) (λ k. none_in k) (contains_cases z [] q c)
-
-    go : (o : NamedOverlap) (r : Result (Tree × Tree) TermLimit) → o.overlap.sides ≡ r → Contains (deduced_pair o r) (d.outer, d.inner, d.position, d.pair) → (s : Tree) × (t : Tree) × (o.overlap.sides ≡ Ok (s, t)) × (canonical_pair s t ≡ Some d.pair) × (o.outer ≡ d.outer) × (o.inner ≡ d.inner) × (o.overlap.position ≡ d.position)
-    go o (Err l) e c = none_in c
-    go o (Ok (s, t)) e c =
-        let m = map_in (λ q. (o.outer, o.inner, o.overlap.position, q)) (option_to_list (canonical_pair s t)) (d.outer, d.inner, d.position, d.pair) c in
-        (s, t, e, in_list (canonical_pair s t) d.pair (subst {A = Pair} (Contains (option_to_list (canonical_pair s t))) (ap (λ (z : RuleRef × RuleRef × List ℕ × Pair). z.3) m.2) m.1), ap (λ (z : RuleRef × RuleRef × List ℕ × Pair). z.0) m.2, ap (λ (z : RuleRef × RuleRef × List ℕ × Pair). z.1) m.2, ap (λ (z : RuleRef × RuleRef × List ℕ × Pair). z.2) m.2)
-
 comes_from : (g : Signature) (xs : List PlainNode) (p : Name) (es : List (NamedRule × NamedRule)) (all some : List NamedOverlap) (ds : List Deduced) → OverlapsOfAll es all → ((o : NamedOverlap) → Contains some o → Contains all o)
     → ((e : NamedRule × NamedRule) → Contains es e → HasNamed g xs p e.0 × HasNamed g xs p e.1) → AreDeduced ds some → (d : Deduced) → Contains ds d → ComesFrom xs d
 comes_from g xs p es all some ds lists sub named proposed d i = (
@@ -219,7 +199,7 @@ comes_from g xs p es all some ds lists sub named proposed d i = (
 )
   where
     r : (o : NamedOverlap) × Contains some o × (s : Tree) × (t : Tree) × (o.overlap.sides ≡ Ok (s, t)) × (canonical_pair s t ≡ Some d.pair) × (o.outer ≡ d.outer) × (o.inner ≡ d.inner) × (o.overlap.position ≡ d.position)
-    r = deduced_origin ds some proposed d i
+    r = deduced_from ds some proposed d i
 
     k : (e : NamedRule × NamedRule) × Contains es e × (r.0.outer ≡ e.0.ref) × (r.0.inner ≡ e.1.ref) × IsOverlapOrLimit e.0.rule e.1.rule r.0.overlap
     k = named_overlap es all lists r.0 (sub r.0 r.1)

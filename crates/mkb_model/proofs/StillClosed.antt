@@ -2,7 +2,7 @@
 use Rattle.std.proofs.Common.{ℕ, zero, suc, ◌+◌, ◌-◌, ◌≤◌, ◌<◌, ◌≡◌, refl, sym, ap, ap₂, ◌∙◌, subst, arith, List, [], ◌∷◌, ◌++◌, map, filter, flat_map, length, Contains, Bool, true, false, cond, Option, None, ⊎_elim}
 use Rattle.std.specs.Prelude.{option_map}
 use Rattle.std.specs.List.{filter_map, cons_option}
-use Rattle.std.proofs.lemmas.List.{append_assoc}
+use Rattle.std.proofs.lemmas.List.{append_assoc, append-nil}
 use Rattle.kb_term.proofs.Steps.{contains_cases, contains_behind, contains_first}
 use Rattle.kb_term.specs.Tree.{Tree}
 use Rattle.kb_term.specs.Rule.{rule_of}
@@ -95,10 +95,6 @@ module _ (b c : Plain) (p : Name) (roles : KeepsRoles b.nodes c.nodes p) (keeps 
       ∙ ap₂ (λ (x y : List ℕ). x ++ y) (filter_same (is_equation c p) (is_equation b p) (λ n. role_tests b c p roles n E) (node_numbers b))
       (filter_nothing (is_equation c p) (numbers_from (0 + length b.nodes) more) (λ n i. false_unless (is_equation c p n) (λ o. let l = on_there b.nodes p n E ((roles n E).0 o) in let r = (numbers_in (0 + length b.nodes) more n i).0 in absurd (omega (arith, l, r)))))
       ∙ append-nil (equations_of b p)
-    where
-      append-nil : {A : Type 0} (xs : List A) → xs ++ [] ≡ xs
-      append-nil [] = refl
-      append-nil (x ∷ xs) = ap (x ∷◌) (append-nil xs)
 
   pub same_rules : rules_of c p ≡ rules_of b p
   same_rules = ap (λ ns. filter (is_rule c p) (flat_map directions ns)) numbers_more ∙ ap (filter (is_rule c p)) (flat_map_append directions (node_numbers b) (numbers_from (0 + length b.nodes) more))
@@ -112,10 +108,6 @@ module _ (b c : Plain) (p : Name) (roles : KeepsRoles b.nodes c.nodes p) (keeps 
       absurd (omega (arith, l, r, e)))))
       ∙ append-nil (rules_of b p)
     where
-      append-nil : {A : Type 0} (xs : List A) → xs ++ [] ≡ xs
-      append-nil [] = refl
-      append-nil (x ∷ xs) = ap (x ∷◌) (append-nil xs)
-
       node : (k : ℕ) (a : RuleRef) → Contains (directions k) a → k ≡ a.node
       node k a i = ⊎_elim (λ e. ap (λ (z : RuleRef). z.node) e) (λ j. ⊎_elim (λ e. ap (λ (z : RuleRef). z.node) e) (λ q. none_in q) (contains_cases (record { node = k; dir = 1 }) [] a j)) (contains_cases (record { node = k; dir = 0 }) (record { node = k; dir = 1 } ∷ []) a i)
 

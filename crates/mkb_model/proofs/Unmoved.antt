@@ -20,7 +20,7 @@ use Rattle.mkb_model.specs.Invariants.{AreApart}
 use Rattle.mkb_model.specs.declared.proposed.Proposed.{Proposed}
 use Rattle.mkb_model.specs.declared.proposed.Proposed.TheVariants.{Facts, Rewrite, One, Both, Refuse, Deduce, Unjoined, Closed, Limit}
 use Rattle.mkb_model.proofs.Lists.{clash, none_some, and_off_right, same_test}
-use Rattle.mkb_model.proofs.Roles.{KeepsRoles, keeps-gains, relabel-other, has-one}
+use Rattle.mkb_model.proofs.Roles.{KeepsRoles, keeps-gains, relabel-other, or-false, has-one}
 use Rattle.mkb_model.proofs.Orienting.{keeps-oriented}
 use Rattle.mkb_model.proofs.Adding.{keeps-added}
 use Rattle.mkb_model.proofs.Commits.{IsApartFrom, keeps-rewritten, fork_other, orients}
@@ -50,11 +50,6 @@ done_gained p a c l h (d ∷ ds) x y = go (ref_eq d.first a && ref_eq d.second c
 
     joined : has (join d.names l) p ≡ has d.names p
     joined = has-join d.names l p ∙ ap (λ z. has d.names p || z) h ∙ or-false (has d.names p)
-      where
-        or-false : (z : Bool) → (z || false) ≡ z
-        or-false true = refl
-        or-false false = refl
-
     go : (z : Bool) → has (done_in (gains_done_in a c l ds) x y) p ≡ has (done_in ds x y) p → has (done_in (cond z (record d { names = join d.names l } ∷ ds) (d ∷ gains_done_in a c l ds)) x y) p ≡ has (done_in (d ∷ ds) x y) p
     go true ih = inner (ref_eq d.first x && ref_eq d.second y) (join d.names l) (done_in ds x y) joined refl
     go false ih = inner (ref_eq d.first x && ref_eq d.second y) d.names (done_in (gains_done_in a c l ds) x y) refl ih
@@ -134,10 +129,6 @@ unmoved_applied b (Limit j cause) p acts h apart owners lives = record { roles =
 unmoved_over : (b : Plain) (r : Reason) (l : List Name) (p : Name) → has l p ≡ false → IsUnmoved b (give_up r l b) p
 unmoved_over b r l p h = record { roles = same_roles b.nodes p; done = λ a e. refl; closed = refl; over = over_mapped p (λ (g : GivenUp). cond (reason_eq g.reason r) (record g { names = join g.names (not_over b l) }) g) (λ g. go g (reason_eq g.reason r)) b.over; known = λ n w a v k. k }
   where
-    or-false : (z : Bool) → (z || false) ≡ z
-    or-false true = refl
-    or-false false = refl
-
     not_in : has (not_over b l) p ≡ false
     not_in = has-filter (λ q. not (is_over b q)) l p ∙ and_off_right (not (is_over b p)) (has l p) h
 
