@@ -21,10 +21,10 @@ use Rattle.mkb_model.specs.declared.proposed.Proposed.TheVariants.{Facts, Rewrit
 use Rattle.kb_label.proofs.Members.{name_eq-eq}
 use Rattle.mkb_model.specs.Ready.{IsOn, IsRole, OneRole, IsRewriteOn, IsReady, IsNew}
 use Rattle.mkb_model.proofs.Lists.{decide, some_is, none_some}
-use Rattle.mkb_model.proofs.Roles.{on_there, kinds_decide, on-gains, on-fork, equation-no_rule}
+use Rattle.mkb_model.proofs.Roles.{on_there, kinds_decide, on-gains, equation-no_rule}
 use Rattle.mkb_model.proofs.Views.{SameRoles, rule_sym, rule_trans, rule_of-between, rules-view, rule_listed}
 use Rattle.mkb_model.proofs.Changes.{Fits}
-use Rattle.mkb_model.proofs.Orienting.{OrientRoles, orient-roles, orient_before, orient_after, keeps-oriented}
+use Rattle.mkb_model.proofs.Orienting.{OrientRoles, orient-roles, keeps-oriented}
 use Rattle.mkb_model.proofs.Adding.{rule_role, add_one, add-one_role, keeps-added}
 use Rattle.mkb_model.proofs.Rewriting.{source_of, rule_of-other, direction-rule}
 use Rattle.mkb_model.proofs.Rewritings.{rewriting_one_role}

@@ -1,8 +1,8 @@
 -- In a possible run each pair follows from the input equations and earlier pairs, as its origin says.
 use Rattle.std.proofs.Common.{ℕ, zero, suc, ◌+◌, ◌≡◌, ◌⊎◌, inl, inr, refl, sym, ap, ◌∙◌, subst, arith, List, [], ◌∷◌, ◌++◌, map, length, Contains, Bool, true, false, cond, Option, Some, None, ⊎_elim}
-use Rattle.std.specs.Prelude.{IsFalse, Result, Ok, Err, option_map, option_to_list, slice_get, take}
+use Rattle.std.specs.Prelude.{IsFalse, Result, Ok, option_map, slice_get, take}
 use Rattle.std.specs.Option.{option_map_or}
-use Rattle.kb_term.proofs.Steps.{contains_cases, contains_behind, contains_first}
+use Rattle.kb_term.proofs.Steps.{contains_behind, contains_first}
 use Rattle.kb_term.specs.Tree.{Tree}
 use Rattle.kb_term.specs.View.{tree_of}
 use Rattle.kb_term.specs.Pair.{Pair, canonical_pair}
@@ -24,7 +24,7 @@ use Rattle.kb_node.specs.declared.job.Job.{Job}
 use Rattle.kb_node.specs.declared.job.Job.TheVariants.{Reduce, Orient, Overlap, Close}
 use Rattle.mkb_model.specs.Plain.{Plain, PlainNode, rule_kind, label_at, pair_in, pair_at, state_of}
 use Rattle.mkb_model.specs.Effects.{with_label_in, with_label, gains, loses, gains_equation, gains_rule, with_node, new_node, node_of, is_present, oriented, added, rewritten, rewrite_label, overlap_label, applied, effect, is_dropped, forked_node}
-use Rattle.mkb_model.specs.Proposals.{Proposes, NamedRule, NamedOverlap, OverlapsOfAll, AreDeduced, deduced_pair, both_ways, all_ways, rules_on}
+use Rattle.mkb_model.specs.Proposals.{Proposes, NamedRule, NamedOverlap, OverlapsOfAll, AreDeduced, both_ways, all_ways, rules_on}
 use Rattle.mkb_model.specs.Invariants.{PairsFollow}
 use Rattle.mkb_model.specs.Journals.{Moment, Follows, IsPossibleRun, IsFreeJob, IsFinishing, opening, with_input, with_inputs}
 use Rattle.mkb_model.specs.Ready.{KeepsPairs, IsRewriteOn}
@@ -32,7 +32,7 @@ use Rattle.mkb_model.specs.declared.proposed.Proposed.{Proposed}
 use Rattle.mkb_model.specs.declared.proposed.Proposed.TheVariants.{Facts, Rewrite, One, Both, Refuse, Deduce, Unjoined, Closed, Limit}
 use Rattle.mkb_model.specs.declared.entry.Entry.{Entry}
 use Rattle.mkb_model.specs.declared.entry.Entry.TheVariants.{Take, Commit, Drop, Abandon, Halt}
-use Rattle.mkb_model.proofs.Lists.{clash, or_left, some_is, none_some, none_in, map_in, in_map, flat_map_in}
+use Rattle.mkb_model.proofs.Lists.{clash, or_left, some_is, none_some}
 use Rattle.mkb_model.proofs.Pairs.{pairs-with_node}
 use Rattle.mkb_model.proofs.Views.{rule_listed}
 use Rattle.mkb_model.proofs.Proper.{IsOrdered}

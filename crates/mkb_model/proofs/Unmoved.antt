@@ -50,6 +50,7 @@ done_gained p a c l h (d ∷ ds) x y = go (ref_eq d.first a && ref_eq d.second c
 
     joined : has (join d.names l) p ≡ has d.names p
     joined = has-join d.names l p ∙ ap (λ z. has d.names p || z) h ∙ or-false (has d.names p)
+
     go : (z : Bool) → has (done_in (gains_done_in a c l ds) x y) p ≡ has (done_in ds x y) p → has (done_in (cond z (record d { names = join d.names l } ∷ ds) (d ∷ gains_done_in a c l ds)) x y) p ≡ has (done_in (d ∷ ds) x y) p
     go true ih = inner (ref_eq d.first x && ref_eq d.second y) (join d.names l) (done_in ds x y) joined refl
     go false ih = inner (ref_eq d.first x && ref_eq d.second y) d.names (done_in (gains_done_in a c l ds) x y) refl ih
