@@ -43,7 +43,7 @@ others-push y x xs = filter-append (λ z. not (bytes_eq z y)) xs (x ∷ []) ∙ 
     go false e = rw e refl
 
 -- the first occurrences of a list with one more name
-firsts-push : (xs : List Name) (x : Name) → firsts (xs ++ x ∷ []) ≡ cond (is_among (firsts xs) x) (firsts xs) (firsts xs ++ x ∷ [])
+pub firsts-push : (xs : List Name) (x : Name) → firsts (xs ++ x ∷ []) ≡ cond (is_among (firsts xs) x) (firsts xs) (firsts xs ++ x ∷ [])
 firsts-push [] x = refl
 firsts-push (y ∷ ys) x = go (firsts-push ys x) (bytes_eq x y) refl (is_among (firsts ys) x) refl
   where
@@ -60,3 +60,12 @@ firsts-new xs vs x e f = rw (firsts-push vs x, ← e, f) refl
 -- the same list, where x is in it
 pub firsts-old : (xs vs : List Name) (x : Name) → xs ≡ firsts vs → is_among xs x ≡ true → xs ≡ firsts (vs ++ x ∷ [])
 firsts-old xs vs x e f = rw (firsts-push vs x, ← e, f) refl
+
+-- a name is among the first occurrences exactly where it is among all
+pub is_among-firsts : (xs : List Name) (x : Name) → is_among (firsts xs) x ≡ is_among xs x
+is_among-firsts [] x = refl
+is_among-firsts (y ∷ ys) x = go (is_among-firsts ys x) (bytes_eq x y) refl
+  where
+    go : is_among (firsts ys) x ≡ is_among ys x → (b : Bool) → bytes_eq x y ≡ b → (b || is_among (others y (firsts ys)) x) ≡ (b || is_among ys x)
+    go ih true e = refl
+    go ih false e = is_among-others x y (firsts ys) e ∙ ih

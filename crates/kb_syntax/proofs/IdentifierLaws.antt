@@ -29,7 +29,7 @@ white_tests false false true d h = absurd (cc)
 white_tests false false false true h = absurd (cc)
 white_tests false false false false h = refl
 
-letter_begins : (b : ℕ) (text : List ℕ) → start_of b text ≡ letter → begins_otherwise (b ∷ text) ≡ false
+pub letter_begins : (b : ℕ) (text : List ℕ) → start_of b text ≡ letter → begins_otherwise (b ∷ text) ≡ false
 letter_begins b text h = go (is_white b) refl
   where
     go : (w : Bool) → is_white b ≡ w → begins_otherwise (b ∷ text) ≡ false
@@ -45,7 +45,7 @@ unbroken-left bytes i h e =
     ∙ ap (λ (b : Bool). not b && is_unbroken (drop (i + 1) bytes)) (letter_begins (get_or bytes i 0) (drop (i + 1) bytes) (start_in_place bytes i ∙ e))
 
 -- a relation of the images of each two members
-AllPairs-map : {X Y : Type 0} (R : Y → Y → Type 0) (f : X → Y) (xs : List X) → AllPairs (λ (a b : X). R (f a) (f b)) xs → AllPairs R (map f xs)
+pub AllPairs-map : {X Y : Type 0} (R : Y → Y → Type 0) (f : X → Y) (xs : List X) → AllPairs (λ (a b : X). R (f a) (f b)) xs → AllPairs R (map f xs)
 AllPairs-map R f [] h i j d p q = absurd (omega arith)
 AllPairs-map R f (x ∷ xs) h i j d p q =
     let r : j < length (x ∷ xs) = omega (arith, length-map f (x ∷ xs)) in

@@ -16,3 +16,9 @@ pub mod Written
 pub mod WrittenSizes
 pub mod WrittenFalls
 pub mod WrittenCoding
+pub mod Machine
+pub mod Sides
+pub mod Moves
+pub mod Looks
+pub mod Reader
+pub mod Refused

@@ -1,5 +1,7 @@
 -- What stands at a place, by the byte there and the two behind it.
 use Rattle.std.specs.Prelude.{◌≡◌, ℕ, ◌+◌, ◌-◌, ◌<◌, ◌≤◌, List, [], ◌∷◌, true, cond, nat_eq, ◌&&◌, length, take, drop, get_or, ⊤}
+use Rattle.std.specs.Str.{IsCharBoundary}
+use Rattle.kb_term.specs.Identifier.{IsIdentifier}
 use Rattle.kb_syntax.specs.Tokens.{Token, Placed, is_white, white, mark, letter, tokens_from, arrow_equals, arrow, equals, bar, left_paren, right_paren, comma, quotation, identifier, end_of_input}
 use Rattle.kb_syntax.specs.Tokens as toks
 use Rattle.kb_syntax.specs.declared.lexer.Mark.{Mark}
@@ -77,6 +79,15 @@ HasBytes (IsMark Equals) c d = 0 < c
 HasBytes (IsMark m) c d = ⊤
 HasBytes Letter c d = ⊤
 
+-- white space and a mark begin and end with ASCII
+abbrev pub AreAscii : Start → ℕ → ℕ → ℕ → Type 0
+AreAscii White b c d = b < 128
+AreAscii (IsMark ArrowEquals) b c d = (b < 128) × (d < 128)
+AreAscii (IsMark Arrow) b c d = (b < 128) × (c < 128)
+AreAscii (IsMark Equals) b c d = (b < 128) × (c < 128)
+AreAscii (IsMark m) b c d = b < 128
+AreAscii Letter b c d = ⊤
+
 abbrev pub start_length : Start → ℕ
 start_length White = 1
 start_length (IsMark m) = mark_length_of m
@@ -88,6 +99,7 @@ pub record IsNameTo (bytes : List ℕ) (at end : ℕ) : Type 0 where
   pub within : end ≤ length bytes
   pub letters : (k : ℕ) → at ≤ k → k < end → start_in bytes k ≡ letter
   pub stops : end < length bytes → Stops (start_in bytes end)
+  pub ascii : end < length bytes → get_or bytes end 0 < 128
 
 -- the token that was found, and those behind it
 abbrev pub found_tokens : List ℕ → ℕ → ℕ → Form → List Placed
@@ -106,3 +118,8 @@ EndsBehind from end End = ⊤
 -- a token but the end of the input ends behind the place from which it was sought
 abbrev pub IsAhead : ℕ → Found → Type 0
 IsAhead from f = EndsBehind from f.end f.form
+
+-- in a text, from where a character begins: a character begins behind the token, and an identifier of the text is one
+pub record IsInText (bytes : List ℕ) (f : Found) : Type 0 where
+  pub boundary : IsCharBoundary bytes f.end
+  pub identifier : f.form ≡ Identifier → IsIdentifier (take (f.end - f.at) (drop f.at bytes))

@@ -1,8 +1,9 @@
 // One token at a time.
-ghost use Rattle.std.specs.Prelude.{IfOk, map, ◌∷◌, ◌≡◌, ◌+◌, ◌<◌, ◌≤◌, List, length, drop, get_or, slice_index};
+ghost use Rattle.std.specs.Prelude.{IfOk, map, ◌∷◌, ◌≡◌, ◌+◌, ◌<◌, ◌≤◌, List, length, drop, get_or, slice_index, IsUtf8};
+ghost use Rattle.std.specs.Str.{IsCharBoundary};
 ghost use Rattle.std.specs.Bool.{OnTrue};
 ghost use Rattle.kb_syntax.specs.Tokens.{tokens, tokens_from, letter};
-ghost use Rattle.kb_syntax.specs.Starts.{start_by, start_in, start_view, start_length, mark_length_of, first_and_rest, HasBytes, IsNameTo, IsAhead};
+ghost use Rattle.kb_syntax.specs.Starts.{start_by, start_in, start_view, start_length, mark_length_of, first_and_rest, AreAscii, HasBytes, IsInText, IsNameTo, IsAhead};
 ghost use Rattle.kb_syntax.specs.TokenValues.{token_of, tokens_of as values_of};
 
 use kb_term::Memory;
@@ -48,6 +49,7 @@ fn start_at(bytes: &[u8], at: usize) -> Start
     requires { at < length bytes.now }
     ensures start { start_view result ≡ start_in bytes.now at }
     ensures fits { at + start_length result ≤ length bytes.now }
+    ensures ascii { AreAscii result (get_or bytes.now at 0) (get_or bytes.now (at + 1) 0) (get_or bytes.now (at + 2) 0) }
 {
     let b = bytes[at];
     let c = if bytes.len() - at > 1 {
@@ -66,6 +68,7 @@ fn start_at(bytes: &[u8], at: usize) -> Start
 fn start_of(b: u8, c: u8, d: u8) -> Start
     ensures start { start_view result ≡ start_by b c d }
     ensures bytes { HasBytes result c d }
+    ensures ascii { AreAscii result b c d }
 {
     if b == 32 || b == 9 || b == 13 || b == 10 {
         return Start::White;
@@ -123,6 +126,7 @@ pub fn next_token(bytes: &[u8], from: usize) -> Found
     ensures within { result.end ≤ length bytes.now }
     ensures order { result.at ≤ result.end }
     ensures ahead { IsAhead from result }
+    ensures text { IsUtf8 bytes.now → IsCharBoundary bytes.now from → IsInText bytes.now result }
 {
     let mut at = from;
     while at < bytes.len() {

@@ -1,20 +1,33 @@
 //! The text of problems: tokens, the grammar, and what is written.
 #![tactic(auto)]
 
+mod declared;
+mod equation;
+mod fault;
+mod generator;
 mod identifier;
 mod kind;
+mod laws;
 mod lexer;
 mod line;
 mod names;
 mod narrow;
+mod notes;
+mod parse;
 mod parser;
+mod problem;
+mod reader;
+mod side;
 #[cfg(test)]
 mod tests;
 mod text;
 mod uses;
 mod written;
 
+pub use fault::SyntaxFault;
+pub use generator::generate;
 pub use kind::{Bound, Kind, Refusal};
+pub use laws::bytes_spell_one_problem;
 pub use lexer::{Form, Found, Mark, Token, next_token, tokens_of};
 pub use line::Fields;
 pub use names::Names;

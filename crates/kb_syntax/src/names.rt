@@ -1,6 +1,7 @@
 // Lists of names.
 ghost use Rattle.std.specs.Prelude.{◌≡◌, ◌<◌, ◌≤◌, [], ◌∷◌, ◌++◌, OnOk, IfOk, length, List, map};
 ghost use Rattle.kb_syntax.specs.Names.{Name, is_among, number_of as number_in, are_distinct as are_distinct_in, firsts};
+ghost use Rattle.kb_syntax.specs.Looks.{with_name};
 ghost use Rattle.kb_syntax.specs.Problems.{variables_among, symbols_among};
 
 use kb_term::Memory;
@@ -126,8 +127,9 @@ impl Names {
     }
 
     /// Adds a copy of the name at the end, where it isn't there yet.
-    fn add(&mut self, alloc: Global, name: &[u8]) -> Result<(), Memory>
-        ensures { OnOk result ((names : List Name) → self.old ≡ firsts names → self.new ≡ firsts (names ++ name.now ∷ [])) }
+    pub(crate) fn add(&mut self, alloc: Global, name: &[u8]) -> Result<(), Memory>
+        ensures exact { OnOk result (self.new ≡ with_name self.old name.now) }
+        ensures firsts { OnOk result ((names : List Name) → self.old ≡ firsts names → self.new ≡ firsts (names ++ name.now ∷ [])) }
     {
         if !self.contains(name) {
             self.push(Vec::from_slice(alloc, name)?)?;

@@ -49,6 +49,13 @@ impl Uses {
         Ok(())
     }
 
+    /// The number of arguments of the first use of the name.
+    pub fn first(&self, name: &[u8]) -> Option<usize>
+        ensures { result ≡ arity_in self.now name.now }
+    {
+        first_use(&self.items, name)
+    }
+
     /// The number of arguments of the first use of the name; 0 where there is none.
     pub fn arity_of(&self, name: &[u8]) -> usize
         ensures { result ≡ unwrap_or (arity_in self.now name.now) 0 }
@@ -69,6 +76,17 @@ impl Uses {
     {
         all_are_at_most(&self.items, most)
     }
+}
+
+fn first_use(uses: &[Use], name: &[u8]) -> Option<usize>
+    ensures { result ≡ arity_in (map (λ u. (u.name.items, u.count)) uses.now) name.now }
+{
+    for usage in uses {
+        if name == usage.name.as_slice() {
+            return Some(usage.count);
+        }
+    }
+    None
 }
 
 fn first_count(uses: &[Use], name: &[u8]) -> usize

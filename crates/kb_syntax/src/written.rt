@@ -1,7 +1,10 @@
 // Terms as they are written.
-ghost use Rattle.std.specs.Prelude.{◌≡◌, ◌^◌, ◌<◌, ◌++◌, map, length, IfOk, OnOk, nat_le};
+ghost use Rattle.std.specs.Prelude.{◌≡◌, ◌^◌, ◌<◌, ◌++◌, map, length, IfOk, MatchOption, None, OnOk, Some, min, nat_le};
+ghost use Rattle.kb_syntax.specs.Fronts.{whole, followed_tokens};
+ghost use Rattle.kb_syntax.specs.Grammar.{term_tokens};
+ghost use Rattle.kb_syntax.specs.Refusals.{last_alone};
 ghost use Rattle.kb_term.specs.View.{tree_of};
-ghost use Rattle.kb_syntax.specs.Written.{written_of};
+ghost use Rattle.kb_syntax.specs.Written.{arguments_of, written_of};
 ghost use Rattle.kb_syntax.specs.Problems.{names_in, uses_in, depth_in, is_unapplied, term_of};
 
 use crate::names::Names;
@@ -63,6 +66,17 @@ impl Model for WrittenTerms {
     ghost size_decreases = { λ a h. most_le-list_depth_in a.items.items };
 }
 
+/// How many tokens these arguments have, with a comma behind each; the greatest number where there are more.
+pub(crate) fn followed_tokens(arguments: &[WrittenTerm]) -> usize
+    ensures { result ≡ min (length (followed_tokens (arguments_of (map written_of arguments.now)))) usize.MAX }
+{
+    let mut count: usize = 0;
+    for argument in arguments {
+        count = count.saturating_add(argument.tokens().saturating_add(1));
+    }
+    count
+}
+
 impl WrittenTerms {
     /// The terms as arguments.
     pub fn new(items: Vec<WrittenTerm>) -> WrittenTerms
@@ -73,6 +87,35 @@ impl WrittenTerms {
 }
 
 impl WrittenTerm {
+    /// The name, where it stands alone.
+    pub(crate) fn alone_name(&self) -> Option<&[u8]>
+        ensures { MatchOption result (last_alone (whole (written_of self.now)) ≡ None) (λ name. last_alone (whole (written_of self.now)) ≡ Some name.now) }
+    {
+        match self {
+            WrittenTerm::Alone(name) => Some(name),
+            WrittenTerm::Applied(_, _) => None,
+        }
+    }
+
+    /// How many tokens the term has; the greatest number where there are more.
+    pub(crate) fn tokens(&self) -> usize
+        ensures { result ≡ min (length (term_tokens (written_of self.now))) usize.MAX }
+    {
+        match self {
+            WrittenTerm::Alone(_) => 1,
+            WrittenTerm::Applied(_, arguments) => {
+                if arguments.items.is_empty() {
+                    return 3;
+                }
+                let mut count: usize = 2;
+                for argument in &arguments.items {
+                    count = count.saturating_add(argument.tokens().saturating_add(1));
+                }
+                count
+            }
+        }
+    }
+
     /// Adds the identifiers of the term, from the left.
     pub fn push_names(&self, alloc: Global, names: &mut Names) -> Result<(), Memory>
         ensures { OnOk result (names.new ≡ names.old ++ names_in (written_of self.now)) }
