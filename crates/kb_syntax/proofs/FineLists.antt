@@ -91,10 +91,10 @@ few_more p names x n h k = subst (λ (xs : List Name). length (firsts xs) ≤ n)
 abbrev fits_first : List (Name × ℕ) → Name × ℕ → Bool
 fits_first all u = nat_eq u.1 (unwrap_or (arity_in all u.0) 0)
 
-arity-more : (us vs : List (Name × ℕ)) (x : Name) → is_some (arity_in us x) ≡ true → arity_in (us ++ vs) x ≡ arity_in us x
+pub arity-more : (us vs : List (Name × ℕ)) (x : Name) → is_some (arity_in us x) ≡ true → arity_in (us ++ vs) x ≡ arity_in us x
 arity-more us vs x h = arity-append us vs x ∙ ap (λ (b : Bool). cond b (arity_in us x) (arity_in vs x)) h
 
-some-within : (before us : List (Name × ℕ)) (u : Name × ℕ) → is_some (arity_in (before ++ u ∷ us) u.0) ≡ true
+pub some-within : (before us : List (Name × ℕ)) (u : Name × ℕ) → is_some (arity_in (before ++ u ∷ us) u.0) ≡ true
 some-within before us u = ap is_some (arity-append before (u ∷ us) u.0) ∙ go (arity_in before u.0) (bytes_eq u.0 u.0) (same_name u.0)
   where
     go : (o : Option ℕ) (b : Bool) → b ≡ true → is_some (cond (is_some o) o (cond b (Some u.1) (arity_in us u.0))) ≡ true

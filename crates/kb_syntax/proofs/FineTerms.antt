@@ -35,7 +35,7 @@ pub record Passes (vars : List Name) (d : ℕ) (u : TermFront) (t : Token) : Typ
   pub paren : (c : Name) → t ≡ left_paren → last_alone u ≡ Some c → is_among vars c ≡ false
   pub comma : t ≡ comma → (arguments_so_far u ≡ 8 → ⊥)
 
-depth-with_last : (ts : Arguments) (t : Written) → depth_in_all (with_last ts t) ≡ max (depth_in_all ts) (depth_in t)
+pub depth-with_last : (ts : Arguments) (t : Written) → depth_in_all (with_last ts t) ≡ max (depth_in_all ts) (depth_in t)
 depth-with_last no_arguments t = omega arith
 depth-with_last (argument u us) t = omega (arith, depth-with_last us t)
 

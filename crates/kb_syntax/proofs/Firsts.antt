@@ -11,7 +11,7 @@ same_bytes m n e = (bytes_eq-Decides m n).0 e
 pub bytes_eq-other : (m n : Name) → bytes_eq m n ≡ false → m ≡ n → ⊥
 bytes_eq-other m n e h = let f = (bytes_eq-Decides m n).1 h in cc
 
-bytes_eq-comm : (m n : Name) (b : Bool) → bytes_eq m n ≡ b → bytes_eq n m ≡ b
+pub bytes_eq-comm : (m n : Name) (b : Bool) → bytes_eq m n ≡ b → bytes_eq n m ≡ b
 bytes_eq-comm m n true e = (bytes_eq-Decides n m).1 (sym (same_bytes m n e))
 bytes_eq-comm m n false e = go (bytes_eq n m) refl
   where

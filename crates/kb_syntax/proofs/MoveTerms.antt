@@ -16,7 +16,7 @@ names-with_last : (ts : Arguments) (t : Written) → names_in_all (with_last ts 
 names-with_last no_arguments t = append-nil (names_in t)
 names-with_last (argument u us) t = ap (names_in u ++◌) (names-with_last us t) ∙ sym (append_assoc (names_in u) (names_in_all us) (names_in t))
 
-uses-with_last : (ts : Arguments) (t : Written) → uses_in_all (with_last ts t) ≡ uses_in_all ts ++ uses_in t
+pub uses-with_last : (ts : Arguments) (t : Written) → uses_in_all (with_last ts t) ≡ uses_in_all ts ++ uses_in t
 uses-with_last no_arguments t = append-nil (uses_in t)
 uses-with_last (argument u us) t = ap (uses_in u ++◌) (uses-with_last us t) ∙ sym (append_assoc (uses_in u) (uses_in_all us) (uses_in t))
 

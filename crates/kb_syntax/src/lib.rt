@@ -32,6 +32,7 @@ pub use lexer::{Form, Found, Mark, Token, next_token, tokens_of};
 pub use line::Fields;
 pub use names::Names;
 pub use narrow::read_one_equation;
+pub use parse::parse_problem;
 pub use text::{prefix_of, push_number, push_term, term_text};
 pub use uses::{Use, Uses};
 pub use written::{Sign, WrittenEquation, WrittenTerm, WrittenTerms};

@@ -6,8 +6,14 @@ ghost use Rattle.kb_syntax.specs.Refusals.{place_of};
 ghost use Rattle.kb_syntax.specs.Tokens.{placed_tokens};
 
 use crate::fault::SyntaxFault;
-use crate::kind::{Kind, Refusal};
+use crate::kind::{Bound, Kind, Refusal};
 use crate::lexer::{Form, next_token};
+use crate::reader::Reader;
+use kb_term::Problem;
+use std::alloc::Global;
+
+/// The most bytes that a text has.
+const INPUT_BYTES: usize = 1_048_576;
 
 // Where the token with this number, from 0, stands; 0 where there are fewer tokens.
 fn token_place(bytes: &[u8], number: usize) -> usize
@@ -28,11 +34,60 @@ fn token_place(bytes: &[u8], number: usize) -> usize
     }
 }
 
-pub(crate) fn refusal(bytes: &[u8], kind: Kind, number: usize) -> SyntaxFault
+fn refusal(bytes: &[u8], kind: Kind, number: usize) -> SyntaxFault
     ensures { IsRefusal bytes.now kind number result }
 {
     SyntaxFault::Refused(Refusal {
         kind,
         at: token_place(bytes, number) as u64,
     })
+}
+
+// The problem of a text, token by token.
+fn parse_text(alloc: Global, text: &[u8]) -> Result<Problem, SyntaxFault>
+    requires short { length text.now ≤ 1048576 }
+    requires utf8 { IsUtf8 text.now }
+    ensures spelled { IfOk result (λ p. Spells text.now p) }
+    ensures refused { IfErr result (λ e. IsFault text.now e) }
+{
+    let mut reader = Reader::new(alloc);
+    let mut number: usize = 0;
+    let mut at = 0;
+    loop {
+        let found = next_token(text, at);
+        let name = &text[found.at..found.end];
+        if let Some((kind, back)) = reader.shown(found.form, name) {
+            return Err(refusal(text, kind, number.saturating_sub(back)));
+        }
+        if found.form == Form::End {
+            let problem = reader.notes.problem(alloc)?;
+            return Ok(problem);
+        }
+        match reader.next(alloc, found.form, name)? {
+            Some(next) => reader = next,
+            None => return Err(refusal(text, Kind::BadToken, number)),
+        }
+        number += 1;
+        at = found.end;
+    }
+}
+
+/// The problem that the bytes spell. It is refused as the definitions say, with the place of the first refusal in bytes.
+pub fn parse_problem(alloc: Global, bytes: &[u8]) -> Result<Problem, SyntaxFault>
+    ensures spelled { IfOk result (λ p. Spells bytes.now p) }
+    ensures refused { IfErr result (λ e. IsFault bytes.now e) }
+{
+    if bytes.len() > INPUT_BYTES {
+        return Err(SyntaxFault::Refused(Refusal {
+            kind: Kind::Limit(Bound::Input),
+            at: INPUT_BYTES as u64,
+        }));
+    }
+    match std::str::from_utf8(bytes) {
+        Ok(_) => parse_text(alloc, bytes),
+        Err(e) => Err(SyntaxFault::Refused(Refusal {
+            kind: Kind::NotUtf8,
+            at: e.valid_up_to() as u64,
+        })),
+    }
 }
