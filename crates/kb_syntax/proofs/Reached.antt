@@ -12,7 +12,7 @@ use Rattle.kb_term.specs.Signature.{Problem, SymbolEntry, IsSignature}
 use Rattle.kb_syntax.specs.Names.{Name, is_among, firsts}
 use Rattle.kb_syntax.specs.Tokens.{Token, Placed, tokens, tokens_from, arrow_equals, arrow, equals, bar, left_paren, right_paren, comma, quotation, identifier, end_of_input}
 use Rattle.kb_syntax.specs.declared.lexer.Mark.TheVariants.{ArrowEquals, Arrow, Equals, Bar, LeftParen, RightParen, Comma, Quotation}
-use Rattle.kb_syntax.specs.Starts.{first_and_rest, IsInText}
+use Rattle.kb_syntax.specs.Starts.{first_and_rest, IsInText, IsAhead, EndsBehind}
 use Rattle.kb_syntax.specs.Grammar.{Written, Arguments, no_arguments, argument, Section, IsSection, WrittenEquation, section_tokens, text_tokens, open_after, term_tokens, equation_tokens, sign_token}
 use Rattle.kb_syntax.specs.Fronts.{TermFront, EquationFront, in_left, behind_sign, in_right, SectionFront, begun, in_variables, in_rules, in_equation, in_skipped, Front, IsFrontOf, IsSectionFront, open_tokens, section_front_tokens, equation_front_tokens, term_front_tokens, front_tokens}
 use Rattle.kb_syntax.specs.Problems.{Spells, MeetsLimits, problem_of, symbol_names, equation_variables, variables_of, equations_of, all_names, all_uses, arity_in, entry_of, variables_among, symbols_among, is_rules, equation_of as problem_equation}
@@ -277,6 +277,14 @@ symbols_identified n (Some s) Identifier name h k = go (is_among n.variables nam
     go true a = h
     go false true = h
     go false false = All-push IsIdentifier n.symbols name h (k refl)
+
+pub is_ahead : (at : ℕ) (f : Found) → (f.form ≡ End → ⊥) → IsAhead at f → at < f.end
+is_ahead at f n h = go f.form n h
+  where
+    go : (form : Form) → (form ≡ End → ⊥) → EndsBehind at f.end form → at < f.end
+    go (MarkForm m) n h = h
+    go Identifier n h = h
+    go End n h = absurd (n refl)
 
 pub stepped : (bytes : List ℕ) (at number : ℕ) (r s : Reader) (f : Found) → IsUtf8 bytes → (h : Reached bytes at number r) → tokens_from 0 at (drop at bytes) ≡ first_and_rest bytes f → (f.form ≡ End → ⊥) → f.end ≤ length bytes → at < f.end → IsInText bytes f
     → best None kinds h.front (token_at f.form (name_of bytes f)) ≡ None → IsNextReader r (token_at f.form (name_of bytes f)) (Some s) → Reached bytes f.end (number + 1) s

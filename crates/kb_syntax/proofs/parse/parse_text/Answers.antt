@@ -1,11 +1,10 @@
-use Rattle.std.proofs.Common.{◌≡◌, ◌-◌, ◌∙◌, ap, sym, subst, arith, ℕ, List, Option, Some, None}
-use Rattle.std.proofs.lemmas.Option.{same_Some}
+use Rattle.std.proofs.Common.{rules, ◌≡◌, ◌-◌, ◌∙◌, sym, subst, arith, ℕ, None}
 use Rattle.kb_syntax.specs.Machine.{best, kinds}
 use Rattle.kb_syntax.specs.Problems.{Spells}
 use Rattle.kb_syntax.specs.Refused.{IsRefusal}
 use Rattle.kb_syntax.specs.Sides.{token_at}
-use Rattle.kb_syntax.specs.declared.kind.Kind.{Kind}
-use Rattle.kb_syntax.proofs.Reached.{start_reached, short_side, few_noted, small_size, small_depth, name_of, shown_fault, bad_fault, stepped, finished, Finished}
+use Rattle.kb_syntax.specs.declared.lexer.Form.TheVariants.{End}
+use Rattle.kb_syntax.proofs.Reached.{start_reached, short_side, few_noted, small_size, small_depth, name_of, shown_fault, bad_fault, stepped, finished, is_ahead}
 use Rattle.kb_syntax.proofs.ShownLaws.{shown-known}
 use Rattle.kb_syntax.proofs.parse.parse_text.Goals as goal
 
@@ -21,8 +20,7 @@ returns-in-Some-clause-refused c =
     let text = c.args.text.now in
     let found = c.next_token-found.result in
     let h = l.invariant in
-    let token = token_at found.form (name_of text found) in
-    let best_is : best None kinds h.front token ≡ c.shown.result = sym (c.shown.ensures ∙ shown-known l.reader.notes l.reader.place h.front found.form (name_of text found) h.stands h.fine) in
+    let best_is : best None kinds h.front (token_at found.form (name_of text found)) ≡ c.shown.result = sym (c.shown.ensures ∙ shown-known l.reader.notes l.reader.place h.front found.form (name_of text found) h.stands h.fine) in
     shown_fault text l.at l.number l.reader found c.requires.short c.requires.utf8 h c.next_token-found.ensures.found c.in-Some.kind c.in-Some.back (best_is ∙ c.in-Some.is) c.refusal.result
     (subst (λ (n : ℕ). IsRefusal text c.in-Some.kind n c.refusal.result) c.saturating_sub.ensures c.refusal.ensures)
 
@@ -32,12 +30,19 @@ problem-requires c =
     let text = c.args.text.now in
     let found = c.next_token-found.result in
     let h = l.invariant in
-    let token = token_at found.form (name_of text found) in
-    let best_is : best None kinds h.front token ≡ c.shown.result = sym (c.shown.ensures ∙ shown-known l.reader.notes l.reader.place h.front found.form (name_of text found) h.stands h.fine) in
-    (finished text l.at l.number l.reader found c.requires.short c.requires.utf8 h c.next_token-found.ensures.found ? (best_is ∙ ?)).noted
+    let quiet : best None kinds h.front (token_at found.form (name_of text found)) ≡ None = sym (c.shown.ensures ∙ shown-known l.reader.notes l.reader.place h.front found.form (name_of text found) h.stands h.fine) ∙ c.in_default.is in
+    let end : found.form ≡ End = search rules in
+    (finished text l.at l.number l.reader found c.requires.short c.requires.utf8 h c.next_token-found.ensures.found end quiet).noted
 
 pub returns-then-eq-clause-spelled : goal.returns-then-eq-clause-spelled
-returns-then-eq-clause-spelled c = ?
+returns-then-eq-clause-spelled c =
+    let l = c.loop-kind in
+    let text = c.args.text.now in
+    let found = c.next_token-found.result in
+    let h = l.invariant in
+    let quiet : best None kinds h.front (token_at found.form (name_of text found)) ≡ None = sym (c.shown.ensures ∙ shown-known l.reader.notes l.reader.place h.front found.form (name_of text found) h.stands h.fine) ∙ c.in_default.is in
+    let end : found.form ≡ End = search rules in
+    subst (Spells text) (sym c.in_ok-problem.ensures) (finished text l.at l.number l.reader found c.requires.short c.requires.utf8 h c.next_token-found.ensures.found end quiet).spelled
 
 pub next-requires-clause-depth : goal.next-requires-clause-depth
 next-requires-clause-depth c =
@@ -46,7 +51,21 @@ next-requires-clause-depth c =
     omega (arith, small)
 
 pub returns-in-None-clause-refused : goal.returns-in-None-clause-refused
-returns-in-None-clause-refused c = ?
+returns-in-None-clause-refused c =
+    let l = c.loop-kind in
+    let text = c.args.text.now in
+    let found = c.next_token-found.result in
+    let h = l.invariant in
+    let quiet : best None kinds h.front (token_at found.form (name_of text found)) ≡ None = sym (c.shown.ensures ∙ shown-known l.reader.notes l.reader.place h.front found.form (name_of text found) h.stands h.fine) ∙ c.in_default.is in
+    let more : found.form ≡ End → ⊥ = search rules in
+    bad_fault text l.at l.number l.reader found c.requires.short c.requires.utf8 h c.next_token-found.ensures.found more quiet (rw c.in-None.is at c.in_ok-next.ensures) c.refusal-in-None.result c.refusal-in-None.ensures
 
 pub loop-kind-preserved : goal.loop-kind-preserved
-loop-kind-preserved c = ?
+loop-kind-preserved c =
+    let l = c.loop-kind in
+    let text = c.args.text.now in
+    let found = c.next_token-found.result in
+    let h = l.invariant in
+    let quiet : best None kinds h.front (token_at found.form (name_of text found)) ≡ None = sym (c.shown.ensures ∙ shown-known l.reader.notes l.reader.place h.front found.form (name_of text found) h.stands h.fine) ∙ c.in_default.is in
+    let more : found.form ≡ End → ⊥ = search rules in
+    stepped text l.at l.number l.reader c.in-Some-2.next found c.requires.utf8 h c.next_token-found.ensures.found more c.next_token-found.ensures.within (is_ahead l.at found more c.next_token-found.ensures.ahead) (c.next_token-found.ensures.text c.requires.utf8 h.boundary) quiet (rw c.in-Some-2.is at c.in_ok-next.ensures)
