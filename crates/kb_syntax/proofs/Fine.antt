@@ -327,17 +327,17 @@ few_in_side names more t h e k = omega (arith, ap length e, length-append names 
     go t k = omega (arith, h)
 
 -- where a name goes on in a side, its spot is there
-record HasSpot (o : Option Spot) (side equation : List Name) (parens : ℕ) : Type 0 where
-  spot : Spot
-  is : o ≡ Some spot
-  side_is : spot.side ≡ side
-  equation_is : spot.equation ≡ equation
-  parens_is : spot.parens ≡ parens
+pub record HasSpot (o : Option Spot) (side equation : List Name) (parens : ℕ) : Type 0 where
+  pub spot : Spot
+  pub is : o ≡ Some spot
+  pub side_is : spot.side ≡ side
+  pub equation_is : spot.equation ≡ equation
+  pub parens_is : spot.parens ≡ parens
 
-left_spot : (u : TermFront) → awaits_term u ≡ true → HasSpot (equation_spot (in_left u)) (names_in_front u) (names_in_front u) (open_parens u)
+pub left_spot : (u : TermFront) → awaits_term u ≡ true → HasSpot (equation_spot (in_left u)) (names_in_front u) (names_in_front u) (open_parens u)
 left_spot u e = record { spot = record { begins = false; side = names_in_front u; equation = names_in_front u; parens = open_parens u }; is = ap (λ (b : Bool). cond b (Some (record { begins = false; side = names_in_front u; equation = names_in_front u; parens = open_parens u })) None) e; side_is = refl; equation_is = refl; parens_is = refl }
 
-right_spot : (l : Written) (s : Sign) (u : TermFront) → awaits_term u ≡ true → HasSpot (equation_spot (in_right l s u)) (names_in_front u) (names_in l ++ names_in_front u) (open_parens u)
+pub right_spot : (l : Written) (s : Sign) (u : TermFront) → awaits_term u ≡ true → HasSpot (equation_spot (in_right l s u)) (names_in_front u) (names_in l ++ names_in_front u) (open_parens u)
 right_spot l s u e = record { spot = record { begins = false; side = names_in_front u; equation = names_in l ++ names_in_front u; parens = open_parens u }; is = ap (λ (b : Bool). Some (cond b (record { begins = false; side = names_in_front u; equation = names_in l ++ names_in_front u; parens = open_parens u }) new_equation)) e; side_is = refl; equation_is = refl; parens_is = refl }
 
 -- one more token within a side
@@ -418,7 +418,7 @@ same_parts ss o p h a b c = record { open_equation = a; ordered = h.ordered; non
 closed_parts : (ss : List Section) (o : Option SectionFront) (s : Section) → Fine (record { sections = ss; open_section = o }) → are_ordered (ss ++ s ∷ []) ≡ true → front_count (record { sections = ss ++ s ∷ []; open_section = None }) ≤ front_count (record { sections = ss; open_section = o }) → NextParts (record { sections = ss; open_section = o }) (record { sections = ss ++ s ∷ []; open_section = None })
 closed_parts ss o s h a c = record { open_equation = tt; ordered = a; none_before = λ e. absurd (cc); count = omega (arith, c, h.count) }
 
-closed_count : (ss : List Section) (s : Section) → length (equations_of (ss ++ s ∷ [])) ≡ length (equations_of ss) + length (equations_of (s ∷ []))
+pub closed_count : (ss : List Section) (s : Section) → length (equations_of (ss ++ s ∷ [])) ≡ length (equations_of ss) + length (equations_of (s ∷ []))
 closed_count ss s = omega (arith, ap length (equations-append ss (s ∷ [])), length-append (equations_of ss) (equations_of (s ∷ [])))
 
 fewer : (n : ℕ) → n ≤ 256 → nat_eq n 256 ≡ false → n + 1 ≤ 256

@@ -2,8 +2,15 @@
 ghost use Rattle.std.specs.Prelude.{◌≡◌, ℕ, List};
 ghost use Rattle.kb_term.specs.Signature.{Problem};
 ghost use Rattle.kb_syntax.specs.Problems.{Spells};
+ghost use Rattle.kb_syntax.specs.Refusals.{IsRefused};
+ghost use Rattle.kb_syntax.specs.declared.kind.Kind.{Kind};
 
 /// Bytes spell at most one problem.
 pub fn bytes_spell_one_problem()
     ensures { (bytes : List ℕ) (p q : Problem) → Spells bytes p → Spells bytes q → p ≡ q }
+{}
+
+/// Bytes that are refused spell no problem.
+pub fn refused_bytes_spell_no_problem()
+    ensures { (bytes : List ℕ) (kind : Kind) (at : ℕ) (p : Problem) → IsRefused bytes kind at → Spells bytes p → ⊥ }
 {}
