@@ -66,7 +66,7 @@ pub record PassesTests (vars : List Name) (o : Option SectionFront) (t : Token) 
   pub variables : (c : Name) (s : Spot) → t ≡ identifier c → spot_of o ≡ Some s → (is_new c (variables_among vars s.equation) 64 && is_among vars c) ≡ false
   pub arity : (u : TermFront) → t ≡ comma → side_of o ≡ Some u → arguments_so_far u ≡ 8 → ⊥
 
-none_some : {A : Type 0} {x : A} → None ≡ Some x → ⊥
+pub none_some : {A : Type 0} {x : A} → None ≡ Some x → ⊥
 none_some e = cc
 
 same_token : (c d : Name) → identifier c ≡ identifier d → c ≡ d

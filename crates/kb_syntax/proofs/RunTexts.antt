@@ -174,7 +174,7 @@ run_section (variables xs) ss h = (_, refl, (_, refl, leads-append next_front (n
 run_section (rules es) ss h = (_, refl, (_, refl, run_rules ss es))
 run_section (skipped x ts) ss h = (_, refl, (_, named_step ss x h.0, leads-append next_front ts (right_paren ∷ []) _ _ _ (run_skipped ts ss x [] 0 0 refl h.1) (_, skip_end ss x ts h.1, refl)))
 
-run_sections : (us ss : List Section) → AllByRecursion IsSection us → Leads next_front (closed_at ss) (flat_map section_tokens us) (closed_at (ss ++ us))
+pub run_sections : (us ss : List Section) → AllByRecursion IsSection us → Leads next_front (closed_at ss) (flat_map section_tokens us) (closed_at (ss ++ us))
 run_sections [] ss h = ap closed_at (sym (append-nil ss))
 run_sections (u ∷ us) ss h = leads-append next_front (section_tokens u) (flat_map section_tokens us) (closed_at ss) (closed_at (ss ++ u ∷ [])) (closed_at (ss ++ u ∷ us)) (run_section u ss h.0)
     (subst (λ (l : List Section). Leads next_front (closed_at (ss ++ u ∷ [])) (flat_map section_tokens us) (closed_at l)) (append_assoc ss (u ∷ []) us) (run_sections us (ss ++ u ∷ []) h.1))
