@@ -111,14 +111,16 @@ side_before : (vars : List Name) (es : List WrittenEquation) (e : EquationFront)
     → length (firsts (variables_among vars (equation_names e ++ names_of_token t))) ≤ 64 → (awaits_term u ≡ true → HasSpot (equation_spot e) (names_in_front u) (equation_names e) (open_parens u))
     → (FitsSide vars 0 u × (length (names_in_front u) ≤ 512)) × PassesTests vars (Some (in_equation es e)) t
 side_before vars es e u v t side next fits size few spot =
-    let r = fits_term vars u v 0 t next fits in
-    ((r.0, omega (arith, grown, length-append (names_in_front u) (names_of_token t), size)), record {
-      applied = λ c w k q a. r.1.paren c k (ap last_alone (same_Some u w (sym side ∙ q)) ∙ a);
-      size = λ c s k q. apart (length s.side) 512 (let l = ap length (at_spot c s k q).0 in let n = named c k in omega (arith, l, n, size));
-      depth = λ c s k q. apart s.parens 64 (let l = (at_spot c s k q).1.1 in let n = r.1.name c k in omega (arith, l, n));
-      variables = λ c s k q. ap (λ (ns : List Name). is_new c (variables_among vars ns) 64 && is_among vars c) (at_spot c s k q).1.0 ∙ few_less (is_among vars) (equation_names e) c 64 (subst (λ (x : Token). length (firsts (variables_among vars (equation_names e ++ names_of_token x))) ≤ 64) k few);
-      arity = λ w k q a. r.1.comma k (ap arguments_so_far (same_Some u w (sym side ∙ q)) ∙ a);
-    })
+    let r = fits_term vars u v 0 t next fits in (
+      (r.0, omega (arith, grown, length-append (names_in_front u) (names_of_token t), size)),
+      record {
+        applied = λ c w k q a. r.1.paren c k (ap last_alone (same_Some u w (sym side ∙ q)) ∙ a);
+        size = λ c s k q. apart (length s.side) 512 (let l = ap length (at_spot c s k q).0 in let n = named c k in omega (arith, l, n, size));
+        depth = λ c s k q. apart s.parens 64 (let l = (at_spot c s k q).1.1 in let n = r.1.name c k in omega (arith, l, n));
+        variables = λ c s k q. ap (λ (ns : List Name). is_new c (variables_among vars ns) 64 && is_among vars c) (at_spot c s k q).1.0 ∙ few_less (is_among vars) (equation_names e) c 64 (subst (λ (x : Token). length (firsts (variables_among vars (equation_names e ++ names_of_token x))) ≤ 64) k few);
+        arity = λ w k q a. r.1.comma k (ap arguments_so_far (same_Some u w (sym side ∙ q)) ∙ a);
+      },
+    )
   where
     apart : (m n : ℕ) → m < n → nat_eq m n ≡ false
     apart m n h = grind arith
@@ -142,19 +144,22 @@ equation_before vars es (in_left u) after t h k = ⊎_elim
     let r = side_before vars es (in_left u) u a.0 t refl a.1 fits.sides fits.size few (left_spot u) in
     (record { variables = fewer_names (is_among vars) (names_in_front u) t 64 few; size = r.0.1; sides = r.0.0 }, r.1))
     (λ a. let fits : FitsFront vars (behind_sign a.0 a.1) = subst (FitsFront vars) (sym a.4) k in
-    let is : whole a.0 ≡ u = sym (is_whole_is u a.0 a.2) in
-    (subst (λ (v : TermFront). FitsFront vars (in_left v)) is (record { variables = fits.variables; size = fits.sides.size; sides = fits.sides.term }),
-    other_tests vars (Some (in_equation es (in_left u))) t (λ q. none_some (ap sign_of (sym q) ∙ a.3)) (λ q. none_some (ap sign_of (sym q) ∙ a.3)) (λ c q. none_some (ap sign_of (sym q) ∙ a.3))))
+    let is : whole a.0 ≡ u = sym (is_whole_is u a.0 a.2) in (
+      subst (λ (v : TermFront). FitsFront vars (in_left v)) is (record { variables = fits.variables; size = fits.sides.size; sides = fits.sides.term }),
+      other_tests vars (Some (in_equation es (in_left u))) t (λ q. none_some (ap sign_of (sym q) ∙ a.3)) (λ q. none_some (ap sign_of (sym q) ∙ a.3)) (λ c q. none_some (ap sign_of (sym q) ∙ a.3)),
+    ))
     (left_next u t after h)
 equation_before vars es (behind_sign l s) after (identifier c) h k =
-    let fits : FitsFront vars (in_right l s (whole (alone c))) = subst (FitsFront vars) (sym (same_Some (in_right l s (whole (alone c))) after h)) k in
-    (record { variables = fewer_names (is_among vars) (names_in l) (identifier c) 64 fits.variables; size = omega arith; sides = fits.sides.0 }, record {
-      applied = λ d u q. absurd (cc);
-      size = λ d x q r. ap (λ (y : Spot). nat_eq (length y.side) 512) (sym (same_Some here x r));
-      depth = λ d x q r. ap (λ (y : Spot). nat_eq y.parens 64) (sym (same_Some here x r));
-      variables = λ d x q r. ap (λ (y : Spot). is_new d (variables_among vars y.equation) 64 && is_among vars d) (sym (same_Some here x r)) ∙ few_less (is_among vars) (names_in l) d 64 (subst (λ (y : Name). length (firsts (variables_among vars (names_in l ++ y ∷ []))) ≤ 64) (same_token c d q) fits.variables);
-      arity = λ u q. absurd (cc);
-    })
+    let fits : FitsFront vars (in_right l s (whole (alone c))) = subst (FitsFront vars) (sym (same_Some (in_right l s (whole (alone c))) after h)) k in (
+      record { variables = fewer_names (is_among vars) (names_in l) (identifier c) 64 fits.variables; size = omega arith; sides = fits.sides.0 },
+      record {
+        applied = λ d u q. absurd (cc);
+        size = λ d x q r. ap (λ (y : Spot). nat_eq (length y.side) 512) (sym (same_Some here x r));
+        depth = λ d x q r. ap (λ (y : Spot). nat_eq y.parens 64) (sym (same_Some here x r));
+        variables = λ d x q r. ap (λ (y : Spot). is_new d (variables_among vars y.equation) 64 && is_among vars d) (sym (same_Some here x r)) ∙ few_less (is_among vars) (names_in l) d 64 (subst (λ (y : Name). length (firsts (variables_among vars (names_in l ++ y ∷ []))) ≤ 64) (same_token c d q) fits.variables);
+        arity = λ u q. absurd (cc);
+      },
+    )
   where
     here : Spot
     here = record { begins = false; side = []; equation = names_in l; parens = 0 }
@@ -170,12 +175,14 @@ equation_before vars es (in_right l s u) after t h k =
 -- a whole equation
 whole_before : (vars : List Name) (e : EquationFront) (w : WrittenEquation) → whole_equation e ≡ Some w → FitsEquation vars w → FitsFront vars e × (equation_spot e ≡ Some new_equation)
 whole_before vars e w h k =
-    let r = whole_is e w h in
-    (subst (FitsFront vars) (sym r.is) (record {
-      variables = subst (λ (t : Written). length (firsts (variables_among vars (names_in w.left ++ names_in t))) ≤ 64) (sym r.right) k.variables;
-      size = subst (λ (t : Written). length (names_in t) ≤ 512) (sym r.right) k.right.size;
-      sides = (k.left, subst (FitsTerm vars 0) (sym r.right) k.right.term);
-    }), ap equation_spot r.is)
+    let r = whole_is e w h in (
+      subst (FitsFront vars) (sym r.is) (record {
+        variables = subst (λ (t : Written). length (firsts (variables_among vars (names_in w.left ++ names_in t))) ≤ 64) (sym r.right) k.variables;
+        size = subst (λ (t : Written). length (names_in t) ≤ 512) (sym r.right) k.right.size;
+        sides = (k.left, subst (FitsTerm vars 0) (sym r.right) k.right.term);
+      }),
+      ap equation_spot r.is,
+    )
 
 -- ---- parts of the front before
 
@@ -390,19 +397,22 @@ quiet f g t m h p same = record {
 
 -- the variables stay
 same_variables : (f g : Front) (t : Token) → new_variables f.open_section t ≡ [] → is_in_variables f.open_section ≡ false → Move f.sections f.open_section t g → Fits g → Parts f g t → Fits f × Unshown f t
-same_variables f g t stay out m h p = (record {
-  short_variables = ap (list_all is_short) (sym same) ∙ h.short_variables;
-  short_names = all_front is_short (front_names f) (new_names f.open_section t) (ap (list_all is_short) (sym m.names) ∙ h.short_names);
-  short_skipped = p.skipped;
-  distinct = ap are_distinct (sym same) ∙ h.distinct;
-  agrees = agree_front (front_uses f) (new_uses f.open_section t) (ap agree (sym m.uses) ∙ h.agrees);
-  count = p.count;
-  symbols = subst (λ (vs : List Name). length (firsts (symbols_among vs (front_names f))) ≤ 24) same (fewer_at (λ x. not (is_among (front_variables g) x)) (front_names f) (spot_of f.open_section) t 24 (subst (λ (ns : List Name). length (firsts (symbols_among (front_variables g) ns)) ≤ 24) m.names h.symbols));
-  equations = subst (λ (vs : List Name). AllByRecursion (FitsEquation vs) (equations_of f.sections ++ open_equations f.open_section)) same (each_front (FitsEquation (front_variables g)) (equations_of f.sections ++ open_equations f.open_section) (new_equations f.open_section t) (subst (AllByRecursion (FitsEquation (front_variables g))) m.equations h.equations)).0;
-  open_equation = subst (λ (vs : List Name). FitsOpenEquation vs f.open_section) same p.open_equation;
-  ordered = p.ordered;
-  none_before = λ e. absurd (true_false e out);
-}, quiet f g t m h p (inl same))
+same_variables f g t stay out m h p = (
+  record {
+    short_variables = ap (list_all is_short) (sym same) ∙ h.short_variables;
+    short_names = all_front is_short (front_names f) (new_names f.open_section t) (ap (list_all is_short) (sym m.names) ∙ h.short_names);
+    short_skipped = p.skipped;
+    distinct = ap are_distinct (sym same) ∙ h.distinct;
+    agrees = agree_front (front_uses f) (new_uses f.open_section t) (ap agree (sym m.uses) ∙ h.agrees);
+    count = p.count;
+    symbols = subst (λ (vs : List Name). length (firsts (symbols_among vs (front_names f))) ≤ 24) same (fewer_at (λ x. not (is_among (front_variables g) x)) (front_names f) (spot_of f.open_section) t 24 (subst (λ (ns : List Name). length (firsts (symbols_among (front_variables g) ns)) ≤ 24) m.names h.symbols));
+    equations = subst (λ (vs : List Name). AllByRecursion (FitsEquation vs) (equations_of f.sections ++ open_equations f.open_section)) same (each_front (FitsEquation (front_variables g)) (equations_of f.sections ++ open_equations f.open_section) (new_equations f.open_section t) (subst (AllByRecursion (FitsEquation (front_variables g))) m.equations h.equations)).0;
+    open_equation = subst (λ (vs : List Name). FitsOpenEquation vs f.open_section) same p.open_equation;
+    ordered = p.ordered;
+    none_before = λ e. absurd (true_false e out);
+  },
+  quiet f g t m h p (inl same),
+)
   where
     same : front_variables g ≡ front_variables f
     same = m.variables ∙ ap (front_variables f ++◌) stay ∙ append-nil (front_variables f)
@@ -412,19 +422,22 @@ same_variables f g t stay out m h p = (record {
 
 -- in a section of variables, before which no rules stand
 in_declarations : (ss : List Section) (xs : List Name) (t : Token) (g : Front) → list_any is_rules ss ≡ false → Move ss (Some (in_variables xs)) t g → Fits g → Parts (record { sections = ss; open_section = Some (in_variables xs) }) g t → Fits (record { sections = ss; open_section = Some (in_variables xs) }) × Unshown (record { sections = ss; open_section = Some (in_variables xs) }) t
-in_declarations ss xs t g before m h p = (record {
-  short_variables = all_front is_short (variables_of ss ++ xs) (new_variables (Some (in_variables xs)) t) (ap (list_all is_short) (sym m.variables) ∙ h.short_variables);
-  short_names = ap (λ (es : List WrittenEquation). list_all is_short (all_names es ++ [])) none;
-  short_skipped = p.skipped;
-  distinct = distinct_front (variables_of ss ++ xs) (new_variables (Some (in_variables xs)) t) (ap are_distinct (sym m.variables) ∙ h.distinct);
-  agrees = ap (λ (es : List WrittenEquation). agree (all_uses es ++ [])) none;
-  count = p.count;
-  symbols = subst (λ (es : List WrittenEquation). length (firsts (symbols_among (variables_of ss ++ xs) (all_names es ++ []))) ≤ 24) (sym none) (omega arith);
-  equations = subst (λ (es : List WrittenEquation). AllByRecursion (FitsEquation (variables_of ss ++ xs)) (es ++ [])) (sym none) tt;
-  open_equation = tt;
-  ordered = p.ordered;
-  none_before = λ e. before;
-}, quiet (record { sections = ss; open_section = Some (in_variables xs) }) g t m h p (inr (refl, refl)))
+in_declarations ss xs t g before m h p = (
+  record {
+    short_variables = all_front is_short (variables_of ss ++ xs) (new_variables (Some (in_variables xs)) t) (ap (list_all is_short) (sym m.variables) ∙ h.short_variables);
+    short_names = ap (λ (es : List WrittenEquation). list_all is_short (all_names es ++ [])) none;
+    short_skipped = p.skipped;
+    distinct = distinct_front (variables_of ss ++ xs) (new_variables (Some (in_variables xs)) t) (ap are_distinct (sym m.variables) ∙ h.distinct);
+    agrees = ap (λ (es : List WrittenEquation). agree (all_uses es ++ [])) none;
+    count = p.count;
+    symbols = subst (λ (es : List WrittenEquation). length (firsts (symbols_among (variables_of ss ++ xs) (all_names es ++ []))) ≤ 24) (sym none) (omega arith);
+    equations = subst (λ (es : List WrittenEquation). AllByRecursion (FitsEquation (variables_of ss ++ xs)) (es ++ [])) (sym none) tt;
+    open_equation = tt;
+    ordered = p.ordered;
+    none_before = λ e. before;
+  },
+  quiet (record { sections = ss; open_section = Some (in_variables xs) }) g t m h p (inr (refl, refl)),
+)
   where
     none : equations_of ss ≡ []
     none = no-equations ss before
