@@ -27,7 +27,7 @@ all_one p x h = ap (λ (b : Bool). b && true) h
 
 -- ---- names
 
-same_name : (x : Name) → bytes_eq x x ≡ true
+pub same_name : (x : Name) → bytes_eq x x ≡ true
 same_name x = (bytes_eq-Decides x x).1 refl
 
 pub among-append : (xs ys : List Name) (x : Name) → is_among (xs ++ ys) x ≡ (is_among xs x || is_among ys x)

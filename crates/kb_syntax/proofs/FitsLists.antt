@@ -24,11 +24,11 @@ pub each_front : {X : Type 0} (P : X → Type 0) (xs ys : List X) → AllByRecur
 each_front P [] ys h = (tt, h)
 each_front P (x ∷ xs) ys h = let r = each_front P xs ys h.1 in ((h.0, r.0), r.1)
 
-or_parts : (a b : Bool) → (a || b) ≡ false → (a ≡ false) × (b ≡ false)
+pub or_parts : (a b : Bool) → (a || b) ≡ false → (a ≡ false) × (b ≡ false)
 or_parts true b h = absurd (cc)
 or_parts false b h = (refl, h)
 
-or_join : (a b : Bool) → a ≡ false → b ≡ false → (a || b) ≡ false
+pub or_join : (a b : Bool) → a ≡ false → b ≡ false → (a || b) ≡ false
 or_join a b h k = (λ i. h i || k i)
 
 -- ---- names
@@ -74,7 +74,7 @@ fewer_names p names (identifier x) n h = go (p x) (subst (λ (ns : List Name). l
     go false k = subst (λ (ns : List Name). length (firsts ns) ≤ n) (append-nil (filter p names)) k
 fewer_names p names t n h = subst (λ (ns : List Name). length (firsts (filter p ns)) ≤ n) (append-nil names) h
 
-not_either : (a b : Bool) → cond a false b ≡ true → (a ≡ false) × (b ≡ true)
+pub not_either : (a b : Bool) → cond a false b ≡ true → (a ≡ false) × (b ≡ true)
 not_either true b h = absurd (cc)
 not_either false b h = (refl, h)
 

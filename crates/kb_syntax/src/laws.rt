@@ -1,6 +1,6 @@
 // What the definitions imply, as contracts of functions that do nothing.
 ghost use Rattle.std.specs.Prelude.{◌≡◌, ℕ, List};
-ghost use Rattle.kb_term.specs.Signature.{Problem};
+ghost use Rattle.kb_term.specs.Signature.{Problem, IsWithinLimits};
 ghost use Rattle.kb_syntax.specs.Problems.{Spells};
 ghost use Rattle.kb_syntax.specs.Refusals.{IsRefused};
 ghost use Rattle.kb_syntax.specs.declared.kind.Kind.{Kind};
@@ -13,4 +13,9 @@ pub fn bytes_spell_one_problem()
 /// Bytes that are refused spell no problem.
 pub fn refused_bytes_spell_no_problem()
     ensures { (bytes : List ℕ) (kind : Kind) (at : ℕ) (p : Problem) → IsRefused bytes kind at → Spells bytes p → ⊥ }
+{}
+
+/// A problem that bytes spell is within the limits, and the variables of each equation are numbered by first occurrence.
+pub fn spelled_problems_are_within_limits()
+    ensures { (bytes : List ℕ) (p : Problem) → Spells bytes p → IsWithinLimits p }
 {}

@@ -27,7 +27,9 @@ mod written;
 pub use fault::SyntaxFault;
 pub use generator::generate;
 pub use kind::{Bound, Kind, Refusal};
-pub use laws::{bytes_spell_one_problem, refused_bytes_spell_no_problem};
+pub use laws::{
+    bytes_spell_one_problem, refused_bytes_spell_no_problem, spelled_problems_are_within_limits,
+};
 pub use lexer::{Form, Found, Mark, Token, next_token, tokens_of};
 pub use line::Fields;
 pub use names::Names;
