@@ -1,13 +1,12 @@
 // The problem that a text spells.
 ghost use Rattle.std.specs.Prelude.{◌≡◌, ◌+◌, ◌-◌, ◌<◌, ◌≤◌, IfErr, IfOk, IsUtf8, get_or, length, map};
-ghost use Rattle.kb_syntax.specs.Problems.{Spells};
+ghost use Rattle.kb_text.specs.Problems.{Spells};
 ghost use Rattle.kb_syntax.specs.Refused.{IsFault, IsRefusal};
-ghost use Rattle.kb_syntax.specs.Refusals.{place_of};
-ghost use Rattle.kb_syntax.specs.Tokens.{placed_tokens};
+ghost use Rattle.kb_text.specs.Refusals.{place_of};
+ghost use Rattle.kb_text.specs.Tokens.{placed_tokens};
 
 use crate::fault::SyntaxFault;
-use crate::kind::{Kind, Refusal};
-use crate::lexer::{Form, next_token};
+use kb_text::{Form, Kind, Refusal, next_token};
 
 // Where the token with this number, from 0, stands; 0 where there are fewer tokens.
 fn token_place(bytes: &[u8], number: usize) -> usize
