@@ -4,11 +4,11 @@ use Rattle.std.specs.Prelude.{not, nat_eq, nat_le, nat_lt, bytes_eq, is_some, un
 use Rattle.std.specs.List.{list_all, list_any}
 use Rattle.std.proofs.lemmas.List.Folds.{list_all-append, list_any-append}
 use Rattle.std.proofs.lemmas.List.Elements.{filter-append}
-use Rattle.kb_syntax.specs.Names.{Name, is_among, firsts, are_distinct}
-use Rattle.kb_syntax.specs.Grammar.{Section, variables, rules, skipped, WrittenEquation}
-use Rattle.kb_syntax.specs.Problems.{arity_in, agree, variables_among, symbols_among, are_ordered, is_variables, is_rules, equations_of, variables_of, names_of_section, all_names}
-use Rattle.kb_syntax.specs.Refusals.{has_other_arity, is_new, is_some_and}
-use Rattle.kb_syntax.proofs.Firsts.{same_bytes, is_among-firsts, firsts-push}
+use Rattle.kb_text.specs.Names.{Name, is_among, firsts, are_distinct}
+use Rattle.kb_text.specs.Grammar.{Section, variables, rules, skipped, WrittenEquation}
+use Rattle.kb_text.specs.Problems.{arity_in, agree, variables_among, symbols_among, are_ordered, is_variables, is_rules, equations_of, variables_of, names_of_section, all_names}
+use Rattle.kb_text.specs.Refusals.{has_other_arity, is_new, is_some_and}
+use Rattle.kb_text.proofs.Firsts.{same_bytes, is_among-firsts, firsts-push}
 use Rattle.kb_syntax.proofs.Known.{arity-append}
 use Rattle.std.proofs.lemmas.Slice.Eq.{bytes_eq-Decides}
 

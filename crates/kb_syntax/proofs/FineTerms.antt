@@ -2,15 +2,15 @@
 use Rattle.std.proofs.Common.{append-nil, append_assoc, ◌≡◌, refl, ap, sym, ◌∙◌, subst, arith, ℕ, ◌+◌, ◌<◌, ◌≤◌, List, [], ◌∷◌, ◌++◌, Option, Some, None, Bool, true, false, ◌&&◌}
 use Rattle.std.specs.Prelude.{option_map, not, max}
 use Rattle.std.proofs.lemmas.Option.{same_Some}
-use Rattle.kb_syntax.specs.Names.{Name, is_among}
-use Rattle.kb_syntax.specs.Tokens.{Token, left_paren, right_paren, comma, identifier}
-use Rattle.kb_syntax.specs.Grammar.{Written, alone, applied, Arguments, no_arguments, argument}
-use Rattle.kb_syntax.specs.Fronts.{TermFront, whole, opened, within}
-use Rattle.kb_syntax.specs.Problems.{depth_in, depth_in_all, is_unapplied, are_unapplied, count_of}
-use Rattle.kb_syntax.specs.Refusals.{awaits_term, open_parens, last_alone, ends_next, arguments_so_far}
-use Rattle.kb_syntax.specs.Machine.{next_term, with_last, behind_argument}
+use Rattle.kb_text.specs.Names.{Name, is_among}
+use Rattle.kb_text.specs.Tokens.{Token, left_paren, right_paren, comma, identifier}
+use Rattle.kb_text.specs.Grammar.{Written, alone, applied, Arguments, no_arguments, argument}
+use Rattle.kb_text.specs.Fronts.{TermFront, whole, opened, within}
+use Rattle.kb_text.specs.Problems.{depth_in, depth_in_all, is_unapplied, are_unapplied, count_of}
+use Rattle.kb_text.specs.Refusals.{awaits_term, open_parens, last_alone, ends_next, arguments_so_far}
+use Rattle.kb_text.specs.Machine.{next_term, with_last, behind_argument}
 use Rattle.kb_syntax.proofs.MoveTerms.{count-with_last}
-use Rattle.kb_syntax.proofs.Sound.{map_some}
+use Rattle.kb_text.proofs.Sound.{map_some}
 
 -- a whole term at a depth
 pub record FineTerm (vars : List Name) (d : ℕ) (t : Written) : Type 0 where

@@ -4,13 +4,13 @@ use Rattle.std.specs.Prelude.{not, nat_eq, is_some, unwrap_or, filter, bytes_eq}
 use Rattle.std.specs.List.{list_all, list_any, AllByRecursion}
 use Rattle.std.proofs.lemmas.List.Folds.{list_all-append, list_any-append}
 use Rattle.std.proofs.lemmas.List.Elements.{filter-append}
-use Rattle.kb_syntax.specs.Names.{Name, is_among, firsts, are_distinct}
-use Rattle.kb_syntax.specs.Tokens.{Token, identifier}
-use Rattle.kb_syntax.specs.Grammar.{Section, variables, rules, skipped}
-use Rattle.kb_syntax.specs.Problems.{arity_in, agree, are_ordered, is_variables, is_rules}
-use Rattle.kb_syntax.specs.Refusals.{has_other_arity, is_new, is_some_and}
+use Rattle.kb_text.specs.Names.{Name, is_among, firsts, are_distinct}
+use Rattle.kb_text.specs.Tokens.{Token, identifier}
+use Rattle.kb_text.specs.Grammar.{Section, variables, rules, skipped}
+use Rattle.kb_text.specs.Problems.{arity_in, agree, are_ordered, is_variables, is_rules}
+use Rattle.kb_text.specs.Refusals.{has_other_arity, is_new, is_some_and}
 use Rattle.kb_syntax.specs.Moves.{names_of_token}
-use Rattle.kb_syntax.proofs.Firsts.{is_among-firsts, firsts-push, bytes_eq-comm}
+use Rattle.kb_text.proofs.Firsts.{is_among-firsts, firsts-push, bytes_eq-comm}
 use Rattle.kb_syntax.proofs.FineLists.{and_split, and_join, among-append, arity-more, some-within}
 
 -- a test of a list holds for its front

@@ -4,17 +4,17 @@ use Rattle.std.specs.Prelude.{not, max, nat_le}
 use Rattle.std.specs.List.{list_all}
 use Rattle.std.proofs.lemmas.Option.{same_Some}
 use Rattle.std.proofs.lemmas.List.Folds.{list_all-append}
-use Rattle.kb_syntax.specs.Names.{Name, is_among}
-use Rattle.kb_syntax.specs.Tokens.{Token, left_paren, right_paren, comma, identifier}
-use Rattle.kb_syntax.specs.Grammar.{Written, alone, applied, Arguments, no_arguments, argument}
-use Rattle.kb_syntax.specs.Fronts.{TermFront, whole, opened, within}
-use Rattle.kb_syntax.specs.Problems.{depth_in, depth_in_all, is_unapplied, are_unapplied, count_of, uses_in, uses_in_all}
-use Rattle.kb_syntax.specs.Refusals.{open_parens, last_alone, arguments_so_far}
-use Rattle.kb_syntax.specs.Machine.{next_term, with_last, behind_argument}
+use Rattle.kb_text.specs.Names.{Name, is_among}
+use Rattle.kb_text.specs.Tokens.{Token, left_paren, right_paren, comma, identifier}
+use Rattle.kb_text.specs.Grammar.{Written, alone, applied, Arguments, no_arguments, argument}
+use Rattle.kb_text.specs.Fronts.{TermFront, whole, opened, within}
+use Rattle.kb_text.specs.Problems.{depth_in, depth_in_all, is_unapplied, are_unapplied, count_of, uses_in, uses_in_all}
+use Rattle.kb_text.specs.Refusals.{open_parens, last_alone, arguments_so_far}
+use Rattle.kb_text.specs.Machine.{next_term, with_last, behind_argument}
 use Rattle.kb_syntax.proofs.FineLists.{and_split}
 use Rattle.kb_syntax.proofs.FineTerms.{Passes, depth-with_last}
 use Rattle.kb_syntax.proofs.MoveTerms.{count-with_last, uses-with_last}
-use Rattle.kb_syntax.proofs.Sound.{map_some}
+use Rattle.kb_text.proofs.Sound.{map_some}
 
 abbrev pub few_arguments : Name × ℕ → Bool
 few_arguments u = nat_le u.1 8

@@ -2,15 +2,15 @@
 use Rattle.std.proofs.Common.{append-nil, append_assoc, ◌≡◌, refl, ap, sym, ◌∙◌, subst, arith, ℕ, ◌+◌, List, [], ◌∷◌, ◌++◌, Option, Some, None, Bool, true, false}
 use Rattle.std.specs.Prelude.{option_map}
 use Rattle.std.proofs.lemmas.Option.{same_Some}
-use Rattle.kb_syntax.specs.Names.{Name}
-use Rattle.kb_syntax.specs.Tokens.{Token, arrow_equals, arrow, equals, bar, left_paren, right_paren, comma, quotation, identifier, end_of_input}
-use Rattle.kb_syntax.specs.Grammar.{Written, alone, applied, Arguments, no_arguments, argument}
-use Rattle.kb_syntax.specs.Fronts.{TermFront, whole, opened, within}
-use Rattle.kb_syntax.specs.Problems.{names_in, names_in_all, uses_in, uses_in_all, count_of}
-use Rattle.kb_syntax.specs.Refusals.{names_in_front, uses_in_front, last_alone, ends_next, ended_alone}
-use Rattle.kb_syntax.specs.Machine.{next_term, with_last, behind_argument}
+use Rattle.kb_text.specs.Names.{Name}
+use Rattle.kb_text.specs.Tokens.{Token, arrow_equals, arrow, equals, bar, left_paren, right_paren, comma, quotation, identifier, end_of_input}
+use Rattle.kb_text.specs.Grammar.{Written, alone, applied, Arguments, no_arguments, argument}
+use Rattle.kb_text.specs.Fronts.{TermFront, whole, opened, within}
+use Rattle.kb_text.specs.Problems.{names_in, names_in_all, uses_in, uses_in_all, count_of}
+use Rattle.kb_text.specs.Refusals.{names_in_front, uses_in_front, last_alone, ends_next, ended_alone}
+use Rattle.kb_text.specs.Machine.{next_term, with_last, behind_argument}
 use Rattle.kb_syntax.specs.Moves.{names_of_token, ended_in}
-use Rattle.kb_syntax.proofs.Sound.{map_some}
+use Rattle.kb_text.proofs.Sound.{map_some}
 
 names-with_last : (ts : Arguments) (t : Written) → names_in_all (with_last ts t) ≡ names_in_all ts ++ names_in t
 names-with_last no_arguments t = append-nil (names_in t)

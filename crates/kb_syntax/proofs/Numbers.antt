@@ -3,8 +3,8 @@ use Rattle.std.proofs.Common.{◌≡◌, ◌⊎◌, inl, inr, refl, ap, sym, ◌
 use Rattle.std.specs.Prelude.{bytes_eq}
 use Rattle.std.proofs.lemmas.Bool.{cases_eq, eq-eqb, ne_eqb}
 use Rattle.kb_term.specs.Pair.{distinct, place_in}
-use Rattle.kb_syntax.specs.Names.{Name, is_among, firsts, number_of, are_distinct}
-use Rattle.kb_syntax.proofs.Firsts.{same_bytes, bytes_eq-other, bytes_eq-comm, is_among-firsts}
+use Rattle.kb_text.specs.Names.{Name, is_among, firsts, number_of, are_distinct}
+use Rattle.kb_text.proofs.Firsts.{same_bytes, bytes_eq-other, bytes_eq-comm, is_among-firsts}
 use Rattle.kb_syntax.proofs.FineLists.{same_name}
 use Rattle.kb_syntax.proofs.FitsLists.{not_either, or_parts, or_join}
 

@@ -1,11 +1,11 @@
 -- Where tokens stand.
 use Rattle.std.proofs.Common.{◌≡◌, refl, ap, sym, ◌∙◌, arith, ℕ, zero, suc, ◌+◌, ◌-◌, List, [], ◌∷◌, get_or, drop}
 use Rattle.std.specs.Prelude.{map}
-use Rattle.kb_syntax.specs.Tokens.{Placed, tokens_from}
-use Rattle.kb_syntax.specs.Starts.{first_and_rest}
-use Rattle.kb_syntax.specs.declared.lexer.Form.{Form}
-use Rattle.kb_syntax.specs.declared.lexer.Form.TheVariants.{Mark as MarkForm, Identifier, End}
-use Rattle.kb_syntax.specs.declared.lexer.Found.{Found}
+use Rattle.kb_text.specs.Tokens.{Placed, tokens_from}
+use Rattle.kb_text.specs.Starts.{first_and_rest}
+use Rattle.kb_text.specs.declared.lexer.Form.{Form}
+use Rattle.kb_text.specs.declared.lexer.Form.TheVariants.{Mark as MarkForm, Identifier, End}
+use Rattle.kb_text.specs.declared.lexer.Found.{Found}
 
 abbrev pub places : List Placed → List ℕ
 places ts = map (λ (t : Placed). t.at) ts

@@ -4,9 +4,9 @@ use Rattle.std.specs.Prelude.{map, All, unwrap_or, nat_le}
 use Rattle.std.specs.List.{list_all}
 use Rattle.std.proofs.lemmas.List.{length-map, get_or-map}
 use Rattle.std.proofs.lemmas.List.Elements.{All-get_or}
-use Rattle.kb_syntax.specs.Names.{Name}
-use Rattle.kb_syntax.specs.Problems.{arity_in}
-use Rattle.kb_syntax.proofs.NameLists.{NameVec}
+use Rattle.kb_text.specs.Names.{Name}
+use Rattle.kb_text.specs.Problems.{arity_in}
+use Rattle.kb_text.proofs.NameLists.{NameVec}
 
 pub arity_fits : (names : List NameVec) (uses : List (Name × ℕ)) (i : ℕ) (v : NameVec) → All (λ x. unwrap_or (arity_in uses x) 0 ≤ 8) (map (λ (n : NameVec). n.items) names) → i < length names → v ≡ get_or names i v → unwrap_or (arity_in uses v.items) 0 ≤ 8
 arity_fits names uses i v h k e =

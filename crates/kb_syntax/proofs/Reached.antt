@@ -9,38 +9,38 @@ use Rattle.std.proofs.lemmas.List.Elements.{All-push, All-nil, All-cons, All-hea
 use Rattle.std.proofs.lemmas.Str.{IsCharBoundary-start}
 use Rattle.kb_term.specs.Identifier.{IsIdentifier}
 use Rattle.kb_term.specs.Signature.{Problem, SymbolEntry, IsSignature}
-use Rattle.kb_syntax.specs.Names.{Name, is_among, firsts}
-use Rattle.kb_syntax.specs.Tokens.{Token, Placed, tokens, tokens_from, arrow_equals, arrow, equals, bar, left_paren, right_paren, comma, quotation, identifier, end_of_input}
-use Rattle.kb_syntax.specs.declared.lexer.Mark.TheVariants.{ArrowEquals, Arrow, Equals, Bar, LeftParen, RightParen, Comma, Quotation}
-use Rattle.kb_syntax.specs.Starts.{first_and_rest, IsInText, IsAhead, EndsBehind}
-use Rattle.kb_syntax.specs.Grammar.{Written, Arguments, no_arguments, argument, Section, IsSection, WrittenEquation, section_tokens, text_tokens, open_after, term_tokens, equation_tokens, sign_token}
-use Rattle.kb_syntax.specs.Fronts.{TermFront, EquationFront, in_left, behind_sign, in_right, SectionFront, begun, in_variables, in_rules, in_equation, in_skipped, Front, IsFrontOf, IsSectionFront, open_tokens, section_front_tokens, equation_front_tokens, term_front_tokens, front_tokens}
-use Rattle.kb_syntax.specs.Problems.{Spells, MeetsLimits, problem_of, symbol_names, equation_variables, variables_of, equations_of, all_names, all_uses, arity_in, entry_of, variables_among, symbols_among, is_rules, equation_of as problem_equation}
-use Rattle.kb_syntax.specs.Refusals.{Shows, ShowNothing, IsFirstShown, IsRefused, by_tokens, place_of, side_of, front_variables, front_names, front_uses, front_count, is_open}
-use Rattle.kb_syntax.specs.Machine.{best, kinds, better, bad_token, judged, may_end, next_front, first_from, go, from_next, start}
+use Rattle.kb_text.specs.Names.{Name, is_among, firsts}
+use Rattle.kb_text.specs.Tokens.{Token, Placed, tokens, tokens_from, arrow_equals, arrow, equals, bar, left_paren, right_paren, comma, quotation, identifier, end_of_input}
+use Rattle.kb_text.specs.declared.lexer.Mark.TheVariants.{ArrowEquals, Arrow, Equals, Bar, LeftParen, RightParen, Comma, Quotation}
+use Rattle.kb_text.specs.Starts.{first_and_rest, IsInText, IsAhead, EndsBehind}
+use Rattle.kb_text.specs.Grammar.{Written, Arguments, no_arguments, argument, Section, IsSection, WrittenEquation, section_tokens, text_tokens, open_after, term_tokens, equation_tokens, sign_token}
+use Rattle.kb_text.specs.Fronts.{TermFront, EquationFront, in_left, behind_sign, in_right, SectionFront, begun, in_variables, in_rules, in_equation, in_skipped, Front, IsFrontOf, IsSectionFront, open_tokens, section_front_tokens, equation_front_tokens, term_front_tokens, front_tokens}
+use Rattle.kb_text.specs.Problems.{Spells, MeetsLimits, problem_of, symbol_names, equation_variables, variables_of, equations_of, all_names, all_uses, arity_in, entry_of, variables_among, symbols_among, is_rules, equation_of as problem_equation}
+use Rattle.kb_text.specs.Refusals.{Shows, ShowNothing, IsFirstShown, IsRefused, by_tokens, place_of, side_of, front_variables, front_names, front_uses, front_count, is_open}
+use Rattle.kb_text.specs.Machine.{best, kinds, better, bad_token, judged, may_end, next_front, first_from, go, from_next, start}
 use Rattle.kb_syntax.specs.Moves.{open_equations, side_names_of, side_names}
 use Rattle.kb_syntax.specs.Looks.{Look, outside, at_word, at_variables, at_rules, at_equation, at_skipped, look_of, look_side, next_look, depth_of, spot_at}
 use Rattle.kb_syntax.specs.Sides.{token_at, equation_side}
-use Rattle.kb_syntax.specs.Written.{equation_of}
+use Rattle.kb_text.specs.Written.{equation_of}
 use Rattle.kb_syntax.specs.Reader.{Stands, place_look, prepared, IsPassed, IsNextReader, IsShortSide, AreEmpty, IsProblemNoted, problem_from, count_at, name_notes, named_notes, use_notes}
 use Rattle.kb_syntax.specs.Refused.{IsFault, IsRefusal}
-use Rattle.kb_syntax.specs.declared.kind.Kind.{Kind}
-use Rattle.kb_syntax.specs.declared.kind.Kind.TheVariants.{BadToken, Unclosed, BadSection}
+use Rattle.kb_text.specs.declared.kind.Kind.{Kind}
+use Rattle.kb_text.specs.declared.kind.Kind.TheVariants.{BadToken, Unclosed, BadSection}
 use Rattle.kb_syntax.specs.declared.fault.SyntaxFault.{SyntaxFault}
 use Rattle.kb_syntax.specs.declared.fault.SyntaxFault.TheVariants.{Refused, Memory}
-use Rattle.kb_syntax.specs.declared.lexer.Form.{Form}
-use Rattle.kb_syntax.specs.declared.lexer.Form.TheVariants.{Mark as MarkForm, Identifier, End}
-use Rattle.kb_syntax.specs.declared.lexer.Found.{Found}
+use Rattle.kb_text.specs.declared.lexer.Form.{Form}
+use Rattle.kb_text.specs.declared.lexer.Form.TheVariants.{Mark as MarkForm, Identifier, End}
+use Rattle.kb_text.specs.declared.lexer.Found.{Found}
 use Rattle.kb_syntax.specs.declared.reader.Place.{Place}
 use Rattle.kb_syntax.specs.declared.reader.Reader.{Reader}
 use Rattle.kb_syntax.specs.declared.notes.Notes.{Notes}
-use Rattle.kb_syntax.proofs.Exact.{first_exact, nothing_more, empty_nothing, start_front}
-use Rattle.kb_syntax.proofs.Sound.{front_sound}
-use Rattle.kb_syntax.proofs.RunTexts.{closed_at, is_some_is}
+use Rattle.kb_text.proofs.Exact.{first_exact, nothing_more, empty_nothing, start_front}
+use Rattle.kb_text.proofs.Sound.{front_sound}
+use Rattle.kb_text.proofs.RunTexts.{closed_at, is_some_is}
 use Rattle.kb_syntax.proofs.LookLaws.{HasDepth, next-look, side-look, front_look}
 use Rattle.kb_syntax.proofs.Known.{count-known}
 use Rattle.kb_syntax.proofs.Fine.{Fine, FineEquation, fine_use, is_short}
-use Rattle.kb_syntax.proofs.IdentifierLaws.{AllPairs-map}
+use Rattle.kb_text.proofs.IdentifierLaws.{AllPairs-map}
 use Rattle.kb_syntax.proofs.FineLists.{and_split}
 use Rattle.std.proofs.lemmas.Slice.Eq.{bytes_eq-Decides}
 use Rattle.kb_syntax.proofs.FineNext.{row_none, here_none, unshown, fine_next, fine_start, meets_conditions, meets_limits}

@@ -3,31 +3,23 @@ use Rattle.std.proofs.Common.{append-nil, ◌≡◌, refl, ap, sym, ◌∙◌, s
 use Rattle.std.proofs.lemmas.Bool.{eqb-true, eqb-false}
 use Rattle.std.specs.Prelude.{◌==◌, map, option_map, slice_get, is_some}
 use Rattle.std.proofs.lemmas.List.{map-append, length-map}
-use Rattle.kb_syntax.specs.Names.{Name}
-use Rattle.kb_syntax.specs.Tokens.{Token, arrow_equals, arrow, equals, bar, left_paren, right_paren, comma, quotation, identifier, end_of_input}
-use Rattle.kb_syntax.specs.Grammar.{Written, alone, applied, Arguments, no_arguments, argument}
-use Rattle.kb_syntax.specs.Fronts.{TermFront, whole, opened, within}
-use Rattle.kb_syntax.specs.Problems.{count_of}
-use Rattle.kb_syntax.specs.Refusals.{awaits_term, open_parens, last_alone, ends_next, arguments_so_far}
-use Rattle.kb_syntax.specs.Machine.{next_term, with_last, is_whole}
-use Rattle.kb_syntax.specs.Written.{arguments_of, written_of}
+use Rattle.kb_text.specs.Names.{Name}
+use Rattle.kb_text.specs.Tokens.{Token, arrow_equals, arrow, equals, bar, left_paren, right_paren, comma, quotation, identifier, end_of_input}
+use Rattle.kb_text.specs.Grammar.{Written, alone, applied, Arguments, no_arguments, argument}
+use Rattle.kb_text.specs.Fronts.{TermFront, whole, opened, within}
+use Rattle.kb_text.specs.Problems.{count_of}
+use Rattle.kb_text.specs.Refusals.{awaits_term, open_parens, last_alone, ends_next, arguments_so_far}
+use Rattle.kb_text.specs.Machine.{next_term, with_last, is_whole}
+use Rattle.kb_text.specs.Written.{arguments_of, written_of}
 use Rattle.kb_syntax.specs.Sides.{application_of, enclosed, inner_front, side_front, AreEnd}
 use Rattle.kb_syntax.specs.declared.side.Application.{Application}
 use Rattle.kb_syntax.specs.declared.side.Inner.{Inner}
 use Rattle.kb_syntax.specs.declared.side.Inner.TheVariants.{Whole, Open}
 use Rattle.kb_syntax.specs.declared.side.Side.{Side}
-use Rattle.kb_syntax.specs.declared.written.WrittenTerm.{WrittenTerm}
-use Rattle.kb_syntax.proofs.RunTerms.{within_step, close_step, comma_step}
-use Rattle.kb_syntax.proofs.WrittenLists.{args, count_of-args}
-
-pub vec_length : {X : Type 0} (v : Vec X Global) → vec_len v ≡ length v.items
-vec_length v = omega (arith, v.ok)
-
-pub empty_is : {X : Type 0} (v : Vec X Global) → (vec_len v == 0) ≡ true → length v.items ≡ 0
-empty_is v e = omega (arith, vec_length v, eqb-true (vec_len v) 0 e)
-
-pub empty_not : {X : Type 0} (v : Vec X Global) → (vec_len v == 0) ≡ false → length v.items ≡ 0 → ⊥
-empty_not v e h = eqb-false (vec_len v) 0 e (omega (arith, vec_length v))
+use Rattle.kb_text.specs.declared.written.WrittenTerm.{WrittenTerm}
+use Rattle.kb_text.proofs.RunTerms.{within_step, close_step, comma_step}
+use Rattle.kb_text.proofs.Vectors.{vec_length, empty_is, empty_not}
+use Rattle.kb_text.proofs.WrittenLists.{args, count_of-args}
 
 abbrev pub Enclosing : Type 0
 Enclosing = List (Name × Arguments)

@@ -5,19 +5,19 @@ use Rattle.std.specs.List.{list_all, list_any, AllByRecursion}
 use Rattle.std.proofs.lemmas.Option.{same_Some}
 use Rattle.std.proofs.lemmas.List.Folds.{list_all-append}
 use Rattle.kb_term.specs.Signature.{Problem}
-use Rattle.kb_syntax.specs.Names.{Name, is_among, firsts, are_distinct}
-use Rattle.kb_syntax.specs.Tokens.{Token, tokens, arrow_equals, bar, left_paren, right_paren, comma, identifier, end_of_input}
-use Rattle.kb_syntax.specs.Grammar.{Written, Sign, Section, variables, rules, skipped, IsSection, WrittenEquation, section_tokens, text_tokens, HasNext}
-use Rattle.kb_syntax.specs.Fronts.{TermFront, EquationFront, in_left, behind_sign, in_right, SectionFront, begun, in_variables, in_rules, in_equation, in_skipped, Front, IsFrontOf}
-use Rattle.kb_syntax.specs.Problems.{names_in, depth_in, is_unapplied, uses_in, variables_of, equations_of, all_names, all_uses, sides_of, agree, variables_among, symbols_among, equation_variables, is_rules, names_of_section, MeetsConditions, MeetsLimits, Spells}
-use Rattle.kb_syntax.specs.Refusals.{shown, Shows, IsRefused, too_long, not_utf8, by_tokens, IsFirstShown, back, here, or_else, Spot, spot_of, equation_spot, side_of, last_alone, closing_clash, alone_clash, front_variables, front_names, front_uses, front_count, is_token, is_some_and, is_new, name_in, arguments_so_far}
-use Rattle.kb_syntax.specs.Machine.{next_equation, whole_equation, is_whole, sign_of, begin_term, or_try, next_rules, next_section, next_front, start}
-use Rattle.kb_syntax.specs.declared.kind.Kind.{Kind}
-use Rattle.kb_syntax.specs.declared.kind.Kind.TheVariants.{NotUtf8, Unclosed, BadSection, Theory, Strategy, DoubleVariable, Relative, Conditional, VariableApplied, ArityClash, BadToken, Limit, NotBuilt}
-use Rattle.kb_syntax.specs.declared.kind.Bound.TheVariants.{Name as NameLimit, Equations, Size, Depth, Symbols, Variables, Arity, Input}
-use Rattle.kb_syntax.proofs.Leads.{Leads, leads_split, leads_once}
-use Rattle.kb_syntax.proofs.RunTexts.{closed_at, one_front, last_split, reaches_front, run_sections}
-use Rattle.kb_syntax.proofs.Firsts.{same_bytes}
+use Rattle.kb_text.specs.Names.{Name, is_among, firsts, are_distinct}
+use Rattle.kb_text.specs.Tokens.{Token, tokens, arrow_equals, bar, left_paren, right_paren, comma, identifier, end_of_input}
+use Rattle.kb_text.specs.Grammar.{Written, Sign, Section, variables, rules, skipped, IsSection, WrittenEquation, section_tokens, text_tokens, HasNext}
+use Rattle.kb_text.specs.Fronts.{TermFront, EquationFront, in_left, behind_sign, in_right, SectionFront, begun, in_variables, in_rules, in_equation, in_skipped, Front, IsFrontOf}
+use Rattle.kb_text.specs.Problems.{names_in, depth_in, is_unapplied, uses_in, variables_of, equations_of, all_names, all_uses, sides_of, agree, variables_among, symbols_among, equation_variables, is_rules, names_of_section, MeetsConditions, MeetsLimits, Spells}
+use Rattle.kb_text.specs.Refusals.{shown, Shows, IsRefused, too_long, not_utf8, by_tokens, IsFirstShown, back, here, or_else, Spot, spot_of, equation_spot, side_of, last_alone, closing_clash, alone_clash, front_variables, front_names, front_uses, front_count, is_token, is_some_and, is_new, name_in, arguments_so_far}
+use Rattle.kb_text.specs.Machine.{next_equation, whole_equation, is_whole, sign_of, begin_term, or_try, next_rules, next_section, next_front, start}
+use Rattle.kb_text.specs.declared.kind.Kind.{Kind}
+use Rattle.kb_text.specs.declared.kind.Kind.TheVariants.{NotUtf8, Unclosed, BadSection, Theory, Strategy, DoubleVariable, Relative, Conditional, VariableApplied, ArityClash, BadToken, Limit, NotBuilt}
+use Rattle.kb_text.specs.declared.kind.Bound.TheVariants.{Name as NameLimit, Equations, Size, Depth, Symbols, Variables, Arity, Input}
+use Rattle.kb_text.proofs.Leads.{Leads, leads_split, leads_once}
+use Rattle.kb_text.proofs.RunTexts.{closed_at, one_front, last_split, reaches_front, run_sections}
+use Rattle.kb_text.proofs.Firsts.{same_bytes}
 use Rattle.kb_syntax.proofs.SideLaws.{IsNoTermToken, no_term_token}
 use Rattle.kb_syntax.proofs.MoveSections.{names-append, left_next, awaits_if_name}
 use Rattle.kb_syntax.proofs.FineLists.{and_split, and_join, all_join, skipped_names}

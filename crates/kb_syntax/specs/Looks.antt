@@ -1,17 +1,17 @@
 -- What a reader keeps of a front, and what one more token makes of it.
 use Rattle.std.specs.Prelude.{◌≡◌, ℕ, zero, suc, ◌+◌, List, [], ◌∷◌, ◌++◌, Bool, true, false, not, ◌&&◌, cond, Option, Some, None, is_some, length, nat_eq, nat_lt, bytes_eq, codes, unwrap_or, option_map}
-use Rattle.kb_syntax.specs.Names.{Name, is_among}
-use Rattle.kb_syntax.specs.Tokens.{Token, left_paren, right_paren, comma, bar, arrow_equals, identifier, end_of_input}
-use Rattle.kb_syntax.specs.Grammar.{alone, WrittenEquation, open_after, reserved_names}
-use Rattle.kb_syntax.specs.Fronts.{TermFront, whole, EquationFront, in_left, behind_sign, in_right, SectionFront, begun, in_variables, in_rules, in_equation, in_skipped}
-use Rattle.kb_syntax.specs.Problems.{arity_in}
-use Rattle.kb_syntax.specs.Refusals.{is_token, is_some_and, has_other_arity, awaits_term, open_parens, last_alone, ends_next, arguments_so_far, ended_alone}
-use Rattle.kb_syntax.specs.Machine.{next_equation, whole_equation}
+use Rattle.kb_text.specs.Names.{Name, is_among, with_name}
+use Rattle.kb_text.specs.Tokens.{Token, left_paren, right_paren, comma, bar, arrow_equals, identifier, end_of_input}
+use Rattle.kb_text.specs.Grammar.{alone, WrittenEquation, open_after, reserved_names}
+use Rattle.kb_text.specs.Fronts.{TermFront, whole, EquationFront, in_left, behind_sign, in_right, SectionFront, begun, in_variables, in_rules, in_equation, in_skipped}
+use Rattle.kb_text.specs.Problems.{arity_in}
+use Rattle.kb_text.specs.Refusals.{is_token, is_some_and, has_other_arity, awaits_term, open_parens, last_alone, ends_next, arguments_so_far, ended_alone}
+use Rattle.kb_text.specs.Machine.{next_equation, whole_equation}
 use Rattle.kb_syntax.specs.Moves.{names_of_token, ended_at, equation_ended}
 use Rattle.kb_syntax.specs.Sides.{equation_side}
-use Rattle.kb_syntax.specs.declared.kind.Kind.{Kind}
-use Rattle.kb_syntax.specs.declared.kind.Kind.TheVariants.{Unclosed, BadSection, Theory, Strategy, DoubleVariable, Relative, Conditional, VariableApplied, ArityClash, Limit}
-use Rattle.kb_syntax.specs.declared.kind.Bound.TheVariants.{Name as NameLimit, Equations, Size, Depth, Symbols, Variables, Arity}
+use Rattle.kb_text.specs.declared.kind.Kind.{Kind}
+use Rattle.kb_text.specs.declared.kind.Kind.TheVariants.{Unclosed, BadSection, Theory, Strategy, DoubleVariable, Relative, Conditional, VariableApplied, ArityClash, Limit}
+use Rattle.kb_text.specs.declared.kind.Bound.TheVariants.{Name as NameLimit, Equations, Size, Depth, Symbols, Variables, Arity}
 
 -- where a front ends: its open section, without the lists of what stands in it; of a skipped one, how many parentheses are open beside its own
 pub data Look : Type 0 where
@@ -114,10 +114,7 @@ abbrev pub with_uses : List Name → List (Name × ℕ) → List (Name × ℕ) �
 with_uses vars uses [] = uses
 with_uses vars uses (u ∷ us) = with_uses vars (with_use vars uses u) us
 
--- the different names, with one more
-abbrev pub with_name : List Name → Name → List Name
-with_name names x = cond (is_among names x) names (names ++ x ∷ [])
-
+-- the different names, with these more
 abbrev pub with_names : List Name → List Name → List Name
 with_names names [] = names
 with_names names (x ∷ xs) = with_names (with_name names x) xs

@@ -1,7 +1,7 @@
 -- Refusals as values of the program.
 use Rattle.std.specs.Prelude.{◌≡◌, ℕ, List}
-use Rattle.kb_syntax.specs.Refusals.{IsRefused, place_of}
-use Rattle.kb_syntax.specs.declared.kind.Kind.{Kind}
+use Rattle.kb_text.specs.Refusals.{IsRefused, place_of}
+use Rattle.kb_text.specs.declared.kind.Kind.{Kind}
 use Rattle.kb_syntax.specs.declared.fault.SyntaxFault.{SyntaxFault}
 use Rattle.kb_syntax.specs.declared.fault.SyntaxFault.TheVariants.{Refused, Memory}
 

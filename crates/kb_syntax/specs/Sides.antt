@@ -1,13 +1,13 @@
 -- The fronts that values of the reader stand for.
 use Rattle.std.specs.Prelude.{◌≡◌, ℕ, List, [], ◌∷◌, map, Option, Some, None}
-use Rattle.kb_syntax.specs.Names.{Name}
-use Rattle.kb_syntax.specs.Tokens.{Token, identifier, end_of_input}
-use Rattle.kb_syntax.specs.Starts.{mark_token}
-use Rattle.kb_syntax.specs.Grammar.{Arguments}
-use Rattle.kb_syntax.specs.Fronts.{TermFront, whole, opened, within, EquationFront, in_left, behind_sign, in_right}
-use Rattle.kb_syntax.specs.Written.{arguments_of, written_of, sign_of}
-use Rattle.kb_syntax.specs.declared.lexer.Form.{Form}
-use Rattle.kb_syntax.specs.declared.lexer.Form.TheVariants.{Mark as MarkForm, Identifier, End}
+use Rattle.kb_text.specs.Names.{Name}
+use Rattle.kb_text.specs.Tokens.{Token, identifier, end_of_input}
+use Rattle.kb_text.specs.Starts.{mark_token}
+use Rattle.kb_text.specs.Grammar.{Arguments}
+use Rattle.kb_text.specs.Fronts.{TermFront, whole, opened, within, EquationFront, in_left, behind_sign, in_right}
+use Rattle.kb_text.specs.Written.{arguments_of, written_of, sign_of}
+use Rattle.kb_text.specs.declared.lexer.Form.{Form}
+use Rattle.kb_text.specs.declared.lexer.Form.TheVariants.{Mark as MarkForm, Identifier, End}
 use Rattle.kb_syntax.specs.declared.equation.OpenEquation.{OpenEquation}
 use Rattle.kb_syntax.specs.declared.equation.OpenEquation.TheVariants.{Left, Sign, Right}
 use Rattle.kb_syntax.specs.declared.side.Application.{Application}

@@ -1,7 +1,6 @@
 // The declared variables.
 ghost use Rattle.std.specs.Prelude.{◌≡◌, [], OnOk};
-ghost use Rattle.kb_syntax.specs.Looks.{with_name};
-ghost use Rattle.kb_syntax.specs.Names.{is_among};
+ghost use Rattle.kb_text.specs.Names.{is_among, with_name};
 
 use indexmap::IndexSet;
 use kb_term::Memory;

@@ -1,15 +1,14 @@
 // An equation, as far as it was read.
 ghost use Rattle.std.specs.Prelude.{◌≡◌, [], IfOk, MatchOption, option_map, option_and_then, is_some, None, Some};
-ghost use Rattle.kb_syntax.specs.Fronts.{whole, in_left};
-ghost use Rattle.kb_syntax.specs.Grammar.{alone};
-ghost use Rattle.kb_syntax.specs.Machine.{next_equation, whole_equation, sign_of as sign_in};
+ghost use Rattle.kb_text.specs.Fronts.{whole, in_left};
+ghost use Rattle.kb_text.specs.Grammar.{alone};
+ghost use Rattle.kb_text.specs.Machine.{next_equation, whole_equation, sign_of as sign_in};
 ghost use Rattle.kb_syntax.specs.Sides.{equation_front, equation_side, side_front, token_at};
-ghost use Rattle.kb_syntax.specs.Written.{equation_of, sign_of};
+ghost use Rattle.kb_text.specs.Written.{equation_of, sign_of};
 
-use crate::lexer::{Form, Mark};
 use crate::side::Side;
-use crate::written::{Sign, WrittenEquation, WrittenTerm};
 use kb_term::Memory;
+use kb_text::{Form, Mark, Sign, WrittenEquation, WrittenTerm};
 use std::alloc::Global;
 
 /// An equation, as far as it was read: within its left side, behind its sign, or within its right side.

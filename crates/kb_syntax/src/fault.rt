@@ -1,6 +1,6 @@
 // Why a text gives no problem.
-use crate::kind::Refusal;
 use kb_term::Memory;
+use kb_text::Refusal;
 use thiserror::Error;
 
 /// Why a text gives no problem.

@@ -1,9 +1,9 @@
 // What the definitions imply, as contracts of functions that do nothing.
 ghost use Rattle.std.specs.Prelude.{◌≡◌, ℕ, List};
 ghost use Rattle.kb_term.specs.Signature.{Problem, IsWithinLimits};
-ghost use Rattle.kb_syntax.specs.Problems.{Spells};
-ghost use Rattle.kb_syntax.specs.Refusals.{IsRefused};
-ghost use Rattle.kb_syntax.specs.declared.kind.Kind.{Kind};
+ghost use Rattle.kb_text.specs.Problems.{Spells};
+ghost use Rattle.kb_text.specs.Refusals.{IsRefused};
+ghost use Rattle.kb_text.specs.declared.kind.Kind.{Kind};
 
 /// Bytes spell at most one problem.
 pub fn bytes_spell_one_problem()

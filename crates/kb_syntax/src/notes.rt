@@ -1,21 +1,17 @@
 // What a reader keeps beside the place where it stands.
 ghost use Rattle.std.specs.Prelude.{◌≡◌, ◌+◌, ◌<◌, ◌^◌, ◌∷◌, ◌++◌, [], IfOk, OnOk, MatchOption, None, Option, Some, bytes_eq, cond, length, true};
-ghost use Rattle.kb_syntax.specs.Fronts.{term_front_tokens};
-ghost use Rattle.kb_syntax.specs.Names.{is_among};
+ghost use Rattle.kb_text.specs.Fronts.{term_front_tokens};
+ghost use Rattle.kb_text.specs.Names.{is_among};
 ghost use Rattle.kb_syntax.specs.Looks.{word_row, is_one_more, with_use, with_uses};
 ghost use Rattle.kb_syntax.specs.Moves.{ended_use, ended_in, alone_ended};
-ghost use Rattle.kb_syntax.specs.Refusals.{ends_next, last_alone, has_other_arity, ended_alone, is_some_and};
+ghost use Rattle.kb_text.specs.Refusals.{ends_next, last_alone, has_other_arity, ended_alone, is_some_and};
 ghost use Rattle.kb_syntax.specs.Sides.{side_front, token_at};
 ghost use Rattle.kb_syntax.specs.Reader.{spot_row, clashes, named_notes, AreEmpty, alone_row, closing_row};
 
 use crate::declared::Declared;
-use crate::kind::{Bound, Kind};
-use crate::lexer::{Form, Mark};
-use crate::names::Names;
 use crate::side::Side;
-use crate::uses::Uses;
-use crate::written::WrittenEquation;
 use kb_term::Memory;
+use kb_text::{Bound, Form, Kind, Mark, Names, Uses, WrittenEquation};
 use std::alloc::Global;
 
 const EQUATIONS: usize = 256;

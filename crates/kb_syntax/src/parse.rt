@@ -1,15 +1,14 @@
 // The problem that a text spells.
 ghost use Rattle.std.specs.Prelude.{◌≡◌, ◌+◌, ◌-◌, ◌<◌, ◌≤◌, IfErr, IfOk, IsUtf8, get_or, length, map};
-ghost use Rattle.kb_syntax.specs.Problems.{Spells};
+ghost use Rattle.kb_text.specs.Problems.{Spells};
 ghost use Rattle.kb_syntax.specs.Refused.{IsFault, IsRefusal};
-ghost use Rattle.kb_syntax.specs.Refusals.{place_of};
-ghost use Rattle.kb_syntax.specs.Tokens.{placed_tokens};
+ghost use Rattle.kb_text.specs.Refusals.{place_of};
+ghost use Rattle.kb_text.specs.Tokens.{placed_tokens};
 
 use crate::fault::SyntaxFault;
-use crate::kind::{Bound, Kind, Refusal};
-use crate::lexer::{Form, next_token};
 use crate::reader::Reader;
 use kb_term::Problem;
+use kb_text::{Bound, Form, Kind, Refusal, next_token};
 use std::alloc::Global;
 
 /// The most bytes that a text has.

@@ -3,17 +3,15 @@ ghost use Rattle.std.specs.Prelude.{◌≡◌, ◌<◌, ◌≤◌, ◌++◌, All
 ghost use Rattle.std.specs.List.{list_all};
 ghost use Rattle.kb_term.specs.Signature.{IsSignature, symbols_of_list};
 ghost use Rattle.kb_term.specs.View.{equations_of_list, tree_of};
-ghost use Rattle.kb_syntax.specs.Names.{firsts};
-ghost use Rattle.kb_syntax.specs.Problems.{arity_in, entry_of, equation_of as problem_equation, equation_variables, term_of, variables_among};
+ghost use Rattle.kb_text.specs.Names.{firsts};
+ghost use Rattle.kb_text.specs.Problems.{arity_in, entry_of, equation_of as problem_equation, equation_variables, term_of, variables_among};
 ghost use Rattle.kb_syntax.specs.Reader.{problem_from, IsProblemNoted};
-ghost use Rattle.kb_syntax.specs.Written.{equation_of};
+ghost use Rattle.kb_text.specs.Written.{equation_of};
 
 use crate::declared::Declared;
-use crate::names::Names;
 use crate::notes::Notes;
-use crate::uses::Uses;
-use crate::written::WrittenEquation;
 use kb_term::{Memory, Problem, Signature, Term};
+use kb_text::{Names, Uses, WrittenEquation};
 use std::alloc::Global;
 
 // The symbols with the arities of their first uses.

@@ -1,20 +1,18 @@
 // A text, as far as it was read.
 ghost use Rattle.std.specs.Prelude.{◌≡◌, ◌+◌, ◌<◌, ◌^◌, ◌∷◌, ◌++◌, [], IfOk, IfSome, OnOk, MatchOption, None, Option, Some, cond, is_some, false, length, map, option_map, option_to_list};
 ghost use Rattle.kb_syntax.specs.Looks.{at_equation, at_skipped, look_side, spot_at, spot_in, end_row, mark_row, rules_row, next_look, added_variables, added_equations, ends_rules, word_look, at_rules, at_variables, at_word, outside, depth_of, answer};
-ghost use Rattle.kb_syntax.specs.Machine.{whole_equation};
+ghost use Rattle.kb_text.specs.Machine.{whole_equation};
 ghost use Rattle.kb_syntax.specs.Reader.{place_look, count_at, is_sign, is_ended, IsPassed, HasSameNotes, IsNextReader, IsShortSide, AreEmpty, use_notes, name_notes, name_row, own_name_row, at_a_spot, own_row, clash_row, applied_row};
-ghost use Rattle.kb_syntax.specs.Refusals.{back};
+ghost use Rattle.kb_text.specs.Refusals.{back};
 ghost use Rattle.kb_syntax.specs.Sides.{equation_front, side_front, token_at};
-ghost use Rattle.kb_syntax.specs.Starts.{mark_token};
-ghost use Rattle.kb_syntax.specs.Written.{equation_of};
+ghost use Rattle.kb_text.specs.Starts.{mark_token};
+ghost use Rattle.kb_text.specs.Written.{equation_of};
 
 use crate::equation::OpenEquation;
-use crate::identifier::NAME_BYTES;
-use crate::kind::{Bound, Kind};
-use crate::lexer::{Form, Mark};
 use crate::notes::{Notes, Spot, is_word};
 use crate::side::Side;
 use kb_term::Memory;
+use kb_text::{Bound, Form, Kind, Mark, NAME_BYTES};
 use std::alloc::Global;
 
 const ARITY: usize = 8;

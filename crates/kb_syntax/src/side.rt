@@ -1,17 +1,16 @@
 // One side of an equation, as far as it was read.
 ghost use Rattle.std.specs.Prelude.{◌≡◌, ◌+◌, ◌<◌, ◌^◌, ◌∷◌, [], IfOk, IfSome, MatchOption, None, Some, bytes_eq, is_some, length, option_map};
-ghost use Rattle.kb_syntax.specs.Fronts.{whole, term_front_tokens};
-ghost use Rattle.kb_syntax.specs.Grammar.{alone};
-ghost use Rattle.kb_syntax.specs.Machine.{next_term, is_whole as whole_term};
-ghost use Rattle.kb_syntax.specs.Refusals.{awaits_term, open_parens, last_alone, ends_next, arguments_so_far, is_some_and};
-ghost use Rattle.kb_syntax.specs.Tokens.{identifier, left_paren, right_paren, comma};
-ghost use Rattle.kb_syntax.specs.Starts.{mark_token};
+ghost use Rattle.kb_text.specs.Fronts.{whole, term_front_tokens};
+ghost use Rattle.kb_text.specs.Grammar.{alone};
+ghost use Rattle.kb_text.specs.Machine.{next_term, is_whole as whole_term};
+ghost use Rattle.kb_text.specs.Refusals.{awaits_term, open_parens, last_alone, ends_next, arguments_so_far, is_some_and};
+ghost use Rattle.kb_text.specs.Tokens.{identifier, left_paren, right_paren, comma};
+ghost use Rattle.kb_text.specs.Starts.{mark_token};
 ghost use Rattle.kb_syntax.specs.Sides.{HasTokens, side_front, token_at, AreEnd};
-ghost use Rattle.kb_syntax.specs.Written.{written_of};
+ghost use Rattle.kb_text.specs.Written.{written_of};
 
-use crate::lexer::{Form, Mark};
-use crate::written::{WrittenTerm, WrittenTerms, followed_tokens};
 use kb_term::Memory;
+use kb_text::{Form, Mark, WrittenTerm, WrittenTerms, followed_tokens};
 use std::alloc::Global;
 
 /// An application whose closing parenthesis hasn't come, with its whole arguments.

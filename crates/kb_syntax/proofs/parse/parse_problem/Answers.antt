@@ -1,6 +1,6 @@
 use Rattle.std.proofs.Common.{◌≡◌, sym, subst}
 use Rattle.std.specs.Str.{IsValidUpTo}
-use Rattle.kb_syntax.specs.Refusals.{too_long, not_utf8}
+use Rattle.kb_text.specs.Refusals.{too_long, not_utf8}
 use Rattle.kb_syntax.proofs.parse.parse_problem.Goals as goal
 
 pub returns-then-bytes-gt-INPUT_BYTES-clause-refused :

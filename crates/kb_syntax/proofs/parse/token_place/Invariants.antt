@@ -1,6 +1,6 @@
 use Rattle.std.proofs.Common.{◌≡◌, ◌≤◌, ◌-◌, length, get_or, drop}
-use Rattle.kb_syntax.specs.Refusals.{place_of}
-use Rattle.kb_syntax.specs.Tokens.{tokens_from}
+use Rattle.kb_text.specs.Refusals.{place_of}
+use Rattle.kb_text.specs.Tokens.{tokens_from}
 use Rattle.kb_syntax.proofs.PlaceLaws.{places}
 use Rattle.kb_syntax.proofs.parse.token_place.Given as goal
 

@@ -1,6 +1,6 @@
 use Rattle.std.proofs.Common.{arith, ap, ◌∙◌, ℕ}
 use Rattle.std.specs.Prelude.{unwrap_or}
-use Rattle.kb_syntax.specs.Problems.{arity_in}
+use Rattle.kb_text.specs.Problems.{arity_in}
 use Rattle.kb_syntax.proofs.ProblemLaws.{arity_fits}
 use Rattle.kb_syntax.proofs.problem.entries.Goals as goal
 

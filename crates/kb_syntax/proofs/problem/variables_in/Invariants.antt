@@ -1,7 +1,7 @@
 use Rattle.std.proofs.Common.{◌≡◌}
 use Rattle.std.specs.Prelude.{map, take}
-use Rattle.kb_syntax.specs.Names.{firsts}
-use Rattle.kb_syntax.specs.Problems.{variables_among}
+use Rattle.kb_text.specs.Names.{firsts}
+use Rattle.kb_text.specs.Problems.{variables_among}
 use Rattle.kb_syntax.proofs.problem.variables_in.Given as goal
 
 -- the variables among the names so far

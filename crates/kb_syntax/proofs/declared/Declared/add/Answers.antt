@@ -2,8 +2,7 @@ use Rattle.std.proofs.Common.{ap, sym, ◌∙◌, ◌≡◌, refl, List, [], ◌
 use Rattle.std.specs.Prelude.{map, bytes_eq}
 use Rattle.std.specs.List.{list_any}
 use Rattle.std.proofs.lemmas.List.{map-append}
-use Rattle.kb_syntax.specs.Names.{Name, is_among}
-use Rattle.kb_syntax.specs.Looks.{with_name}
+use Rattle.kb_text.specs.Names.{Name, is_among, with_name}
 use Rattle.kb_syntax.proofs.LookLaws.{among-keys}
 use Rattle.kb_syntax.proofs.declared.Declared.add.Goals as goal
 

@@ -1,6 +1,6 @@
 use Rattle.std.proofs.Common.{ap, sym, ◌∙◌}
 use Rattle.std.specs.Prelude.{List}
-use Rattle.kb_syntax.specs.Names.{Name, is_among}
+use Rattle.kb_text.specs.Names.{Name, is_among}
 use Rattle.kb_syntax.proofs.LookLaws.{among-keys}
 use Rattle.kb_syntax.proofs.declared.Declared.contains.Goals as goal
 

@@ -1,7 +1,7 @@
 use Rattle.std.proofs.Common.{ap, ◌∙◌, sym}
-use Rattle.kb_syntax.specs.Machine.{next_equation}
+use Rattle.kb_text.specs.Machine.{next_equation}
 use Rattle.kb_syntax.specs.Sides.{equation_front, side_front, token_at}
-use Rattle.kb_syntax.specs.Written.{sign_of}
+use Rattle.kb_text.specs.Written.{sign_of}
 use Rattle.kb_syntax.proofs.EquationLaws.{sign_none}
 use Rattle.kb_syntax.proofs.equation.OpenEquation.next.Goals as goal
 

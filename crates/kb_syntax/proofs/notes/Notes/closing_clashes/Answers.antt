@@ -1,8 +1,8 @@
 use Rattle.std.proofs.Common.{ap, sym, ◌∙◌, ◌≡◌, ◌++◌, ℕ, List, [], Bool, true, false, Option, Some, None, ◌&&◌, cond, arith, refl}
 use Rattle.std.specs.Prelude.{not, nat_eq, is_some, bytes_eq}
-use Rattle.kb_syntax.specs.Names.{Name}
-use Rattle.kb_syntax.specs.Problems.{arity_in}
-use Rattle.kb_syntax.specs.Refusals.{has_other_arity, ended_alone, last_alone, is_some_and}
+use Rattle.kb_text.specs.Names.{Name}
+use Rattle.kb_text.specs.Problems.{arity_in}
+use Rattle.kb_text.specs.Refusals.{has_other_arity, ended_alone, last_alone, is_some_and}
 use Rattle.kb_syntax.specs.Sides.{side_front}
 use Rattle.kb_syntax.proofs.Known.{arity-append}
 use Rattle.kb_syntax.proofs.notes.Notes.closing_clashes.Goals as goal

@@ -1,6 +1,7 @@
 use Rattle.std.proofs.Common.{sym, ◌∙◌, ap, ◌+◌, ◌-◌, length}
 use Rattle.std.specs.Prelude.{slice_get}
-use Rattle.kb_syntax.proofs.SideLaws.{vec_length, so_far-around, so_far-open}
+use Rattle.kb_text.proofs.Vectors.{vec_length}
+use Rattle.kb_syntax.proofs.SideLaws.{so_far-around, so_far-open}
 use Rattle.kb_syntax.proofs.side.Side.arguments_so_far.Goals as goal
 
 pub returns-in-Some : goal.returns-in-Some

@@ -1,7 +1,7 @@
 use Rattle.std.proofs.Common.{ap, sym, ◌∙◌}
 use Rattle.kb_syntax.specs.Sides.{application_of, inner_front}
 use Rattle.std.specs.Prelude.{map}
-use Rattle.kb_syntax.specs.Refusals.{awaits_term}
+use Rattle.kb_text.specs.Refusals.{awaits_term}
 use Rattle.kb_syntax.proofs.SideLaws.{front_is, awaits-enclosed}
 use Rattle.kb_syntax.proofs.side.Side.awaits_term.Goals as goal
 

@@ -1,12 +1,13 @@
 use Rattle.std.proofs.Common.{sym, ◌∙◌, ap, refl, Some, List, ℕ, [], ◌∷◌, ◌++◌}
-use Rattle.kb_syntax.proofs.WrittenLists.{args}
+use Rattle.kb_text.proofs.WrittenLists.{args}
 use Rattle.kb_syntax.specs.Sides.{application_of, inner_front}
 use Rattle.std.specs.Prelude.{map}
-use Rattle.kb_syntax.specs.Fronts.{whole}
-use Rattle.kb_syntax.specs.Grammar.{applied}
+use Rattle.kb_text.specs.Fronts.{whole}
+use Rattle.kb_text.specs.Grammar.{applied}
 use Rattle.kb_syntax.specs.Sides.{enclosed}
-use Rattle.kb_syntax.specs.Written.{arguments_of}
-use Rattle.kb_syntax.proofs.SideLaws.{vec_length, empty_not, empty_is, closing, closing_open, not_closing, bare_side}
+use Rattle.kb_text.specs.Written.{arguments_of}
+use Rattle.kb_text.proofs.Vectors.{vec_length, empty_not, empty_is}
+use Rattle.kb_syntax.proofs.SideLaws.{closing, closing_open, not_closing, bare_side}
 use Rattle.kb_syntax.proofs.side.Side.closed.Goals.{in-Whole+in-Some+in_ok-push-in-Some, in-Open+else-not-is_empty}
 use Rattle.kb_syntax.proofs.side.Side.closed.Goals as goal
 

@@ -1,10 +1,10 @@
 use Rattle.std.proofs.Common.{ap, sym, ◌∙◌, arith, length, ◌+◌, ◌-◌, List}
 use Rattle.std.specs.Prelude.{slice_get}
-use Rattle.kb_syntax.specs.Fronts.{followed_tokens}
-use Rattle.kb_syntax.proofs.WrittenLists.{args}
-use Rattle.kb_syntax.specs.declared.written.WrittenTerm.{WrittenTerm}
+use Rattle.kb_text.specs.Fronts.{followed_tokens}
+use Rattle.kb_text.proofs.WrittenLists.{args}
+use Rattle.kb_text.specs.declared.written.WrittenTerm.{WrittenTerm}
 use Rattle.kb_syntax.proofs.SideLaws.{around}
-use Rattle.kb_syntax.proofs.TokenCounts.{around_count, around_tokens, open_tokens}
+use Rattle.kb_syntax.proofs.SideCounts.{around_count, around_tokens, open_tokens}
 use Rattle.kb_syntax.proofs.side.Side.ending_tokens.Goals as goal
 
 pub returns-in-Some : goal.returns-in-Some

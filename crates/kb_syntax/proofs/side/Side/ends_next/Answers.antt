@@ -1,8 +1,9 @@
 use Rattle.std.proofs.Common.{sym, ◌∙◌, ap, subst, ◌+◌, ◌-◌, length, ℕ, List}
 use Rattle.std.specs.Prelude.{slice_get}
-use Rattle.kb_syntax.specs.Refusals.{ends_next}
+use Rattle.kb_text.specs.Refusals.{ends_next}
 use Rattle.kb_syntax.specs.Sides.{AreEnd, side_front}
-use Rattle.kb_syntax.proofs.SideLaws.{vec_length, empty_is, empty_not, ends-around, ends-empty, ends-some}
+use Rattle.kb_text.proofs.Vectors.{vec_length, empty_is, empty_not}
+use Rattle.kb_syntax.proofs.SideLaws.{ends-around, ends-empty, ends-some}
 use Rattle.kb_syntax.proofs.side.Side.ends_next.Goals as goal
 
 pub returns-in-Some : goal.returns-in-Some

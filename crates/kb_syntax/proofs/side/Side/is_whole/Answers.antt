@@ -1,8 +1,9 @@
 use Rattle.std.proofs.Common.{sym, ◌∙◌, ap, Bool, true, false, ◌≡◌, refl, vec_len}
 use Rattle.std.specs.Prelude.{is_some, ◌==◌}
-use Rattle.kb_syntax.specs.Machine.{is_whole as whole_term}
+use Rattle.kb_text.specs.Machine.{is_whole as whole_term}
 use Rattle.kb_syntax.specs.Sides.{side_front}
-use Rattle.kb_syntax.proofs.SideLaws.{empty_is, empty_not, whole-empty, whole-some, whole-open}
+use Rattle.kb_text.proofs.Vectors.{empty_is, empty_not}
+use Rattle.kb_syntax.proofs.SideLaws.{whole-empty, whole-some, whole-open}
 use Rattle.kb_syntax.proofs.side.Side.is_whole.Goals as goal
 
 pub returns-in-Whole : goal.returns-in-Whole

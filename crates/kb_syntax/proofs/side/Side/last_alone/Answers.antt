@@ -1,11 +1,11 @@
 use Rattle.std.proofs.Common.{ap, subst, sym, ◌∙◌, ◌≡◌, Some, None, Option}
 use Rattle.std.specs.Prelude.{map, MatchOption}
 use Rattle.kb_syntax.specs.declared.side.Inner.TheVariants.{Whole}
-use Rattle.kb_syntax.specs.Names.{Name}
-use Rattle.kb_syntax.specs.Refusals.{last_alone}
+use Rattle.kb_text.specs.Names.{Name}
+use Rattle.kb_text.specs.Refusals.{last_alone}
 use Rattle.kb_syntax.specs.Sides.{application_of, inner_front, side_front}
-use Rattle.kb_syntax.specs.Fronts.{whole}
-use Rattle.kb_syntax.specs.Written.{written_of}
+use Rattle.kb_text.specs.Fronts.{whole}
+use Rattle.kb_text.specs.Written.{written_of}
 use Rattle.kb_syntax.proofs.SideLaws.{front_is, alone-enclosed}
 use Rattle.kb_syntax.proofs.side.Side.last_alone.Goals as goal
 

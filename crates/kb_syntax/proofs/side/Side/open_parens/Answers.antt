@@ -3,8 +3,9 @@ use Rattle.std.proofs.lemmas.List.{length-map}
 use Rattle.kb_syntax.specs.Sides.{application_of, inner_front}
 use Rattle.std.specs.Prelude.{map}
 use Rattle.kb_syntax.specs.declared.side.Inner.TheVariants.{Whole, Open}
-use Rattle.kb_syntax.specs.Refusals.{open_parens}
-use Rattle.kb_syntax.proofs.SideLaws.{vec_length, front_is, parens-enclosed}
+use Rattle.kb_text.specs.Refusals.{open_parens}
+use Rattle.kb_text.proofs.Vectors.{vec_length}
+use Rattle.kb_syntax.proofs.SideLaws.{front_is, parens-enclosed}
 use Rattle.kb_syntax.proofs.side.Side.open_parens.Goals as goal
 
 pub returns-in-Whole : goal.returns-in-Whole

@@ -1,10 +1,10 @@
 use Rattle.std.proofs.Common.{sym, ◌∙◌, ap, refl, Some, List}
 use Rattle.kb_syntax.specs.Sides.{application_of, inner_front}
 use Rattle.std.specs.Prelude.{map}
-use Rattle.kb_syntax.specs.Fronts.{opened, whole}
-use Rattle.kb_syntax.specs.Written.{arguments_of, written_of}
+use Rattle.kb_text.specs.Fronts.{opened, whole}
+use Rattle.kb_text.specs.Written.{arguments_of, written_of}
 use Rattle.kb_syntax.specs.Sides.{enclosed}
-use Rattle.kb_syntax.proofs.WrittenLists.{args}
+use Rattle.kb_text.proofs.WrittenLists.{args}
 use Rattle.kb_syntax.proofs.SideLaws.{opening, not_opening, not_opening_open}
 use Rattle.kb_syntax.proofs.side.Side.opened.Goals as goal
 

@@ -1,5 +1,6 @@
 use Rattle.std.proofs.Common.{sym, ◌∙◌, ap, Some}
-use Rattle.kb_syntax.proofs.SideLaws.{empty_is, empty_not, whole-empty, whole-some, whole-open}
+use Rattle.kb_text.proofs.Vectors.{empty_is, empty_not}
+use Rattle.kb_syntax.proofs.SideLaws.{whole-empty, whole-some, whole-open}
 use Rattle.kb_syntax.proofs.side.Side.whole.Goals as goal
 
 pub returns-then-is_empty : goal.returns-then-is_empty

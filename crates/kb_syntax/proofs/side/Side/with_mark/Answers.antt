@@ -1,10 +1,10 @@
 use Rattle.std.proofs.Common.{ap, ◌∙◌, sym, ◌≡◌, None, refl}
-use Rattle.kb_syntax.specs.Tokens.{Token}
-use Rattle.kb_syntax.specs.Starts.{mark_token}
-use Rattle.kb_syntax.specs.Machine.{next_term}
+use Rattle.kb_text.specs.Tokens.{Token}
+use Rattle.kb_text.specs.Starts.{mark_token}
+use Rattle.kb_text.specs.Machine.{next_term}
 use Rattle.kb_syntax.specs.Sides.{side_front}
-use Rattle.kb_syntax.specs.declared.lexer.Mark.{Mark}
-use Rattle.kb_syntax.specs.declared.lexer.Mark.TheVariants.{ArrowEquals, Arrow, Equals, Bar, LeftParen, RightParen, Comma, Quotation}
+use Rattle.kb_text.specs.declared.lexer.Mark.{Mark}
+use Rattle.kb_text.specs.declared.lexer.Mark.TheVariants.{ArrowEquals, Arrow, Equals, Bar, LeftParen, RightParen, Comma, Quotation}
 use Rattle.kb_syntax.proofs.SideLaws.{no_term_token}
 use Rattle.kb_syntax.proofs.side.Side.with_mark.Goals as goal
 

@@ -1,8 +1,8 @@
 use Rattle.std.proofs.Common.{sym, ◌∙◌, ap, Some}
 use Rattle.kb_syntax.specs.Sides.{application_of, inner_front}
 use Rattle.std.specs.Prelude.{map}
-use Rattle.kb_syntax.specs.Grammar.{alone}
-use Rattle.kb_syntax.specs.Fronts.{whole}
+use Rattle.kb_text.specs.Grammar.{alone}
+use Rattle.kb_text.specs.Fronts.{whole}
 use Rattle.kb_syntax.specs.Sides.{enclosed}
 use Rattle.kb_syntax.proofs.SideLaws.{named, not_named}
 use Rattle.kb_syntax.proofs.side.Side.with_name.Goals as goal
