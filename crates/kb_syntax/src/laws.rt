@@ -10,6 +10,11 @@ pub fn bytes_spell_one_problem()
     ensures { (bytes : List ℕ) (p q : Problem) → Spells bytes p → Spells bytes q → p ≡ q }
 {}
 
+/// Bytes are refused in one way at most.
+pub fn bytes_are_refused_in_one_way()
+    ensures { (bytes : List ℕ) (a b : Kind) (m n : ℕ) → IsRefused bytes a m → IsRefused bytes b n → (a ≡ b) × (m ≡ n) }
+{}
+
 /// Bytes that are refused spell no problem.
 pub fn refused_bytes_spell_no_problem()
     ensures { (bytes : List ℕ) (kind : Kind) (at : ℕ) (p : Problem) → IsRefused bytes kind at → Spells bytes p → ⊥ }

@@ -20,7 +20,8 @@ pub use fault::SyntaxFault;
 pub use generator::generate;
 pub use kb_text::{Bound, Fields, Kind, Refusal, prefix_of, push_number, push_term, term_text};
 pub use laws::{
-    bytes_spell_one_problem, refused_bytes_spell_no_problem, spelled_problems_are_within_limits,
+    bytes_are_refused_in_one_way, bytes_spell_one_problem, refused_bytes_spell_no_problem,
+    spelled_problems_are_within_limits,
 };
 pub use narrow::read_one_equation;
 pub use parse::parse_problem;

@@ -42,7 +42,7 @@ fn refusal(bytes: &[u8], kind: Kind, number: usize) -> SyntaxFault
     })
 }
 
-// The problem of a text, token by token.
+// The problem of a text, token by token from the left. A refusal's place may be some tokens before the one that shows it.
 fn parse_text(alloc: Global, text: &[u8]) -> Result<Problem, SyntaxFault>
     requires short { length text.now ≤ 1048576 }
     requires utf8 { IsUtf8 text.now }
@@ -71,7 +71,12 @@ fn parse_text(alloc: Global, text: &[u8]) -> Result<Problem, SyntaxFault>
     }
 }
 
-/// The problem that the bytes spell. It is refused as the definitions say, with the place of the first refusal in bytes.
+/// The problem that the bytes spell: sections of variables and of rules, with any others passed over.
+///
+/// # Errors
+///
+/// The first refusal with its place, a number of bytes: of more than 1,048,576 bytes, of bytes that aren't UTF-8, and else of the first token
+/// that the grammar doesn't have there, that breaks a condition on variables and arities, or that passes a limit. Or want of memory.
 pub fn parse_problem(alloc: Global, bytes: &[u8]) -> Result<Problem, SyntaxFault>
     ensures spelled { IfOk result (λ p. Spells bytes.now p) }
     ensures refused { IfErr result (λ e. IsFault bytes.now e) }

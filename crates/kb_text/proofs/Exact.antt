@@ -319,7 +319,7 @@ first_shown ts kind number r = first_exact ts [] start 0 kind number start_front
 -- ---- where nothing is shown
 
 -- a token of two lists stands in the first or behind it
-split_at : (front more xs ts : List Token) (u : Token) → front ++ u ∷ more ≡ xs ++ ts → ((m : List Token) × (front ++ u ∷ m ≡ xs)) ⊎ ((y : List Token) × (front ≡ xs ++ y))
+pub split_at : (front more xs ts : List Token) (u : Token) → front ++ u ∷ more ≡ xs ++ ts → ((m : List Token) × (front ++ u ∷ m ≡ xs)) ⊎ ((y : List Token) × (front ≡ xs ++ y))
 split_at front more [] ts u e = inr (front, refl)
 split_at [] more (x ∷ xs) ts u e = inl (xs, let same : u ≡ x = cc in ap (λ (t : Token). t ∷ xs) same)
 split_at (b ∷ front) more (x ∷ xs) ts u e = placed (split_at front more xs ts u (let r : front ++ u ∷ more ≡ xs ++ ts = cc in r)) (let r : b ≡ x = cc in r)
