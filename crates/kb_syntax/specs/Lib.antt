@@ -6,10 +6,7 @@ pub use Rattle.kb_text.specs.Problems
 pub use Rattle.kb_text.specs.Refusals
 pub use Rattle.kb_text.specs.Lines
 pub use Rattle.kb_text.specs.Terms
-pub mod FirstPath
-pub mod Narrow
 pub mod Generator
-pub mod Reading
 pub mod Sides
 pub mod Moves
 pub mod Looks

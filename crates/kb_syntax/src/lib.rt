@@ -9,7 +9,6 @@ mod laws;
 mod narrow;
 mod notes;
 mod parse;
-mod parser;
 mod problem;
 mod reader;
 mod side;
