@@ -16,3 +16,5 @@ pub mod Sound
 pub mod Exact
 pub mod OneProblem
 pub mod Identifiers
+pub mod Prefixes
+pub mod VariableTexts

@@ -13,3 +13,4 @@ pub mod WrittenSizes
 pub mod WrittenFalls
 pub mod WrittenCoding
 pub mod Machine
+pub mod TermReading

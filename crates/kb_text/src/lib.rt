@@ -6,6 +6,7 @@ mod kind;
 mod lexer;
 mod line;
 mod names;
+mod read;
 #[cfg(test)]
 mod tests;
 mod text;
@@ -17,6 +18,7 @@ pub use kind::{Bound, Kind, Refusal};
 pub use lexer::{Form, Found, Mark, Token, next_token, tokens_of};
 pub use line::Fields;
 pub use names::Names;
+pub use read::read_term;
 pub use text::{prefix_of, push_number, push_term, term_text};
 pub use uses::{Use, Uses};
 pub use written::{Sign, WrittenEquation, WrittenTerm, WrittenTerms, followed_tokens};

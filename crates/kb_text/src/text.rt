@@ -26,7 +26,7 @@ fn push_letters(out: &mut Vec<u8>, n: usize) -> Result<(), Memory>
     Ok(())
 }
 
-fn are_letters(part: &[u8]) -> bool
+pub(crate) fn are_letters(part: &[u8]) -> bool
     ensures { result ≡ list_all (λ b. nat_eq 120 b) part.now }
 {
     part.iter().all(|b| *b == b'x')
@@ -88,7 +88,7 @@ fn push_symbol(out: &mut Vec<u8>, signature: &Signature, f: Symbol) -> Result<()
 }
 
 // What stands before the argument with this number, from 0.
-fn separator_before(i: usize) -> u8
+pub(crate) fn separator_before(i: usize) -> u8
     ensures { result ≡ separator i }
 {
     if i == 0 { b'(' } else { b',' }
