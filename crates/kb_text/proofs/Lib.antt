@@ -18,3 +18,5 @@ pub mod OneProblem
 pub mod Identifiers
 pub mod Prefixes
 pub mod VariableTexts
+pub mod TermTexts
+pub mod TermParts

@@ -35,35 +35,35 @@ without s names = filter (λ x. not (is_x_number s x)) names
 
 any_without : (s n : ℕ) → s < n → (names : List Name) → list_any (is_x_number n) (without s names) ≡ list_any (is_x_number n) names
 any_without s n l [] = refl
-any_without s n l (x ∷ xs) = go (is_x_number s x) refl
+any_without s n l (x ∷ xs) = go (any_without s n l xs) (is_x_number s x) refl
   where
     none : (v : Bool) → is_x_number s x ≡ true → is_x_number n x ≡ v → v ≡ false
     none true e f = absurd (one_number s n x l e f)
     none false e f = refl
 
-    go : (v : Bool) → is_x_number s x ≡ v → list_any (is_x_number n) (cond (not (is_x_number s x)) (x ∷ without s xs) (without s xs)) ≡ (is_x_number n x || list_any (is_x_number n) xs)
-    go true e =
+    go : list_any (is_x_number n) (without s xs) ≡ list_any (is_x_number n) xs → (v : Bool) → is_x_number s x ≡ v → list_any (is_x_number n) (cond (not (is_x_number s x)) (x ∷ without s xs) (without s xs)) ≡ (is_x_number n x || list_any (is_x_number n) xs)
+    go rest true e =
         ap (λ v. list_any (is_x_number n) (cond (not v) (x ∷ without s xs) (without s xs))) e
-        ∙ any_without s n l xs ∙ ap (λ v. v || list_any (is_x_number n) xs) (sym (none (is_x_number n x) e refl))
-    go false e =
+        ∙ rest ∙ ap (λ v. v || list_any (is_x_number n) xs) (sym (none (is_x_number n x) e refl))
+    go rest false e =
         ap (λ v. list_any (is_x_number n) (cond (not v) (x ∷ without s xs) (without s xs))) e
-        ∙ ap (λ v. is_x_number n x || v) (any_without s n l xs)
+        ∙ ap (λ v. is_x_number n x || v) rest
 
 no_more : (s : ℕ) (names : List Name) → length (without s names) ≤ length names
 no_more s [] = omega arith
-no_more s (x ∷ xs) = go (not (is_x_number s x)) refl
+no_more s (x ∷ xs) = go (no_more s xs) (not (is_x_number s x)) refl
   where
-    go : (v : Bool) → not (is_x_number s x) ≡ v → length (cond v (x ∷ without s xs) (without s xs)) ≤ length (x ∷ xs)
-    go true e = omega (arith, no_more s xs)
-    go false e = omega (arith, no_more s xs)
+    go : length (without s xs) ≤ length xs → (v : Bool) → not (is_x_number s x) ≡ v → length (cond v (x ∷ without s xs) (without s xs)) ≤ length (x ∷ xs)
+    go less true e = omega arith
+    go less false e = omega arith
 
 fewer : (s : ℕ) (names : List Name) → list_any (is_x_number s) names ≡ true → length (without s names) < length names
 fewer s [] h = absurd (false≢true h)
-fewer s (x ∷ xs) h = go (is_x_number s x) refl
+fewer s (x ∷ xs) h = go (fewer s xs) (is_x_number s x) refl
   where
-    go : (v : Bool) → is_x_number s x ≡ v → length (cond (not v) (x ∷ without s xs) (without s xs)) < length (x ∷ xs)
-    go true e = omega (arith, no_more s xs)
-    go false e = omega (arith, fewer s xs (sym (ap (λ v. v || list_any (is_x_number s) xs) e) ∙ h))
+    go : (list_any (is_x_number s) xs ≡ true → length (without s xs) < length xs) → (v : Bool) → is_x_number s x ≡ v → length (cond (not v) (x ∷ without s xs) (without s xs)) < length (x ∷ xs)
+    go less true e = omega (arith, no_more s xs)
+    go less false e = omega (arith, less (sym (ap (λ v. v || list_any (is_x_number s) xs) e) ∙ h))
 
 find_agree : (p q : ℕ → Bool) (k s : ℕ) → ((n : ℕ) → s ≤ n → p n ≡ q n) → find p (range_with_len s k) ≡ find q (range_with_len s k)
 find_agree p q zero s h = refl
@@ -75,14 +75,17 @@ find_agree p q (suc k) s h =
 abbrev is_free : List Name → ℕ → Bool
 is_free names n = not (list_any (is_x_number n) names)
 
-first_free_number : (k s : ℕ) (names : List Name) → length names < k → (n : ℕ) × (s ≤ n) × (find (is_free names) (range_with_len s k) ≡ Some n) × (list_any (is_x_number n) names ≡ false)
+abbrev FreeNumber : ℕ → ℕ → List Name → Type 0
+FreeNumber k s names = (n : ℕ) × (s ≤ n) × (find (is_free names) (range_with_len s k) ≡ Some n) × (list_any (is_x_number n) names ≡ false)
+
+first_free_number : (k s : ℕ) (names : List Name) → length names < k → FreeNumber k s names
 first_free_number zero s names l = absurd (omega arith)
-first_free_number (suc k) s names l = go (list_any (is_x_number s) names) refl
+first_free_number (suc k) s names l = go (first_free_number k (s + 1) (without s names)) (list_any (is_x_number s) names) refl
   where
-    go : (v : Bool) → list_any (is_x_number s) names ≡ v → (n : ℕ) × (s ≤ n) × (find (is_free names) (range_with_len s (suc k)) ≡ Some n) × (list_any (is_x_number n) names ≡ false)
-    go false e = (s, omega arith, ap (λ v. cond (not v) (Some s) (find (is_free names) (range_with_len (s + 1) k))) e, e)
-    go true e =
-        let r = first_free_number k (s + 1) (without s names) (omega (arith, fewer s names e)) in
+    go : (length (without s names) < k → FreeNumber k (s + 1) (without s names)) → (v : Bool) → list_any (is_x_number s) names ≡ v → FreeNumber (suc k) s names
+    go next false e = (s, omega arith, ap (λ v. cond (not v) (Some s) (find (is_free names) (range_with_len (s + 1) k))) e, e)
+    go next true e =
+        let r = next (omega (arith, fewer s names e)) in
         let above : s + 1 ≤ r.0 = r.1 in
         let agree = find_agree (is_free names) (is_free (without s names)) k (s + 1) (λ n l. ap not (sym (any_without s n (omega arith) names))) in (
           r.0,
@@ -98,12 +101,12 @@ no_name_is_variable names =
 
 none_at : (p : Name → Bool) (names : List Name) (f : ℕ) → f < length names → list_any p names ≡ false → p (get_or names f []) ≡ false
 none_at p [] f l h = absurd (omega arith)
-none_at p (x ∷ xs) f l h = go (p x) refl f l
+none_at p (x ∷ xs) f l h = go (none_at p xs) (p x) refl f l
   where
-    go : (v : Bool) → p x ≡ v → (f : ℕ) → f < length (x ∷ xs) → p (get_or (x ∷ xs) f []) ≡ false
-    go true e f l = absurd (false≢true (sym h ∙ ap (λ v. v || list_any p xs) e))
-    go false e zero l = e
-    go false e (suc f) l = none_at p xs f (omega arith) (sym (ap (λ v. v || list_any p xs) e) ∙ h)
+    go : ((f : ℕ) → f < length xs → list_any p xs ≡ false → p (get_or xs f []) ≡ false) → (v : Bool) → p x ≡ v → (f : ℕ) → f < length (x ∷ xs) → p (get_or (x ∷ xs) f []) ≡ false
+    go next true e f l = absurd (false≢true (sym h ∙ ap (λ v. v || list_any p xs) e))
+    go next false e zero l = e
+    go next false e (suc f) l = next f (omega arith) (sym (ap (λ v. v || list_any p xs) e) ∙ h)
 
 pub name_is_no_variable : (names : List Name) (f : ℕ) → f < length names → is_x_number (prefix_length names) (get_or names f []) ≡ false
 name_is_no_variable names f l = none_at (is_x_number (prefix_length names)) names f l (no_name_is_variable names)

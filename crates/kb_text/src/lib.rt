@@ -3,6 +3,7 @@
 
 mod identifier;
 mod kind;
+mod laws;
 mod lexer;
 mod line;
 mod names;
@@ -15,6 +16,7 @@ mod written;
 
 pub use identifier::{NAME_BYTES, is_identifier, signature_of};
 pub use kind::{Bound, Kind, Refusal};
+pub use laws::bytes_spell_one_term;
 pub use lexer::{Form, Found, Mark, Token, next_token, tokens_of};
 pub use line::Fields;
 pub use names::Names;
