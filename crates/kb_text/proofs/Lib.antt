@@ -20,3 +20,4 @@ pub mod Prefixes
 pub mod VariableTexts
 pub mod TermTexts
 pub mod TermParts
+pub mod PartRead

@@ -1,10 +1,12 @@
 -- Terms within the limits, and terms that are read argument by argument.
-use Rattle.std.proofs.Common.{◌≡◌, refl, ap, ap₂, sym, ◌∙◌, subst, append-nil, append_assoc, arith, ℕ, zero, suc, ◌+◌, ◌-◌, ◌<◌, ◌≤◌, List, [], ◌∷◌, ◌++◌, All, length, max, drop}
+use Rattle.std.proofs.Common.{◌≡◌, refl, ap, ap₂, sym, ◌∙◌, subst, append-nil, append_assoc, arith, ℕ, zero, suc, ◌+◌, ◌-◌, ◌<◌, ◌≤◌, List, [], ◌∷◌, ◌++◌, All, length, max, drop, length-drop}
+use Rattle.std.proofs.lemmas.List.{drop_all}
 use Rattle.std.proofs.lemmas.List.Elements.{All-append, All-cons, All-head, All-nil}
 use Rattle.kb_term.specs.Signature.{Signature, IsSignature, IsWellFormed, AreWellFormed, IsTermWithinLimits}
 use Rattle.kb_term.specs.Tree.{Tree, variable, apply, Trees, no_trees, more_trees, list_of, tree_depth, trees_depth, variables_of, variables_in}
 use Rattle.kb_text.specs.Terms.{TermSpelled, names_of, term_text}
-use Rattle.kb_text.specs.TermReading.{IsBounded, AreBounded}
+use Rattle.kb_text.specs.TermReading.{IsBounded, AreBounded, BeginsWithNone, BeginsWithTerm}
+use Rattle.kb_term.specs.Pair.{IsWithin}
 use Rattle.kb_text.proofs.TermTexts.{one_term}
 
 abbrev AreSmall : List ℕ → Type 0
@@ -54,3 +56,24 @@ spelled_bounded signature bytes t h = bounded signature 64 t h.within.well_forme
 pub one_spelled : (signature : Signature) (bytes : List ℕ) (t u : Tree) → IsSignature signature → TermSpelled signature bytes t → TermSpelled signature bytes u → t ≡ u
 one_spelled signature bytes t u s h k =
     (one_term signature s t u 64 64 [] [] (spelled_bounded signature bytes t h) (spelled_bounded signature bytes u k) tt tt (append-nil (term_text (names_of signature) t) ∙ sym h.spelling ∙ k.spelling ∙ sym (append-nil (term_text (names_of signature) u)))).0
+
+-- a text that begins with a term is spelled by it, or by none
+pub whole_spelled : (signature : Signature) (bytes : List ℕ) (t : Tree) (size : ℕ) → BeginsWithTerm signature bytes 64 t size → length bytes ≤ size → IsWithin t → TermSpelled signature bytes t
+whole_spelled signature bytes t size b h w = record {
+  within = record { well_formed = well_formed signature 64 t b.bounded; size = w.size; depth = w.depth };
+  variables = small_variables signature 64 t b.bounded;
+  spelling = b.spelling ∙ ap (term_text (names_of signature) t ++◌) (drop_all size bytes h) ∙ append-nil (term_text (names_of signature) t);
+}
+
+begun_spelled : (signature : Signature) (bytes : List ℕ) (t u : Tree) (size : ℕ) → IsSignature signature → BeginsWithTerm signature bytes 64 t size → TermSpelled signature bytes u → (t ≡ u) × (drop size bytes ≡ [])
+begun_spelled signature bytes t u size s b k =
+    one_term signature s t u 64 64 (drop size bytes) [] b.bounded (spelled_bounded signature bytes u k) b.ends tt (sym b.spelling ∙ k.spelling ∙ sym (append-nil (term_text (names_of signature) u)))
+
+pub too_long : (signature : Signature) (bytes : List ℕ) (t u : Tree) (size : ℕ) → IsSignature signature → BeginsWithTerm signature bytes 64 t size → size < length bytes → TermSpelled signature bytes u → ⊥
+too_long signature bytes t u size s b l k = let e = ap length (begun_spelled signature bytes t u size s b k).1 in omega (arith, e, length-drop size bytes)
+
+pub too_large : (signature : Signature) (bytes : List ℕ) (t u : Tree) (size : ℕ) → IsSignature signature → BeginsWithTerm signature bytes 64 t size → (IsWithin t → ⊥) → TermSpelled signature bytes u → ⊥
+too_large signature bytes t u size s b h k = h (subst IsWithin (sym (begun_spelled signature bytes t u size s b k).0) (record { size = k.within.size; depth = k.within.depth }))
+
+pub none_spelled : (signature : Signature) (bytes : List ℕ) (u : Tree) → BeginsWithNone signature bytes 64 → TermSpelled signature bytes u → ⊥
+none_spelled signature bytes u h k = h u [] (spelled_bounded signature bytes u k) tt (k.spelling ∙ sym (append-nil (term_text (names_of signature) u)))

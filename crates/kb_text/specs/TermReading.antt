@@ -43,3 +43,9 @@ BeginsWithNone signature text depth = (t : Tree) (rest : List ℕ) → IsBounded
 abbrev pub closing_text : ℕ → List ℕ
 closing_text zero = []
 closing_text (suc n) = 41 ∷ []
+
+-- it takes the first bytes of the text, so many
+pub record IsClosed (text : List ℕ) (arguments size : ℕ) : Type 0 where
+  pub within : size ≤ length text
+  pub spelling : text ≡ closing_text arguments ++ drop size text
+  pub ends : IsNameEnd (drop size text)

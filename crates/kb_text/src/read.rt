@@ -1,11 +1,12 @@
 // Reading the text of a term.
 ghost use Rattle.std.specs.Prelude.{◌≡◌, ◌≤◌, ◌<◌, ◌+◌, ◌++◌, ◌∷◌, ◌↔◌, ℕ, List, Some, IfOk, IsTrue, MatchOption, decimal, drop, length, option_map, replicate, take};
+ghost use Rattle.kb_term.specs.Signature.{IsSignature};
 ghost use Rattle.kb_term.specs.Tree.{Tree};
 ghost use Rattle.kb_term.specs.View.{tree_of};
 ghost use Rattle.kb_text.specs.Terms.{TermSpelled, names_of, prefix_length, symbol_text};
-ghost use Rattle.kb_text.specs.TermReading.{BeginsWithNone, BeginsWithTerm, IsInName, IsNameEnd, closing_text, ends_name};
+ghost use Rattle.kb_text.specs.TermReading.{BeginsWithNone, BeginsWithTerm, IsInName, IsClosed, IsNameEnd, closing_text, ends_name};
 
-use crate::text::{are_letters, prefix_of, separator_before};
+use crate::text::{are_letters, first_free, separator_before};
 use kb_term::{Memory, Signature, Symbol, Term, Terms, term_limit};
 use std::alloc::Global;
 
@@ -94,17 +95,30 @@ fn begins_with(text: &[u8], b: u8) -> bool
     !text.is_empty() && text[0] == b
 }
 
-// How many bytes the closing parenthesis takes that stands behind so many arguments; none where it is missing.
+fn is_at_name_end(text: &[u8]) -> bool
+    ensures { IsTrue result ↔ IsNameEnd text.now }
+{
+    text.is_empty() || is_name_end(text[0])
+}
+
+// How many bytes the closing parenthesis takes that stands behind so many arguments; none where it is missing, or where
+// a name goes on behind it.
 fn closing_length(text: &[u8], arguments: usize) -> Option<usize>
-    ensures { MatchOption result ((rest : List ℕ) → ¬ (text.now ≡ closing_text arguments ++ rest)) (λ n. (n ≤ length text.now) × (text.now ≡ closing_text arguments ++ drop n text.now)) }
+    requires { IsNameEnd text.now }
+    ensures { MatchOption result ((rest : List ℕ) → IsNameEnd rest → ¬ (text.now ≡ closing_text arguments ++ rest)) (IsClosed text.now arguments) }
 {
     if arguments == 0 {
         return Some(0);
     }
-    if begins_with(text, b')') {
-        return Some(1);
+    if !begins_with(text, b')') {
+        return None;
     }
-    None
+    let (_, rest) = text.split_at(1);
+    if is_at_name_end(rest) {
+        Some(1)
+    } else {
+        None
+    }
 }
 
 // The term of at most this depth that the text begins with, and how many bytes it takes.
@@ -116,6 +130,7 @@ fn read_from(
     depth: usize,
 ) -> Result<Option<(Term, usize)>, Memory>
     requires few { length signature.now ≤ 256 }
+    requires names { IsSignature signature.now }
     requires prefix { prefix ≡ prefix_length (names_of signature.now) }
     ensures { IfOk result (λ found. MatchOption found (BeginsWithNone signature.now text.now depth) (λ p. BeginsWithTerm signature.now text.now depth (tree_of p.0) p.1)) }
 {
@@ -163,15 +178,15 @@ pub fn read_term(alloc: Global, signature: &Signature, bytes: &[u8]) -> Result<O
     ensures read { IfOk result (λ read. MatchOption read ((t : Tree) → ¬ TermSpelled signature.now bytes.now t) (λ t. TermSpelled signature.now bytes.now (tree_of t))) }
     ensures same { IfOk result (λ read. (t : Tree) → TermSpelled signature.now bytes.now t → option_map tree_of read ≡ Some t) }
 {
-    let prefix = prefix_of(signature);
-    match read_from(alloc, signature, prefix, bytes, DEPTH)? {
-        Some((t, size)) => {
-            if size == bytes.len() && term_limit(&t).is_none() {
-                Ok(Some(t))
-            } else {
-                Ok(None)
-            }
-        }
-        None => Ok(None),
+    let prefix = first_free(signature.symbols());
+    let Some((t, size)) = read_from(alloc, signature, prefix, bytes, DEPTH)? else {
+        return Ok(None);
+    };
+    if size < bytes.len() {
+        return Ok(None);
     }
+    if term_limit(&t).is_some() {
+        return Ok(None);
+    }
+    Ok(Some(t))
 }

@@ -59,7 +59,7 @@ fn is_taken(symbols: &[(Vec<u8>, u8)], n: usize) -> bool
     false
 }
 
-fn first_free(symbols: &[(Vec<u8>, u8)]) -> usize
+pub(crate) fn first_free(symbols: &[(Vec<u8>, u8)]) -> usize
     ensures { result ≡ prefix_length (names_of (symbols_of_list symbols.now)) }
 {
     for n in 1..symbols.len() + 2 {
