@@ -21,3 +21,4 @@ pub mod VariableTexts
 pub mod TermTexts
 pub mod TermParts
 pub mod PartRead
+pub mod PrintLaws

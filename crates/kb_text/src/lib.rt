@@ -7,6 +7,7 @@ mod laws;
 mod lexer;
 mod line;
 mod names;
+mod printer;
 mod read;
 #[cfg(test)]
 mod tests;
@@ -20,6 +21,7 @@ pub use laws::bytes_spell_one_term;
 pub use lexer::{Form, Found, Mark, Token, next_token, tokens_of};
 pub use line::Fields;
 pub use names::Names;
+pub use printer::problem_text;
 pub use read::read_term;
 pub use text::{prefix_of, push_number, push_term, term_text};
 pub use uses::{Use, Uses};

@@ -17,7 +17,7 @@ pub fn push_number(alloc: Global, out: &mut Vec<u8>, n: u64) -> Result<(), Memor
     Ok(())
 }
 
-fn push_letters(out: &mut Vec<u8>, n: usize) -> Result<(), Memory>
+pub(crate) fn push_letters(out: &mut Vec<u8>, n: usize) -> Result<(), Memory>
     ensures { OnOk result (out.new.items ≡ out.old.items ++ replicate n 120) }
 {
     for i in 0..n {
