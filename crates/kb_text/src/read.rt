@@ -114,11 +114,7 @@ fn closing_length(text: &[u8], arguments: usize) -> Option<usize>
         return None;
     }
     let (_, rest) = text.split_at(1);
-    if is_at_name_end(rest) {
-        Some(1)
-    } else {
-        None
-    }
+    if is_at_name_end(rest) { Some(1) } else { None }
 }
 
 // The term of at most this depth that the text begins with, and how many bytes it takes.
