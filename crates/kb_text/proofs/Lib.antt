@@ -22,3 +22,5 @@ pub mod TermTexts
 pub mod TermParts
 pub mod PartRead
 pub mod PrintLaws
+pub mod NameTokens
+pub mod ProblemTokens

@@ -14,3 +14,4 @@ pub mod WrittenFalls
 pub mod WrittenCoding
 pub mod Machine
 pub mod TermReading
+pub mod Rewritten

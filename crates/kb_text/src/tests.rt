@@ -1,17 +1,19 @@
 use super::*;
 use kb_term::{Problem, Signature, Symbol, Term, Terms};
+use std::alloc::Global;
+use std::process::Abort;
 
 // One symbol, whose name looks like a variable.
-fn signature(rt: &HostRuntime) -> Signature {
-    let mut symbols = Vec::new(rt.alloc());
-    let name = Vec::from_slice(rt.alloc(), b"x1").expect(rt, "memory");
+fn signature(rt: &impl Abort, alloc: Global) -> Signature {
+    let mut symbols = Vec::new(alloc);
+    let name = Vec::from_slice(alloc, b"x1").expect(rt, "memory");
     symbols.push((name, 1)).expect(rt, "memory");
     signature_of(symbols).expect(rt, "a signature")
 }
 
 #[test]
 fn variables_look_like_no_symbol(rt: HostRuntime) {
-    let signature = signature(&rt);
+    let signature = signature(&rt, rt.alloc());
     let mut arguments = Vec::new(rt.alloc());
     arguments.push(Term::Var(0)).expect(&rt, "memory");
     let t = Term::App(Symbol(0), Terms::new(arguments));
@@ -21,7 +23,7 @@ fn variables_look_like_no_symbol(rt: HostRuntime) {
 
 #[test]
 fn a_term_is_read_back(rt: HostRuntime) {
-    let signature = signature(&rt);
+    let signature = signature(&rt, rt.alloc());
     let read = read_term(rt.alloc(), &signature, b"x1(xx64)").expect(&rt, "memory");
     let t = read.expect(&rt, "a term");
     let written = term_text(rt.alloc(), &signature, &t).expect(&rt, "memory");
@@ -34,7 +36,7 @@ fn a_problem_is_written(rt: HostRuntime) {
     equations
         .push((Term::Var(0), Term::Var(1)))
         .expect(&rt, "memory");
-    let problem = Problem::new(signature(&rt), equations);
+    let problem = Problem::new(signature(&rt, rt.alloc()), equations);
     let written = problem_text(rt.alloc(), &problem).expect(&rt, "memory");
     assert_eq!(rt;
         written.as_slice(),
