@@ -24,3 +24,4 @@ pub mod PartRead
 pub mod PrintLaws
 pub mod NameTokens
 pub mod ProblemTokens
+pub mod RewrittenTerms
