@@ -9,11 +9,11 @@ or_false : (a b : Bool) → (a || b) ≡ false → (a ≡ false) × (b ≡ false
 or_false true b h = absurd (cc)
 or_false false b h = (refl, h)
 
-and_true : (a b : Bool) → (a && b) ≡ true → (a ≡ true) × (b ≡ true)
+pub and_true : (a b : Bool) → (a && b) ≡ true → (a ≡ true) × (b ≡ true)
 and_true true b h = (refl, h)
 and_true false b h = absurd (cc)
 
-not_true : (a : Bool) → not a ≡ true → a ≡ false
+pub not_true : (a : Bool) → not a ≡ true → a ≡ false
 not_true true h = absurd (cc)
 not_true false h = refl
 
@@ -31,12 +31,12 @@ white_tests false false true d h = absurd (cc)
 white_tests false false false true h = absurd (cc)
 white_tests false false false false h = refl
 
-letter_start : (b : ℕ) (text : List ℕ) → begins_otherwise (b ∷ text) ≡ false → start_of b text ≡ letter
+pub letter_start : (b : ℕ) (text : List ℕ) → begins_otherwise (b ∷ text) ≡ false → start_of b text ≡ letter
 letter_start b text h =
     let r = or_false (is_white_space b) (list_any (λ (m : List ℕ). starts_with ◌==◌ (b ∷ text) m) (map (λ (m : Token × List ℕ). m.1) marks)) h in
     ap (λ (w : Bool). cond w white (mark_of marks (b ∷ text))) (white_tests (b == 32) (b == 9) (b == 10) (b == 13) r.0) ∙ no_mark marks (b ∷ text) r.1
 
-same_equal : (a : ℕ) → (a == a) ≡ true
+pub same_equal : (a : ℕ) → (a == a) ≡ true
 same_equal a = grind (arith, nat_tests)
 
 one_token : (text : List ℕ) (b n : ℕ) → is_unbroken (b ∷ text) ≡ true → tokens_from 0 n (b ∷ text) ≡ record { at = n; token = identifier (b ∷ text) } ∷ record { at = n + length (b ∷ text); token = end_of_input } ∷ []

@@ -16,3 +16,12 @@ pub mod Sound
 pub mod Exact
 pub mod OneProblem
 pub mod Identifiers
+pub mod Prefixes
+pub mod VariableTexts
+pub mod TermTexts
+pub mod TermParts
+pub mod PartRead
+pub mod PrintLaws
+pub mod NameTokens
+pub mod ProblemTokens
+pub mod RewrittenTerms

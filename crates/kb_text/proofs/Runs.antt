@@ -8,7 +8,7 @@ use Rattle.kb_text.specs.declared.lexer.Mark.{Mark}
 use Rattle.kb_text.specs.declared.lexer.Mark.TheVariants.{ArrowEquals, Arrow, Equals, Bar, LeftParen, RightParen, Comma, Quotation}
 use Rattle.kb_text.specs.Starts.{mark_length_of, start_by, start_in, IsNoIdentifier, Stops, IsNameTo}
 
-start_is : (b : ℕ) (rest : List ℕ) → start_of b rest ≡ start_by b (get_or rest 0 0) (get_or rest 1 0)
+pub start_is : (b : ℕ) (rest : List ℕ) → start_of b rest ≡ start_by b (get_or rest 0 0) (get_or rest 1 0)
 start_is b [] = refl
 start_is b (c ∷ []) = refl
 start_is b (c ∷ d ∷ rest) = refl
@@ -45,7 +45,7 @@ after_mark bytes at t size h some fits m =
 -- ---- identifiers
 
 -- there is a token, and none stands before n
-abbrev StandsFrom : ℕ → List Placed → Type 0
+abbrev pub StandsFrom : ℕ → List Placed → Type 0
 StandsFrom n [] = ⊥
 StandsFrom n (p ∷ ps) = n ≤ p.at
 
@@ -67,13 +67,13 @@ mutual_start white n b rest h = later n (n + 1) (rest 0) (omega arith) (h 0)
 mutual_start (mark t size) n b rest h = omega arith
 mutual_start letter n b rest h = from_letter n b (rest 0) (h 0)
 
-stands_from : (text : List ℕ) (k n : ℕ) → StandsFrom n (tokens_from k n text)
+pub stands_from : (text : List ℕ) (k n : ℕ) → StandsFrom n (tokens_from k n text)
 stands_from [] k n = omega arith
 stands_from (b ∷ text) zero n = mutual_start (start_of b text) n b (λ k. tokens_from k (n + 1) text) (λ k. stands_from text k (n + 1))
 stands_from (b ∷ text) (suc k) n = later n (n + 1) (tokens_from k (n + 1) text) (omega arith) (stands_from text k (n + 1))
 
 -- the first of the tokens, if it is an identifier, stands behind the place m
-abbrev IsApart : ℕ → List Placed → Type 0
+abbrev pub IsApart : ℕ → List Placed → Type 0
 IsApart m [] = ⊥
 IsApart m (p ∷ ps) = IsNoIdentifier p.token ⊎ (m < p.at)
 
@@ -88,7 +88,7 @@ same_equal : (a : ℕ) → (a == a) ≡ true
 same_equal a = grind (arith, nat_tests)
 
 -- a letter that no identifier follows directly
-alone_letter : (n b : ℕ) (l : List Placed) → IsApart (n + 1) l → letter_before n b l ≡ record { at = n; token = identifier (b ∷ []) } ∷ l
+pub alone_letter : (n b : ℕ) (l : List Placed) → IsApart (n + 1) l → letter_before n b l ≡ record { at = n; token = identifier (b ∷ []) } ∷ l
 alone_letter n b [] h = absurd h
 alone_letter n b (p ∷ ps) h = go p.token h
   where
@@ -97,7 +97,7 @@ alone_letter n b (p ∷ ps) h = go p.token h
     go (identifier name) (inr h) = ap (λ (e : Bool). with_letter n b p ps (identifier name) e) (not_equal p.at (n + 1) h)
     go t h = refl
 
-at_stop : (s : Start) (n b : ℕ) (rest : ℕ → List Placed) → Stops s → ((k : ℕ) → StandsFrom (n + 1) (rest k)) → IsApart n (tokens_by s n b rest)
+pub at_stop : (s : Start) (n b : ℕ) (rest : ℕ → List Placed) → Stops s → ((k : ℕ) → StandsFrom (n + 1) (rest k)) → IsApart n (tokens_by s n b rest)
 at_stop white n b rest h k = apart_from n (rest 0) (k 0)
 at_stop (mark t size) n b rest h k = inl h
 at_stop letter n b rest h k = absurd h

@@ -23,7 +23,7 @@ length-take (suc n) [] h = absurd (omega arith)
 length-take (suc n) (x ∷ xs) h = omega (arith, length-take n xs (omega arith))
 
 -- a name that is long enough begins with n letters x where its first n bytes are letters x
-begins_with_letters : (n : ℕ) (name : List ℕ) → n ≤ length name → starts_with nat_eq name (replicate n 120) ≡ list_all (λ b. nat_eq 120 b) (take n name)
+pub begins_with_letters : (n : ℕ) (name : List ℕ) → n ≤ length name → starts_with nat_eq name (replicate n 120) ≡ list_all (λ b. nat_eq 120 b) (take n name)
 begins_with_letters n name h =
     ap (λ (k : ℕ). bytes_eq (replicate n 120) (take k name)) (length-replicate n)
     ∙ ap (λ (k : ℕ). bytes_eq (replicate k 120) (take n name)) (sym (length-take n name h))

@@ -13,3 +13,5 @@ pub mod WrittenSizes
 pub mod WrittenFalls
 pub mod WrittenCoding
 pub mod Machine
+pub mod TermReading
+pub mod Rewritten

@@ -77,8 +77,11 @@ most_variables (e ∷ es) = max (variable_count e) (most_variables es)
 abbrev pub infix_text : List Name → List ℕ → Tree → Tree → List (List ℕ)
 infix_text names sign s t = term_text names s ∷ sign ∷ term_text names t ∷ []
 
+abbrev pub problem_line : List Name → Tree × Tree → List ℕ
+problem_line names e = line (infix_text names (codes "==") e.0 e.1)
+
 -- a line of variables, and a line for each equation
 abbrev pub problem_text : Problem → List ℕ
 problem_text p = let names = names_of p.signature in
     codes "(VAR" ++ flat_map (λ n. 32 ∷ variable_text names n) (range_with_len 0 (most_variables p.equations)) ++ codes ")\n"
-    ++ codes "(RULES\n" ++ flat_map (λ (e : Tree × Tree). line (infix_text names (codes "==") e.0 e.1)) p.equations ++ codes ")\n"
+    ++ codes "(RULES\n" ++ flat_map (problem_line names) p.equations ++ codes ")\n"

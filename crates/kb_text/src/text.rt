@@ -17,7 +17,7 @@ pub fn push_number(alloc: Global, out: &mut Vec<u8>, n: u64) -> Result<(), Memor
     Ok(())
 }
 
-fn push_letters(out: &mut Vec<u8>, n: usize) -> Result<(), Memory>
+pub(crate) fn push_letters(out: &mut Vec<u8>, n: usize) -> Result<(), Memory>
     ensures { OnOk result (out.new.items ≡ out.old.items ++ replicate n 120) }
 {
     for i in 0..n {
@@ -26,7 +26,7 @@ fn push_letters(out: &mut Vec<u8>, n: usize) -> Result<(), Memory>
     Ok(())
 }
 
-fn are_letters(part: &[u8]) -> bool
+pub(crate) fn are_letters(part: &[u8]) -> bool
     ensures { result ≡ list_all (λ b. nat_eq 120 b) part.now }
 {
     part.iter().all(|b| *b == b'x')
@@ -59,7 +59,7 @@ fn is_taken(symbols: &[(Vec<u8>, u8)], n: usize) -> bool
     false
 }
 
-fn first_free(symbols: &[(Vec<u8>, u8)]) -> usize
+pub(crate) fn first_free(symbols: &[(Vec<u8>, u8)]) -> usize
     ensures { result ≡ prefix_length (names_of (symbols_of_list symbols.now)) }
 {
     for n in 1..symbols.len() + 2 {
@@ -88,7 +88,7 @@ fn push_symbol(out: &mut Vec<u8>, signature: &Signature, f: Symbol) -> Result<()
 }
 
 // What stands before the argument with this number, from 0.
-fn separator_before(i: usize) -> u8
+pub(crate) fn separator_before(i: usize) -> u8
     ensures { result ≡ separator i }
 {
     if i == 0 { b'(' } else { b',' }
