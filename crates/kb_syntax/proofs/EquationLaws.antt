@@ -1,15 +1,14 @@
 -- Equations, one token more.
-use Rattle.std.proofs.Common.{◌≡◌, refl, ap, sym, ◌∙◌, ℕ, List, [], Option, Some, None}
+use Rattle.std.proofs.Common.{◌≡◌, sym, ℕ, List, [], Some, None}
 use Rattle.std.specs.Prelude.{option_map, option_and_then}
-use Rattle.kb_text.specs.Names.{Name}
 use Rattle.kb_text.specs.Tokens.{Token, arrow, equals}
-use Rattle.kb_text.specs.Grammar.{Written, Sign, by_arrow, by_equals}
-use Rattle.kb_text.specs.Fronts.{TermFront, EquationFront, in_left, behind_sign}
+use Rattle.kb_text.specs.Grammar.{Sign}
+use Rattle.kb_text.specs.Fronts.{TermFront, in_left, behind_sign}
 use Rattle.kb_text.specs.Machine.{next_term, next_equation, is_whole, sign_of, or_try}
 use Rattle.kb_syntax.specs.Sides.{token_at}
 use Rattle.kb_text.specs.declared.lexer.Form.{Form}
 use Rattle.kb_text.specs.declared.lexer.Form.TheVariants.{Mark as MarkForm, Identifier, End}
-use Rattle.kb_text.specs.declared.lexer.Mark.TheVariants.{ArrowEquals, Arrow, Equals, Bar, LeftParen, RightParen, Comma, Quotation}
+use Rattle.kb_text.specs.declared.lexer.Mark.TheVariants.{Arrow, Equals}
 use Rattle.kb_syntax.proofs.SideLaws.{no_term_token}
 
 sign-behind : (u : TermFront) (t : Token) (s : Sign) → None ≡ next_term u t → sign_of t ≡ Some s → is_whole u ≡ None → None ≡ next_equation (in_left u) t

@@ -1,12 +1,12 @@
 -- Tests of lists with one more member.
-use Rattle.std.proofs.Common.{append-nil, append_assoc, ◌≡◌, refl, ap, sym, ◌∙◌, subst, arith, ℕ, zero, suc, ◌+◌, ◌<◌, ◌≤◌, List, [], ◌∷◌, ◌++◌, Option, Some, None, Bool, true, false, cond, ◌&&◌, ◌||◌, length, length-append}
-use Rattle.std.specs.Prelude.{not, nat_eq, nat_le, nat_lt, bytes_eq, is_some, unwrap_or, filter}
+use Rattle.std.proofs.Common.{append-nil, append_assoc, ◌≡◌, refl, ap, sym, ◌∙◌, subst, arith, ℕ, ◌<◌, ◌≤◌, List, [], ◌∷◌, ◌++◌, Option, Some, None, Bool, true, false, cond, ◌&&◌, ◌||◌, length, length-append}
+use Rattle.std.specs.Prelude.{not, nat_eq, bytes_eq, is_some, unwrap_or, filter}
 use Rattle.std.specs.List.{list_all, list_any}
 use Rattle.std.proofs.lemmas.List.Folds.{list_all-append, list_any-append}
 use Rattle.std.proofs.lemmas.List.Elements.{filter-append}
 use Rattle.kb_text.specs.Names.{Name, is_among, firsts, are_distinct}
-use Rattle.kb_text.specs.Grammar.{Section, variables, rules, skipped, WrittenEquation}
-use Rattle.kb_text.specs.Problems.{arity_in, agree, variables_among, symbols_among, are_ordered, is_variables, is_rules, equations_of, variables_of, names_of_section, all_names}
+use Rattle.kb_text.specs.Grammar.{Section, variables, rules, skipped}
+use Rattle.kb_text.specs.Problems.{arity_in, agree, are_ordered, is_variables, is_rules, equations_of}
 use Rattle.kb_text.specs.Refusals.{has_other_arity, is_new, is_some_and}
 use Rattle.kb_text.proofs.Firsts.{same_bytes, is_among-firsts, firsts-push}
 use Rattle.kb_syntax.proofs.Known.{arity-append}

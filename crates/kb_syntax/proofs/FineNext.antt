@@ -1,22 +1,22 @@
 -- A token that shows nothing leads from a fine front to a fine front, and a fine text meets the conditions and the limits.
-use Rattle.std.proofs.Common.{append-nil, append_assoc, ◌≡◌, ◌⊎◌, inl, inr, ⊎_elim, refl, ap, sym, ◌∙◌, subst, arith, ℕ, zero, suc, ◌+◌, ◌<◌, ◌≤◌, List, [], ◌∷◌, ◌++◌, Option, Some, None, Bool, true, false, cond, ◌&&◌, ◌||◌, length, length-append, flat_map}
-use Rattle.std.specs.Prelude.{not, nat_eq, nat_le, nat_lt, bytes_eq, is_some, codes, option_and_then, filter}
+use Rattle.std.proofs.Common.{append-nil, ◌≡◌, inl, inr, ⊎_elim, refl, ap, sym, ◌∙◌, subst, arith, ℕ, ◌≤◌, List, [], ◌∷◌, ◌++◌, Option, Some, None, Bool, true, false, cond, ◌&&◌, ◌||◌, length, flat_map}
+use Rattle.std.specs.Prelude.{not, nat_eq, nat_le, nat_lt, is_some, option_and_then}
 use Rattle.std.specs.List.{list_all, list_any}
 use Rattle.std.proofs.lemmas.Option.{same_Some}
 use Rattle.kb_text.specs.Names.{Name, is_among, firsts, are_distinct}
-use Rattle.kb_text.specs.Tokens.{Token, left_paren, right_paren, comma, identifier, end_of_input}
+use Rattle.kb_text.specs.Tokens.{Token, right_paren, identifier}
 use Rattle.kb_text.specs.Grammar.{Written, Section, variables, rules, skipped, WrittenEquation}
-use Rattle.kb_text.specs.Fronts.{TermFront, EquationFront, SectionFront, begun, in_variables, in_rules, in_equation, in_skipped, Front}
-use Rattle.kb_text.specs.Problems.{equation_variables, names_in, depth_in, is_unapplied, variables_of, equations_of, all_names, all_uses, sides_of, variables_among, symbols_among, agree, are_ordered, is_rules, is_variables, names_of_section, MeetsConditions, MeetsLimits}
-use Rattle.kb_text.specs.Refusals.{shown, here, back, or_else, Spot, spot_of, side_of, last_alone, ends_next, arguments_so_far, ended_alone, front_variables, front_names, front_uses, front_count, is_token, is_some_and, is_new, has_other_arity, closing_clash, closing_clash_of, alone_clash, is_in_variables, is_in_skipped, is_begun, name_in}
+use Rattle.kb_text.specs.Fronts.{SectionFront, begun, in_variables, in_rules, in_equation, in_skipped, Front}
+use Rattle.kb_text.specs.Problems.{equation_variables, names_in, depth_in, is_unapplied, variables_of, equations_of, all_names, all_uses, sides_of, variables_among, symbols_among, agree, is_rules, names_of_section, MeetsConditions, MeetsLimits}
+use Rattle.kb_text.specs.Refusals.{shown, here, back, or_else, spot_of, side_of, last_alone, arguments_so_far, front_variables, front_names, front_uses, front_count, is_some_and, is_new, closing_clash, alone_clash, is_in_variables, is_in_skipped}
 use Rattle.kb_text.specs.Machine.{next_front, next_section, best, kinds}
-use Rattle.kb_syntax.specs.Moves.{names_of_token, new_variables, names_at, new_names, new_uses, open_equations, new_equations}
+use Rattle.kb_syntax.specs.Moves.{names_of_token, new_variables, new_names, open_equations, new_equations}
 use Rattle.kb_text.specs.declared.kind.Kind.{Kind}
-use Rattle.kb_text.specs.declared.kind.Kind.TheVariants.{NotUtf8, Unclosed, BadSection, Theory, Strategy, DoubleVariable, Relative, Conditional, VariableApplied, ArityClash, Limit}
+use Rattle.kb_text.specs.declared.kind.Kind.TheVariants.{NotUtf8, BadSection, DoubleVariable, VariableApplied, ArityClash, Limit}
 use Rattle.kb_text.specs.declared.kind.Bound.TheVariants.{Name as NameLimit, Equations, Size, Depth, Symbols, Variables, Arity}
 use Rattle.kb_text.proofs.Exact.{in_best, rises, IsIn, NotBefore}
 use Rattle.kb_syntax.proofs.MoveSections.{Move, section_moves, names-append}
-use Rattle.kb_syntax.proofs.FineLists.{and_split, and_join, all_join, all_one, distinct-push, no-equations, skipped_names}
+use Rattle.kb_syntax.proofs.FineLists.{and_split, and_join, all_join, distinct-push, no-equations, skipped_names}
 use Rattle.kb_syntax.proofs.Fine.{Fine, Unshown, NextParts, FineEquation, is_short, fine_use, fine_side, fine_equation, skipped_open, skipped_moves, uses_fine, few_names, ended_equations, new_short, only_name, next_parts, is_equation}
 use Rattle.kb_text.proofs.RunTexts.{closed_at}
 use Rattle.std.proofs.lemmas.List.Folds.{list_all-append}

@@ -1,6 +1,6 @@
 -- Terms whose fronts keep the limits and apply no variable.
-use Rattle.std.proofs.Common.{append-nil, append_assoc, ◌≡◌, refl, ap, sym, ◌∙◌, subst, arith, ℕ, ◌+◌, ◌<◌, ◌≤◌, List, [], ◌∷◌, ◌++◌, Option, Some, None, Bool, true, false, ◌&&◌}
-use Rattle.std.specs.Prelude.{option_map, not, max}
+use Rattle.std.proofs.Common.{◌≡◌, refl, ap, sym, ◌∙◌, subst, arith, ℕ, ◌+◌, ◌<◌, ◌≤◌, List, Some, Bool, true, false, ◌&&◌}
+use Rattle.std.specs.Prelude.{not, max}
 use Rattle.std.proofs.lemmas.Option.{same_Some}
 use Rattle.kb_text.specs.Names.{Name, is_among}
 use Rattle.kb_text.specs.Tokens.{Token, left_paren, right_paren, comma, identifier}

@@ -1,21 +1,20 @@
 -- Fronts of texts that meet the conditions and the limits: a front does where the next one does, and the token between them shows nothing.
-use Rattle.std.proofs.Common.{append-nil, append_assoc, ◌≡◌, ◌⊎◌, inl, inr, ⊎_elim, refl, ap, sym, ◌∙◌, subst, arith, ℕ, zero, suc, ◌+◌, ◌<◌, ◌≤◌, List, [], ◌∷◌, ◌++◌, Option, Some, None, Bool, true, false, cond, ◌&&◌, ◌||◌, length, length-append}
-use Rattle.std.specs.Prelude.{not, nat_eq, nat_le, is_some, bytes_eq, codes, filter}
+use Rattle.std.proofs.Common.{append-nil, append_assoc, ◌≡◌, ◌⊎◌, inl, inr, ⊎_elim, refl, ap, sym, ◌∙◌, subst, arith, ℕ, zero, ◌+◌, ◌<◌, ◌≤◌, List, [], ◌∷◌, ◌++◌, Option, Some, None, Bool, true, false, cond, ◌&&◌, length, length-append}
+use Rattle.std.specs.Prelude.{not, nat_eq, is_some, bytes_eq, codes, filter}
 use Rattle.std.specs.List.{list_all, list_any, AllByRecursion}
 use Rattle.std.proofs.lemmas.Option.{same_Some}
 use Rattle.kb_text.specs.Names.{Name, is_among, firsts, are_distinct}
 use Rattle.kb_text.specs.Tokens.{Token, left_paren, right_paren, comma, identifier, end_of_input}
-use Rattle.kb_text.specs.Grammar.{Written, alone, Section, variables, rules, skipped, WrittenEquation, Sign, open_after, reserved_names}
-use Rattle.kb_text.specs.Fronts.{TermFront, whole, opened, within, EquationFront, in_left, behind_sign, in_right, SectionFront, begun, in_variables, in_rules, in_equation, in_skipped, Front}
+use Rattle.kb_text.specs.Grammar.{Written, alone, Section, variables, rules, skipped, WrittenEquation, open_after, reserved_names}
+use Rattle.kb_text.specs.Fronts.{TermFront, whole, EquationFront, in_left, behind_sign, in_right, SectionFront, begun, in_variables, in_rules, in_equation, in_skipped, Front}
 use Rattle.kb_text.specs.Problems.{names_in, variables_of, equations_of, all_names, all_uses, variables_among, symbols_among, agree, are_ordered, is_rules}
 use Rattle.kb_text.specs.Refusals.{back, Spot, spot_of, equation_spot, new_equation, side_of, awaits_term, open_parens, last_alone, ends_next, arguments_so_far, ended_alone, names_in_front, equation_names, front_variables, front_names, front_uses, front_count, is_token, is_some_and, is_new, has_other_arity, closing_clash_of, is_in_variables}
-use Rattle.kb_text.specs.Machine.{next_term, next_equation, whole_equation, is_whole, sign_of, next_rules, next_skipped, next_section, next_front, section_named, open_at, closed_with}
-use Rattle.kb_syntax.specs.Moves.{names_of_token, new_variables, names_at, new_names, alone_ended, ended_use, ended_in, ended_at, new_uses, open_equations, equation_ended, new_equations, side_names}
+use Rattle.kb_text.specs.Machine.{next_term, next_equation, whole_equation, sign_of, next_rules, next_skipped, next_section, next_front, open_at}
+use Rattle.kb_syntax.specs.Moves.{names_of_token, new_variables, names_at, new_names, ended_use, ended_in, ended_at, new_uses, open_equations, equation_ended, new_equations, side_names}
 use Rattle.kb_text.proofs.Sound.{map_some}
 use Rattle.kb_syntax.proofs.MoveTerms.{term_names}
-use Rattle.kb_syntax.proofs.MoveSections.{Move, section_moves, whole_is, WholeEquation, is_whole_is, awaits_if_name, left_next}
+use Rattle.kb_syntax.proofs.MoveSections.{Move, section_moves, whole_is, is_whole_is, awaits_if_name, left_next}
 use Rattle.kb_text.proofs.Firsts.{same_bytes}
-use Rattle.kb_syntax.proofs.FineTerms.{Passes}
 use Rattle.kb_syntax.proofs.FineLists.{and_split, no-equations, skipped_names, skipped-append}
 use Rattle.kb_syntax.proofs.Fine.{Unshown, is_short, skipped_open, HasSpot, left_spot, right_spot, closed_count}
 use Rattle.kb_syntax.proofs.FitsTerms.{FitsTerm, FitsSide, fits_term}

@@ -1,6 +1,6 @@
 -- Fronts of terms that keep the limits and apply no variable, seen from the next front: it keeps them only where this one does.
-use Rattle.std.proofs.Common.{◌≡◌, refl, ap, sym, ◌∙◌, subst, arith, ℕ, ◌+◌, ◌<◌, ◌≤◌, List, [], ◌∷◌, ◌++◌, Option, Some, None, Bool, true, false, ◌&&◌}
-use Rattle.std.specs.Prelude.{not, max, nat_le}
+use Rattle.std.proofs.Common.{◌≡◌, refl, ap, sym, ◌∙◌, subst, arith, ℕ, ◌+◌, ◌≤◌, List, [], ◌∷◌, Some, Bool, true, false, ◌&&◌}
+use Rattle.std.specs.Prelude.{not, nat_le}
 use Rattle.std.specs.List.{list_all}
 use Rattle.std.proofs.lemmas.Option.{same_Some}
 use Rattle.std.proofs.lemmas.List.Folds.{list_all-append}
@@ -9,7 +9,7 @@ use Rattle.kb_text.specs.Tokens.{Token, left_paren, right_paren, comma, identifi
 use Rattle.kb_text.specs.Grammar.{Written, alone, applied, Arguments, no_arguments, argument}
 use Rattle.kb_text.specs.Fronts.{TermFront, whole, opened, within}
 use Rattle.kb_text.specs.Problems.{depth_in, depth_in_all, is_unapplied, are_unapplied, count_of, uses_in, uses_in_all}
-use Rattle.kb_text.specs.Refusals.{open_parens, last_alone, arguments_so_far}
+use Rattle.kb_text.specs.Refusals.{last_alone, arguments_so_far}
 use Rattle.kb_text.specs.Machine.{next_term, with_last, behind_argument}
 use Rattle.kb_syntax.proofs.FineLists.{and_split}
 use Rattle.kb_syntax.proofs.FineTerms.{Passes, depth-with_last}

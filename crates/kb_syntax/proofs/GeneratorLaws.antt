@@ -1,11 +1,11 @@
 -- Letters of generated problems, and their names.
 use Rattle.std.proofs.Common.{append-nil, append_assoc, ◌≡◌, refl, ap, sym, ◌∙◌, subst, arith, ℕ, zero, suc, ◌+◌, ◌<◌, ◌≤◌, List, [], ◌∷◌, ◌++◌, Bool, true, false, length, get_or, lit<}
-use Rattle.std.specs.Prelude.{map, flat_map, codes, decimal, All, AllPairs, IsUtf8, ◌==◌, ◌||◌}
+use Rattle.std.specs.Prelude.{map, flat_map, codes, ◌==◌, ◌||◌}
 use Rattle.std.specs.List.{range_with_len, list_any}
 use Rattle.std.proofs.lemmas.Grind.{flat_map-append}
 use Rattle.std.proofs.lemmas.Bool.{eqb-false}
 use Rattle.std.proofs.lemmas.Fmt.{decimal_digit}
-use Rattle.std.proofs.lemmas.List.Elements.{All-map, All-weaker, All-push, All-get_or, All-cons, All-nil}
+use Rattle.std.proofs.lemmas.List.Elements.{All-map, All-weaker, All-push, All-get_or, All-nil}
 use Rattle.std.proofs.lemmas.List.Quantifiers.{all_pairs_push}
 use Rattle.std.proofs.lemmas.List.{length-map, get_or-map}
 use Rattle.kb_term.specs.Pair.{distinct}

@@ -1,19 +1,17 @@
 -- What a reader's notes show of the front that they stand for.
-use Rattle.std.proofs.Common.{append-nil, append_assoc, ◌≡◌, refl, ap, sym, ◌∙◌, subst, arith, ℕ, zero, suc, ◌+◌, ◌<◌, List, [], ◌∷◌, ◌++◌, Option, Some, None, Bool, true, false, cond, ◌||◌, ◌&&◌, length, length-append}
-use Rattle.std.specs.Prelude.{not, option_map, map, bytes_eq, is_some, nat_eq, nat_lt, filter}
-use Rattle.std.specs.List.{list_any}
+use Rattle.std.proofs.Common.{◌≡◌, refl, ap, sym, ◌∙◌, arith, ℕ, ◌+◌, List, [], ◌∷◌, ◌++◌, Option, Some, None, Bool, true, false, cond, ◌&&◌, length, length-append}
+use Rattle.std.specs.Prelude.{not, map, bytes_eq, is_some, nat_eq, nat_lt}
 use Rattle.std.proofs.lemmas.List.{length-map}
-use Rattle.std.proofs.lemmas.Option.{same_Some}
 use Rattle.kb_text.specs.Names.{Name, is_among, firsts}
-use Rattle.kb_text.specs.Tokens.{Token, left_paren, right_paren, identifier}
-use Rattle.kb_text.specs.Grammar.{Section, WrittenEquation}
-use Rattle.kb_text.specs.Fronts.{TermFront, EquationFront, SectionFront, begun, in_variables, in_rules, in_equation, in_skipped, Front}
-use Rattle.kb_text.specs.Problems.{arity_in, variables_among, symbols_among, is_rules, equations_of}
-use Rattle.kb_text.specs.Refusals.{front_count, front_variables, front_names, front_uses, is_some_and, spot_of, is_new, Spot, has_other_arity, ended_alone, last_alone, back, alone_clash, closing_clash, closing_clash_of}
+use Rattle.kb_text.specs.Tokens.{identifier}
+use Rattle.kb_text.specs.Grammar.{Section}
+use Rattle.kb_text.specs.Fronts.{TermFront, SectionFront, begun, in_variables, in_rules, in_equation, in_skipped, Front}
+use Rattle.kb_text.specs.Problems.{arity_in, variables_among, symbols_among, equations_of}
+use Rattle.kb_text.specs.Refusals.{front_count, front_variables, front_names, front_uses, is_some_and, spot_of, is_new, Spot, has_other_arity, ended_alone, last_alone, back, alone_clash, closing_clash_of}
 use Rattle.kb_syntax.specs.Moves.{side_names_of, equation_names_of, open_equations}
-use Rattle.kb_syntax.specs.Looks.{Look, outside, at_word, at_variables, at_rules, at_equation, at_skipped, look_of, spot_at, is_one_more, word_row}
+use Rattle.kb_syntax.specs.Looks.{Look, at_word, at_variables, at_rules, at_equation, look_of, spot_at, is_one_more, word_row}
 use Rattle.kb_text.specs.Written.{equation_of}
-use Rattle.kb_syntax.specs.Reader.{Stands, place_look, count_at, spot_row, at_a_spot, own_name_row, name_row, clashes, alone_row, closing_row}
+use Rattle.kb_syntax.specs.Reader.{Stands, place_look, count_at, spot_row, at_a_spot, own_name_row, name_row, alone_row, closing_row}
 use Rattle.kb_syntax.specs.declared.reader.Place.{Place}
 use Rattle.kb_syntax.specs.declared.notes.Notes.{Notes}
 use Rattle.kb_text.specs.declared.kind.Kind.{Kind}

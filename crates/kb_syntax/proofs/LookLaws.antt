@@ -1,16 +1,15 @@
 -- What a reader keeps of a front, as one more token comes.
-use Rattle.std.proofs.Common.{append-nil, append_assoc, ◌≡◌, refl, ap, sym, ◌∙◌, subst, ℕ, zero, suc, List, [], ◌∷◌, ◌++◌, Option, Some, None, Bool, true, false, cond, ◌||◌, Vec, Global}
-use Rattle.std.specs.Prelude.{option_map, option_and_then, map, codes, bytes_eq, is_some, unwrap_or, IsSome}
+use Rattle.std.proofs.Common.{◌≡◌, refl, ap, sym, ◌∙◌, ℕ, zero, suc, List, [], ◌∷◌, ◌++◌, Option, Some, None, Bool, true, false, cond, ◌||◌, Vec, Global}
+use Rattle.std.specs.Prelude.{option_map, map, codes, bytes_eq, unwrap_or, IsSome}
 use Rattle.std.specs.List.{list_any}
 use Rattle.kb_text.specs.Names.{Name, is_among}
-use Rattle.kb_text.specs.Tokens.{Token, arrow_equals, arrow, equals, bar, left_paren, right_paren, comma, quotation, identifier, end_of_input}
-use Rattle.kb_text.specs.Grammar.{WrittenEquation, Section, variables, rules, skipped, open_after, reserved_names}
+use Rattle.kb_text.specs.Tokens.{Token, left_paren, right_paren, identifier, end_of_input}
+use Rattle.kb_text.specs.Grammar.{WrittenEquation, Section, open_after, reserved_names}
 use Rattle.kb_text.specs.Fronts.{TermFront, EquationFront, in_left, behind_sign, in_right, SectionFront, begun, in_variables, in_rules, in_equation, in_skipped, Front}
-use Rattle.kb_text.specs.Machine.{next_equation, whole_equation, next_rules, next_skipped, next_open, next_section, section_named, open_at, closed_with}
-use Rattle.kb_text.specs.Refusals.{side_of, spot_of}
-use Rattle.kb_syntax.specs.Moves.{new_variables, new_equations, closes_rules, new_uses, ended_at, ended_in}
-use Rattle.kb_syntax.specs.Looks.{Look, outside, at_word, at_variables, at_rules, at_equation, at_skipped, look_of, next_look, next_in_rules, word_look, added_variables, added_equations, ends_rules, look_side, added_uses}
-use Rattle.kb_syntax.specs.Sides.{equation_side}
+use Rattle.kb_text.specs.Machine.{next_equation, whole_equation, next_rules, next_skipped, next_section, section_named, open_at}
+use Rattle.kb_text.specs.Refusals.{side_of}
+use Rattle.kb_syntax.specs.Moves.{new_variables, new_equations, closes_rules, new_uses, ended_at}
+use Rattle.kb_syntax.specs.Looks.{Look, at_variables, at_rules, at_skipped, look_of, next_look, next_in_rules, word_look, added_variables, added_equations, ends_rules, look_side, added_uses}
 use Rattle.kb_text.proofs.RunTexts.{open-append, then_open, is_some_is}
 
 pub among-keys : (ks : List (Vec ℕ Global)) (name : Name) → list_any (λ (k : Vec ℕ Global). bytes_eq name k.items) ks ≡ is_among (map (λ (n : Vec ℕ Global). n.items) ks) name

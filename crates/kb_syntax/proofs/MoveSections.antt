@@ -1,17 +1,17 @@
 -- What one more token adds to a front.
-use Rattle.std.proofs.Common.{append-nil, append_assoc, ◌≡◌, ◌⊎◌, inl, inr, ⊎_elim, refl, ap, sym, ◌∙◌, subst, ℕ, zero, suc, List, [], ◌∷◌, ◌++◌, Option, Some, None, Bool, true, false, cond, ◌||◌}
-use Rattle.std.specs.Prelude.{option_map, option_and_then, flat_map, codes, bytes_eq, is_some}
+use Rattle.std.proofs.Common.{append-nil, append_assoc, ◌≡◌, ◌⊎◌, inl, inr, ⊎_elim, refl, ap, sym, ◌∙◌, subst, ℕ, zero, List, [], ◌∷◌, ◌++◌, Option, Some, None, Bool, true, false, cond, ◌||◌}
+use Rattle.std.specs.Prelude.{option_map, option_and_then, codes, bytes_eq, is_some}
 use Rattle.std.specs.List.{list_any}
 use Rattle.std.proofs.lemmas.Option.{same_Some}
 use Rattle.std.proofs.lemmas.List.Folds.{list_any-append}
 use Rattle.kb_text.specs.Names.{Name, is_among}
-use Rattle.kb_text.specs.Tokens.{Token, arrow_equals, arrow, equals, bar, left_paren, right_paren, comma, quotation, identifier, end_of_input}
-use Rattle.kb_text.specs.Grammar.{Written, alone, applied, Arguments, no_arguments, argument, Sign, WrittenEquation, Section, variables, rules, skipped, open_after, reserved_names}
+use Rattle.kb_text.specs.Tokens.{Token, arrow, equals, left_paren, right_paren, identifier, end_of_input}
+use Rattle.kb_text.specs.Grammar.{Written, alone, applied, Sign, WrittenEquation, Section, variables, rules, skipped, open_after, reserved_names}
 use Rattle.kb_text.specs.Fronts.{TermFront, whole, opened, within, EquationFront, in_left, behind_sign, in_right, SectionFront, begun, in_variables, in_rules, in_equation, in_skipped, Front}
-use Rattle.kb_text.specs.Problems.{names_in, uses_in, variables_of, equations_of, sides_of, all_names, all_uses, is_rules}
-use Rattle.kb_text.specs.Refusals.{names_in_front, uses_in_front, Spot, awaits_term, last_alone, ends_next, ended_alone, equation_names, equation_uses, equation_spot, open_variables, open_names, open_uses, front_variables, front_names, front_uses, is_token, side_of}
-use Rattle.kb_text.specs.Machine.{next_term, next_equation, whole_equation, is_whole, sign_of, or_try, next_rules, next_skipped, next_open, next_section, section_named, open_at, closed_with}
-use Rattle.kb_syntax.specs.Moves.{names_of_token, new_variables, names_at, new_names, ended_in, ended_at, new_uses, open_equations, equation_ended, new_equations, closes_rules}
+use Rattle.kb_text.specs.Problems.{names_in, uses_in, variables_of, equations_of, all_names, all_uses, is_rules}
+use Rattle.kb_text.specs.Refusals.{names_in_front, uses_in_front, Spot, awaits_term, last_alone, ended_alone, equation_names, equation_uses, equation_spot, open_variables, open_names, open_uses, front_variables, front_names, front_uses}
+use Rattle.kb_text.specs.Machine.{next_term, next_equation, whole_equation, is_whole, sign_of, or_try, next_rules, next_skipped, next_section, section_named, open_at}
+use Rattle.kb_syntax.specs.Moves.{names_of_token, new_variables, names_at, new_names, ended_in, new_uses, open_equations, equation_ended, new_equations, closes_rules}
 use Rattle.kb_text.proofs.Sound.{map_some}
 use Rattle.kb_syntax.proofs.MoveTerms.{term_names, term_uses, uses-ended}
 

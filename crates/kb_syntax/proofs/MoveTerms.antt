@@ -1,13 +1,12 @@
 -- What one more token of a term adds to its names and its uses.
-use Rattle.std.proofs.Common.{append-nil, append_assoc, ◌≡◌, refl, ap, sym, ◌∙◌, subst, arith, ℕ, ◌+◌, List, [], ◌∷◌, ◌++◌, Option, Some, None, Bool, true, false}
-use Rattle.std.specs.Prelude.{option_map}
+use Rattle.std.proofs.Common.{append-nil, append_assoc, ◌≡◌, refl, ap, sym, ◌∙◌, subst, arith, ◌+◌, List, [], ◌∷◌, ◌++◌, Some}
 use Rattle.std.proofs.lemmas.Option.{same_Some}
 use Rattle.kb_text.specs.Names.{Name}
-use Rattle.kb_text.specs.Tokens.{Token, arrow_equals, arrow, equals, bar, left_paren, right_paren, comma, quotation, identifier, end_of_input}
+use Rattle.kb_text.specs.Tokens.{Token, left_paren, right_paren, comma, identifier}
 use Rattle.kb_text.specs.Grammar.{Written, alone, applied, Arguments, no_arguments, argument}
 use Rattle.kb_text.specs.Fronts.{TermFront, whole, opened, within}
 use Rattle.kb_text.specs.Problems.{names_in, names_in_all, uses_in, uses_in_all, count_of}
-use Rattle.kb_text.specs.Refusals.{names_in_front, uses_in_front, last_alone, ends_next, ended_alone}
+use Rattle.kb_text.specs.Refusals.{names_in_front, uses_in_front, last_alone, ended_alone}
 use Rattle.kb_text.specs.Machine.{next_term, with_last, behind_argument}
 use Rattle.kb_syntax.specs.Moves.{names_of_token, ended_in}
 use Rattle.kb_text.proofs.Sound.{map_some}

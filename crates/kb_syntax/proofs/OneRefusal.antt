@@ -1,11 +1,11 @@
 -- Bytes are refused in one way at most.
-use Rattle.std.proofs.Common.{append-nil, append_assoc, ◌≡◌, ◌⊎◌, inl, inr, ⊎_elim, refl, ap, sym, ◌∙◌, subst, arith, ℕ, ◌+◌, ◌-◌, ◌<◌, ◌≤◌, List, [], ◌∷◌, ◌++◌, Some, length, take, take_all, get_or}
+use Rattle.std.proofs.Common.{append-nil, append_assoc, ◌≡◌, ◌⊎◌, inl, inr, ⊎_elim, refl, ap, sym, ◌∙◌, subst, arith, ℕ, ◌-◌, ◌<◌, ◌≤◌, List, [], ◌∷◌, ◌++◌, length, take_all, get_or}
 use Rattle.std.specs.Prelude.{IsUtf8}
 use Rattle.std.specs.Str.{IsValidUpTo}
 use Rattle.std.proofs.lemmas.Str.{utf8_valid_len-IsValidUpTo}
 use Rattle.kb_text.specs.Tokens.{Token, tokens}
 use Rattle.kb_text.specs.Fronts.{Front, IsFrontOf}
-use Rattle.kb_text.specs.Refusals.{Shows, ShowNothing, IsFirstShown, IsRefused, too_long, not_utf8, by_tokens, rank, place_of}
+use Rattle.kb_text.specs.Refusals.{Shows, IsFirstShown, IsRefused, too_long, not_utf8, by_tokens, rank, place_of}
 use Rattle.kb_text.specs.declared.kind.Kind.{Kind}
 use Rattle.kb_text.specs.declared.kind.Kind.TheVariants.{NotUtf8, Unclosed, BadSection, Theory, Strategy, DoubleVariable, Relative, Conditional, VariableApplied, ArityClash, BadToken, Limit, NotBuilt}
 use Rattle.kb_text.specs.declared.kind.Bound.TheVariants.{Name as NameLimit, Equations, Size, Depth, Symbols, Variables, Arity, Input}

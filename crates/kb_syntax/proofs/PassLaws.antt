@@ -1,5 +1,5 @@
 -- Notes behind one more token of an equation that doesn't end it.
-use Rattle.std.proofs.Common.{append-nil, ◌≡◌, refl, ap, sym, ◌∙◌, ℕ, List, [], ◌∷◌, ◌++◌, Option, Some, None, Bool, true, false, cond, ◌||◌, ◌&&◌}
+use Rattle.std.proofs.Common.{append-nil, ◌≡◌, refl, ap, sym, ◌∙◌, ℕ, List, [], ◌++◌, Option, Some, None, Bool, true, false, cond, ◌||◌, ◌&&◌}
 use Rattle.std.specs.Prelude.{map, is_some}
 use Rattle.kb_text.specs.Tokens.{Token, right_paren, identifier}
 use Rattle.kb_text.specs.Grammar.{WrittenEquation}
@@ -10,7 +10,7 @@ use Rattle.kb_syntax.specs.Moves.{equation_ended, ended_at, ended_use}
 use Rattle.kb_syntax.specs.Sides.{token_at}
 use Rattle.kb_text.specs.declared.lexer.Form.{Form}
 use Rattle.kb_text.specs.declared.lexer.Form.TheVariants.{Mark as MarkForm, Identifier, End}
-use Rattle.kb_syntax.specs.Looks.{at_equation, ends_rules, added_equations, added_variables, Look, look_side, with_uses}
+use Rattle.kb_syntax.specs.Looks.{at_equation, ends_rules, added_equations, Look, look_side, with_uses}
 use Rattle.kb_text.specs.Refusals.{name_in, is_token, ended_alone, last_alone, ends_next}
 use Rattle.kb_syntax.specs.Reader.{is_ended, IsPassed, is_sign, use_notes}
 use Rattle.kb_text.specs.Written.{equation_of}

@@ -1,5 +1,5 @@
 -- Where tokens stand.
-use Rattle.std.proofs.Common.{◌≡◌, refl, ap, sym, ◌∙◌, arith, ℕ, zero, suc, ◌+◌, ◌-◌, List, [], ◌∷◌, get_or, drop}
+use Rattle.std.proofs.Common.{◌≡◌, refl, ap, ◌∙◌, arith, ℕ, zero, suc, ◌-◌, List, [], ◌∷◌, get_or, drop}
 use Rattle.std.specs.Prelude.{map}
 use Rattle.kb_text.specs.Tokens.{Placed, tokens_from}
 use Rattle.kb_text.specs.Starts.{first_and_rest}

@@ -1,28 +1,27 @@
 -- How far a reader has come in a text.
-use Rattle.std.proofs.Common.{append-nil, append_assoc, ◌≡◌, ◌⊎◌, inl, inr, ⊎_elim, refl, ap, sym, ◌∙◌, subst, arith, ℕ, zero, suc, ◌+◌, ◌-◌, ◌<◌, ◌≤◌, ◌^◌, List, [], ◌∷◌, ◌++◌, Option, Some, None, Bool, true, false, cond, ◌&&◌, ◌||◌, length, length-append, take, drop, get_or, flat_map}
-use Rattle.std.specs.Prelude.{map, All, AllPairs, IsUtf8, is_some, option_map, nat_lt, nat_le, nat_eq, not, unwrap_or, filter, bytes_eq, IsSome}
+use Rattle.std.proofs.Common.{append-nil, append_assoc, ◌≡◌, inl, inr, refl, ap, sym, ◌∙◌, subst, arith, ℕ, zero, suc, ◌+◌, ◌-◌, ◌<◌, ◌≤◌, List, [], ◌∷◌, ◌++◌, Option, Some, None, Bool, true, false, cond, ◌||◌, length, length-append, take, drop, flat_map}
+use Rattle.std.specs.Prelude.{map, All, AllPairs, IsUtf8, option_map, nat_lt, nat_le, nat_eq, not, unwrap_or, filter, bytes_eq}
 use Rattle.std.specs.List.{list_all, list_any, AllByRecursion}
 use Rattle.std.specs.Str.{IsCharBoundary}
 use Rattle.std.proofs.lemmas.Option.{same_Some}
-use Rattle.std.proofs.lemmas.List.{length-map}
 use Rattle.std.proofs.lemmas.List.Elements.{All-push, All-nil, All-cons, All-head, All-tail, All-filter, All-weaker, All-map, All-get_or, filter_passes}
 use Rattle.std.proofs.lemmas.Str.{IsCharBoundary-start}
 use Rattle.kb_term.specs.Identifier.{IsIdentifier}
-use Rattle.kb_term.specs.Signature.{Problem, SymbolEntry, IsSignature}
+use Rattle.kb_term.specs.Signature.{SymbolEntry}
 use Rattle.kb_text.specs.Names.{Name, is_among, firsts}
 use Rattle.kb_text.specs.Tokens.{Token, Placed, tokens, tokens_from, arrow_equals, arrow, equals, bar, left_paren, right_paren, comma, quotation, identifier, end_of_input}
 use Rattle.kb_text.specs.declared.lexer.Mark.TheVariants.{ArrowEquals, Arrow, Equals, Bar, LeftParen, RightParen, Comma, Quotation}
 use Rattle.kb_text.specs.Starts.{first_and_rest, IsInText, IsAhead, EndsBehind}
-use Rattle.kb_text.specs.Grammar.{Written, Arguments, no_arguments, argument, Section, IsSection, WrittenEquation, section_tokens, text_tokens, open_after, term_tokens, equation_tokens, sign_token}
-use Rattle.kb_text.specs.Fronts.{TermFront, EquationFront, in_left, behind_sign, in_right, SectionFront, begun, in_variables, in_rules, in_equation, in_skipped, Front, IsFrontOf, IsSectionFront, open_tokens, section_front_tokens, equation_front_tokens, term_front_tokens, front_tokens}
-use Rattle.kb_text.specs.Problems.{Spells, MeetsLimits, problem_of, symbol_names, equation_variables, variables_of, equations_of, all_names, all_uses, arity_in, entry_of, variables_among, symbols_among, is_rules, equation_of as problem_equation}
-use Rattle.kb_text.specs.Refusals.{Shows, ShowNothing, IsFirstShown, IsRefused, by_tokens, place_of, side_of, front_variables, front_names, front_uses, front_count, is_open}
-use Rattle.kb_text.specs.Machine.{best, kinds, better, bad_token, judged, may_end, next_front, first_from, go, from_next, start}
-use Rattle.kb_syntax.specs.Moves.{open_equations, side_names_of, side_names}
+use Rattle.kb_text.specs.Grammar.{Section, IsSection, section_tokens, text_tokens, open_after, term_tokens, equation_tokens, sign_token}
+use Rattle.kb_text.specs.Fronts.{TermFront, in_left, behind_sign, in_right, SectionFront, begun, in_variables, in_rules, in_equation, in_skipped, Front, IsFrontOf, IsSectionFront, open_tokens, term_front_tokens}
+use Rattle.kb_text.specs.Problems.{Spells, MeetsLimits, symbol_names, equation_variables, variables_of, equations_of, all_names, all_uses, arity_in, entry_of, symbols_among, is_rules, equation_of as problem_equation}
+use Rattle.kb_text.specs.Refusals.{ShowNothing, IsFirstShown, IsRefused, by_tokens, place_of, side_of, front_variables, front_names, front_uses, is_open}
+use Rattle.kb_text.specs.Machine.{best, kinds, bad_token, judged, may_end, next_front, first_from, go, from_next, start}
+use Rattle.kb_syntax.specs.Moves.{side_names_of}
 use Rattle.kb_syntax.specs.Looks.{Look, outside, at_word, at_variables, at_rules, at_equation, at_skipped, look_of, look_side, next_look, depth_of, spot_at}
-use Rattle.kb_syntax.specs.Sides.{token_at, equation_side}
+use Rattle.kb_syntax.specs.Sides.{token_at}
 use Rattle.kb_text.specs.Written.{equation_of}
-use Rattle.kb_syntax.specs.Reader.{Stands, place_look, prepared, IsPassed, IsNextReader, IsShortSide, AreEmpty, IsProblemNoted, problem_from, count_at, name_notes, named_notes, use_notes}
+use Rattle.kb_syntax.specs.Reader.{Stands, place_look, IsNextReader, IsShortSide, AreEmpty, IsProblemNoted, problem_from, count_at, name_notes, use_notes}
 use Rattle.kb_syntax.specs.Refused.{IsFault, IsRefusal}
 use Rattle.kb_text.specs.declared.kind.Kind.{Kind}
 use Rattle.kb_text.specs.declared.kind.Kind.TheVariants.{BadToken, Unclosed, BadSection}

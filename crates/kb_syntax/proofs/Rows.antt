@@ -1,18 +1,17 @@
 -- The rows of the table by what a reader keeps.
-use Rattle.std.proofs.Common.{append-nil, append_assoc, ◌≡◌, ◌⊎◌, inl, inr, refl, ap, sym, ◌∙◌, subst, arith, ℕ, zero, suc, ◌+◌, ◌<◌, List, [], ◌∷◌, ◌++◌, Option, Some, None, Bool, true, false, cond, ◌||◌, ◌&&◌, length}
-use Rattle.std.specs.Prelude.{not, option_map, option_and_then, map, codes, bytes_eq, is_some, nat_eq, nat_lt}
+use Rattle.std.proofs.Common.{◌≡◌, refl, ap, sym, ◌∙◌, arith, ℕ, ◌<◌, List, [], ◌∷◌, ◌++◌, Option, Some, None, Bool, true, false, cond, ◌||◌, ◌&&◌, length}
+use Rattle.std.specs.Prelude.{not, option_map, codes, bytes_eq, is_some, nat_eq, nat_lt}
 use Rattle.std.specs.List.{list_any}
 use Rattle.std.proofs.lemmas.Option.{same_Some}
-use Rattle.kb_text.specs.Names.{Name, is_among, firsts}
-use Rattle.kb_text.specs.Tokens.{Token, arrow_equals, arrow, equals, bar, left_paren, right_paren, comma, quotation, identifier, end_of_input}
+use Rattle.kb_text.specs.Names.{Name, is_among}
+use Rattle.kb_text.specs.Tokens.{Token, comma, identifier, end_of_input}
 use Rattle.kb_text.specs.Grammar.{Section, WrittenEquation}
-use Rattle.kb_text.specs.Fronts.{TermFront, EquationFront, in_left, behind_sign, in_right, SectionFront, begun, in_variables, in_rules, in_equation, in_skipped, Front}
+use Rattle.kb_text.specs.Fronts.{EquationFront, in_left, behind_sign, in_right, SectionFront, begun, in_variables, in_rules, in_equation, in_skipped, Front}
 use Rattle.kb_text.specs.Problems.{names_in, variables_among, symbols_among, is_rules}
-use Rattle.kb_text.specs.Refusals.{shown, here, back, or_else, awaits_term, arguments_so_far, front_count, front_variables, front_names, is_some_and, spot_of, side_of, is_new, closing_clash, alone_clash, last_alone, is_token, is_in_skipped, Spot, new_equation, equation_spot, names_in_front, open_parens}
+use Rattle.kb_text.specs.Refusals.{shown, here, awaits_term, arguments_so_far, front_count, front_variables, front_names, is_some_and, spot_of, is_new, is_in_skipped, Spot, new_equation, equation_spot, names_in_front, open_parens}
 use Rattle.kb_syntax.specs.Moves.{side_names_of, equation_names_of}
 use Rattle.kb_text.specs.Machine.{better, best, kinds}
-use Rattle.kb_syntax.specs.Looks.{end_row, mark_row, rules_row, arity_row, word_row, look_of, spot_at, answer}
-use Rattle.kb_syntax.specs.Sides.{equation_side}
+use Rattle.kb_syntax.specs.Looks.{end_row, mark_row, word_row, look_of, spot_at, answer}
 use Rattle.kb_text.specs.declared.kind.Kind.{Kind}
 use Rattle.kb_text.specs.declared.kind.Kind.TheVariants.{Unclosed, BadSection, Theory, Strategy, DoubleVariable, Relative, Conditional, VariableApplied, ArityClash, Limit}
 use Rattle.kb_text.specs.declared.kind.Bound.TheVariants.{Name as NameLimit, Equations, Size, Depth, Symbols, Variables, Arity}

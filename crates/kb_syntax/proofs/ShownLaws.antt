@@ -1,24 +1,22 @@
 -- What a reader finds shown is what the table chooses.
-use Rattle.std.proofs.Common.{◌≡◌, refl, ap, sym, ◌∙◌, subst, arith, ℕ, zero, suc, ◌+◌, ◌<◌, ◌≤◌, List, [], ◌∷◌, ◌++◌, Option, Some, None, Bool, true, false, cond, ◌&&◌, ◌||◌, length, length-append}
-use Rattle.std.specs.Prelude.{not, option_map, option_and_then, nat_eq, nat_le, bytes_eq, is_some}
-use Rattle.std.specs.List.{list_all, list_any}
+use Rattle.std.proofs.Common.{◌≡◌, refl, ap, sym, ◌∙◌, arith, ℕ, ◌<◌, List, [], ◌∷◌, ◌++◌, Option, Some, None, Bool, true, false, cond, ◌&&◌, ◌||◌}
+use Rattle.std.specs.Prelude.{not, option_and_then, nat_eq, nat_le, bytes_eq}
+use Rattle.std.specs.List.{list_all}
 use Rattle.std.proofs.lemmas.Option.{same_Some}
 use Rattle.kb_text.specs.Names.{Name, is_among}
-use Rattle.kb_text.specs.Tokens.{Token, left_paren, right_paren, identifier, end_of_input}
-use Rattle.kb_text.specs.Grammar.{Arguments, no_arguments, argument}
+use Rattle.kb_text.specs.Tokens.{Token, left_paren, right_paren}
+use Rattle.kb_text.specs.Grammar.{no_arguments, argument}
 use Rattle.kb_text.specs.Starts.{mark_token}
-use Rattle.kb_text.specs.Fronts.{TermFront, whole, opened, within, SectionFront, Front}
-use Rattle.kb_text.specs.Problems.{arity_in, is_rules}
+use Rattle.kb_text.specs.Fronts.{TermFront, whole, opened, within, Front}
+use Rattle.kb_text.specs.Problems.{arity_in}
 use Rattle.kb_text.specs.Refusals.{shown, back, or_else, side_of, last_alone, ends_next, front_variables, front_uses, is_token, is_some_and, has_other_arity, ended_alone, closing_clash, alone_clash, closing_clash_of}
 use Rattle.kb_text.specs.Machine.{best, kinds}
-use Rattle.kb_syntax.specs.Looks.{Look, look_of, look_side, answer, end_row, mark_row}
+use Rattle.kb_syntax.specs.Looks.{Look, look_side, answer, end_row, mark_row}
 use Rattle.kb_syntax.specs.Sides.{token_at}
-use Rattle.kb_syntax.specs.Reader.{Stands, place_look, clash_row, applied_row, own_row, closing_row, alone_row, name_row}
-use Rattle.kb_text.specs.declared.kind.Kind.{Kind}
+use Rattle.kb_syntax.specs.Reader.{Stands, place_look, clash_row, applied_row, own_row}
 use Rattle.kb_text.specs.declared.kind.Kind.TheVariants.{VariableApplied, ArityClash}
 use Rattle.kb_text.specs.declared.lexer.Form.{Form}
 use Rattle.kb_text.specs.declared.lexer.Form.TheVariants.{Mark as MarkForm, Identifier, End}
-use Rattle.kb_text.specs.declared.lexer.Mark.{Mark}
 use Rattle.kb_text.specs.declared.lexer.Mark.TheVariants.{ArrowEquals, Arrow, Equals, Bar, LeftParen, RightParen, Comma, Quotation}
 use Rattle.kb_syntax.specs.declared.reader.Place.{Place}
 use Rattle.kb_syntax.specs.declared.notes.Notes.{Notes}
@@ -26,7 +24,7 @@ use Rattle.kb_text.proofs.Firsts.{same_bytes}
 use Rattle.kb_syntax.proofs.Known.{name-known, alone-known, closing-known}
 use Rattle.kb_syntax.proofs.Rows.{first_of, own_kinds, AreBack, best-answer, end-rows, mark-rows}
 use Rattle.kb_syntax.proofs.LookLaws.{side-look}
-use Rattle.kb_syntax.proofs.FineTerms.{FineSide, fine_end}
+use Rattle.kb_syntax.proofs.FineTerms.{fine_end}
 use Rattle.kb_syntax.proofs.FineLists.{and_split}
 use Rattle.kb_syntax.proofs.Fine.{Fine, fine_use, side_fine}
 

@@ -1,8 +1,7 @@
 -- Sides by the applications around their ends.
-use Rattle.std.proofs.Common.{append-nil, ◌≡◌, refl, ap, sym, ◌∙◌, subst, arith, ℕ, zero, suc, ◌+◌, ◌-◌, List, [], ◌∷◌, ◌++◌, Option, Some, None, length, Bool, true, false, Vec, Global, vec_len}
-use Rattle.std.proofs.lemmas.Bool.{eqb-true, eqb-false}
-use Rattle.std.specs.Prelude.{◌==◌, map, option_map, slice_get, is_some}
-use Rattle.std.proofs.lemmas.List.{map-append, length-map}
+use Rattle.std.proofs.Common.{◌≡◌, refl, ap, sym, ◌∙◌, subst, arith, ℕ, suc, ◌+◌, ◌-◌, List, [], ◌∷◌, ◌++◌, Option, Some, None, length}
+use Rattle.std.specs.Prelude.{map, option_map, slice_get}
+use Rattle.std.proofs.lemmas.List.{map-append}
 use Rattle.kb_text.specs.Names.{Name}
 use Rattle.kb_text.specs.Tokens.{Token, arrow_equals, arrow, equals, bar, left_paren, right_paren, comma, quotation, identifier, end_of_input}
 use Rattle.kb_text.specs.Grammar.{Written, alone, applied, Arguments, no_arguments, argument}
@@ -10,7 +9,7 @@ use Rattle.kb_text.specs.Fronts.{TermFront, whole, opened, within}
 use Rattle.kb_text.specs.Problems.{count_of}
 use Rattle.kb_text.specs.Refusals.{awaits_term, open_parens, last_alone, ends_next, arguments_so_far}
 use Rattle.kb_text.specs.Machine.{next_term, with_last, is_whole}
-use Rattle.kb_text.specs.Written.{arguments_of, written_of}
+use Rattle.kb_text.specs.Written.{written_of}
 use Rattle.kb_syntax.specs.Sides.{application_of, enclosed, inner_front, side_front, AreEnd}
 use Rattle.kb_syntax.specs.declared.side.Application.{Application}
 use Rattle.kb_syntax.specs.declared.side.Inner.{Inner}
@@ -18,7 +17,6 @@ use Rattle.kb_syntax.specs.declared.side.Inner.TheVariants.{Whole, Open}
 use Rattle.kb_syntax.specs.declared.side.Side.{Side}
 use Rattle.kb_text.specs.declared.written.WrittenTerm.{WrittenTerm}
 use Rattle.kb_text.proofs.RunTerms.{within_step, close_step, comma_step}
-use Rattle.kb_text.proofs.Vectors.{vec_length, empty_is, empty_not}
 use Rattle.kb_text.proofs.WrittenLists.{args, count_of-args}
 
 abbrev pub Enclosing : Type 0

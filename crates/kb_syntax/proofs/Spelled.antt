@@ -1,16 +1,14 @@
 -- Spelled bytes show no refusal.
-use Rattle.std.proofs.Common.{append-nil, ◌≡◌, ◌⊎◌, inl, inr, ⊎_elim, refl, ap, sym, ◌∙◌, subst, arith, ℕ, zero, suc, ◌+◌, ◌<◌, ◌≤◌, List, [], ◌∷◌, ◌++◌, Option, Some, None, Bool, true, false, cond, ◌&&◌, ◌||◌, length, take, flat_map, take_all}
+use Rattle.std.proofs.Common.{append-nil, ◌≡◌, inl, inr, ⊎_elim, refl, ap, sym, ◌∙◌, subst, arith, ℕ, ◌≤◌, List, [], ◌∷◌, ◌++◌, Option, Some, None, Bool, true, false, cond, ◌&&◌, ◌||◌, length, flat_map, take_all}
 use Rattle.std.specs.Prelude.{not, nat_eq, nat_le, nat_lt, is_some, bytes_eq, codes, option_map, option_and_then, IsUtf8}
 use Rattle.std.specs.List.{list_all, list_any, AllByRecursion}
-use Rattle.std.proofs.lemmas.Option.{same_Some}
-use Rattle.std.proofs.lemmas.List.Folds.{list_all-append}
 use Rattle.kb_term.specs.Signature.{Problem}
 use Rattle.kb_text.specs.Names.{Name, is_among, firsts, are_distinct}
-use Rattle.kb_text.specs.Tokens.{Token, tokens, arrow_equals, bar, left_paren, right_paren, comma, identifier, end_of_input}
+use Rattle.kb_text.specs.Tokens.{Token, arrow_equals, bar, left_paren, right_paren, comma, identifier, end_of_input}
 use Rattle.kb_text.specs.Grammar.{Written, Sign, Section, variables, rules, skipped, IsSection, WrittenEquation, section_tokens, text_tokens, HasNext}
 use Rattle.kb_text.specs.Fronts.{TermFront, EquationFront, in_left, behind_sign, in_right, SectionFront, begun, in_variables, in_rules, in_equation, in_skipped, Front, IsFrontOf}
 use Rattle.kb_text.specs.Problems.{names_in, depth_in, is_unapplied, uses_in, variables_of, equations_of, all_names, all_uses, sides_of, agree, variables_among, symbols_among, equation_variables, is_rules, names_of_section, MeetsConditions, MeetsLimits, Spells}
-use Rattle.kb_text.specs.Refusals.{shown, Shows, IsRefused, too_long, not_utf8, by_tokens, IsFirstShown, back, here, or_else, Spot, spot_of, equation_spot, side_of, last_alone, closing_clash, alone_clash, front_variables, front_names, front_uses, front_count, is_token, is_some_and, is_new, name_in, arguments_so_far}
+use Rattle.kb_text.specs.Refusals.{shown, Shows, IsRefused, too_long, not_utf8, by_tokens, back, here, or_else, Spot, spot_of, equation_spot, side_of, last_alone, closing_clash, alone_clash, front_variables, front_names, front_count, is_token, is_some_and, is_new, name_in, arguments_so_far}
 use Rattle.kb_text.specs.Machine.{next_equation, whole_equation, is_whole, sign_of, begin_term, or_try, next_rules, next_section, next_front, start}
 use Rattle.kb_text.specs.declared.kind.Kind.{Kind}
 use Rattle.kb_text.specs.declared.kind.Kind.TheVariants.{NotUtf8, Unclosed, BadSection, Theory, Strategy, DoubleVariable, Relative, Conditional, VariableApplied, ArityClash, BadToken, Limit, NotBuilt}
@@ -24,7 +22,7 @@ use Rattle.kb_syntax.proofs.FineLists.{and_split, and_join, all_join, skipped_na
 use Rattle.kb_syntax.proofs.Fine.{Unshown, is_short, left_spot}
 use Rattle.kb_syntax.proofs.FitsTerms.{few_arguments}
 use Rattle.kb_syntax.proofs.FitsLists.{all_front, all_behind}
-use Rattle.kb_syntax.proofs.Fits.{Fits, FitsWhole, FitsEquation, fits_before, none_some}
+use Rattle.kb_syntax.proofs.Fits.{Fits, FitsEquation, fits_before, none_some}
 
 -- ---- whole texts
 

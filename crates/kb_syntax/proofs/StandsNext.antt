@@ -1,19 +1,19 @@
 -- What a reader keeps stands for the next front.
-use Rattle.std.proofs.Common.{append-nil, append_assoc, ◌≡◌, refl, ap, sym, ◌∙◌, subst, ⊎_elim, arith, ℕ, zero, suc, ◌+◌, ◌<◌, ◌≤◌, List, [], ◌∷◌, ◌++◌, Option, Some, None, Bool, true, false, cond, ◌&&◌, ◌||◌, length, length-append}
-use Rattle.std.specs.Prelude.{not, map, option_map, is_some, bytes_eq, filter, codes}
+use Rattle.std.proofs.Common.{append-nil, append_assoc, ◌≡◌, refl, ap, sym, ◌∙◌, subst, ⊎_elim, arith, ℕ, zero, ◌+◌, List, [], ◌∷◌, ◌++◌, Option, Some, None, Bool, true, false, cond, ◌||◌, length, length-append}
+use Rattle.std.specs.Prelude.{not, map, option_map, is_some, bytes_eq, codes}
 use Rattle.std.specs.List.{list_any}
 use Rattle.std.proofs.lemmas.Option.{same_Some}
 use Rattle.std.proofs.lemmas.List.Elements.{filter-append}
 use Rattle.kb_text.specs.Names.{Name, is_among, firsts, with_name}
 use Rattle.kb_text.specs.Tokens.{Token, arrow, equals, left_paren, right_paren, identifier, end_of_input}
-use Rattle.kb_text.specs.Grammar.{Written, alone, Section, WrittenEquation, Sign, open_after, reserved_names, rules, skipped, variables}
+use Rattle.kb_text.specs.Grammar.{alone, Section, WrittenEquation, Sign, open_after, reserved_names, rules, skipped, variables}
 use Rattle.kb_text.specs.Fronts.{TermFront, whole, opened, within, EquationFront, in_left, behind_sign, in_right, SectionFront, begun, in_variables, in_rules, in_equation, in_skipped, Front}
 use Rattle.kb_text.specs.Problems.{all_names, names_in, arity_in, equations_of, variables_among, symbols_among, is_rules}
-use Rattle.kb_text.specs.Refusals.{Spot, spot_of, equation_spot, equation_names, names_in_front, open_names, is_in_variables, front_variables, front_names, front_uses, is_token, awaits_term, open_parens, new_equation}
+use Rattle.kb_text.specs.Refusals.{Spot, spot_of, equation_spot, equation_names, names_in_front, open_names, is_in_variables, front_variables, front_names, front_uses, open_parens, new_equation}
 use Rattle.kb_text.specs.Machine.{next_front, next_section, next_equation, next_term, next_rules, next_skipped, whole_equation, sign_of, section_named, open_at}
-use Rattle.kb_syntax.specs.Moves.{names_of_token, names_at, new_names, new_variables, new_equations, new_uses, closes_rules, open_equations, equation_names_of, side_names, side_names_of}
-use Rattle.kb_syntax.specs.Looks.{Look, look_of, at_equation, spot_at, spot_in, next_look, added_variables, added_equations, ends_rules, added_uses, with_use, with_uses, with_names}
-use Rattle.kb_syntax.specs.Reader.{Stands, place_look, named_notes, name_notes, use_notes, prepared, is_sign, resets, IsPassed}
+use Rattle.kb_syntax.specs.Moves.{names_of_token, names_at, new_names, new_variables, new_uses, open_equations, equation_names_of, side_names, side_names_of}
+use Rattle.kb_syntax.specs.Looks.{Look, look_of, at_equation, spot_at, next_look, added_variables, added_equations, ends_rules, added_uses, with_use, with_uses, with_names}
+use Rattle.kb_syntax.specs.Reader.{Stands, place_look, name_notes, use_notes, prepared, is_sign, resets, IsPassed}
 use Rattle.kb_text.specs.Written.{equation_of}
 use Rattle.kb_syntax.specs.declared.reader.Place.{Place}
 use Rattle.kb_syntax.specs.declared.notes.Notes.{Notes}
@@ -21,10 +21,10 @@ use Rattle.kb_text.proofs.Sound.{map_some}
 use Rattle.kb_syntax.proofs.Fine.{Fine, Unshown}
 use Rattle.kb_syntax.proofs.FineLists.{no-equations, among-append}
 use Rattle.kb_syntax.proofs.Known.{arity-append}
-use Rattle.kb_text.proofs.Firsts.{firsts-push, is_among-firsts, same_bytes}
+use Rattle.kb_text.proofs.Firsts.{firsts-push, same_bytes}
 use Rattle.kb_syntax.proofs.LookLaws.{front_look, HasDepth, next-look, variables-look, equations-look, rules-ended-look, uses-look}
 use Rattle.kb_syntax.proofs.Rows.{IsSameSpot, spot-look}
-use Rattle.kb_syntax.proofs.MoveSections.{Move, section_moves, equation_moves, whole_is, left_next, awaits_if_name, is_whole_is, whole_stops}
+use Rattle.kb_syntax.proofs.MoveSections.{Move, section_moves, left_next, awaits_if_name, is_whole_is, whole_stops}
 use Rattle.kb_syntax.proofs.SideLaws.{no_term_token}
 use Rattle.kb_syntax.proofs.MoveTerms.{term_names}
 

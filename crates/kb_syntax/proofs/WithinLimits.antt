@@ -1,20 +1,19 @@
 -- Spelled problems are within the limits, and their variables are numbered by first occurrence.
-use Rattle.std.proofs.Common.{append_assoc, length-append, ⊎_elim, ◌≡◌, refl, ap, ap₂, sym, ◌∙◌, subst, arith, ℕ, zero, suc, ◌+◌, ◌≤◌, List, [], ◌∷◌, ◌++◌, map, filter, Option, Some, None, Bool, true, false, not, cond, ◌&&◌, ◌||◌, length, Contains}
-use Rattle.std.specs.Prelude.{max, nat_le, nat_eq, bytes_eq, unwrap_or, slice_get, option_map, All}
+use Rattle.std.proofs.Common.{append_assoc, length-append, ⊎_elim, ◌≡◌, refl, ap, ap₂, sym, ◌∙◌, subst, arith, ℕ, suc, ◌+◌, ◌≤◌, List, [], ◌∷◌, ◌++◌, map, Some, Bool, true, false, not, cond, ◌&&◌, ◌||◌, length, Contains}
+use Rattle.std.specs.Prelude.{max, nat_le, nat_eq, bytes_eq, unwrap_or, All}
 use Rattle.std.specs.List.{list_all}
 use Rattle.std.proofs.lemmas.List.{length-map}
-use Rattle.std.proofs.lemmas.List.Folds.{list_all-append}
 use Rattle.std.proofs.lemmas.List.Elements.{All-nil, All-cons, filter-append}
-use Rattle.kb_term.specs.Tree.{Tree, variable, apply, Trees, no_trees, more_trees, list_of, tree_size, trees_size, tree_depth, trees_depth, variables_of, variables_in}
+use Rattle.kb_term.specs.Tree.{Tree, variable, apply, no_trees, list_of, tree_size, trees_size, tree_depth, trees_depth, variables_of, variables_in}
 use Rattle.kb_term.specs.Substitution.{rename}
-use Rattle.kb_term.specs.Pair.{Pair, distinct, place_in, variables_of_pair, numbered}
-use Rattle.kb_term.specs.Signature.{SymbolEntry, Signature, Problem, HasArity, IsWellFormed, AreWellFormed, IsTermWithinLimits, IsEquationWithinLimits, IsWithinLimits}
+use Rattle.kb_term.specs.Pair.{distinct, place_in, variables_of_pair}
+use Rattle.kb_term.specs.Signature.{SymbolEntry, Problem, HasArity, IsWellFormed, AreWellFormed, IsEquationWithinLimits, IsWithinLimits}
 use Rattle.kb_term.proofs.Steps.{contains_cases}
 use Rattle.kb_term.proofs.Variants.{rename_same}
 use Rattle.std.proofs.lemmas.List.Elements.{Contains-append_left, Contains-append_right}
-use Rattle.kb_text.specs.Names.{Name, is_among, firsts, number_of}
+use Rattle.kb_text.specs.Names.{Name, is_among, number_of}
 use Rattle.kb_text.specs.Grammar.{Written, alone, applied, Arguments, no_arguments, argument, WrittenEquation, Section}
-use Rattle.kb_text.specs.Problems.{variables_of as declared, equations_of, names_in, names_in_all, count_of, uses_in, uses_in_all, arity_in, depth_in, depth_in_all, sides_of, all_names, all_uses, variables_among, symbols_among, term_of, terms_of, symbol_names, equation_variables, equation_of, entry_of, problem_of, is_unapplied, are_unapplied, Spells}
+use Rattle.kb_text.specs.Problems.{variables_of as declared, equations_of, names_in, names_in_all, count_of, uses_in, uses_in_all, arity_in, depth_in, depth_in_all, sides_of, all_names, all_uses, variables_among, symbols_among, term_of, terms_of, symbol_names, equation_variables, equation_of, entry_of, is_unapplied, are_unapplied, Spells}
 use Rattle.kb_text.proofs.Firsts.{same_bytes, is_among-firsts}
 use Rattle.kb_syntax.proofs.FineLists.{and_split, among-append, same_name}
 use Rattle.kb_syntax.proofs.FitsTerms.{few_arguments}

@@ -1,17 +1,17 @@
 -- What a reader keeps of a front, and what one more token makes of it.
-use Rattle.std.specs.Prelude.{◌≡◌, ℕ, zero, suc, ◌+◌, List, [], ◌∷◌, ◌++◌, Bool, true, false, not, ◌&&◌, cond, Option, Some, None, is_some, length, nat_eq, nat_lt, bytes_eq, codes, unwrap_or, option_map}
+use Rattle.std.specs.Prelude.{ℕ, zero, suc, List, [], ◌∷◌, ◌++◌, Bool, true, false, not, ◌&&◌, cond, Option, Some, None, is_some, length, nat_eq, bytes_eq, codes, unwrap_or, option_map}
 use Rattle.kb_text.specs.Names.{Name, is_among, with_name}
 use Rattle.kb_text.specs.Tokens.{Token, left_paren, right_paren, comma, bar, arrow_equals, identifier, end_of_input}
 use Rattle.kb_text.specs.Grammar.{alone, WrittenEquation, open_after, reserved_names}
 use Rattle.kb_text.specs.Fronts.{TermFront, whole, EquationFront, in_left, behind_sign, in_right, SectionFront, begun, in_variables, in_rules, in_equation, in_skipped}
 use Rattle.kb_text.specs.Problems.{arity_in}
-use Rattle.kb_text.specs.Refusals.{is_token, is_some_and, has_other_arity, awaits_term, open_parens, last_alone, ends_next, arguments_so_far, ended_alone}
+use Rattle.kb_text.specs.Refusals.{is_token, awaits_term, open_parens, arguments_so_far}
 use Rattle.kb_text.specs.Machine.{next_equation, whole_equation}
 use Rattle.kb_syntax.specs.Moves.{names_of_token, ended_at, equation_ended}
 use Rattle.kb_syntax.specs.Sides.{equation_side}
 use Rattle.kb_text.specs.declared.kind.Kind.{Kind}
-use Rattle.kb_text.specs.declared.kind.Kind.TheVariants.{Unclosed, BadSection, Theory, Strategy, DoubleVariable, Relative, Conditional, VariableApplied, ArityClash, Limit}
-use Rattle.kb_text.specs.declared.kind.Bound.TheVariants.{Name as NameLimit, Equations, Size, Depth, Symbols, Variables, Arity}
+use Rattle.kb_text.specs.declared.kind.Kind.TheVariants.{Unclosed, BadSection, Theory, Strategy, Relative, Conditional, VariableApplied, ArityClash, Limit}
+use Rattle.kb_text.specs.declared.kind.Bound.TheVariants.{Arity}
 
 -- where a front ends: its open section, without the lists of what stands in it; of a skipped one, how many parentheses are open beside its own
 pub data Look : Type 0 where

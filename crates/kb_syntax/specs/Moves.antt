@@ -1,9 +1,9 @@
 -- What one more token of the grammar adds to a front.
-use Rattle.std.specs.Prelude.{ℕ, List, [], ◌∷◌, ◌++◌, Bool, true, false, cond, Option, Some, None, is_some}
+use Rattle.std.specs.Prelude.{ℕ, List, [], ◌∷◌, ◌++◌, Bool, false, cond, Option, Some, None, is_some}
 use Rattle.kb_text.specs.Names.{Name}
-use Rattle.kb_text.specs.Tokens.{Token, left_paren, right_paren, comma, identifier}
+use Rattle.kb_text.specs.Tokens.{Token, left_paren, right_paren, identifier}
 use Rattle.kb_text.specs.Grammar.{WrittenEquation}
-use Rattle.kb_text.specs.Fronts.{TermFront, EquationFront, in_left, behind_sign, in_right, SectionFront, begun, in_variables, in_rules, in_equation, in_skipped}
+use Rattle.kb_text.specs.Fronts.{TermFront, EquationFront, in_left, behind_sign, in_right, SectionFront, in_variables, in_rules, in_equation}
 use Rattle.kb_text.specs.Refusals.{Spot, spot_of, side_of, is_token, last_alone, ends_next, ended_alone, equation_names, names_in_front}
 use Rattle.kb_text.specs.Machine.{whole_equation}
 

@@ -1,15 +1,15 @@
 -- What the values of the reader stand for.
-use Rattle.std.specs.Prelude.{◌≡◌, ℕ, ◌+◌, ◌<◌, ◌≤◌, ◌^◌, List, [], ◌∷◌, ◌++◌, map, Bool, true, false, not, ◌&&◌, ◌||◌, cond, Option, Some, None, is_some, length, nat_eq, nat_lt, nat_le, unwrap_or, All}
+use Rattle.std.specs.Prelude.{◌≡◌, ℕ, ◌+◌, ◌<◌, ◌≤◌, ◌^◌, [], ◌++◌, map, Bool, true, false, not, ◌&&◌, ◌||◌, cond, Option, Some, None, is_some, length, nat_eq, nat_lt, nat_le, unwrap_or, All}
 use Rattle.std.specs.List.{list_any, list_all}
 use Rattle.kb_term.specs.Signature.{Problem, IsSignature}
 use Rattle.kb_text.specs.Names.{Name, is_among, firsts, with_name}
 use Rattle.kb_text.specs.Tokens.{Token, arrow, equals, left_paren, right_paren, identifier, end_of_input}
-use Rattle.kb_text.specs.Problems.{variables_of, equations_of, arity_in, variables_among, symbols_among, is_rules, entry_of, equation_variables, equation_of as problem_equation}
+use Rattle.kb_text.specs.Problems.{equations_of, arity_in, variables_among, symbols_among, is_rules, entry_of, equation_variables, equation_of as problem_equation}
 use Rattle.kb_text.specs.Fronts.{Front, TermFront, EquationFront, term_front_tokens}
 use Rattle.kb_text.specs.Machine.{whole_equation}
 use Rattle.kb_text.specs.Refusals.{front_variables, front_names, front_uses, has_other_arity, is_some_and, name_in, or_else, last_alone, ends_next, ended_alone, is_token}
 use Rattle.kb_syntax.specs.Moves.{open_equations, equation_names_of, side_names_of}
-use Rattle.kb_syntax.specs.Looks.{Look, outside, at_word, at_variables, at_rules, at_equation, at_skipped, look_of, look_side, spot_at, Spot, end_row, mark_row, word_row, is_one_more, with_names, with_uses, added_uses, next_look, added_variables, added_equations, ends_rules}
+use Rattle.kb_syntax.specs.Looks.{Look, outside, at_word, at_variables, at_rules, at_equation, at_skipped, look_of, spot_at, Spot, end_row, mark_row, word_row, is_one_more, with_names, with_uses, added_uses, next_look, added_variables, added_equations, ends_rules}
 use Rattle.kb_syntax.specs.Sides.{equation_front}
 use Rattle.kb_text.specs.Written.{equation_of}
 use Rattle.kb_syntax.specs.declared.reader.Place.{Place}
@@ -18,7 +18,7 @@ use Rattle.kb_syntax.specs.declared.notes.Notes.{Notes}
 use Rattle.kb_syntax.specs.declared.reader.Reader.{Reader}
 use Rattle.kb_text.specs.declared.kind.Kind.{Kind}
 use Rattle.kb_text.specs.declared.kind.Kind.TheVariants.{DoubleVariable, Limit}
-use Rattle.kb_text.specs.declared.kind.Bound.TheVariants.{Name as NameLimit, Equations, Size, Depth, Symbols, Variables as VariablesLimit, Arity}
+use Rattle.kb_text.specs.declared.kind.Bound.TheVariants.{Name as NameLimit, Equations, Size, Depth, Symbols, Variables as VariablesLimit}
 
 abbrev pub place_look : Place → Look
 place_look Outside = outside

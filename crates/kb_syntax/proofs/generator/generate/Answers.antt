@@ -3,8 +3,8 @@ use Rattle.std.specs.Prelude.{map}
 use Rattle.std.specs.List.{range_with_len}
 use Rattle.std.proofs.lemmas.List.{map-append}
 use Rattle.std.proofs.lemmas.List.FromFn.{map-range_with_len_more}
-use Rattle.kb_term.specs.Tree.{Tree, variable}
-use Rattle.kb_term.specs.Signature.{Signature, IsSignature}
+use Rattle.kb_term.specs.Tree.{variable}
+use Rattle.kb_term.specs.Signature.{IsSignature}
 use Rattle.kb_term.specs.View.{tree_of, equations_of_list}
 use Rattle.kb_syntax.specs.Generator.{letter_entry, generated_equation, on, outer_of, inner_of, right_of}
 use Rattle.kb_syntax.proofs.GeneratorLaws.{is_signature_of_letters}

@@ -1,8 +1,7 @@
-use Rattle.std.proofs.Common.{◌≡◌, sym, arith, ℕ, ◌<◌, get_or, length}
+use Rattle.std.proofs.Common.{sym, arith, get_or, length}
 use Rattle.std.specs.Prelude.{◌==◌}
 use Rattle.std.proofs.lemmas.Bool.{ne_eqb}
 use Rattle.std.proofs.lemmas.List.Sums.{position_or_len_is}
-use Rattle.kb_term.proofs.Distinct.{has}
 use Rattle.kb_syntax.proofs.generator.place_of_letter.Goals as goal
 
 pub returns-then-letters-i-clause-place : goal.returns-then-letters-i-clause-place

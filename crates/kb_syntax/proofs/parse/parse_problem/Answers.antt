@@ -1,4 +1,4 @@
-use Rattle.std.proofs.Common.{◌≡◌, sym, subst}
+use Rattle.std.proofs.Common.{sym, subst}
 use Rattle.std.specs.Str.{IsValidUpTo}
 use Rattle.kb_text.specs.Refusals.{too_long, not_utf8}
 use Rattle.kb_syntax.proofs.parse.parse_problem.Goals as goal

@@ -1,10 +1,10 @@
-use Rattle.std.proofs.Common.{rules, ◌≡◌, ◌-◌, ◌∙◌, sym, subst, arith, ℕ, None}
+use Rattle.std.proofs.Common.{rules, ◌≡◌, ◌∙◌, sym, subst, arith, ℕ, None}
 use Rattle.kb_text.specs.Machine.{best, kinds}
 use Rattle.kb_text.specs.Problems.{Spells}
 use Rattle.kb_syntax.specs.Refused.{IsRefusal}
 use Rattle.kb_syntax.specs.Sides.{token_at}
 use Rattle.kb_text.specs.declared.lexer.Form.TheVariants.{End}
-use Rattle.kb_syntax.proofs.Reached.{start_reached, short_side, few_noted, small_size, small_depth, name_of, shown_fault, bad_fault, stepped, finished, is_ahead}
+use Rattle.kb_syntax.proofs.Reached.{start_reached, short_side, small_depth, name_of, shown_fault, bad_fault, stepped, finished, is_ahead}
 use Rattle.kb_syntax.proofs.ShownLaws.{shown-known}
 use Rattle.kb_syntax.proofs.parse.parse_text.Goals as goal
 

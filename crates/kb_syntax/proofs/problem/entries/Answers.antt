@@ -1,4 +1,4 @@
-use Rattle.std.proofs.Common.{arith, ap, ◌∙◌, ℕ}
+use Rattle.std.proofs.Common.{arith, ap}
 use Rattle.std.specs.Prelude.{unwrap_or}
 use Rattle.kb_text.specs.Problems.{arity_in}
 use Rattle.kb_syntax.proofs.ProblemLaws.{arity_fits}

@@ -1,8 +1,8 @@
-use Rattle.std.proofs.Common.{ap, sym, ◌∙◌, ◌≡◌, refl, List, [], ◌∷◌, ◌++◌, Bool, true, false, cond, Vec, Global, ℕ}
+use Rattle.std.proofs.Common.{ap, ◌∙◌, ◌≡◌, refl, List, [], ◌∷◌, ◌++◌, Bool, true, false, cond, Vec, Global, ℕ}
 use Rattle.std.specs.Prelude.{map, bytes_eq}
 use Rattle.std.specs.List.{list_any}
 use Rattle.std.proofs.lemmas.List.{map-append}
-use Rattle.kb_text.specs.Names.{Name, is_among, with_name}
+use Rattle.kb_text.specs.Names.{Name, with_name}
 use Rattle.kb_syntax.proofs.LookLaws.{among-keys}
 use Rattle.kb_syntax.proofs.declared.Declared.add.Goals as goal
 

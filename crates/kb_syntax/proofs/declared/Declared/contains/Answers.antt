@@ -1,4 +1,4 @@
-use Rattle.std.proofs.Common.{ap, sym, ◌∙◌}
+use Rattle.std.proofs.Common.{ap, ◌∙◌}
 use Rattle.std.specs.Prelude.{List}
 use Rattle.kb_text.specs.Names.{Name, is_among}
 use Rattle.kb_syntax.proofs.LookLaws.{among-keys}

@@ -1,4 +1,4 @@
-use Rattle.std.proofs.Common.{ap, sym, ◌∙◌, ◌≡◌, ◌++◌, ℕ, List, [], Bool, true, false, Option, Some, None, ◌&&◌, cond, arith, refl}
+use Rattle.std.proofs.Common.{ap, sym, ◌∙◌, ◌≡◌, ◌++◌, ℕ, List, Bool, true, false, Option, Some, None, ◌&&◌, cond, arith, refl}
 use Rattle.std.specs.Prelude.{not, nat_eq, is_some, bytes_eq}
 use Rattle.kb_text.specs.Names.{Name}
 use Rattle.kb_text.specs.Problems.{arity_in}

@@ -1,4 +1,4 @@
-use Rattle.std.proofs.Common.{ap, ◌∙◌, sym, Bool, cond}
+use Rattle.std.proofs.Common.{ap, ◌∙◌, Bool, cond}
 use Rattle.kb_syntax.specs.Sides.{equation_front, token_at}
 use Rattle.kb_syntax.proofs.PassLaws.{goes_on_passed, same_sign}
 use Rattle.kb_syntax.proofs.notes.Notes.go_on.Goals as goal

@@ -1,5 +1,5 @@
 use Rattle.std.proofs.Common.{ap, sym, ◌∙◌}
-use Rattle.kb_syntax.specs.Sides.{application_of, inner_front}
+use Rattle.kb_syntax.specs.Sides.{application_of}
 use Rattle.std.specs.Prelude.{map}
 use Rattle.kb_text.specs.Refusals.{awaits_term}
 use Rattle.kb_syntax.proofs.SideLaws.{front_is, awaits-enclosed}

@@ -1,13 +1,13 @@
-use Rattle.std.proofs.Common.{sym, ◌∙◌, ap, refl, Some, List, ℕ, [], ◌∷◌, ◌++◌}
+use Rattle.std.proofs.Common.{sym, ◌∙◌, ap, Some, [], ◌∷◌, ◌++◌}
 use Rattle.kb_text.proofs.WrittenLists.{args}
-use Rattle.kb_syntax.specs.Sides.{application_of, inner_front}
+use Rattle.kb_syntax.specs.Sides.{application_of}
 use Rattle.std.specs.Prelude.{map}
 use Rattle.kb_text.specs.Fronts.{whole}
 use Rattle.kb_text.specs.Grammar.{applied}
 use Rattle.kb_syntax.specs.Sides.{enclosed}
 use Rattle.kb_text.specs.Written.{arguments_of}
-use Rattle.kb_text.proofs.Vectors.{vec_length, empty_not, empty_is}
-use Rattle.kb_syntax.proofs.SideLaws.{closing, closing_open, not_closing, bare_side}
+use Rattle.kb_text.proofs.Vectors.{empty_not, empty_is}
+use Rattle.kb_syntax.proofs.SideLaws.{closing, closing_open, not_closing}
 use Rattle.kb_syntax.proofs.side.Side.closed.Goals.{in-Whole+in-Some+in_ok-push-in-Some, in-Open+else-not-is_empty}
 use Rattle.kb_syntax.proofs.side.Side.closed.Goals as goal
 

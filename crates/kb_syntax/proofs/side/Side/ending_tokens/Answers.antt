@@ -1,4 +1,4 @@
-use Rattle.std.proofs.Common.{ap, sym, ◌∙◌, arith, length, ◌+◌, ◌-◌, List}
+use Rattle.std.proofs.Common.{ap, ◌∙◌, arith, length, ◌-◌, List}
 use Rattle.std.specs.Prelude.{slice_get}
 use Rattle.kb_text.specs.Fronts.{followed_tokens}
 use Rattle.kb_text.proofs.WrittenLists.{args}

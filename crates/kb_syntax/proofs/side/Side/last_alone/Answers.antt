@@ -3,7 +3,7 @@ use Rattle.std.specs.Prelude.{map, MatchOption}
 use Rattle.kb_syntax.specs.declared.side.Inner.TheVariants.{Whole}
 use Rattle.kb_text.specs.Names.{Name}
 use Rattle.kb_text.specs.Refusals.{last_alone}
-use Rattle.kb_syntax.specs.Sides.{application_of, inner_front, side_front}
+use Rattle.kb_syntax.specs.Sides.{application_of}
 use Rattle.kb_text.specs.Fronts.{whole}
 use Rattle.kb_text.specs.Written.{written_of}
 use Rattle.kb_syntax.proofs.SideLaws.{front_is, alone-enclosed}

@@ -1,5 +1,5 @@
 use Rattle.std.proofs.Common.{ap, ◌∙◌, sym}
-use Rattle.kb_text.specs.Tokens.{Token, end_of_input}
+use Rattle.kb_text.specs.Tokens.{end_of_input}
 use Rattle.kb_text.specs.Machine.{next_term}
 use Rattle.kb_syntax.specs.Sides.{side_front, token_at}
 use Rattle.kb_syntax.proofs.SideLaws.{no_term_token}

@@ -1,5 +1,5 @@
-use Rattle.std.proofs.Common.{sym, ◌∙◌, ap, refl, Some, List}
-use Rattle.kb_syntax.specs.Sides.{application_of, inner_front}
+use Rattle.std.proofs.Common.{◌∙◌, ap, Some}
+use Rattle.kb_syntax.specs.Sides.{application_of}
 use Rattle.std.specs.Prelude.{map}
 use Rattle.kb_text.specs.Fronts.{opened, whole}
 use Rattle.kb_text.specs.Written.{arguments_of, written_of}

@@ -1,5 +1,5 @@
-use Rattle.std.proofs.Common.{sym, ◌∙◌, ap, refl, [], ◌∷◌, ◌++◌}
-use Rattle.kb_syntax.proofs.SideLaws.{parting, bare_side, not_parted_open}
+use Rattle.std.proofs.Common.{refl}
+use Rattle.kb_syntax.proofs.SideLaws.{parting, not_parted_open}
 use Rattle.kb_syntax.proofs.side.Side.parted.Goals as goal
 
 pub returns-in_ok-push-in-Some : goal.returns-in_ok-push-in-Some

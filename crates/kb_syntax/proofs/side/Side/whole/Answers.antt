@@ -1,4 +1,4 @@
-use Rattle.std.proofs.Common.{sym, ◌∙◌, ap, Some}
+use Rattle.std.proofs.Common.{sym, ◌∙◌}
 use Rattle.kb_text.proofs.Vectors.{empty_is, empty_not}
 use Rattle.kb_syntax.proofs.SideLaws.{whole-empty, whole-some, whole-open}
 use Rattle.kb_syntax.proofs.side.Side.whole.Goals as goal

@@ -1,5 +1,4 @@
-use Rattle.std.proofs.Common.{ap, ◌∙◌, sym, ◌≡◌, None, refl}
-use Rattle.kb_text.specs.Tokens.{Token}
+use Rattle.std.proofs.Common.{◌≡◌, None, refl}
 use Rattle.kb_text.specs.Starts.{mark_token}
 use Rattle.kb_text.specs.Machine.{next_term}
 use Rattle.kb_syntax.specs.Sides.{side_front}

@@ -1,5 +1,5 @@
-use Rattle.std.proofs.Common.{sym, ◌∙◌, ap, Some}
-use Rattle.kb_syntax.specs.Sides.{application_of, inner_front}
+use Rattle.std.proofs.Common.{◌∙◌, ap, Some}
+use Rattle.kb_syntax.specs.Sides.{application_of}
 use Rattle.std.specs.Prelude.{map}
 use Rattle.kb_text.specs.Grammar.{alone}
 use Rattle.kb_text.specs.Fronts.{whole}
