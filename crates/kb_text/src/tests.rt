@@ -1,0 +1,45 @@
+use super::*;
+use kb_term::{Problem, Signature, Symbol, Term, Terms};
+use std::alloc::Global;
+use std::process::Abort;
+
+// One symbol, whose name looks like a variable.
+fn signature(rt: &impl Abort, alloc: Global) -> Signature {
+    let mut symbols = Vec::new(alloc);
+    let name = Vec::from_slice(alloc, b"x1").expect(rt, "memory");
+    symbols.push((name, 1)).expect(rt, "memory");
+    signature_of(symbols).expect(rt, "a signature")
+}
+
+#[test]
+fn variables_look_like_no_symbol(rt: HostRuntime) {
+    let signature = signature(&rt, rt.alloc());
+    let mut arguments = Vec::new(rt.alloc());
+    arguments.push(Term::Var(0)).expect(&rt, "memory");
+    let t = Term::App(Symbol(0), Terms::new(arguments));
+    let written = term_text(rt.alloc(), &signature, &t).expect(&rt, "memory");
+    assert_eq!(rt; written.as_slice(), b"x1(xx1)".as_slice());
+}
+
+#[test]
+fn a_term_is_read_back(rt: HostRuntime) {
+    let signature = signature(&rt, rt.alloc());
+    let read = read_term(rt.alloc(), &signature, b"x1(xx64)").expect(&rt, "memory");
+    let t = read.expect(&rt, "a term");
+    let written = term_text(rt.alloc(), &signature, &t).expect(&rt, "memory");
+    assert_eq!(rt; written.as_slice(), b"x1(xx64)".as_slice());
+}
+
+#[test]
+fn a_problem_is_written(rt: HostRuntime) {
+    let mut equations = Vec::new(rt.alloc());
+    equations
+        .push((Term::Var(0), Term::Var(1)))
+        .expect(&rt, "memory");
+    let problem = Problem::new(signature(&rt, rt.alloc()), equations);
+    let written = problem_text(rt.alloc(), &problem).expect(&rt, "memory");
+    assert_eq!(rt;
+        written.as_slice(),
+        b"(VAR xx1 xx2)\n(RULES\nxx1 == xx2\n)\n".as_slice()
+    );
+}
