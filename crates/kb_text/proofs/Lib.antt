@@ -25,3 +25,5 @@ pub mod PrintLaws
 pub mod NameTokens
 pub mod ProblemTokens
 pub mod RewrittenTerms
+pub mod RewrittenLists
+pub mod RewrittenEquations
