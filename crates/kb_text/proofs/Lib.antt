@@ -27,3 +27,4 @@ pub mod ProblemTokens
 pub mod RewrittenTerms
 pub mod RewrittenLists
 pub mod RewrittenEquations
+pub mod RoundTrip

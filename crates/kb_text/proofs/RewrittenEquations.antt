@@ -98,7 +98,7 @@ mutual
       ∙ sym (map-append (number_of found) (filter (is_among vars) (names_in t)) (filter (is_among vars) (names_in_all ts)))
       ∙ ap (map (number_of found)) (sym (filter-append (is_among vars) (names_in t) (names_in_all ts)))
 
-all_found : (vars ns : List Name) → list_all (is_among (firsts (filter (is_among vars) ns))) (filter (is_among vars) ns) ≡ true
+pub all_found : (vars ns : List Name) → list_all (is_among (firsts (filter (is_among vars) ns))) (filter (is_among vars) ns) ≡ true
 all_found vars ns = all_among (is_among (firsts (filter (is_among vars) ns))) (filter (is_among vars) ns) (λ c h. is_among-firsts (filter (is_among vars) ns) c ∙ h)
 
 count_is : (vars symbols : List Name) (uses : List (Name × ℕ)) (e : WrittenEquation) → IsGoodEquation vars symbols uses e → variable_count (equation_of vars symbols e) ≡ length (equation_variables vars e)

@@ -1,7 +1,7 @@
 use Rattle.std.proofs.Common.{get_or}
 use Rattle.kb_text.proofs.ProblemTokens.{problem_tokens}
 use Rattle.kb_text.proofs.TermParts.{equation_bounded, few_variables}
-use Rattle.kb_text.proofs.RewrittenEquations.{at_most_most}
+use Rattle.kb_text.proofs.RoundTrip.{entries_again}
 use Rattle.kb_text.proofs.laws.written_problems_are_derived.Goals as goal
 
 pub returns : goal.returns
