@@ -28,3 +28,5 @@ pub mod RewrittenTerms
 pub mod RewrittenLists
 pub mod RewrittenEquations
 pub mod RoundTrip
+pub mod WrittenText
+pub mod RoundProblem
