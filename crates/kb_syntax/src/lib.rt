@@ -18,6 +18,9 @@ mod tests;
 
 pub use fault::SyntaxFault;
 pub use generator::generate;
-pub use kb_text::{Bound, Fields, Kind, Refusal, prefix_of, push_number, push_term, term_text};
+pub use kb_text::{
+    Bound, Fields, Kind, Refusal, prefix_of, problem_text, push_number, push_term, read_term,
+    term_text,
+};
 pub use laws::bytes_spell_one_problem;
 pub use narrow::read_one_equation;

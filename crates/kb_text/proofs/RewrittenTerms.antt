@@ -237,11 +237,11 @@ mutual
   term_again vars found symbols again uses (alone c) h a k =
       alone_cases vars found symbols uses c h (λ u x. term_of again symbols (written_term symbols u) ≡ u)
       (λ e.
-          let named : renamed symbols found c ≡ variable_text symbols (number_of found c) = ap (λ v. cond v (variable_text symbols (number_of found c)) c) e in
-          ap (λ v. cond v (variable (number_of again (variable_text symbols (number_of found c)))) (apply (number_of symbols (variable_text symbols (number_of found c))) no_trees)) (ap (is_among again) (sym named) ∙ k.found_again c e)
-          ∙ ap variable (ap (number_of again) (sym named) ∙ k.number c e))
+      let named : renamed symbols found c ≡ variable_text symbols (number_of found c) = ap (λ v. cond v (variable_text symbols (number_of found c)) c) e in
+      ap (λ v. cond v (variable (number_of again (variable_text symbols (number_of found c)))) (apply (number_of symbols (variable_text symbols (number_of found c))) no_trees)) (ap (is_among again) (sym named) ∙ k.found_again c e)
+      ∙ ap variable (ap (number_of again) (sym named) ∙ k.number c e))
       (λ s.
-          apply_term symbols again (number_of symbols c) no_trees (ap (is_among again) (at_number symbols c s.symbol) ∙ a c s.symbol) ∙ ap (λ n. apply n no_trees) (ap (number_of symbols) (at_number symbols c s.symbol)))
+      apply_term symbols again (number_of symbols c) no_trees (ap (is_among again) (at_number symbols c s.symbol) ∙ a c s.symbol) ∙ ap (λ n. apply n no_trees) (ap (number_of symbols) (at_number symbols c s.symbol)))
   term_again vars found symbols again uses (applied f ts) h a k =
       let s = head_symbol vars found symbols uses f ts h in
       apply_term symbols again (number_of symbols f) (terms_of found symbols ts) (ap (is_among again) (at_number symbols f s.symbol) ∙ a f s.symbol)
