@@ -17,7 +17,10 @@ mod tests;
 
 pub use fault::SyntaxFault;
 pub use generator::generate;
-pub use kb_text::{Bound, Fields, Kind, Refusal, prefix_of, push_number, push_term, term_text};
+pub use kb_text::{
+    Bound, Fields, Kind, Refusal, prefix_of, problem_text, push_number, push_term, read_term,
+    term_text,
+};
 pub use laws::{
     bytes_are_refused_in_one_way, bytes_spell_one_problem, refused_bytes_spell_no_problem,
     spelled_problems_are_within_limits,

@@ -25,3 +25,8 @@ pub mod PrintLaws
 pub mod NameTokens
 pub mod ProblemTokens
 pub mod RewrittenTerms
+pub mod RewrittenLists
+pub mod RewrittenEquations
+pub mod RoundTrip
+pub mod WrittenText
+pub mod RoundProblem

@@ -76,28 +76,37 @@ abbrev is_free : List Name → ℕ → Bool
 is_free names n = not (list_any (is_x_number n) names)
 
 abbrev FreeNumber : ℕ → ℕ → List Name → Type 0
-FreeNumber k s names = (n : ℕ) × (s ≤ n) × (find (is_free names) (range_with_len s k) ≡ Some n) × (list_any (is_x_number n) names ≡ false)
+FreeNumber k s names = (n : ℕ) × (s ≤ n) × (n < s + k) × (find (is_free names) (range_with_len s k) ≡ Some n) × (list_any (is_x_number n) names ≡ false)
 
 first_free_number : (k s : ℕ) (names : List Name) → length names < k → FreeNumber k s names
 first_free_number zero s names l = absurd (omega arith)
 first_free_number (suc k) s names l = go (first_free_number k (s + 1) (without s names)) (list_any (is_x_number s) names) refl
   where
     go : (length (without s names) < k → FreeNumber k (s + 1) (without s names)) → (v : Bool) → list_any (is_x_number s) names ≡ v → FreeNumber (suc k) s names
-    go next false e = (s, omega arith, ap (λ v. cond (not v) (Some s) (find (is_free names) (range_with_len (s + 1) k))) e, e)
+    go next false e = (s, omega arith, omega arith, ap (λ v. cond (not v) (Some s) (find (is_free names) (range_with_len (s + 1) k))) e, e)
     go next true e =
         let r = next (omega (arith, fewer s names e)) in
         let above : s + 1 ≤ r.0 = r.1 in
+        let below : r.0 < s + 1 + k = r.2 in
         let agree = find_agree (is_free names) (is_free (without s names)) k (s + 1) (λ n l. ap not (sym (any_without s n (omega arith) names))) in (
           r.0,
           omega arith,
-          ap (λ v. cond (not v) (Some s) (find (is_free names) (range_with_len (s + 1) k))) e ∙ agree ∙ r.2,
-          sym (any_without s r.0 (omega arith) names) ∙ r.3,
+          omega arith,
+          ap (λ v. cond (not v) (Some s) (find (is_free names) (range_with_len (s + 1) k))) e ∙ agree ∙ r.3,
+          sym (any_without s r.0 (omega arith) names) ∙ r.4,
         )
 
 pub no_name_is_variable : (names : List Name) → list_any (is_x_number (prefix_length names)) names ≡ false
 no_name_is_variable names =
     let r = first_free_number (length names + 1) 1 names (omega arith) in
-    ap (λ o. list_any (is_x_number (unwrap_or o 1)) names) r.2 ∙ r.3
+    ap (λ o. list_any (is_x_number (unwrap_or o 1)) names) r.3 ∙ r.4
+
+-- the prefix has at most one letter more than there are names
+pub prefix_small : (names : List Name) → prefix_length names ≤ length names + 1
+prefix_small names =
+    let r = first_free_number (length names + 1) 1 names (omega arith) in
+    let below : r.0 < 1 + (length names + 1) = r.2 in
+    let is : prefix_length names ≡ r.0 = ap (λ o. unwrap_or o 1) r.3 in omega arith
 
 none_at : (p : Name → Bool) (names : List Name) (f : ℕ) → f < length names → list_any p names ≡ false → p (get_or names f []) ≡ false
 none_at p [] f l h = absurd (omega arith)

@@ -103,28 +103,28 @@ pub all_join : {X : Type 0} (p : X → Bool) (xs ys : List X) → list_all p xs 
 all_join p [] ys h k = k
 all_join p (x ∷ xs) ys h k = let r = and_true (p x) (list_all p xs) h in ap₂ ◌&&◌ r.0 (all_join p xs ys r.1 k)
 
-first_good : (vars found symbols : List Name) (uses : List (Name × ℕ)) (t : Written) (ts : Arguments) → AreGood vars found symbols uses (argument t ts) → IsGood vars found symbols uses t
+pub first_good : (vars found symbols : List Name) (uses : List (Name × ℕ)) (t : Written) (ts : Arguments) → AreGood vars found symbols uses (argument t ts) → IsGood vars found symbols uses t
 first_good vars found symbols uses t ts h = record {
   names = (all_split (is_good vars found symbols) (names_in t) (names_in_all ts) h.names).0;
   unapplied = (and_true (is_unapplied vars t) (are_unapplied vars ts) h.unapplied).0;
   uses_agree = (all_split (λ (u : Name × ℕ). nat_eq u.1 (unwrap_or (arity_in uses u.0) 0)) (uses_in t) (uses_in_all ts) h.uses_agree).0;
 }
 
-others_good : (vars found symbols : List Name) (uses : List (Name × ℕ)) (t : Written) (ts : Arguments) → AreGood vars found symbols uses (argument t ts) → AreGood vars found symbols uses ts
+pub others_good : (vars found symbols : List Name) (uses : List (Name × ℕ)) (t : Written) (ts : Arguments) → AreGood vars found symbols uses (argument t ts) → AreGood vars found symbols uses ts
 others_good vars found symbols uses t ts h = record {
   names = (all_split (is_good vars found symbols) (names_in t) (names_in_all ts) h.names).1;
   unapplied = (and_true (is_unapplied vars t) (are_unapplied vars ts) h.unapplied).1;
   uses_agree = (all_split (λ (u : Name × ℕ). nat_eq u.1 (unwrap_or (arity_in uses u.0) 0)) (uses_in t) (uses_in_all ts) h.uses_agree).1;
 }
 
-arguments_good : (vars found symbols : List Name) (uses : List (Name × ℕ)) (f : Name) (ts : Arguments) → IsGood vars found symbols uses (applied f ts) → AreGood vars found symbols uses ts
+pub arguments_good : (vars found symbols : List Name) (uses : List (Name × ℕ)) (f : Name) (ts : Arguments) → IsGood vars found symbols uses (applied f ts) → AreGood vars found symbols uses ts
 arguments_good vars found symbols uses f ts h = record {
   names = (and_true (is_good vars found symbols f) (list_all (is_good vars found symbols) (names_in_all ts)) h.names).1;
   unapplied = (and_true (not (is_among vars f)) (are_unapplied vars ts) h.unapplied).1;
   uses_agree = (all_split (λ (u : Name × ℕ). nat_eq u.1 (unwrap_or (arity_in uses u.0) 0)) (uses_in_all ts) ((f, count_of ts) ∷ []) h.uses_agree).0;
 }
 
-head_symbol : (vars found symbols : List Name) (uses : List (Name × ℕ)) (f : Name) (ts : Arguments) → IsGood vars found symbols uses (applied f ts) → IsSymbol vars found symbols f
+pub head_symbol : (vars found symbols : List Name) (uses : List (Name × ℕ)) (f : Name) (ts : Arguments) → IsGood vars found symbols uses (applied f ts) → IsSymbol vars found symbols f
 head_symbol vars found symbols uses f ts h =
     good_other vars found symbols f (and_true (is_good vars found symbols f) (list_all (is_good vars found symbols) (names_in_all ts)) h.names).0 (not_true (is_among vars f) (and_true (not (is_among vars f)) (are_unapplied vars ts) h.unapplied).0)
 
@@ -237,11 +237,11 @@ mutual
   term_again vars found symbols again uses (alone c) h a k =
       alone_cases vars found symbols uses c h (λ u x. term_of again symbols (written_term symbols u) ≡ u)
       (λ e.
-          let named : renamed symbols found c ≡ variable_text symbols (number_of found c) = ap (λ v. cond v (variable_text symbols (number_of found c)) c) e in
-          ap (λ v. cond v (variable (number_of again (variable_text symbols (number_of found c)))) (apply (number_of symbols (variable_text symbols (number_of found c))) no_trees)) (ap (is_among again) (sym named) ∙ k.found_again c e)
-          ∙ ap variable (ap (number_of again) (sym named) ∙ k.number c e))
+      let named : renamed symbols found c ≡ variable_text symbols (number_of found c) = ap (λ v. cond v (variable_text symbols (number_of found c)) c) e in
+      ap (λ v. cond v (variable (number_of again (variable_text symbols (number_of found c)))) (apply (number_of symbols (variable_text symbols (number_of found c))) no_trees)) (ap (is_among again) (sym named) ∙ k.found_again c e)
+      ∙ ap variable (ap (number_of again) (sym named) ∙ k.number c e))
       (λ s.
-          apply_term symbols again (number_of symbols c) no_trees (ap (is_among again) (at_number symbols c s.symbol) ∙ a c s.symbol) ∙ ap (λ n. apply n no_trees) (ap (number_of symbols) (at_number symbols c s.symbol)))
+      apply_term symbols again (number_of symbols c) no_trees (ap (is_among again) (at_number symbols c s.symbol) ∙ a c s.symbol) ∙ ap (λ n. apply n no_trees) (ap (number_of symbols) (at_number symbols c s.symbol)))
   term_again vars found symbols again uses (applied f ts) h a k =
       let s = head_symbol vars found symbols uses f ts h in
       apply_term symbols again (number_of symbols f) (terms_of found symbols ts) (ap (is_among again) (at_number symbols f s.symbol) ∙ a f s.symbol)

@@ -1,13 +1,12 @@
 -- Terms within the limits, and terms that are read argument by argument.
-use Rattle.std.proofs.Common.{◌≡◌, refl, ap, ap₂, sym, ◌∙◌, subst, append-nil, append_assoc, arith, ℕ, zero, suc, ◌+◌, ◌-◌, ◌<◌, ◌≤◌, List, [], ◌∷◌, ◌++◌, All, length, get_or, max, drop, length-drop}
+use Rattle.std.proofs.Common.{◌≡◌, refl, ap, ap₂, sym, ◌∙◌, subst, append-nil, append_assoc, arith, ℕ, zero, suc, ◌+◌, ◌-◌, ◌<◌, ◌≤◌, List, [], ◌∷◌, ◌++◌, All, length, max, drop, length-drop}
 use Rattle.std.proofs.lemmas.List.{drop_all}
-use Rattle.std.proofs.lemmas.List.Elements.{All-append, All-cons, All-head, All-nil, All-tail, Contains-get_or}
-use Rattle.kb_term.specs.Signature.{Signature, IsSignature, IsWellFormed, AreWellFormed, IsEquationWithinLimits, IsTermWithinLimits}
-use Rattle.kb_term.specs.Tree.{Tree, variable, apply, Trees, no_trees, more_trees, list_of, HasVariablesBelow, tree_depth, trees_depth, variables_of, variables_in}
-use Rattle.kb_text.specs.Terms.{TermSpelled, most_variables, names_of, term_text}
+use Rattle.std.proofs.lemmas.List.Elements.{All-append, All-cons, All-head, All-nil}
+use Rattle.kb_term.specs.Signature.{Signature, IsSignature, IsWellFormed, AreWellFormed, IsTermWithinLimits}
+use Rattle.kb_term.specs.Tree.{Tree, variable, apply, Trees, no_trees, more_trees, list_of, tree_depth, trees_depth, variables_of, variables_in}
+use Rattle.kb_text.specs.Terms.{TermSpelled, names_of, term_text}
 use Rattle.kb_text.specs.TermReading.{IsBounded, AreBounded, BeginsWithNone, BeginsWithTerm}
-use Rattle.kb_term.specs.Pair.{IsWithin, Pair}
-use Rattle.kb_term.proofs.RuleBelow.{numbered-below}
+use Rattle.kb_term.specs.Pair.{IsWithin}
 use Rattle.kb_text.proofs.TermTexts.{one_term}
 
 abbrev AreSmall : List ℕ → Type 0
@@ -78,20 +77,3 @@ too_large signature bytes t u size s b h k = h (subst IsWithin (sym (begun_spell
 
 pub none_spelled : (signature : Signature) (bytes : List ℕ) (u : Tree) → BeginsWithNone signature bytes 64 → TermSpelled signature bytes u → ⊥
 none_spelled signature bytes u h k = h u [] (spelled_bounded signature bytes u k) tt (k.spelling ∙ sym (append-nil (term_text (names_of signature) u)))
-
--- the sides of an equation within the limits
-below_small : (t : Tree) → HasVariablesBelow 64 t → AreSmall (variables_of t)
-below_small t h = λ k d l. h (get_or (variables_of t) k d) (Contains-get_or (variables_of t) k d l)
-
-pub equation_bounded : (signature : Signature) (e : Tree × Tree) → IsEquationWithinLimits signature e → IsBounded signature 64 e.0 × IsBounded signature 64 e.1
-equation_bounded signature e h =
-    let below = numbered-below e.0 e.1 64 h.variables in (
-      bounded signature 64 e.0 h.left.well_formed h.left.depth (below_small e.0 (subst (HasVariablesBelow 64) (ap (λ (p : Pair). p.first) h.by_occurrence) below.left)),
-      bounded signature 64 e.1 h.right.well_formed h.right.depth (below_small e.1 (subst (HasVariablesBelow 64) (ap (λ (p : Pair). p.second) h.by_occurrence) below.right)),
-    )
-
-pub few_variables : (signature : Signature) (es : List (Tree × Tree)) → All (IsEquationWithinLimits signature) es → most_variables es ≤ 64
-few_variables signature [] h = omega arith
-few_variables signature (e ∷ es) h =
-    let first = (All-head (IsEquationWithinLimits signature) e es h).variables in
-    let others = few_variables signature es (All-tail (IsEquationWithinLimits signature) e es h) in omega arith

@@ -17,7 +17,7 @@ mod written;
 
 pub use identifier::{NAME_BYTES, is_identifier, signature_of};
 pub use kind::{Bound, Kind, Refusal};
-pub use laws::{bytes_spell_one_term, written_problems_are_derived};
+pub use laws::{bytes_spell_one_term, written_problems_are_spelled};
 pub use lexer::{Form, Found, Mark, Token, next_token, tokens_of};
 pub use line::Fields;
 pub use names::Names;

@@ -24,6 +24,7 @@ fn variables_look_like_no_symbol(rt: HostRuntime) {
 #[test]
 fn a_term_is_read_back(rt: HostRuntime) {
     let signature = signature(&rt, rt.alloc());
+    assert_eq!(rt; signature.count(), 1);
     let read = read_term(rt.alloc(), &signature, b"x1(xx64)").expect(&rt, "memory");
     let t = read.expect(&rt, "a term");
     let written = term_text(rt.alloc(), &signature, &t).expect(&rt, "memory");
