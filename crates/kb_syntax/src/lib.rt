@@ -6,7 +6,6 @@ mod equation;
 mod fault;
 mod generator;
 mod laws;
-mod narrow;
 mod notes;
 mod parse;
 mod problem;
@@ -25,5 +24,4 @@ pub use laws::{
     bytes_are_refused_in_one_way, bytes_spell_one_problem, refused_bytes_spell_no_problem,
     spelled_problems_are_within_limits,
 };
-pub use narrow::read_one_equation;
 pub use parse::parse_problem;

@@ -1,6 +1,6 @@
 -- What a run on one equation comes to.
 use Rattle.std.specs.Prelude.{ℕ, ◌≡◌, ◌≢◌, ◌⊎◌, ◌≤◌, List, [], ◌∷◌, Option, Some, Contains, true, IsTrue, ⊤}
-use Rattle.kb_io.specs.Bytes.{TakesAll, Appends, AppendsPart}
+use Rattle.kb_io.specs.Bytes.{TakesAll, HasMoreThan, Appends, AppendsPart}
 use Rattle.kb_term.specs.Pair.{Pair, canonical_pair}
 use Rattle.kb_term.specs.Rule.{Rule, rule_of}
 use Rattle.kb_term.specs.Tree.{Tree}
@@ -15,7 +15,12 @@ use Rattle.kb_text.specs.Problems.{Spells}
 use Rattle.kb_report.specs.Answers.{Answer, AnswerSpelled, one_rule_answer}
 use Rattle.kb_cert.specs.CertificateText.{are_rows}
 use Rattle.kb_cert.specs.declared.certificate.Certificate.TheVariants.{Linear}
-use Rattle.kb_text.specs.declared.kind.Kind.TheVariants.{NotBuilt}
+use Rattle.kb_text.specs.Refusals.{IsRefused}
+use Rattle.kb_text.specs.declared.kind.Kind.{Kind}
+use Rattle.kb_text.specs.declared.kind.Kind.TheVariants.{Limit, NotBuilt}
+use Rattle.kb_text.specs.declared.kind.Bound.TheVariants.{Input}
+use Rattle.mkbtt_top.specs.declared.complete.Completed.{Completed}
+use Rattle.mkbtt_top.specs.declared.complete.Completed.TheVariants as completed
 use Rattle.mkbtt_words.specs.Reading.{AreRead, AreRefused}
 use Rattle.mkbtt_words.specs.declared.mode.Mode.TheVariants.{Complete}
 use Rattle.mkbtt_words.specs.declared.words.Words.{Words}
@@ -98,14 +103,17 @@ pub record AskForAnother (words : List (List ℕ)) : Type 0 where
 abbrev pub AreBadWords : List (List ℕ) → Type 0
 AreBadWords words = AreRefused words ⊎ AskForAnother words
 
--- what is refused is refused as not built, at place 0
-abbrev pub IsNotBuilt : Status → Type 0
-IsNotBuilt Done = ⊤
-IsNotBuilt (Refused kind at) = (kind ≡ NotBuilt) × (at ≡ 0)
-IsNotBuilt ReadFault = ⊤
-IsNotBuilt WriteFault = ⊤
-IsNotBuilt Memory = ⊤
-IsNotBuilt status.Words = ⊤
+-- what a completion of the bytes comes to: an answer to what they spell; a refusal of them; or they spell a problem that isn't answered yet
+abbrev pub IsCompleted : List ℕ → Completed → Type 0
+IsCompleted bytes (completed.Answer text) = IsAnswerTo bytes text.items
+IsCompleted bytes (completed.Refused r) = IsRefused bytes r.kind r.at
+IsCompleted bytes completed.NotBuilt = (problem : Problem) × Spells bytes problem
+
+-- the refusal of what was read: the bytes up to the end are refused so; there are too many of them; or they spell a problem that isn't answered yet, and that is told at place 0
+pub data IsRefusedFor (left_old left_new : Option (List ℕ)) : Kind → ℕ → Type 0 where
+  by_text : {kind : Kind} {at : ℕ} (bytes : List ℕ) → TakesAll left_old bytes left_new → IsRefused bytes kind at → IsRefusedFor left_old left_new kind at
+  too_long : HasMoreThan 1048576 left_old → IsRefusedFor left_old left_new (Limit Input) 1048576
+  not_built : (bytes : List ℕ) (problem : Problem) → TakesAll left_old bytes left_new → Spells bytes problem → IsRefusedFor left_old left_new NotBuilt 0
 
 -- unless the answer was written, whole or in part, nothing is
 abbrev pub WritesNothing : Status → Option (List ℕ) → Option (List ℕ) → Type 0

@@ -7,7 +7,7 @@ ghost use Rattle.kb_linear.specs.LinearOrder.{LinearGreater};
 ghost use Rattle.kb_linear.specs.Interpretations.{interpretations};
 ghost use Rattle.kb_text.specs.Terms.{IsPairForm};
 ghost use Rattle.kb_report.specs.Answers.{IsProblemForm};
-ghost use Rattle.mkbtt_top.specs.FirstRun.{IsEquationOf, IsOrderedIn, IsAnswerOf, IsAnswerTo};
+ghost use Rattle.mkbtt_top.specs.FirstRun.{IsEquationOf, IsOrderedIn, IsAnswerOf, IsCompleted};
 ghost use Rattle.kb_overlap.specs.Overlap.{IsOverlapList};
 
 use kb_cert::Certificate;
@@ -17,7 +17,7 @@ use kb_report::{
     is_equation_within_limits, is_interpretation, is_problem_within_limits, is_term_within_limits,
     one_rule_text,
 };
-use kb_syntax::read_one_equation;
+use kb_syntax::{Refusal, SyntaxFault, parse_problem};
 use kb_term::{
     Memory, Pair, Problem, Rule, Signature, Term, canonical, has_few_arguments,
     has_variables_below, is_rule_below, rule_of,
@@ -155,14 +155,39 @@ fn answer(alloc: Global, problem: &Problem) -> Result<Option<Vec<u8>>, Memory>
     }
 }
 
-/// The text of an answer to the problem that the bytes spell, where it has one equation that isn't trivial, just one of its
-/// directions is ordered by an interpretation, and the rule in this direction doesn't overlap itself.
-pub fn complete(alloc: Global, bytes: &[u8]) -> Result<Option<Vec<u8>>, Memory>
-    requires { length bytes.now ≤ 1048576 }
-    ensures { IfOk result (λ found. IfSome found (λ text. IsAnswerTo bytes.now text.items)) }
+// The text of an answer to the problem, where it has one equation and that is answered.
+fn answer_problem(alloc: Global, problem: &Problem) -> Result<Option<Vec<u8>>, Memory>
+    ensures { IfOk result (λ found. IfSome found (λ text. IsAnswerOf problem.now text.items)) }
 {
-    match read_one_equation(alloc, bytes)? {
-        Some(problem) => answer(alloc, &problem),
-        None => Ok(None),
+    if problem.equations().len() != 1 {
+        return Ok(None);
+    }
+    answer(alloc, problem)
+}
+
+/// What a completion of a text comes to.
+#[derive(Drop)]
+pub enum Completed {
+    /// The text of an answer to the problem that the bytes spell.
+    Answer(Vec<u8>),
+    /// The bytes spell no problem.
+    Refused(Refusal),
+    /// The bytes spell a problem that this version doesn't complete.
+    NotBuilt,
+}
+
+/// Completes the problem that the bytes spell, where it has one equation that isn't trivial, just one of its directions is
+/// ordered by an interpretation, and the rule in this direction doesn't overlap itself.
+pub fn complete(alloc: Global, bytes: &[u8]) -> Result<Completed, Memory>
+    ensures { IfOk result (IsCompleted bytes.now) }
+{
+    let problem = match parse_problem(alloc, bytes) {
+        Ok(problem) => problem,
+        Err(SyntaxFault::Refused(refusal)) => return Ok(Completed::Refused(refusal)),
+        Err(SyntaxFault::Memory) => return Err(Memory),
+    };
+    match answer_problem(alloc, &problem)? {
+        Some(text) => Ok(Completed::Answer(text)),
+        None => Ok(Completed::NotBuilt),
     }
 }

@@ -1,12 +1,12 @@
 // The top call.
 ghost use Rattle.std.specs.Prelude.{◌≡◌, ◌≤◌, ◌↔◌, map, Ok, true, false, IsTrue};
 ghost use Rattle.kb_io.specs.Bytes.{Rose};
-ghost use Rattle.mkbtt_top.specs.FirstRun.{Answers, AnswersInPart, AreBadWords, AskForCompletion, IsNotBuilt, WritesNothing};
+ghost use Rattle.mkbtt_top.specs.FirstRun.{Answers, AnswersInPart, AreBadWords, AskForCompletion, IsRefusedFor, WritesNothing};
 
-use crate::complete::complete;
+use crate::complete::{Completed, complete};
 use crate::status::Status;
 use kb_io::{Gate, ReadAllFault, Sink, Source, read_all, write_all};
-use kb_syntax::Kind;
+use kb_syntax::{Bound, Kind};
 use kb_term::Memory;
 use mkbtt_words::{Mode, WordsFault, read_words};
 use std::alloc::Global;
@@ -50,7 +50,7 @@ fn answer_source<S: Source, K: Sink>(alloc: Global, source: &mut S, sink: &mut K
     ensures write_cause { result ≡ Status.WriteFault → Rose (K.faults sink.old) (K.faults sink.new) }
     ensures read_cause { result ≡ Status.ReadFault → Rose (S.faults source.old) (S.faults source.new) }
     ensures words { ¬ (result ≡ Status.Words) }
-    ensures refused { IsNotBuilt result }
+    ensures refused { (kind : _) (at : _) → result ≡ Status.Refused kind at → IsRefusedFor (S.left source.old) (S.left source.new) kind at }
     ensures nothing { WritesNothing result (K.written sink.old) (K.written sink.new) }
     ensures source_count { S.faults source.old ≤ S.faults source.new }
     ensures sink_count { K.faults sink.old ≤ K.faults sink.new }
@@ -58,15 +58,16 @@ fn answer_source<S: Source, K: Sink>(alloc: Global, source: &mut S, sink: &mut K
     let bytes = match read_all(alloc, source, INPUT_BYTES) {
         Ok(bytes) => bytes,
         Err(ReadAllFault::ReadFault) => return Status::ReadFault,
-        Err(ReadAllFault::TooLong) => return Status::Refused(Kind::NotBuilt, 0),
+        Err(ReadAllFault::TooLong) => return Status::Refused(Kind::Limit(Bound::Input), 1_048_576),
         Err(ReadAllFault::Memory) => return Status::Memory,
     };
     match complete(alloc, &bytes) {
-        Ok(Some(text)) => match write_all(sink, &text) {
+        Ok(Completed::Answer(text)) => match write_all(sink, &text) {
             Ok(()) => Status::Done,
             Err(_) => Status::WriteFault,
         },
-        Ok(None) => Status::Refused(Kind::NotBuilt, 0),
+        Ok(Completed::Refused(refusal)) => Status::Refused(refusal.kind, refusal.at),
+        Ok(Completed::NotBuilt) => Status::Refused(Kind::NotBuilt, 0),
         Err(_) => Status::Memory,
     }
 }
@@ -75,7 +76,8 @@ fn answer_source<S: Source, K: Sink>(alloc: Global, source: &mut S, sink: &mut K
 ///
 /// The words are those of `read_words`; the mode is `complete`, and its numbers aren't used yet: other modes are refused
 /// like words that the command doesn't take. What is answered in this version is a problem with one equation that isn't trivial, one
-/// direction of which a linear interpretation of the family orders; everything else that is read is refused as not built.
+/// direction of which a linear interpretation of the family orders; every other problem is refused as not built. Bytes that spell
+/// no problem are refused by the first thing that is wrong, with its place.
 /// The answer is made whole before its first byte is written.
 pub fn run<R: Threads + Wait + Sync, S: Source, K: Sink, G: Gate>(
     _rt: &R,
@@ -95,7 +97,7 @@ pub fn run<R: Threads + Wait + Sync, S: Source, K: Sink, G: Gate>(
     ensures taken { ¬ (result.status ≡ Status.Words) → ¬ (result.status ≡ Status.Memory) → AskForCompletion (map (λ w. w.now) words.now) }
     ensures read_cause { result.status ≡ Status.ReadFault → Rose (S.faults source.old) (S.faults source.new) }
     ensures write_cause { result.status ≡ Status.WriteFault → Rose (K.faults sink.old) (K.faults sink.new) }
-    ensures refused { IsNotBuilt result.status }
+    ensures refused { (kind : _) (at : _) → result.status ≡ Status.Refused kind at → IsRefusedFor (S.left source.old) (S.left source.new) kind at }
 
     // With every status but Done and WriteFault nothing is written; with Words nothing is read.
     ensures nothing { WritesNothing result.status (K.written sink.old) (K.written sink.new) }
