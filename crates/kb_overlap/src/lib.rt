@@ -7,4 +7,4 @@ mod overlap;
 mod positions;
 
 pub use alike::overlaps_alike;
-pub use overlap::{Overlap, overlaps};
+pub use overlap::{Overlap, overlap_at, overlaps};

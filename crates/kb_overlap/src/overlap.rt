@@ -85,8 +85,9 @@ fn critical_pair(
     }
 }
 
-/// The overlap at the position; none where the subterm there and the inner left side have no unifier.
-fn overlap_at(
+/// The overlap at the position of the outer rule and the inner one, which is renamed apart; none where the subterm there and
+/// the inner left side have no unifier.
+pub fn overlap_at(
     alloc: Global,
     outer: &Rule,
     renamed: &Rule,

@@ -1,0 +1,12 @@
+//! Traces: how each pair of an answer follows from the equations and from earlier pairs.
+#![tactic(auto)]
+
+mod fault;
+mod replaying;
+mod right;
+mod rule;
+mod trace;
+
+pub use fault::TraceFault;
+pub use replaying::replay_trace;
+pub use trace::{Step, Trace};
