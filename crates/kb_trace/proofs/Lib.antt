@@ -1,0 +1,6 @@
+pub mod Canonical
+pub mod Occurs
+pub mod Rewriting
+pub mod Overlapping
+pub mod Replayed
+pub mod Cited

@@ -1,11 +1,12 @@
 -- Steps of a trace, and the first that isn't right.
-use Rattle.std.specs.Prelude.{ℕ, ◌≡◌, ◌+◌, List, ◌∷◌, ◌++◌, map, length, All, Option, Some, None, Ok}
+use Rattle.std.specs.Prelude.{ℕ, ◌≡◌, ◌+◌, List, ◌∷◌, ◌++◌, map, length, All, Option, Some, None, Result, Ok, Err}
 use Rattle.kb_term.specs.Tree.{Tree}
 use Rattle.kb_term.specs.Pair.{Pair, IsWithin, ArePairWithin}
 use Rattle.kb_term.specs.Rule.{Rule, IsRuleBelow, rule_of}
 use Rattle.kb_term.specs.Proving.{RewritesAt}
 use Rattle.kb_term.specs.View.{tree_of}
 use Rattle.kb_term.specs.declared.term.Term.{Term}
+use Rattle.kb_term.specs.declared.limit.Limit.{Limit}
 use Rattle.kb_overlap.specs.Overlap.{IsOverlapOrLimit}
 use Rattle.kb_overlap.specs.Trace.{TraceStep, item, IsRightOrigin, IsRightTrace}
 
@@ -36,6 +37,11 @@ IsRewritten rule p t (Some u) = RewritesAt rule p t (tree_of u) × ((v : Tree) �
 abbrev pub IsOverlapped : Rule → Rule → List ℕ → Option (Term × Term) → Type 0
 IsOverlapped outer inner p None = (s t : Tree) → ¬ IsOverlapOrLimit outer inner (record { position = p; sides = Ok (s, t) })
 IsOverlapped outer inner p (Some e) = IsOverlapOrLimit outer inner (record { position = p; sides = Ok (tree_of e.0, tree_of e.1) })
+
+-- the two terms; none where there is a limit in their place
+abbrev pub IsPairWithin : Result (Tree × Tree) Limit → Option (Term × Term) → Type 0
+IsPairWithin sides (Some e) = sides ≡ Ok (tree_of e.0, tree_of e.1)
+IsPairWithin sides None = (limit : Limit) × (sides ≡ Err limit)
 
 -- the rule of the pair in the direction, with variables below 64; none where there is no pair
 abbrev pub IsCitedRule : Option Pair → ℕ → Option Rule → Type 0

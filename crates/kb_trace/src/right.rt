@@ -4,11 +4,12 @@ ghost use Rattle.kb_term.specs.Pair.{ArePairWithin, canonical_pair};
 ghost use Rattle.kb_term.specs.Rule.{IsRule, IsRuleBelow, rule_of as rule_of_pair};
 ghost use Rattle.kb_term.specs.View.{tree_of, equations_of_list};
 ghost use Rattle.kb_overlap.specs.Trace.{item as item_of, side, other_side, IsRightInput, IsRightRewrite, IsRightOverlap, IsRightOrigin};
-ghost use Rattle.kb_trace.specs.Steps.{IsRewritten, IsOverlapped, IsCitedRule};
+ghost use Rattle.kb_overlap.specs.View.{sides_of};
+ghost use Rattle.kb_trace.specs.Steps.{IsRewritten, IsOverlapped, IsPairWithin, IsCitedRule};
 
 use crate::rule::is_rule;
 use kb_match::match_term;
-use kb_overlap::overlap_at;
+use kb_overlap::{Overlap, overlap_at};
 use kb_term::{
     Memory, Origin, Pair, Position, Rule, RuleRef, Term, TermFault, apart, canonical, instance_of,
     pair_limit, replace, rule_of, subterm,
@@ -228,11 +229,19 @@ fn overlapped(
             let renamed = apart(alloc, inner)?;
             match overlap_at(alloc, outer, &renamed, position)? {
                 None => Ok(None),
-                Some(overlap) => match overlap.sides {
-                    Ok(pair) => Ok(Some(pair)),
-                    Err(_) => Ok(None),
-                },
+                Some(overlap) => Ok(sides_within(overlap)),
             }
         }
+    }
+}
+
+/// The two terms of the overlap; none where it passes a limit.
+fn sides_within(overlap: Overlap) -> Option<(Term, Term)>
+    ensures { IsPairWithin (sides_of overlap.sides) result }
+{
+    let Overlap { position: _, sides } = overlap;
+    match sides {
+        Ok(pair) => Some(pair),
+        Err(_) => None,
     }
 }

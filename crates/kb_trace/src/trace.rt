@@ -14,9 +14,13 @@ pub struct Step {
 }
 
 impl Model for Step {
+    ghost use Rattle.std.specs.Coded.{codes};
+    ghost use Rattle.kb_term.specs.Coding.{coded_pair};
     ghost use Rattle.kb_overlap.specs.Trace.{TraceStep};
 
     ghost Value = { TraceStep };
+
+    ghost coded = { Prim.hlevel (codes, coded_pair) };
 
     ghost view = { λ s. record { origin = s.origin; pair = s.pair } };
 }
@@ -71,9 +75,13 @@ pub struct Trace {
 
 impl Model for Trace {
     ghost use Rattle.std.specs.Prelude.{List};
+    ghost use Rattle.std.specs.Coded.{codes};
+    ghost use Rattle.kb_term.specs.Coding.{coded_pair};
     ghost use Rattle.kb_overlap.specs.Trace.{TraceStep};
 
     ghost Value = { List TraceStep };
+
+    ghost coded = { Prim.hlevel (codes, coded_pair) };
 
     ghost view = { λ t. t.steps.items };
 }
