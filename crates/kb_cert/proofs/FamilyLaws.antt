@@ -96,7 +96,7 @@ contains_decides (y ∷ ys) x = go (cases_eq y x) (contains_decides ys x)
     go (inr d) (inl c) = inl (contains_behind y ys x c)
     go (inr d) (inr n) = inr (λ c. ⊎_elim d n (contains_cases y ys x c))
 
-linear_variables : (g : Signature) (i : Interpretation) → IsInterpretationOf g i → (s t : Tree) → IsWellFormed g t → LinearGreater i s t → (x : ℕ) → Contains (variables_of t) x → Contains (variables_of s) x
+pub linear_variables : (g : Signature) (i : Interpretation) → IsInterpretationOf g i → (s t : Tree) → IsWellFormed g t → LinearGreater i s t → (x : ℕ) → Contains (variables_of t) x → Contains (variables_of s) x
 linear_variables g i fit s t w h x c = ⊎_elim (λ d. d) (λ n. absurd (go n)) (contains_decides (variables_of s) x)
   where
     big : ℕ → ℕ

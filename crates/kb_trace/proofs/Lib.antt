@@ -4,3 +4,4 @@ pub mod Rewriting
 pub mod Overlapping
 pub mod Replayed
 pub mod Cited
+pub mod Deciding

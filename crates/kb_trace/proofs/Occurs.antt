@@ -1,5 +1,5 @@
 -- Variables of arguments.
-use Rattle.std.proofs.Common.{ℕ, ◌+◌, ◌<◌, ◌≡◌, arith, inl, inr, ⊎_elim, List, [], ◌∷◌, length, get_or, Contains}
+use Rattle.std.proofs.Common.{ℕ, suc, ◌+◌, ◌<◌, ◌≡◌, arith, inl, inr, ⊎_elim, List, [], ◌∷◌, length, get_or, Contains}
 use Rattle.std.proofs.lemmas.List.Elements.{Contains-append_cases}
 use Rattle.kb_term.specs.Tree.{Tree, variable, trees_of, variables_of, variables_in}
 
@@ -8,5 +8,5 @@ pub in_some_argument : (us : List Tree) (n : ℕ) → Contains (variables_in (tr
 in_some_argument [] n c = absurd (omega (arith, c.1))
 in_some_argument (u ∷ us) n c = ⊎_elim
     (λ d. (0, omega arith, d))
-    (λ d. let h = in_some_argument us n d in (h.0 + 1, omega (arith, h.1), h.2))
+    (λ d. let h = in_some_argument us n d in (suc h.0, omega (arith, h.1), h.2))
     (Contains-append_cases (variables_of u) (variables_in (trees_of us)) n c)

@@ -39,7 +39,9 @@ pub returns-after-loop-k : goal.returns-after-loop-k
 returns-after-loop-k t c =
     let items = c.items-items.result.now in
     let us = map tree_of items in
-    let whole : tree_of c.args.t.now ≡ apply c.in-App.field-0.0 (trees_of us) = ap tree_of c.in-App.is ∙ ap (λ vs. apply c.in-App.field-0.0 (trees_of vs)) (sym c.items-items.ensures) in
-    ((λ e. absurd (cc)), λ h.
-        let found = in_some_argument us c.args.n (subst (λ u. Contains (variables_of u) c.args.n) whole h) in
-        absurd (c.loop-k.invariant found.0 (omega (arith, found.1, arguments-length items, c.loop-k-test.false)) found.2))
+    let whole : tree_of c.args.t.now ≡ apply c.in-App.field-0.0 (trees_of us) = ap tree_of c.in-App.is ∙ ap (λ vs. apply c.in-App.field-0.0 (trees_of vs)) (sym c.items-items.ensures) in (
+      (λ e. absurd (cc)),
+      λ h.
+          let found = in_some_argument us c.args.n (subst (λ u. Contains (variables_of u) c.args.n) whole h) in
+          absurd (c.loop-k.invariant found.0 (omega (arith, found.1, arguments-length items, c.loop-k-test.false)) found.2),
+    )
