@@ -7,7 +7,7 @@ use Rattle.kb_rewrite.specs.NormalForm.{StrategyStep}
 use Rattle.kb_laws.specs.Overlaps.{OverlapsJoin, OverlapsClose, HaveOneNormalForm}
 use Rattle.kb_term.proofs.Steps.{contains_behind}
 
-slice_contains : {X : Type 0} (xs : List X) (i : ℕ) (x : X) → slice_get xs i ≡ Some x → Contains xs x
+pub slice_contains : {X : Type 0} (xs : List X) (i : ℕ) (x : X) → slice_get xs i ≡ Some x → Contains xs x
 slice_contains [] i x e = absurd (cc)
 slice_contains (y ∷ ys) zero x e = (0, omega arith, cc)
 slice_contains (y ∷ ys) (suc i) x e = contains_behind y ys x (slice_contains ys i x e)
@@ -19,7 +19,7 @@ strategy_path : (rules : List Rule) (path : List Tree) (s t : Tree) → IsPath (
 strategy_path rules [] s t e = e
 strategy_path rules (u ∷ path) s t (h, k) = (strategy_step rules s u h, strategy_path rules path u t k)
 
-joined : (rules : List Rule) (s t : Tree) → HaveOneNormalForm rules s t → IsJoinable rules s t
+pub joined : (rules : List Rule) (s t : Tree) → HaveOneNormalForm rules s t → IsJoinable rules s t
 joined rules s t (u, m, n, c, d) = (u, (c.0, strategy_path rules c.0 s u c.1.0), (d.0, strategy_path rules d.0 t u d.1.0))
 
 -- overlaps that normalise to one term are joinable

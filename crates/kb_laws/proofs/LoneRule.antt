@@ -35,7 +35,7 @@ lone_joins rule none (suc i) j A B e d = absurd (let q = only rule A (suc i) e i
 turned : (r back : ℕ → ℕ) (s t : Tree) → IsRenaming r back s t → IsRenaming back r t s
 turned r back s t n = record { there = n.back_again; back_again = n.there }
 
-same_turned : (d e : Tree × Tree) → IsSameEquation d e → IsSameEquation e d
+pub same_turned : (d e : Tree × Tree) → IsSameEquation d e → IsSameEquation e d
 same_turned d e (inl (r, back, n, k)) = inl (back, r, turned r back d.0 e.0 n, turned r back d.1 e.1 k)
 same_turned d e (inr (r, back, n, k)) = inr (back, r, turned r back d.1 e.0 k, turned r back d.0 e.1 n)
 
@@ -69,12 +69,12 @@ numbered_variant : (s t : Tree) → IsVariantEquation (s, t) ((numbered s t).fir
 numbered_variant s t = variants_from_numbered s t (numbered s t).first (numbered s t).second (sym (numbered_renamed (place_in (variables_of_pair s t)) s t (numbered_apart s t)))
 
 -- so are the canonical pair and the rule that it is in either direction
-canonical_same : (s t : Tree) → IsSameEquation (s, t) ((canonical s t).first, (canonical s t).second)
+pub canonical_same : (s t : Tree) → IsSameEquation (s, t) ((canonical s t).first, (canonical s t).second)
 canonical_same s t = ⊎_elim (λ q. subst (λ (p : Pair). IsSameEquation (s, t) (p.first, p.second)) (sym q) (inl (numbered_variant s t)))
     (λ q. subst (λ (p : Pair). IsSameEquation (s, t) (p.first, p.second)) (sym q) (inr (let v = numbered_variant t s in (v.0, v.1, v.3, v.2))))
     (lesser_cases (numbered s t) (numbered t s))
 
-rule_same : (p : Pair) (direction : ℕ) → IsSameEquation (p.first, p.second) ((rule_of p direction).left, (rule_of p direction).right)
+pub rule_same : (p : Pair) (direction : ℕ) → IsSameEquation (p.first, p.second) ((rule_of p direction).left, (rule_of p direction).right)
 rule_same p zero = inl (numbered_variant p.first p.second)
 rule_same p (suc d) = inr (let v = numbered_variant p.second p.first in (v.0, v.1, v.3, v.2))
 
@@ -84,7 +84,7 @@ pair_rule_same s t d =
     let r : Rule = rule_of p d in
     same_from_canonical s t r.left r.right (canonical_from_same s t p.first p.second (canonical_same s t) ∙ canonical_from_same p.first p.second r.left r.right (rule_same p d))
 
-the_pair : (b : Bool) (p q : Pair) → cond b None (Some p) ≡ Some q → p ≡ q
+pub the_pair : (b : Bool) (p q : Pair) → cond b None (Some p) ≡ Some q → p ≡ q
 the_pair true p q e = absurd (cc)
 the_pair false p q e = cc
 
