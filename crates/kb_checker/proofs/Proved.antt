@@ -54,7 +54,7 @@ module _ (P : Rule → Type 0) where
       (equal_trans P h.result (side old w) (other_side old w) (equal_sym P (side old w) h.result (step_proved rule p (side old w) h.result r h.rewrites)) (side_proved old w o))
 
   sides_are : (limit : Option Limit) (s t v w : Tree) → Ok (s, t) ≡ pair_or_limit limit v w → (v ≡ s) × (w ≡ t)
-  sides_are None s t v w e = let q : Ok {E = Limit} (s, t) ≡ Ok (v, w) = e in (cc, cc)
+  sides_are None s t v w e = let q : (s, t) ≡ (v, w) = cc in (sym (ap (λ (x : Tree × Tree). x.0) q), sym (ap (λ (x : Tree × Tree). x.1) q))
   sides_are (Some l) s t v w e = absurd (cc)
 
   overlap_proved : (outer inner : Rule) (p : List ℕ) (pair : Pair) → Equal P outer.left outer.right → Equal P inner.left inner.right → IsRightOverlap outer inner p pair → ProvesPair pair

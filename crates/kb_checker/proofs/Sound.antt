@@ -5,7 +5,7 @@ use Rattle.std.specs.List.{list_all}
 use Rattle.std.proofs.lemmas.List.Elements.{All-contains}
 use Rattle.kb_term.specs.Tree.{Tree, variables_of}
 use Rattle.kb_term.specs.Rule.{Rule, IsRule}
-use Rattle.kb_term.specs.Signature.{Signature, SymbolEntry, IsWellFormed, IsRuleOver}
+use Rattle.kb_term.specs.Signature.{Signature, SymbolEntry, IsWellFormed, IsRuleOver, IsEquationWithinLimits}
 use Rattle.kb_term.specs.Proving.{Proves, IsTerminating, IsJoinable, equations_of}
 use Rattle.kb_term.proofs.Subtrees.{contains_mapped}
 use Rattle.kb_linear.specs.LinearOrder.{Interpretation, linear_value, IsInterpretationOf}
@@ -25,7 +25,7 @@ use Rattle.kb_laws.proofs.Closing.{closed_joins, joined}
 use Rattle.kb_laws.proofs.Complete.{all_from, proved_by_joining}
 use Rattle.kb_laws.proofs.Stated.{interpretation_halts}
 use Rattle.kb_checker.specs.Answers.{Answer, rules_of, IsAnswer, IsTraced, IsGoodAnswer}
-use Rattle.kb_checker.specs.Verdicts.{IsProved, IsAccepted}
+use Rattle.kb_checker.specs.Verdicts.{IsOriented, IsProved, IsAccepted}
 use Rattle.kb_checker.proofs.Proved.{traced_proved}
 
 -- the rows of a certificate interpret the signature
@@ -53,7 +53,7 @@ oriented_halts : (g : Signature) (c : Certificate) → IsTrue (is_certificate g 
 oriented_halts g (Lpo p) m rules over h = terminating_by_lpo p g rules over h
 oriented_halts g (Linear i) m rules over h = interpretation_halts g i (rows_fit g i m) rules over h
 
-all_mapped : {X Y : Type 0} (f : X → Y) (P : Y → Type 0) (xs : List X) → All (λ x. P (f x)) xs → All P (map f xs)
+pub all_mapped : {X Y : Type 0} (f : X → Y) (P : Y → Type 0) (xs : List X) → All (λ x. P (f x)) xs → All P (map f xs)
 all_mapped f P xs h = all_from P (map f xs) (λ y c. let m = contains_mapped f xs y c in subst P m.2 (All-contains (λ x. P (f x)) xs m.0 h m.1))
 
 all_both : {X : Type 0} (P Q R : X → Type 0) (xs : List X) → ((x : X) → P x → Q x → R x) → All P xs → All Q xs → All R xs
@@ -63,18 +63,15 @@ module _ (a : Answer) (form : IsAnswer a) (h : IsAccepted a) where
   abbrev rules : List Rule
   rules = rules_of a.rules
 
-  alone : Rule × ℕ → Rule
-  alone r = r.0
-
   ordered : Orders a.cert rules
-  ordered = all_mapped (λ (r : Rule × ℕ). r.0) (λ (r : Rule). IsGreater a.cert r.left r.right) a.rules h.orders
+  ordered = h.orders
 
   over : All (IsRuleOver a.problem.signature) rules
-  over = all_mapped (λ (r : Rule × ℕ). r.0) (IsRuleOver a.problem.signature) a.rules (all_both _ _ _ a.rules (λ r w o. record {
-    is_rule = oriented_rule a.problem.signature a.cert form.cert r.0.left r.0.right w.right.well_formed o;
+  over = all_both (λ (r : Rule). IsEquationWithinLimits a.problem.signature (r.left, r.right)) (IsOriented a) (IsRuleOver a.problem.signature) rules (λ r w o. record {
+    is_rule = oriented_rule a.problem.signature a.cert form.cert r.left r.right w.right.well_formed o;
     left = w.left.well_formed;
     right = w.right.well_formed;
-  }) form.rules h.orders)
+  }) (all_mapped (λ (r : Rule × ℕ). r.0) (λ (r : Rule). IsEquationWithinLimits a.problem.signature (r.left, r.right)) a.rules form.rules) h.orders
 
   -- the rules prove each equation
   forth : (s t : Tree) → Proves a.problem.equations s t → Proves (equations_of rules) s t

@@ -1,9 +1,12 @@
 -- Answers, and which are good.
 use Rattle.std.specs.Prelude.{ℕ, ◌≤◌, List, map, length, All, IsTrue}
+use Rattle.kb_term.specs.Tree.{tree_size}
+use Rattle.kb_term.specs.FewArguments.{HasFewArguments}
 use Rattle.kb_term.specs.Rule.{Rule}
 use Rattle.kb_term.specs.Signature.{Problem, IsWithinLimits, IsEquationWithinLimits}
 use Rattle.kb_cert.specs.CertificateText.{is_certificate}
 use Rattle.kb_cert.specs.declared.certificate.Certificate.{Certificate}
+use Rattle.kb_overlap.specs.Found.{AreVariablesBelow}
 use Rattle.kb_overlap.specs.Trace.{TraceStep, IsRightTrace, IsTracedBy}
 use Rattle.kb_laws.specs.Complete.{IsCompleteSystem}
 use Rattle.kb_trace.specs.Steps.{ArePairsWithin}
@@ -26,6 +29,12 @@ pub record IsAnswer (a : Answer) : Type 0 where
   pub rules : All (λ (r : Rule × ℕ). IsEquationWithinLimits a.problem.signature (r.0.left, r.0.right)) a.rules
   pub cert : IsTrue (is_certificate a.problem.signature a.cert)
   pub trace : ArePairsWithin a.trace
+
+-- variables below 64, a left side of at most size 512, and numbers of arguments that a byte holds
+pub record IsReady (rule : Rule) : Type 0 where
+  pub variables : AreVariablesBelow 64 rule
+  pub size : tree_size rule.left ≤ 512
+  pub arguments : HasFewArguments rule.left
 
 -- the rule has the canonical pair of the step that it cites
 abbrev pub IsTraced : List TraceStep → Rule × ℕ → Type 0

@@ -1,5 +1,5 @@
 -- What the checker says of an answer.
-use Rattle.std.specs.Prelude.{ℕ, zero, suc, ◌≡◌, ◌+◌, ◌⊎◌, ◌==◌, List, [], ◌∷◌, ◌++◌, length, All, Option, Some, None, Result, Ok, Err, ⊤, slice_get}
+use Rattle.std.specs.Prelude.{ℕ, zero, suc, ◌≡◌, ◌+◌, ◌≤◌, ◌⊎◌, ◌==◌, List, [], ◌∷◌, ◌++◌, length, All, Option, Some, None, Result, Ok, Err, ⊤, slice_get}
 use Rattle.kb_term.specs.Tree.{Tree}
 use Rattle.kb_term.specs.Rule.{Rule}
 use Rattle.kb_term.specs.declared.limit.Limit.{Limit}
@@ -12,6 +12,8 @@ use Rattle.kb_trace.specs.Steps.{IsFirstBadStep}
 use Rattle.kb_checker.specs.Answers.{Answer, rules_of, IsTraced}
 use Rattle.kb_checker.specs.declared.joining.Failure.{Failure}
 use Rattle.kb_checker.specs.declared.joining.Failure.TheVariants.{Large, Steps, Different}
+use Rattle.kb_checker.specs.declared.closing.Row.{Row}
+use Rattle.kb_checker.specs.declared.closing.Row.TheVariants.{Closed, Open}
 use Rattle.kb_checker.specs.declared.verdict.Reject.{Reject}
 use Rattle.kb_checker.specs.declared.verdict.Reject.TheVariants.{BadStep, Untraced, NotOriented, PairLarge, PairSteps, NotJoined, EquationLarge, EquationSteps, NotProved}
 use Rattle.kb_checker.specs.declared.verdict.Checked.{Checked}
@@ -63,6 +65,11 @@ abbrev pub AreOuterOverlaps : List Rule → ℕ → List Overlap → Type 0
 AreOuterOverlaps rules zero os = os ≡ []
 AreOuterOverlaps rules (suc i) os = (before more : List Overlap) × (os ≡ before ++ more) × AreOuterOverlaps rules i before × AreInnerOverlaps rules i (length rules) more
 
+-- what a look at the overlaps of one outer rule says: how many overlaps there are so far, which all close; or the first that doesn't, and why
+abbrev pub IsRowAnswer : List Rule → ℕ → ℕ → Row → Type 0
+IsRowAnswer rules i start (Closed count) = (os : List Overlap) × AreInnerOverlaps rules i (length rules) os × All (Closes rules) os × (count ≡ start + length os) × (count ≤ start + 2097152)
+IsRowAnswer rules i start (Open failure n) = (j : ℕ) × (os : List Overlap) × (m : ℕ) × AreInnerOverlaps rules i j os × FailsFirst (Closes rules) (FailsToClose rules failure) os m × (n ≡ start + m)
+
 -- the overlaps of the rules, outer rule by outer rule and inner rule by inner rule, as far as some two rules; the one with the number n is the first that doesn't close, for this reason
 abbrev pub FirstUnclosed : List Rule → Failure → ℕ → Type 0
 FirstUnclosed rules failure n =
@@ -79,8 +86,8 @@ FailsToProve rules failure e = FailToJoin rules e.0 e.1 failure
 -- ---- the whole
 
 -- the certificate orients the rule
-abbrev pub IsOriented : Answer → Rule × ℕ → Type 0
-IsOriented a r = IsGreater a.cert r.0.left r.0.right
+abbrev pub IsOriented : Answer → Rule → Type 0
+IsOriented a rule = IsGreater a.cert rule.left rule.right
 
 -- each trace step is right
 abbrev pub PassesSteps : Answer → Type 0
@@ -92,17 +99,17 @@ PassesCitations a = PassesSteps a × All (IsTraced a.trace) a.rules
 
 -- each rule is oriented too
 abbrev pub PassesOrder : Answer → Type 0
-PassesOrder a = PassesSteps a × All (IsTraced a.trace) a.rules × All (IsOriented a) a.rules
+PassesOrder a = PassesSteps a × All (IsTraced a.trace) a.rules × All (IsOriented a) (rules_of a.rules)
 
 -- each overlap closes too
 abbrev pub PassesOverlaps : Answer → Type 0
-PassesOverlaps a = PassesSteps a × All (IsTraced a.trace) a.rules × All (IsOriented a) a.rules × OverlapsClose (rules_of a.rules)
+PassesOverlaps a = PassesSteps a × All (IsTraced a.trace) a.rules × All (IsOriented a) (rules_of a.rules) × OverlapsClose (rules_of a.rules)
 
 -- n is the number of the first item that fails, which is of the group of the reason, and that is why it fails
 abbrev pub IsRejected : Answer → Reject → ℕ → Type 0
 IsRejected a BadStep n = IsFirstBadStep a.problem.equations a.trace n
 IsRejected a Untraced n = PassesSteps a × FailsFirst (IsTraced a.trace) (λ r. ¬ IsTraced a.trace r) a.rules n
-IsRejected a NotOriented n = PassesCitations a × FailsFirst (IsOriented a) (λ r. ¬ IsOriented a r) a.rules n
+IsRejected a NotOriented n = PassesCitations a × FailsFirst (IsOriented a) (λ r. ¬ IsOriented a r) (rules_of a.rules) n
 IsRejected a PairLarge n = PassesOrder a × FirstUnclosed (rules_of a.rules) Large n
 IsRejected a PairSteps n = PassesOrder a × FirstUnclosed (rules_of a.rules) Steps n
 IsRejected a NotJoined n = PassesOrder a × FirstUnclosed (rules_of a.rules) Different n
@@ -114,7 +121,7 @@ IsRejected a NotProved n = PassesOverlaps a × FailsFirst (IsProved (rules_of a.
 pub record IsAccepted (a : Answer) : Type 0 where
   pub steps : IsRightTrace a.problem.equations a.trace
   pub citations : All (IsTraced a.trace) a.rules
-  pub orders : All (IsOriented a) a.rules
+  pub orders : All (IsOriented a) (rules_of a.rules)
   pub overlaps : OverlapsClose (rules_of a.rules)
   pub equations : All (IsProved (rules_of a.rules)) a.problem.equations
 

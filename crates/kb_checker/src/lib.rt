@@ -1,7 +1,14 @@
 //! The checker of answers: its yes is a theorem.
+//!
+//! It stands on terms, overlaps, rewriting, orders, traces and laws alone.
 #![tactic(auto)]
 
+mod answer;
+mod checking;
+mod closing;
 mod joining;
 mod verdict;
 
+pub use answer::Answer;
+pub use checking::check;
 pub use verdict::{Checked, Reject};
