@@ -1,2 +1,5 @@
 pub mod Proved
 pub mod Sound
+pub mod Firsts
+pub mod Citing
+pub mod RowsOfOverlaps

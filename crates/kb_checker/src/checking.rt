@@ -2,7 +2,7 @@
 ghost use Rattle.std.specs.Prelude.{◌≡◌, ◌∷◌, [], ◌≤◌, ◌↔◌, All, IfOk, IsTrue, MatchOption, length};
 ghost use Rattle.kb_linear.specs.Limits.{AreMeasurable};
 ghost use Rattle.kb_term.specs.Pair.{variables_of_pair};
-ghost use Rattle.kb_term.specs.View.{equations_of_list};
+ghost use Rattle.kb_term.specs.View.{equations_of_list, pair_of};
 ghost use Rattle.kb_cert.specs.Family.{IsGreater, Orders};
 ghost use Rattle.kb_checker.specs.Answers.{IsAnswer, IsGoodAnswer, IsTraced, rules_of};
 ghost use Rattle.kb_checker.specs.Verdicts.{FailsFirst, IsProved, FailsToProve, IsVerdict};
@@ -12,7 +12,7 @@ use crate::closing::first_unclosed;
 use crate::joining::{Failure, join_failure};
 use crate::verdict::{Checked, Reject};
 use kb_cert::{Certificate, orients};
-use kb_term::{Memory, Rule, Term, canonical};
+use kb_term::{Memory, Pair, Rule, Term, canonical};
 use kb_trace::{Step, TraceFault, replay_trace};
 use std::alloc::Global;
 
@@ -108,8 +108,15 @@ fn is_traced(alloc: Global, trace: &[Step], rule: &Rule, cited: u32) -> Result<b
     let second = pair.second();
     match canonical(alloc, rule.left(), rule.right())? {
         None => Ok(false),
-        Some(found) => Ok(*found.first() == *first && *found.second() == *second),
+        Some(found) => Ok(has_sides(&found, first, second)),
     }
+}
+
+/// Whether these are the sides of the pair.
+fn has_sides(pair: &Pair, first: &Term, second: &Term) -> bool
+    ensures { IsTrue result ↔ (pair.now ≡ pair_of first.now second.now) }
+{
+    *pair.first() == *first && *pair.second() == *second
 }
 
 /// The number, from 1, of the first rule that the certificate doesn't orient.
