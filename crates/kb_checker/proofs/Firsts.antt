@@ -1,6 +1,6 @@
 -- The first member of a list that fails.
-use Rattle.std.proofs.Common.{ℕ, suc, ◌≡◌, ◌+◌, ◌-◌, ◌<◌, ◌≤◌, ◌∙◌, refl, sym, ap, ap₂, subst, arith, List, [], ◌∷◌, ◌++◌, All, length, length-append, append_assoc, get_or, take, drop, map}
-use Rattle.std.proofs.lemmas.List.{take-append-drop, length-take-le, take_more, take_all, map-append}
+use Rattle.std.proofs.Common.{ℕ, zero, suc, ◌≡◌, ◌+◌, ◌-◌, ◌<◌, ◌≤◌, ◌∙◌, refl, sym, ap, ap₂, subst, arith, List, [], ◌∷◌, ◌++◌, All, length, length-append, append_assoc, get_or, take, drop, map}
+use Rattle.std.proofs.lemmas.List.{get_or-map, length-map, take-append-drop, length-take-le, take_more, take_all, map-append}
 use Rattle.std.proofs.lemmas.List.Elements.{All-push, All-append}
 use Rattle.std.proofs.Math.Seq.{drop-cons}
 use Rattle.kb_checker.specs.Verdicts.{FailsFirst}
@@ -36,3 +36,22 @@ fails_behind G F front xs n h f = (
   All-append G front f.0 h f.5,
   f.6,
 )
+
+pub fails_within : {X : Type 0} (G F : X → Type 0) (xs : List X) (n : ℕ) → FailsFirst G F xs n → n ≤ length xs
+fails_within G F xs n f = omega (arith, f.4, ap length f.3, length-append f.0 (f.1 ∷ f.2))
+
+-- the member of a mapped list
+pub mapped_member : {X Y : Type 0} (f : X → Y) (xs : List X) (k : ℕ) (x : X) → k < length xs → x ≡ get_or xs k x → (k < length (map f xs)) × (f x ≡ get_or (map f xs) k (f x))
+mapped_member f xs k x room is = (omega (arith, length-map xs f), ap f is ∙ sym (get_or-map f xs k x (f x) room))
+
+-- the part of a list that has one member
+pub one_member : {X : Type 0} (xs : List X) (k : ℕ) (d : X) → k < length xs → take (k + 1 - k) (drop k xs) ≡ get_or xs k d ∷ []
+one_member xs k d room = let one : k + 1 - k ≡ 1 = omega arith in ap (λ n. take n (drop k xs)) one ∙ ap (take 1) (drop-cons xs k d room)
+
+pub all_one : {X : Type 0} (P : X → Type 0) (x : X) → P x → All P (x ∷ [])
+all_one P x h = All-push P [] x (λ k d l. absurd (omega (arith, l))) h
+
+pub get_same : {X : Type 0} (xs : List X) (k : ℕ) (d : X) → k < length xs → get_or xs k d ≡ get_or xs k (get_or xs k d)
+get_same [] k d h = absurd (omega (arith, h))
+get_same (x ∷ xs) zero d h = refl
+get_same (x ∷ xs) (suc k) d h = get_same xs k d (omega (arith, h))

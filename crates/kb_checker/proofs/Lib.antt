@@ -3,3 +3,4 @@ pub mod Sound
 pub mod Firsts
 pub mod Citing
 pub mod RowsOfOverlaps
+pub mod Ready

@@ -41,10 +41,10 @@ few_overlaps A B same os h = omega (arith, few_listed A B (overlap_positions A s
 
 -- one more inner rule, one more outer rule
 pub inner_more : (rules : List Rule) (i j : ℕ) (os more : List Overlap) → AreInnerOverlaps rules i j os → AreOverlapsOf rules i j more → AreInnerOverlaps rules i (j + 1) (os ++ more)
-inner_more rules i j os more h k = subst (λ n. AreInnerOverlaps rules i n (os ++ more)) (omega arith) (os, more, refl, h, k)
+inner_more rules i j os more h k = let next : suc j ≡ j + 1 = omega arith in subst (λ n. AreInnerOverlaps rules i n (os ++ more)) next (os, more, refl, h, k)
 
 pub outer_more : (rules : List Rule) (i : ℕ) (os more : List Overlap) → AreOuterOverlaps rules i os → AreInnerOverlaps rules i (length rules) more → AreOuterOverlaps rules (i + 1) (os ++ more)
-outer_more rules i os more h k = subst (λ n. AreOuterOverlaps rules n (os ++ more)) (omega arith) (os, more, refl, h, k)
+outer_more rules i os more h k = let next : suc i ≡ i + 1 = omega arith in subst (λ n. AreOuterOverlaps rules n (os ++ more)) next (os, more, refl, h, k)
 
 -- the parts of a good list are good
 good_front : (P : Overlap → Type 0) (os more : List Overlap) → All P (os ++ more) → All P os

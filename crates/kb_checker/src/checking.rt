@@ -142,8 +142,9 @@ fn first_unproved(
 {
     for k in 0..equations.len() {
         let equation = &equations[k];
-        if let Some(failure) = join_failure(alloc, rules, &equation.0, &equation.1)? {
-            return Ok(Some((failure, (k + 1) as u64)));
+        match join_failure(alloc, rules, &equation.0, &equation.1)? {
+            None => {}
+            Some(failure) => return Ok(Some((failure, (k + 1) as u64))),
         }
     }
     Ok(None)

@@ -49,10 +49,10 @@ fn close_row(alloc: Global, rules: &[Rule], i: usize, start: u64) -> Result<Row,
     let mut count = start;
     for j in 0..rules.len() {
         let found = overlaps(alloc, outer, &rules[j], i == j)?;
-        if let Some((failure, k)) = first_open(alloc, rules, &found)? {
-            return Ok(Row::Open(failure, count + k));
+        match first_open(alloc, rules, &found)? {
+            None => count += found.len() as u64,
+            Some((failure, k)) => return Ok(Row::Open(failure, count + k)),
         }
-        count += found.len() as u64;
     }
     Ok(Row::Closed(count))
 }
@@ -66,8 +66,9 @@ fn first_open(
     ensures { IfOk result (λ o. MatchOption o (All (Closes rules.now) (map overlap_of found.now)) (λ f. FailsFirst (Closes rules.now) (FailsToClose rules.now f.0) (map overlap_of found.now) f.1)) }
 {
     for k in 0..found.len() {
-        if let Some(failure) = close_failure(alloc, rules, &found[k])? {
-            return Ok(Some((failure, (k + 1) as u64)));
+        match close_failure(alloc, rules, &found[k])? {
+            None => {}
+            Some(failure) => return Ok(Some((failure, (k + 1) as u64))),
         }
     }
     Ok(None)
