@@ -39,7 +39,7 @@ pub traced_not : (l r : Tree) (e : Pair) → IsCanonicalPair e → canonical_pai
 traced_not l r e own none is =
     let same : l ≡ r = tree_eq-true l r (no_canonical (tree_eq l r) (canonical l r) none) in
     let sides : e.first ≡ e.second =
-        ap (λ (p : Pair). p.first) is ∙ ap (λ x. (canonical l x).first) (sym same) ∙ trivial_sides l ∙ ap (λ x. (canonical l x).second) same ∙ sym (ap (λ (p : Pair). p.second) is) in
+    ap (λ (p : Pair). p.first) is ∙ ap (λ x. (canonical l x).first) (sym same) ∙ trivial_sides l ∙ ap (λ x. (canonical l x).second) same ∙ sym (ap (λ (p : Pair). p.second) is) in
     let trivial : tree_eq e.first e.second ≡ true = tree_eq-same e.first e.second sides in
     let apart : tree_eq e.first e.second ≡ false = some_canonical (tree_eq e.first e.second) (canonical e.first e.second) e own.own in
     absurd (cc)

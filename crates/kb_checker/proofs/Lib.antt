@@ -4,3 +4,4 @@ pub mod Firsts
 pub mod Citing
 pub mod RowsOfOverlaps
 pub mod Ready
+pub mod Rejected

@@ -29,8 +29,7 @@ rules_ready a form = all_mapped (λ (r : Rule × ℕ). r.0) IsReady a.rules (λ 
 pub rules_measurable : (a : Answer) → IsAnswer a → AreMeasurable (rules_of a.rules)
 rules_measurable a form = all_mapped (λ (r : Rule × ℕ). r.0) (λ (r : Rule). IsMeasurable r.left × IsMeasurable r.right) a.rules (λ k d l.
     let w = form.rules k d l in
-    let b = below a.problem.signature _ w in
-    (
+    let b = below a.problem.signature _ w in (
       record { variables = all_from (λ n. n < 64) _ b.left; size = w.left.size; depth = w.left.depth },
       record { variables = all_from (λ n. n < 64) _ b.right; size = w.right.size; depth = w.right.depth },
     ))

@@ -105,6 +105,17 @@ PassesOrder a = PassesSteps a × All (IsTraced a.trace) a.rules × All (IsOrient
 abbrev pub PassesOverlaps : Answer → Type 0
 PassesOverlaps a = PassesSteps a × All (IsTraced a.trace) a.rules × All (IsOriented a) (rules_of a.rules) × OverlapsClose (rules_of a.rules)
 
+-- the reasons of overlaps and of equations
+abbrev pub pair_reason : Failure → Reject
+pair_reason Large = PairLarge
+pair_reason Steps = PairSteps
+pair_reason Different = NotJoined
+
+abbrev pub equation_reason : Failure → Reject
+equation_reason Large = EquationLarge
+equation_reason Steps = EquationSteps
+equation_reason Different = NotProved
+
 -- n is the number of the first item that fails, which is of the group of the reason, and that is why it fails
 abbrev pub IsRejected : Answer → Reject → ℕ → Type 0
 IsRejected a BadStep n = IsFirstBadStep a.problem.equations a.trace n

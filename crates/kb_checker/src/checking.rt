@@ -5,7 +5,7 @@ ghost use Rattle.kb_term.specs.Pair.{variables_of_pair};
 ghost use Rattle.kb_term.specs.View.{equations_of_list, pair_of};
 ghost use Rattle.kb_cert.specs.Family.{IsGreater, Orders};
 ghost use Rattle.kb_checker.specs.Answers.{IsAnswer, IsGoodAnswer, IsTraced, rules_of};
-ghost use Rattle.kb_checker.specs.Verdicts.{FailsFirst, IsProved, FailsToProve, IsVerdict};
+ghost use Rattle.kb_checker.specs.Verdicts.{FailsFirst, IsProved, FailsToProve, pair_reason, equation_reason, IsVerdict};
 
 use crate::answer::Answer;
 use crate::closing::first_unclosed;
@@ -50,7 +50,9 @@ pub fn check(alloc: Global, a: &Answer) -> Result<Checked, Memory>
     Ok(Checked::Accepted)
 }
 
-fn pair_reject(failure: Failure) -> Reject {
+fn pair_reject(failure: Failure) -> Reject
+    ensures { result ≡ pair_reason failure }
+{
     match failure {
         Failure::Large => Reject::PairLarge,
         Failure::Steps => Reject::PairSteps,
@@ -58,7 +60,9 @@ fn pair_reject(failure: Failure) -> Reject {
     }
 }
 
-fn equation_reject(failure: Failure) -> Reject {
+fn equation_reject(failure: Failure) -> Reject
+    ensures { result ≡ equation_reason failure }
+{
     match failure {
         Failure::Large => Reject::EquationLarge,
         Failure::Steps => Reject::EquationSteps,

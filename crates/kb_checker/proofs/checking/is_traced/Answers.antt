@@ -12,8 +12,7 @@ returns-in-None c =
     let rule = c.args.rule.now in
     let step = c.index-trace-cited.result in
     let at : item (pairs_of c.args.trace.now) c.args.cited ≡ Some step.pair = cited_pair c.args.trace.now c.args.cited step (λ e. omega arith) (omega arith) c.index-trace-cited.is in
-    let none : canonical_pair rule.left rule.right ≡ None = ap₂ canonical_pair (sym c.left.ensures) (sym c.right.ensures) ∙ sym c.in_ok-canonical.ensures ∙ c.in-None.is in
-    (
+    let none : canonical_pair rule.left rule.right ≡ None = ap₂ canonical_pair (sym c.left.ensures) (sym c.right.ensures) ∙ sym c.in_ok-canonical.ensures ∙ c.in-None.is in (
       λ e. absurd (cc),
       λ h. absurd (traced_not rule.left rule.right step.pair (subst IsCanonicalPair c.pair-pair.ensures c.first-first.ensures.canonical) none (some_same step.pair (canonical rule.left rule.right) (sym at ∙ h))),
     )

@@ -45,8 +45,7 @@ returns-in-Some c =
       slice_get-get_or rules c.loop-j.j inner c.loop-j-test.true ∙ ap Some (sym c.index-rules-j.is),
       c.in_ok-found.ensures,
     ) in
-    let os = c.loop-j.invariant.0 in
-    (
+    let os = c.loop-j.invariant.0 in (
       c.loop-j.j + 1,
       os ++ found,
       length os + c.in-Some.k,
@@ -72,8 +71,7 @@ loop-j-preserved c =
       slice_get-get_or rules c.loop-j.j inner c.loop-j-test.true ∙ ap Some (sym c.index-rules-j.is),
       c.in_ok-found.ensures,
     ) in
-    let os = c.loop-j.invariant.0 in
-    (
+    let os = c.loop-j.invariant.0 in (
       os ++ found,
       inner_more rules c.args.i c.loop-j.j os found c.loop-j.invariant.1 two,
       All-append (Closes rules) os found c.loop-j.invariant.2 here,

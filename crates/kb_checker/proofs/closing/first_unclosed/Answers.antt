@@ -13,8 +13,7 @@ returns-in-Open c =
     let failure = c.in-Open.failure in
     let row = subst (IsRowAnswer rules i c.loop-i.count) c.in-Open.is c.in_ok-more.ensures in
     let before = c.loop-i.invariant.0 in
-    let number : length before + row.2 ≡ c.in-Open.n = omega (arith, c.loop-i.invariant.3, row.5) in
-    (
+    let number : length before + row.2 ≡ c.in-Open.n = omega (arith, c.loop-i.invariant.3, row.5) in (
       i,
       row.0,
       before,
@@ -29,8 +28,7 @@ loop-i-preserved c =
     let rules = c.args.rules.now in
     let i = c.loop-i.i in
     let row = subst (IsRowAnswer rules i c.loop-i.count) c.in-Closed.is c.in_ok-more.ensures in
-    let before = c.loop-i.invariant.0 in
-    (
+    let before = c.loop-i.invariant.0 in (
       before ++ row.0,
       outer_more rules i before row.0 c.loop-i.invariant.1 row.1,
       All-append (Closes rules) before row.0 c.loop-i.invariant.2 row.2,
