@@ -8,6 +8,7 @@ use Rattle.kb_term.proofs.RuleBelow.{numbered-below}
 use Rattle.kb_term.proofs.FewArguments.{few_from_arities}
 use Rattle.kb_linear.specs.Limits.{IsMeasurable, AreMeasurable}
 use Rattle.kb_checker.specs.Answers.{Answer, rules_of, IsAnswer, IsReady}
+use Rattle.kb_trace.specs.Steps.{ArePairsWithin}
 use Rattle.kb_checker.proofs.Sound.{all_mapped}
 use Rattle.kb_laws.proofs.Complete.{all_from}
 
@@ -24,12 +25,22 @@ ready signature rule arities w =
     }
 
 pub rules_ready : (a : Answer) → IsAnswer a → All IsReady (rules_of a.rules)
-rules_ready a form = all_mapped (λ (r : Rule × ℕ). r.0) IsReady a.rules (λ k d l. ready a.problem.signature _ form.problem.arities (form.rules k d l))
+rules_ready a form = all_mapped (λ (r : Rule × ℕ). r.0) IsReady a.rules (λ k d l. ready a.problem.signature _ form.problem.arities (form.rules k d l).sides)
 
 pub rules_measurable : (a : Answer) → IsAnswer a → AreMeasurable (rules_of a.rules)
 rules_measurable a form = all_mapped (λ (r : Rule × ℕ). r.0) (λ (r : Rule). IsMeasurable r.left × IsMeasurable r.right) a.rules (λ k d l.
-    let w = form.rules k d l in
+    let w = (form.rules k d l).sides in
     let b = below a.problem.signature _ w in (
       record { variables = all_from (λ n. n < 64) _ b.left; size = w.left.size; depth = w.left.depth },
       record { variables = all_from (λ n. n < 64) _ b.right; size = w.right.size; depth = w.right.depth },
     ))
+
+-- the pairs of the trace pass no limit
+pub pairs_within : (a : Answer) → IsAnswer a → ArePairsWithin a.trace
+pairs_within a form = λ k d l.
+    let s = (form.trace.steps k d l).pair in
+    record {
+      first = record { size = s.first.size; depth = s.first.depth };
+      second = record { size = s.second.size; depth = s.second.depth };
+      few = s.variables;
+    }

@@ -71,7 +71,7 @@ module _ (a : Answer) (form : IsAnswer a) (h : IsAccepted a) where
     is_rule = oriented_rule a.problem.signature a.cert form.cert r.left r.right w.right.well_formed o;
     left = w.left.well_formed;
     right = w.right.well_formed;
-  }) (all_mapped (λ (r : Rule × ℕ). r.0) (λ (r : Rule). IsEquationWithinLimits a.problem.signature (r.left, r.right)) a.rules form.rules) h.orders
+  }) (all_mapped (λ (r : Rule × ℕ). r.0) (λ (r : Rule). IsEquationWithinLimits a.problem.signature (r.left, r.right)) a.rules (λ k d l. (form.rules k d l).sides)) h.orders
 
   -- the rules prove each equation
   forth : (s t : Tree) → Proves a.problem.equations s t → Proves (equations_of rules) s t

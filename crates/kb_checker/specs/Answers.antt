@@ -3,13 +3,13 @@ use Rattle.std.specs.Prelude.{ℕ, ◌≤◌, List, map, length, All, IsTrue}
 use Rattle.kb_term.specs.Tree.{tree_size}
 use Rattle.kb_term.specs.FewArguments.{HasFewArguments}
 use Rattle.kb_term.specs.Rule.{Rule}
-use Rattle.kb_term.specs.Signature.{Problem, IsWithinLimits, IsEquationWithinLimits}
+use Rattle.kb_term.specs.Signature.{Signature, Problem, IsWithinLimits, IsEquationWithinLimits}
 use Rattle.kb_cert.specs.CertificateText.{is_certificate}
 use Rattle.kb_cert.specs.declared.certificate.Certificate.{Certificate}
 use Rattle.kb_overlap.specs.Found.{AreVariablesBelow}
 use Rattle.kb_overlap.specs.Trace.{TraceStep, IsRightTrace, IsTracedBy}
 use Rattle.kb_laws.specs.Complete.{IsCompleteSystem}
-use Rattle.kb_trace.specs.Steps.{ArePairsWithin}
+use Rattle.kb_trace.specs.TraceText.{is_up_to, IsTraceForm}
 
 -- rules for a problem, each with the trace step that it cites, an order, and a trace
 pub record Answer : Type 0 where
@@ -22,13 +22,18 @@ pub record Answer : Type 0 where
 abbrev pub rules_of : List (Rule × ℕ) → List Rule
 rules_of rules = map (λ (r : Rule × ℕ). r.0) rules
 
--- what each answer is, good or not: at most 4,096 rules, all of it within the limits and over the signature, and the order's numbers are those of its symbols
+-- a rule's sides are within the limits and numbered by first occurrence; the step that it cites is a number of one
+pub record IsRuleForm (sig : Signature) (r : Rule × ℕ) : Type 0 where
+  pub sides : IsEquationWithinLimits sig (r.0.left, r.0.right)
+  pub cited : IsTrue (is_up_to 4096 r.1)
+
+-- what each answer is, good or not: its parts have the forms that its text may have
 pub record IsAnswer (a : Answer) : Type 0 where
   pub problem : IsWithinLimits a.problem
   pub count : length a.rules ≤ 4096
-  pub rules : All (λ (r : Rule × ℕ). IsEquationWithinLimits a.problem.signature (r.0.left, r.0.right)) a.rules
+  pub rules : All (IsRuleForm a.problem.signature) a.rules
   pub cert : IsTrue (is_certificate a.problem.signature a.cert)
-  pub trace : ArePairsWithin a.trace
+  pub trace : IsTraceForm a.problem.signature a.trace
 
 -- variables below 64, a left side of at most size 512, and numbers of arguments that a byte holds
 pub record IsReady (rule : Rule) : Type 0 where

@@ -9,7 +9,10 @@ use std::marker::Model;
 
 /// Rules for a problem, each with the trace step that it cites, the order that shows that they halt, and the trace.
 ///
-/// There are at most 4,096 rules; rules, equations and pairs of the trace are within the limits of size, depth and variables.
+/// Its parts have the forms that the text of an answer may have: a problem within the limits; at most 4,096 rules, each
+/// within the limits and numbered by first occurrence, which cites a number from 1 to 4,096; an order of the signature with
+/// constants to 15 and coefficients from 1 to 3; at most 4,096 steps, each with a canonical pair within the limits. Whether
+/// it is good is another question.
 #[derive(Drop)]
 pub struct Answer {
     problem: Problem,

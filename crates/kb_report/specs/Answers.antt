@@ -2,13 +2,13 @@
 use Rattle.std.specs.Prelude.{◌≡◌, ℕ, ◌+◌, ◌≤◌, List, [], ◌∷◌, ◌++◌, map, flat_map, length, Bool, ◌&&◌, nat_le, codes, decimal, IsTrue, All}
 use Rattle.std.specs.List.{list_all, join_with_byte}
 use Rattle.kb_term.specs.Tree.{Tree}
-use Rattle.kb_syntax.specs.Names.{Name}
-use Rattle.kb_syntax.specs.Lines.{line, counted, IsBadLine}
+use Rattle.kb_text.specs.Names.{Name}
+use Rattle.kb_text.specs.Lines.{line, counted, IsBadLine}
 use Rattle.kb_term.specs.Signature.{SymbolEntry, Signature, Problem, IsSignature, IsWithinLimits, IsEquationWithinLimits}
 use Rattle.kb_term.specs.Pair.{Pair}
 use Rattle.kb_term.specs.Rule.{Rule}
 use Rattle.kb_overlap.specs.Trace.{TraceStep}
-use Rattle.kb_syntax.specs.Terms.{names_of, infix_text, IsPairForm}
+use Rattle.kb_text.specs.Terms.{names_of, infix_text, IsPairForm}
 use Rattle.kb_term.specs.declared.origin.RuleRef.{RuleRef}
 use Rattle.kb_term.specs.declared.origin.Origin.{Origin}
 use Rattle.kb_term.specs.declared.origin.Origin.TheVariants.{Input, Rewrite, Overlap}

@@ -3,9 +3,9 @@ ghost use Rattle.std.specs.Prelude.{◌≡◌, ◌<◌, ◌++◌, ◌∷◌, [],
 ghost use Rattle.kb_term.specs.View.{tree_of, equations_of_list};
 ghost use Rattle.kb_term.specs.Signature.{symbols_of_list};
 ghost use Rattle.kb_cert.specs.CertificateText.{cert_fields, is_certificate};
-ghost use Rattle.kb_syntax.specs.Lines.{line, counted};
+ghost use Rattle.kb_text.specs.Lines.{line, counted};
 ghost use Rattle.kb_term.specs.declared.origin.Origin.TheVariants.{Input};
-ghost use Rattle.kb_syntax.specs.Terms.{names_of, infix_text};
+ghost use Rattle.kb_text.specs.Terms.{names_of, infix_text};
 ghost use Rattle.kb_report.specs.Answers.{entry_text, symbols_line, equation_line, equation_lines, rule_line, step_line, system_text, one_rule_answer};
 
 use kb_cert::{Certificate, cert_text};

@@ -3,9 +3,9 @@ use Rattle.std.proofs.Common.{append-nil, ◌≡◌, refl, ap, sym, ◌∙◌, a
 use Rattle.std.specs.Prelude.{map, flat_map, nat_le, Option, Some, None}
 use Rattle.std.specs.List.{list_all, list_any}
 use Rattle.kb_term.specs.Signature.{Problem}
-use Rattle.kb_syntax.specs.Names.{Name, firsts, are_distinct}
-use Rattle.kb_syntax.specs.Grammar.{WrittenEquation}
-use Rattle.kb_syntax.specs.Problems.{variables_of, equations_of, sides_of, names_in, uses_in, all_names, all_uses, agree, is_unapplied, depth_in, variables_among, symbols_among, symbol_names, equation_variables, equation_of, term_of, entry_of, names_of_section, are_ordered, is_rules}
+use Rattle.kb_text.specs.Names.{Name, firsts, are_distinct}
+use Rattle.kb_text.specs.Grammar.{WrittenEquation}
+use Rattle.kb_text.specs.Problems.{variables_of, equations_of, sides_of, names_in, uses_in, all_names, all_uses, agree, is_unapplied, depth_in, variables_among, symbols_among, symbol_names, equation_variables, equation_of, term_of, entry_of, names_of_section, are_ordered, is_rules}
 use Rattle.kb_syntax.specs.Narrow.{one_equation, declared_names, IsProblemOf, Meets}
 
 variables-one : (head : Option (List Name)) (e : WrittenEquation) → variables_of (one_equation head e) ≡ declared_names head

@@ -2,15 +2,15 @@
 use Rattle.std.proofs.Common.{append_assoc, ◌≡◌, refl, ap, sym, ◌∙◌, arith, subst, ℕ, ◌+◌, ◌<◌, List, [], ◌∷◌, ◌++◌, length, get_or, drop}
 use Rattle.std.specs.Prelude.{map}
 use Rattle.std.proofs.lemmas.List.{at_drop_more, drop-map}
-use Rattle.kb_syntax.specs.Tokens.{Token, comma, identifier, right_paren}
-use Rattle.kb_syntax.specs.Names.{Name}
-use Rattle.kb_syntax.specs.Grammar.{name_tokens, Written, term_tokens, argument_tokens, later_tokens}
-use Rattle.kb_syntax.specs.Fronts.{followed_tokens}
-use Rattle.kb_syntax.specs.Written.{written_of, arguments_of}
-use Rattle.kb_syntax.specs.TokenValues.{token_of, tokens_of}
+use Rattle.kb_text.specs.Tokens.{Token, comma, identifier, right_paren}
+use Rattle.kb_text.specs.Names.{Name}
+use Rattle.kb_text.specs.Grammar.{name_tokens, Written, term_tokens, argument_tokens, later_tokens}
+use Rattle.kb_text.specs.Fronts.{followed_tokens}
+use Rattle.kb_text.specs.Written.{written_of, arguments_of}
+use Rattle.kb_text.specs.TokenValues.{token_of, tokens_of}
 use Rattle.kb_syntax.specs.Reading.{Reads}
-use Rattle.kb_syntax.specs.declared.lexer.Token as value
-use Rattle.kb_syntax.specs.declared.written.WrittenTerm.{WrittenTerm}
+use Rattle.kb_text.specs.declared.lexer.Token as value
+use Rattle.kb_text.specs.declared.written.WrittenTerm.{WrittenTerm}
 
 -- the token at a place
 pub reads_one : (ts : List value.Token) (i : ℕ) (t : value.Token) → t ≡ get_or ts i t → i < length ts → Reads (tokens_of ts) i (token_of t ∷ []) (i + 1)

@@ -2,8 +2,8 @@
 use Rattle.std.specs.Prelude.{ℕ, List, [], ◌∷◌, Bool, true, false, IsTrue, nat_lt}
 use Rattle.std.specs.List.{list_all}
 use Rattle.kb_term.specs.Signature.{Problem}
-use Rattle.kb_syntax.specs.Grammar.{Sign, by_arrow, by_equals, WrittenEquation, Section, variables, rules, skipped}
-use Rattle.kb_syntax.specs.Problems.{Spells}
+use Rattle.kb_text.specs.Grammar.{Sign, by_arrow, by_equals, WrittenEquation, Section, variables, rules, skipped}
+use Rattle.kb_text.specs.Problems.{Spells}
 
 abbrev pub is_by_equals : Sign → Bool
 is_by_equals by_arrow = false

@@ -2,9 +2,9 @@
 use Rattle.std.specs.Prelude.{ℕ, ◌+◌, ◌≤◌, ◌≡◌, List, [], ◌∷◌, length, true, Option, Some, None, nat_le}
 use Rattle.std.specs.List.{list_all}
 use Rattle.kb_term.specs.Signature.{Problem}
-use Rattle.kb_syntax.specs.Names.{Name, are_distinct}
-use Rattle.kb_syntax.specs.Problems.{MeetsConditions, MeetsLimits, problem_of, is_unapplied, agree, depth_in}
-use Rattle.kb_syntax.specs.Grammar.{WrittenEquation, Section, variables, rules}
+use Rattle.kb_text.specs.Names.{Name, are_distinct}
+use Rattle.kb_text.specs.Problems.{MeetsConditions, MeetsLimits, problem_of, is_unapplied, agree, depth_in}
+use Rattle.kb_text.specs.Grammar.{WrittenEquation, Section, variables, rules}
 
 -- the sections of such a text
 abbrev pub one_equation : Option (List Name) → WrittenEquation → List Section

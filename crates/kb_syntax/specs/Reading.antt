@@ -1,6 +1,6 @@
 -- What a reader takes of a list of tokens.
 use Rattle.std.specs.Prelude.{ℕ, ◌<◌, ◌≤◌, ◌≡◌, List, ◌++◌, drop, length}
-use Rattle.kb_syntax.specs.Tokens.{Token}
+use Rattle.kb_text.specs.Tokens.{Token}
 
 -- the tokens from the one place to the other are these, at least one
 pub record Reads (tokens : List Token) (at : ℕ) (read : List Token) (next : ℕ) : Type 0 where

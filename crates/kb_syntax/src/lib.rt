@@ -1,24 +1,23 @@
-//! The text of problems: tokens, the grammar, and what is written.
+//! Problems read from their text, and problems that are generated.
 #![tactic(auto)]
 
-mod identifier;
-mod kind;
-mod lexer;
-mod line;
-mod names;
+mod declared;
+mod equation;
+mod fault;
+mod generator;
+mod laws;
 mod narrow;
+mod notes;
+mod parse;
 mod parser;
+mod problem;
+mod reader;
+mod side;
 #[cfg(test)]
 mod tests;
-mod text;
-mod uses;
-mod written;
 
-pub use kind::{Bound, Kind, Refusal};
-pub use lexer::{Form, Found, Mark, Token, next_token, tokens_of};
-pub use line::Fields;
-pub use names::Names;
+pub use fault::SyntaxFault;
+pub use generator::generate;
+pub use kb_text::{Bound, Fields, Kind, Refusal, prefix_of, push_number, push_term, term_text};
+pub use laws::bytes_spell_one_problem;
 pub use narrow::read_one_equation;
-pub use text::{prefix_of, push_number, push_term, term_text};
-pub use uses::{Use, Uses};
-pub use written::{Sign, WrittenEquation, WrittenTerm, WrittenTerms};

@@ -2,20 +2,16 @@
 ghost use Rattle.std.specs.Prelude.{◌≡◌, ◌<◌, ◌≤◌, ◌^◌, ◌++◌, [], ◌∷◌, map, length, true, IfOk, IfSome, nat_le, List, Option};
 ghost use Rattle.std.specs.Bool.{OnTrue};
 ghost use Rattle.std.specs.List.{list_all};
-ghost use Rattle.kb_syntax.specs.Names.{Name};
-ghost use Rattle.kb_syntax.specs.Problems.{Spells, entry_of};
-ghost use Rattle.kb_syntax.specs.Written.{equation_of};
+ghost use Rattle.kb_text.specs.Names.{Name};
+ghost use Rattle.kb_text.specs.Problems.{Spells, entry_of};
+ghost use Rattle.kb_text.specs.Written.{equation_of};
 ghost use Rattle.kb_syntax.specs.Narrow.{one_equation, declared_names, IsProblemOf, Meets};
 ghost use Rattle.kb_term.specs.Signature.{symbols_of_list};
 ghost use Rattle.kb_term.specs.View.{tree_of};
 
-use crate::identifier::{NAME_BYTES, signature_of};
-use crate::lexer::tokens_of;
-use crate::names::Names;
 use crate::parser::parse_text;
-use crate::uses::Uses;
-use crate::written::WrittenEquation;
 use kb_term::{Memory, Problem, Signature, Term};
+use kb_text::{NAME_BYTES, Names, Uses, WrittenEquation, signature_of, tokens_of};
 use std::alloc::Global;
 
 const SIZE: usize = 512;

@@ -1,18 +1,16 @@
 // Written terms and sections, read from tokens.
 ghost use Rattle.std.specs.Prelude.{◌≡◌, ◌+◌, ◌<◌, ◌≤◌, [], ◌∷◌, length, drop, IfOk, IfSome, codes};
 ghost use Rattle.std.specs.Bool.{OnTrue};
-ghost use Rattle.kb_syntax.specs.Tokens.{identifier, end_of_input};
-ghost use Rattle.kb_syntax.specs.Starts.{mark_token};
-ghost use Rattle.kb_syntax.specs.TokenValues.{token_of, tokens_of};
-ghost use Rattle.kb_syntax.specs.Grammar.{sign_token, term_tokens, equation_tokens, section_tokens, text_tokens, variables, rules};
+ghost use Rattle.kb_text.specs.Tokens.{identifier, end_of_input};
+ghost use Rattle.kb_text.specs.Starts.{mark_token};
+ghost use Rattle.kb_text.specs.TokenValues.{token_of, tokens_of};
+ghost use Rattle.kb_text.specs.Grammar.{sign_token, term_tokens, equation_tokens, section_tokens, text_tokens, variables, rules};
 ghost use Rattle.kb_syntax.specs.Narrow.{one_equation};
-ghost use Rattle.kb_syntax.specs.Written.{written_of, sign_of, equation_of};
+ghost use Rattle.kb_text.specs.Written.{written_of, sign_of, equation_of};
 ghost use Rattle.kb_syntax.specs.Reading.{Reads};
 
-use crate::lexer::{Mark, Token};
-use crate::names::Names;
-use crate::written::{Sign, WrittenEquation, WrittenTerm, WrittenTerms};
 use kb_term::Memory;
+use kb_text::{Mark, Names, Sign, Token, WrittenEquation, WrittenTerm, WrittenTerms};
 use std::alloc::Global;
 
 fn token_at(tokens: &[Token], at: usize) -> Option<&Token>

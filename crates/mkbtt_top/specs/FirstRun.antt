@@ -9,13 +9,13 @@ use Rattle.kb_linear.specs.LinearOrder.{LinearGreater, Interpretation}
 use Rattle.kb_linear.specs.Interpretations.{interpretations}
 use Rattle.kb_overlap.specs.Overlap.{IsOverlapList}
 use Rattle.kb_overlap.specs.Trace.{IsRightTrace}
-use Rattle.kb_syntax.specs.Terms.{IsPairForm}
+use Rattle.kb_text.specs.Terms.{IsPairForm}
 use Rattle.kb_laws.specs.Complete.{IsCompleteSystem}
-use Rattle.kb_syntax.specs.Problems.{Spells}
+use Rattle.kb_text.specs.Problems.{Spells}
 use Rattle.kb_report.specs.Answers.{Answer, AnswerSpelled, one_rule_answer}
 use Rattle.kb_cert.specs.CertificateText.{are_rows}
 use Rattle.kb_cert.specs.declared.certificate.Certificate.TheVariants.{Linear}
-use Rattle.kb_syntax.specs.declared.kind.Kind.TheVariants.{NotBuilt}
+use Rattle.kb_text.specs.declared.kind.Kind.TheVariants.{NotBuilt}
 use Rattle.mkbtt_top.specs.declared.status.Status.{Status}
 use Rattle.mkbtt_top.specs.declared.status.Status.TheVariants.{Done, Refused, ReadFault, WriteFault, Memory, Words}
 

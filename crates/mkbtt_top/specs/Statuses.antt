@@ -1,10 +1,10 @@
 -- The exit code of each status, and what is written to standard error.
 use Rattle.std.specs.Prelude.{ℕ, List, [], ◌∷◌, ◌++◌, codes, decimal}
-use Rattle.kb_syntax.specs.Lines.{line}
-use Rattle.kb_syntax.specs.declared.kind.Kind.{Kind}
-use Rattle.kb_syntax.specs.declared.kind.Kind.TheVariants.{NotUtf8, Unclosed, BadSection, Theory, Strategy, DoubleVariable, Relative, Conditional, VariableApplied, ArityClash, BadToken, Limit, NotBuilt}
-use Rattle.kb_syntax.specs.declared.kind.Bound.{Bound}
-use Rattle.kb_syntax.specs.declared.kind.Bound.TheVariants.{Name, Equations, Size, Depth, Symbols, Variables, Arity, Input}
+use Rattle.kb_text.specs.Lines.{line}
+use Rattle.kb_text.specs.declared.kind.Kind.{Kind}
+use Rattle.kb_text.specs.declared.kind.Kind.TheVariants.{NotUtf8, Unclosed, BadSection, Theory, Strategy, DoubleVariable, Relative, Conditional, VariableApplied, ArityClash, BadToken, Limit, NotBuilt}
+use Rattle.kb_text.specs.declared.kind.Bound.{Bound}
+use Rattle.kb_text.specs.declared.kind.Bound.TheVariants.{Name, Equations, Size, Depth, Symbols, Variables, Arity, Input}
 use Rattle.mkbtt_top.specs.declared.status.Status.{Status}
 use Rattle.mkbtt_top.specs.declared.status.Status.TheVariants.{Done, Refused, ReadFault, WriteFault, Memory, Words}
 

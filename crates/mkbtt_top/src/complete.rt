@@ -5,7 +5,7 @@ ghost use Rattle.kb_term.specs.View.{tree_of};
 ghost use Rattle.kb_linear.specs.Limits.{IsMeasurable};
 ghost use Rattle.kb_linear.specs.LinearOrder.{LinearGreater};
 ghost use Rattle.kb_linear.specs.Interpretations.{interpretations};
-ghost use Rattle.kb_syntax.specs.Terms.{IsPairForm};
+ghost use Rattle.kb_text.specs.Terms.{IsPairForm};
 ghost use Rattle.kb_report.specs.Answers.{IsProblemForm};
 ghost use Rattle.mkbtt_top.specs.FirstRun.{IsEquationOf, IsOrderedIn, IsAnswerOf, IsAnswerTo};
 ghost use Rattle.kb_overlap.specs.Overlap.{IsOverlapList};

@@ -3,8 +3,8 @@ use Rattle.std.specs.Prelude.{codes}
 use Rattle.kb_term.specs.Signature.{Signature}
 use Rattle.kb_term.specs.declared.origin.Origin.TheVariants.{Input}
 use Rattle.kb_cert.specs.CertificateText.{cert_fields}
-use Rattle.kb_syntax.specs.Lines.{line, counted}
-use Rattle.kb_syntax.specs.Terms.{names_of}
+use Rattle.kb_text.specs.Lines.{line, counted}
+use Rattle.kb_text.specs.Terms.{names_of}
 use Rattle.kb_report.specs.Answers.{head_line, end_line, symbols_line, equation_lines, rule_line, step_line}
 use Rattle.kb_report.proofs.answer.one_rule_text.Goals as goal
 

@@ -1,7 +1,7 @@
 use Rattle.std.proofs.Common.{◌≡◌, ◌++◌}
 use Rattle.std.specs.Prelude.{flat_map, take}
 use Rattle.kb_term.specs.View.{equations_of_list}
-use Rattle.kb_syntax.specs.Terms.{names_of}
+use Rattle.kb_text.specs.Terms.{names_of}
 use Rattle.kb_report.specs.Answers.{equation_line}
 use Rattle.kb_report.proofs.answer.push_each_equation.Given as goal
 

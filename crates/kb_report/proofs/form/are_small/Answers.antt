@@ -1,7 +1,7 @@
 use Rattle.std.proofs.Common.{arith, ◌≤◌}
 use Rattle.std.proofs.lemmas.List.Elements.{All-map}
 use Rattle.kb_term.specs.Signature.{SymbolEntry}
-use Rattle.kb_syntax.proofs.IdentifierLaws.{Entry}
+use Rattle.kb_text.proofs.IdentifierLaws.{Entry}
 use Rattle.kb_report.proofs.form.are_small.Goals as goal
 
 pub returns : goal.returns

@@ -1,5 +1,5 @@
 use Rattle.std.proofs.Common.{ℕ, ◌<◌, ◌≤◌, get_or}
-use Rattle.kb_syntax.proofs.IdentifierLaws.{Entry}
+use Rattle.kb_text.proofs.IdentifierLaws.{Entry}
 use Rattle.kb_report.proofs.form.are_small.Given as goal
 
 -- the arities so far are small

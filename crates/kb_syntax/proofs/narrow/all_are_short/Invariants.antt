@@ -1,8 +1,8 @@
 use Rattle.std.proofs.Common.{◌≡◌, length}
 use Rattle.std.specs.Prelude.{nat_le}
 use Rattle.std.specs.List.{list_all}
-use Rattle.kb_syntax.specs.Names.{Name}
-use Rattle.kb_syntax.proofs.NameLists.{names_from}
+use Rattle.kb_text.specs.Names.{Name}
+use Rattle.kb_text.proofs.NameLists.{names_from}
 use Rattle.kb_syntax.proofs.narrow.all_are_short.Given as goal
 
 -- the names that are left decide

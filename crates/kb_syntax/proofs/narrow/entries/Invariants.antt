@@ -1,7 +1,7 @@
 use Rattle.std.proofs.Common.{◌≡◌}
 use Rattle.std.specs.Prelude.{map, take}
 use Rattle.kb_term.specs.Signature.{symbols_of_list}
-use Rattle.kb_syntax.specs.Problems.{entry_of}
+use Rattle.kb_text.specs.Problems.{entry_of}
 use Rattle.kb_syntax.proofs.narrow.entries.Given as goal
 
 -- the symbols so far have their entries

@@ -2,9 +2,9 @@ use Rattle.std.proofs.Common.{◌≡◌, ◌≤◌, ◌∙◌, ◌++◌, ◌∷�
 use Rattle.std.specs.Prelude.{IfSome, Option, map}
 use Rattle.kb_term.specs.Signature.{Signature}
 use Rattle.kb_term.specs.View.{tree_of}
-use Rattle.kb_syntax.specs.Names.{Name, firsts}
-use Rattle.kb_syntax.specs.Problems.{names_in, uses_in, entry_of, term_of, variables_among, symbols_among}
-use Rattle.kb_syntax.specs.Written.{written_of, equation_of}
+use Rattle.kb_text.specs.Names.{Name, firsts}
+use Rattle.kb_text.specs.Problems.{names_in, uses_in, entry_of, term_of, variables_among, symbols_among}
+use Rattle.kb_text.specs.Written.{written_of, equation_of}
 use Rattle.kb_syntax.proofs.NarrowLaws.{is_problem}
 use Rattle.kb_syntax.proofs.narrow.one_problem.Goals as goal
 

@@ -1,11 +1,11 @@
 use Rattle.std.proofs.Common.{◌+◌, ◌∷◌, ◌++◌, [], ℕ, subst, sym, List}
 use Rattle.std.specs.Prelude.{IfSome, Option}
-use Rattle.kb_syntax.specs.Tokens.{identifier, left_paren, right_paren}
-use Rattle.kb_syntax.specs.Grammar.{Written, term_tokens, argument_tokens}
-use Rattle.kb_syntax.specs.TokenValues.{tokens_of}
-use Rattle.kb_syntax.specs.Written.{written_of, arguments_of}
+use Rattle.kb_text.specs.Tokens.{identifier, left_paren, right_paren}
+use Rattle.kb_text.specs.Grammar.{Written, term_tokens, argument_tokens}
+use Rattle.kb_text.specs.TokenValues.{tokens_of}
+use Rattle.kb_text.specs.Written.{written_of, arguments_of}
 use Rattle.kb_syntax.specs.Reading.{Reads}
-use Rattle.kb_syntax.specs.declared.written.WrittenTerm.{WrittenTerm}
+use Rattle.kb_text.specs.declared.written.WrittenTerm.{WrittenTerm}
 use Rattle.kb_syntax.proofs.ReadingLaws.{reads_close, reads_comma}
 use Rattle.kb_syntax.proofs.parser.+parse_term.Goals as goal
 

@@ -1,9 +1,9 @@
 use Rattle.std.proofs.Common.{◌∷◌, ◌-◌, length}
 use Rattle.std.specs.Prelude.{map}
-use Rattle.kb_syntax.specs.Tokens.{identifier, left_paren}
-use Rattle.kb_syntax.specs.Fronts.{followed_tokens}
-use Rattle.kb_syntax.specs.Written.{written_of, arguments_of}
-use Rattle.kb_syntax.specs.TokenValues.{tokens_of}
+use Rattle.kb_text.specs.Tokens.{identifier, left_paren}
+use Rattle.kb_text.specs.Fronts.{followed_tokens}
+use Rattle.kb_text.specs.Written.{written_of, arguments_of}
+use Rattle.kb_text.specs.TokenValues.{tokens_of}
 use Rattle.kb_syntax.specs.Reading.{Reads}
 use Rattle.kb_syntax.proofs.parser.+parse_term.Given as goal
 

@@ -1,9 +1,9 @@
 use Rattle.std.proofs.Common.{◌+◌, ◌∷◌, [], subst}
 use Rattle.std.specs.Prelude.{IfSome, Option, codes}
-use Rattle.kb_syntax.specs.Tokens.{identifier, left_paren}
-use Rattle.kb_syntax.specs.TokenValues.{tokens_of}
+use Rattle.kb_text.specs.Tokens.{identifier, left_paren}
+use Rattle.kb_text.specs.TokenValues.{tokens_of}
 use Rattle.kb_syntax.specs.Reading.{Reads}
-use Rattle.kb_syntax.proofs.NameLists.{NameVec}
+use Rattle.kb_text.proofs.NameLists.{NameVec}
 use Rattle.kb_syntax.proofs.ReadingLaws.{reads_name}
 use Rattle.kb_syntax.proofs.parser.parse_variables.Goals as goal
 

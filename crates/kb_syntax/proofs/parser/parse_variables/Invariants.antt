@@ -1,8 +1,8 @@
 use Rattle.std.proofs.Common.{◌∷◌, ◌-◌, length}
 use Rattle.std.specs.Prelude.{codes}
-use Rattle.kb_syntax.specs.Tokens.{identifier, left_paren}
-use Rattle.kb_syntax.specs.Grammar.{name_tokens}
-use Rattle.kb_syntax.specs.TokenValues.{tokens_of}
+use Rattle.kb_text.specs.Tokens.{identifier, left_paren}
+use Rattle.kb_text.specs.Grammar.{name_tokens}
+use Rattle.kb_text.specs.TokenValues.{tokens_of}
 use Rattle.kb_syntax.specs.Reading.{Reads}
 use Rattle.kb_syntax.proofs.parser.parse_variables.Given as goal
 

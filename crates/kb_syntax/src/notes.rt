@@ -1,0 +1,258 @@
+// What a reader keeps beside the place where it stands.
+ghost use Rattle.std.specs.Prelude.{◌≡◌, ◌+◌, ◌<◌, ◌^◌, ◌∷◌, ◌++◌, [], IfOk, OnOk, MatchOption, None, Option, Some, bytes_eq, cond, length, true};
+ghost use Rattle.kb_text.specs.Fronts.{term_front_tokens};
+ghost use Rattle.kb_text.specs.Names.{is_among};
+ghost use Rattle.kb_syntax.specs.Looks.{word_row, is_one_more, with_use, with_uses};
+ghost use Rattle.kb_syntax.specs.Moves.{ended_use, ended_in, alone_ended};
+ghost use Rattle.kb_text.specs.Refusals.{ends_next, last_alone, has_other_arity, ended_alone, is_some_and};
+ghost use Rattle.kb_syntax.specs.Sides.{side_front, token_at};
+ghost use Rattle.kb_syntax.specs.Reader.{spot_row, clashes, named_notes, AreEmpty, alone_row, closing_row};
+
+use crate::declared::Declared;
+use crate::side::Side;
+use kb_term::Memory;
+use kb_text::{Bound, Form, Kind, Mark, Names, Uses, WrittenEquation};
+use std::alloc::Global;
+
+const EQUATIONS: usize = 256;
+
+const SIZE: usize = 512;
+
+const DEPTH: usize = 64;
+
+const SYMBOLS: usize = 24;
+
+const VARIABLES: usize = 64;
+
+/// What is known of the text that was read.
+#[derive(Drop)]
+pub(crate) struct Notes {
+    /// The declared variables.
+    pub(crate) variables: Declared,
+    /// The symbols, by first occurrence.
+    pub(crate) symbols: Names,
+    /// The first use that ended of each symbol.
+    pub(crate) arities: Uses,
+    /// The whole equations.
+    pub(crate) equations: Vec<WrittenEquation>,
+    /// Whether a section of rules is closed.
+    pub(crate) has_rules: bool,
+    /// The variables of the open equation, by first occurrence.
+    pub(crate) found: Names,
+    /// How many names the open side has.
+    pub(crate) size: usize,
+}
+
+/// What a name of a term is tested for: whether it begins an equation, and how many parentheses are open.
+#[derive(Clone, Copy)]
+pub(crate) struct Spot {
+    pub(crate) begins: bool,
+    pub(crate) parens: usize,
+}
+
+/// Whether the name is this word.
+pub(crate) fn is_word(name: &[u8], word: &[u8]) -> bool
+    ensures { result ≡ bytes_eq name.now word.now }
+{
+    name == word
+}
+
+fn is_one_more(names: &Names, n: usize, name: &[u8]) -> bool
+    ensures { result ≡ is_one_more names.now n name.now }
+{
+    names.len() == n && !names.contains(name)
+}
+
+impl Notes {
+    pub(crate) fn new(alloc: Global) -> Notes
+        ensures { AreEmpty result }
+    {
+        Notes {
+            variables: Declared::new(alloc),
+            symbols: Names::new(alloc),
+            arities: Uses::new(alloc),
+            equations: Vec::new(alloc),
+            has_rules: false,
+            found: Names::new(alloc),
+            size: 0,
+        }
+    }
+
+    /// What the name of a section shows.
+    pub(crate) fn shown_by_word(&self, name: &[u8]) -> Option<Kind>
+        ensures { result ≡ word_row self.now.has_rules name.now }
+    {
+        if is_word(name, b"VAR") && self.has_rules {
+            Some(Kind::BadSection)
+        } else if is_word(name, b"THEORY") {
+            Some(Kind::Theory)
+        } else if is_word(name, b"STRATEGY") {
+            Some(Kind::Strategy)
+        } else {
+            None
+        }
+    }
+
+    /// What a name of a term shows, where so many equations have begun.
+    pub(crate) fn shown_at(&self, count: usize, spot: Spot, name: &[u8]) -> Option<Kind>
+        ensures { result ≡ spot_row self.now count (spot.begins, spot.parens) name.now }
+    {
+        if spot.begins && count == EQUATIONS {
+            return Some(Kind::Limit(Bound::Equations));
+        }
+        let size = if spot.begins { 0 } else { self.size };
+        if size == SIZE {
+            return Some(Kind::Limit(Bound::Size));
+        }
+        if spot.parens == DEPTH {
+            return Some(Kind::Limit(Bound::Depth));
+        }
+        if !self.variables.contains(name) {
+            return if is_one_more(&self.symbols, SYMBOLS, name) {
+                Some(Kind::Limit(Bound::Symbols))
+            } else {
+                None
+            };
+        }
+        if !spot.begins && is_one_more(&self.found, VARIABLES, name) {
+            Some(Kind::Limit(Bound::Variables))
+        } else {
+            None
+        }
+    }
+
+    /// Whether another arity than this is known of the name.
+    pub(crate) fn clashes(&self, name: &[u8], count: usize) -> bool
+        ensures { result ≡ clashes self.now name.now count }
+    {
+        if self.variables.contains(name) {
+            return false;
+        }
+        match self.arities.first(name) {
+            Some(arity) => arity != count,
+            None => false,
+        }
+    }
+
+    /// Notes a use that ended.
+    pub(crate) fn end_use(&mut self, alloc: Global, name: &[u8], count: usize) -> Result<(), Memory>
+        ensures { OnOk result (self.new ≡ record self.old { arities = with_use self.old.variables self.old.arities (name.now, count) }) }
+    {
+        if self.variables.contains(name) || self.arities.first(name).is_some() {
+            return Ok(());
+        }
+        self.arities.push(Vec::from_slice(alloc, name)?, count)
+    }
+
+    // Notes the use of a name alone that a token ends in a side.
+    fn end_alone(&mut self, alloc: Global, side: &Side, form: Form) -> Result<(), Memory>
+        ensures { OnOk result (self.new ≡ record self.old { arities = with_uses self.old.variables self.old.arities (alone_ended (side_front side.now) (token_at form [])) }) }
+    {
+        if form == Form::Mark(Mark::LeftParen) {
+            return Ok(());
+        }
+        match side.last_alone() {
+            Some(name) => self.end_use(alloc, name, 0),
+            None => Ok(()),
+        }
+    }
+
+    // Notes the use that a closing parenthesis ends in a side.
+    fn end_closing(&mut self, alloc: Global, side: &Side, form: Form) -> Result<(), Memory>
+        ensures { OnOk result (self.new ≡ record self.old { arities = with_uses self.old.variables self.old.arities (ended_use (ends_next (side_front side.now)) (token_at form [])) }) }
+    {
+        if form != Form::Mark(Mark::RightParen) {
+            return Ok(());
+        }
+        match side.ends_next() {
+            Some((name, count)) => self.end_use(alloc, name, count),
+            None => Ok(()),
+        }
+    }
+
+    /// Notes the uses that a token ends in a side.
+    pub(crate) fn end_uses(&mut self, alloc: Global, side: &Side, form: Form) -> Result<(), Memory>
+        ensures { OnOk result (self.new ≡ record self.old { arities = with_uses self.old.variables self.old.arities (ended_in (side_front side.now) (token_at form [])) }) }
+    {
+        self.end_alone(alloc, side, form)?;
+        self.end_closing(alloc, side, form)
+    }
+
+    /// Notes a name of a term.
+    pub(crate) fn add_name(&mut self, alloc: Global, spot: Spot, name: &[u8]) -> Result<(), Memory>
+        requires { self.old.size < 2 ^ 32 }
+        ensures { OnOk result (self.new ≡ named_notes self.old (spot.begins, spot.parens) name.now) }
+    {
+        if spot.begins {
+            self.found = Names::new(alloc);
+            self.size = 0;
+        }
+        self.size += 1;
+        if self.variables.contains(name) {
+            self.found.add(alloc, name)
+        } else {
+            self.symbols.add(alloc, name)
+        }
+    }
+
+    /// Notes that a section of rules is closed.
+    pub(crate) fn end_rules(&mut self, alloc: Global)
+        ensures { self.new ≡ record self.old { has_rules = true; found = []; size = 0 } }
+    {
+        self.has_rules = true;
+        self.found = Names::new(alloc);
+        self.size = 0;
+    }
+
+    /// What a name shows in a section of variables.
+    pub(crate) fn shown_by_variable(&self, name: &[u8]) -> Option<Kind>
+        ensures { result ≡ cond (is_among self.now.variables name.now) (Some Kind.DoubleVariable) None }
+    {
+        if self.variables.contains(name) {
+            Some(Kind::DoubleVariable)
+        } else {
+            None
+        }
+    }
+
+    /// Whether a name alone ends the side, of which another arity than 0 is known.
+    pub(crate) fn alone_clash(&self, side: &Side) -> Option<usize>
+        ensures { result ≡ alone_row self.now (last_alone (side_front side.now)) }
+    {
+        let name = side.last_alone()?;
+        if self.clashes(name, 0) { Some(1) } else { None }
+    }
+
+    // Whether the application that ends next, or a name alone before it, has another arity than is known.
+    fn closing_clashes(&self, side: &Side, name: &[u8], count: usize) -> bool
+        ensures { result ≡ has_other_arity (self.now.arities ++ ended_alone (last_alone (side_front side.now))) name.now count }
+    {
+        match self.arities.first(name) {
+            Some(arity) => arity != count,
+            None => count != 0 && side.ends_alone_with(name),
+        }
+    }
+
+    /// How many tokens before a closing parenthesis the symbol stands of the application that it ends, where another arity is known of it.
+    pub(crate) fn closing_clash(&self, side: &Side) -> Option<usize>
+        requires { length (term_front_tokens (side_front side.now)) < 2 ^ 64 }
+        ensures { result ≡ closing_row self.now (last_alone (side_front side.now)) (ends_next (side_front side.now)) }
+    {
+        let (name, count) = side.ends_next()?;
+        if self.closing_clashes(side, name, count) {
+            Some(side.ending_tokens())
+        } else {
+            None
+        }
+    }
+
+    /// Whether a variable alone ends the side.
+    pub(crate) fn is_variable_last(&self, side: &Side) -> bool
+        ensures { result ≡ is_some_and (last_alone (side_front side.now)) (is_among self.now.variables) }
+    {
+        match side.last_alone() {
+            Some(name) => self.variables.contains(name),
+            None => false,
+        }
+    }
+}

@@ -1,0 +1,76 @@
+use Rattle.std.proofs.Common.{◌≡◌, ◌<◌, ◌+◌, ◌-◌, ◌++◌, ℕ, arith, subst, sym, drop}
+use Rattle.std.specs.Prelude.{decimal, map, replicate}
+use Rattle.kb_term.specs.View.{tree_of}
+use Rattle.kb_term.specs.Tree.{Trees, apply, trees_of}
+use Rattle.kb_text.specs.TermReading.{IsClosed, BeginsWithTerm, IsNameEnd}
+use Rattle.kb_text.specs.Terms.{separator}
+use Rattle.kb_text.proofs.PartRead.{IsPartRead, application_read, begun, bounded_some, cut_at, no_argument, no_arguments, no_closing, no_head, no_separator, not_begun, part_pushed, variable_read}
+use Rattle.kb_text.proofs.read.+read_from.Goals as goal
+
+pub returns-then-depth-eq0 : goal.returns-then-depth-eq0
+returns-then-depth-eq0 t c = λ u rest b e k. let some = bounded_some c.args.signature.now c.args.depth u b in omega arith
+
+pub returns-in_default-symbol_named : goal.returns-in_default-symbol_named
+returns-in_default-symbol_named t c =
+    let signature = c.args.signature.now in
+    let name = c.split_at.result.0.now in
+    let behind = c.split_at.result.1.now in
+    let cut = cut_at c.args.text.now name behind c.name_length.result c.name_length.ensures.within c.split_at.ensures.front c.split_at.ensures.back c.name_length.ensures.name c.name_length.ensures.end in
+    let none = subst (λ (p : ℕ). (n : ℕ) → n < 64 → ¬ (replicate p 120 ++ decimal (n + 1) ≡ name)) c.requires.prefix c.in_default.ensures in
+    no_head signature c.requires.names c.args.text.now name behind c.name_length.result c.args.depth cut none c.in_default-symbol_named.ensures
+
+pub returns-then-not-begins_with : goal.returns-then-not-begins_with
+returns-then-not-begins_with t c =
+    let signature = c.args.signature.now in
+    let name = c.split_at.result.0.now in
+    let behind = c.split_at.result.1.now in
+    let cut = cut_at c.args.text.now name behind c.name_length.result c.name_length.ensures.within c.split_at.ensures.front c.split_at.ensures.back c.name_length.ensures.name c.name_length.ensures.end in
+    let none = subst (λ (p : ℕ). (n : ℕ) → n < 64 → ¬ (replicate p 120 ++ decimal (n + 1) ≡ name)) c.requires.prefix c.in_default.ensures in
+    let missing = not_begun c.separator_before.result (separator c.loop-i.i) c.split_at-in-loop-i.result.1.now (drop c.loop-i.at behind) c.begins_with.result c.split_at-in-loop-i.ensures.back c.separator_before.ensures c.if-not-begins_with.true c.begins_with.ensures.1 in
+    no_arguments signature c.requires.names c.args.text.now name behind c.name_length.result c.args.depth c.in-Some-symbol_named.symbol.0 c.arity-arity.result cut none c.in-Some-symbol_named.ensures.0 c.in-Some-symbol_named.ensures.1 c.arity-arity.ensures
+    (no_separator signature (c.args.depth - 1) c.arity-arity.result behind (map tree_of c.loop-i.arguments.items) c.loop-i.i c.loop-i.at c.loop-i.invariant c.loop-i-test.true missing)
+
+pub returns-in_default-2 : goal.returns-in_default-2
+returns-in_default-2 t c =
+    let signature = c.args.signature.now in
+    let name = c.split_at.result.0.now in
+    let behind = c.split_at.result.1.now in
+    let cut = cut_at c.args.text.now name behind c.name_length.result c.name_length.ensures.within c.split_at.ensures.front c.split_at.ensures.back c.name_length.ensures.name c.name_length.ensures.end in
+    let none = subst (λ (p : ℕ). (n : ℕ) → n < 64 → ¬ (replicate p 120 ++ decimal (n + 1) ≡ name)) c.requires.prefix c.in_default.ensures in
+    let tail = c.split_at-in-loop-i-2.result.1.now in
+    let begins = begun c.separator_before.result (separator c.loop-i.i) c.split_at-in-loop-i.result.1.now (drop c.loop-i.at behind) tail c.begins_with.result c.split_at-in-loop-i.ensures.back c.separator_before.ensures c.if-not-begins_with.false c.begins_with.ensures.0 c.split_at-in-loop-i-2.ensures.back in
+    no_arguments signature c.requires.names c.args.text.now name behind c.name_length.result c.args.depth c.in-Some-symbol_named.symbol.0 c.arity-arity.result cut none c.in-Some-symbol_named.ensures.0 c.in-Some-symbol_named.ensures.1 c.arity-arity.ensures
+    (no_argument signature (c.args.depth - 1) c.arity-arity.result behind (map tree_of c.loop-i.arguments.items) c.loop-i.i c.loop-i.at tail c.loop-i.invariant c.loop-i-test.true begins (rw c.in_default-2.is at c.in_ok-argument.ensures))
+
+pub loop-i-preserved : goal.loop-i-preserved
+loop-i-preserved t c =
+    let behind = c.split_at.result.1.now in
+    let tail = c.split_at-in-loop-i-2.result.1.now in
+    let begins = begun c.separator_before.result (separator c.loop-i.i) c.split_at-in-loop-i.result.1.now (drop c.loop-i.at behind) tail c.begins_with.result c.split_at-in-loop-i.ensures.back c.separator_before.ensures c.if-not-begins_with.false c.begins_with.ensures.0 c.split_at-in-loop-i-2.ensures.back in
+    part_pushed c.args.signature.now c.requires.names (c.args.depth - 1) c.arity-arity.result behind c.loop-i.arguments.items c.push.new.self.items c.loop-i.i (c.loop-i.i + 1) c.loop-i.at tail c.in-Some-2.argument c.in-Some-2.size c.in_ok-push.ensures.items (omega arith) c.loop-i.invariant c.loop-i-test.true begins (rw c.in-Some-2.is at c.in_ok-argument.ensures)
+
+pub returns-in-Some-closing_length : goal.returns-in-Some-closing_length
+returns-in-Some-closing_length t c =
+    let signature = c.args.signature.now in
+    let name = c.split_at.result.0.now in
+    let behind = c.split_at.result.1.now in
+    let cut = cut_at c.args.text.now name behind c.name_length.result c.name_length.ensures.within c.split_at.ensures.front c.split_at.ensures.back c.name_length.ensures.name c.name_length.ensures.end in
+    let arity = c.arity-arity.result in
+    let all : c.loop-i.i ≡ arity = omega arith in
+    let read = subst (λ (i : ℕ). IsPartRead signature (c.args.depth - 1) arity behind (map tree_of c.loop-i.arguments.items) i c.loop-i.at) all c.loop-i.invariant in
+    let f = c.in-Some-symbol_named.symbol.0 in
+    let whole = application_read signature c.args.text.now name behind c.name_length.result c.args.depth f arity (map tree_of c.loop-i.arguments.items) c.loop-i.at c.in-Some-closing_length.size cut (omega arith) c.in-Some-symbol_named.ensures.1 c.arity-arity.ensures read (rw c.split_at-2.ensures.back at c.in-Some-closing_length.ensures) in
+    rw c.new.ensures whole
+
+pub returns-in-None : goal.returns-in-None
+returns-in-None t c =
+    let signature = c.args.signature.now in
+    let name = c.split_at.result.0.now in
+    let behind = c.split_at.result.1.now in
+    let cut = cut_at c.args.text.now name behind c.name_length.result c.name_length.ensures.within c.split_at.ensures.front c.split_at.ensures.back c.name_length.ensures.name c.name_length.ensures.end in
+    let none = subst (λ (p : ℕ). (n : ℕ) → n < 64 → ¬ (replicate p 120 ++ decimal (n + 1) ≡ name)) c.requires.prefix c.in_default.ensures in
+    let arity = c.arity-arity.result in
+    let all : c.loop-i.i ≡ arity = omega arith in
+    let read = subst (λ (i : ℕ). IsPartRead signature (c.args.depth - 1) arity behind (map tree_of c.loop-i.arguments.items) i c.loop-i.at) all c.loop-i.invariant in
+    no_arguments signature c.requires.names c.args.text.now name behind c.name_length.result c.args.depth c.in-Some-symbol_named.symbol.0 arity cut none c.in-Some-symbol_named.ensures.0 c.in-Some-symbol_named.ensures.1 c.arity-arity.ensures
+    (no_closing signature (c.args.depth - 1) arity behind (map tree_of c.loop-i.arguments.items) c.loop-i.at read (rw c.split_at-2.ensures.back at c.in-None.ensures))

@@ -1,0 +1,41 @@
+use Rattle.std.proofs.Common.{append_assoc, arith, ◌<◌, ◌++◌, ◌∷◌, [], sym, ap, ◌∙◌, length}
+use Rattle.std.specs.Prelude.{take}
+use Rattle.std.proofs.lemmas.List.{take_all}
+use Rattle.kb_term.specs.Tree.{tree_depth}
+use Rattle.kb_term.specs.View.{tree_of}
+use Rattle.kb_term.proofs.Arguments.{argument-is, argument-depth, arguments-length}
+use Rattle.kb_text.specs.Terms.{names_of, term_text, separator}
+use Rattle.kb_text.proofs.TextLaws.{opened_text, opened_more, closed, trees}
+use Rattle.kb_text.proofs.text.+push_term.Goals as goal
+
+pub push_term-requires : goal.push_term-requires
+push_term-requires t c =
+    let items = c.items-arguments.result.now in
+    let here = argument-is items c.in-App.arguments c.loop-i.i c.index-arguments-i.result c.items-arguments.ensures c.loop-i-test.true c.index-arguments-i.is in
+    let room : c.loop-i.i < length c.in-App.arguments = omega (arith, arguments-length items, ap length c.items-arguments.ensures, c.loop-i-test.true) in
+    let falls : tree_depth (tree_of c.index-arguments-i.result) < tree_depth (tree_of c.args.t.now) = omega (arith, ap tree_depth here, argument-depth c.in-App.arguments c.loop-i.i room, ap (λ u. tree_depth (tree_of u)) c.in-App.is) in
+    (omega (arith, falls, c.decreases), c.requires)
+
+pub loop-i-preserved : goal.loop-i-preserved
+loop-i-preserved t c =
+    let names = names_of c.args.signature.now in
+    let items = c.items-arguments.result.now in
+    let before = opened_text names (trees (take c.loop-i.i items)) in record {
+      added = c.in_ok-push_term-in-App.ensures
+          ∙ ap (λ bytes. bytes ++ term_text names (tree_of c.index-arguments-i.result)) (c.in_ok-push-in-App.ensures.items ∙ ap (λ b. c.loop-i.out.items ++ b ∷ []) c.separator_before.ensures ∙ ap (λ bytes. bytes ++ separator c.loop-i.i ∷ []) c.loop-i.invariant.added)
+          ∙ append_assoc (c.push_symbol.new.out.items ++ before) (separator c.loop-i.i ∷ []) (term_text names (tree_of c.index-arguments-i.result))
+          ∙ append_assoc c.push_symbol.new.out.items before (separator c.loop-i.i ∷ term_text names (tree_of c.index-arguments-i.result))
+          ∙ ap (c.push_symbol.new.out.items ++◌) (ap (λ u. before ++ separator c.loop-i.i ∷ term_text names (tree_of u)) c.index-arguments-i.is ∙ sym (opened_more names items c.loop-i.i c.index-arguments-i.result c.loop-i-test.true));
+      all = c.loop-i.invariant.all;
+    }
+
+pub returns-in_ok-push-in-App-2 : goal.returns-in_ok-push-in-App-2
+returns-in_ok-push-in-App-2 t c =
+    let names = names_of c.args.signature.now in
+    let items = c.items-arguments.result.now in
+    let some : 0 < length items = grind arith in
+    c.in_ok-push-in-App-2.ensures.items
+    ∙ ap (λ bytes. bytes ++ 41 ∷ []) (c.loop-i.invariant.added ∙ ap (λ ts. c.push_symbol.new.out.items ++ opened_text names (trees ts)) (take_all c.loop-i.i items c.loop-i-test.false))
+    ∙ append_assoc c.push_symbol.new.out.items (opened_text names (trees items)) (41 ∷ [])
+    ∙ ap (c.push_symbol.new.out.items ++◌) (closed names items some)
+    ∙ sym c.loop-i.invariant.all

@@ -1,0 +1,16 @@
+pub mod Names
+pub mod Tokens
+pub mod Grammar
+pub mod Fronts
+pub mod Problems
+pub mod Refusals
+pub mod Lines
+pub mod Terms
+pub mod Starts
+pub mod TokenValues
+pub mod Written
+pub mod WrittenSizes
+pub mod WrittenFalls
+pub mod WrittenCoding
+pub mod Machine
+pub mod TermReading
