@@ -15,10 +15,14 @@ abbrev pub position_text : List ℕ → List ℕ
 position_text [] = codes "e"
 position_text (n ∷ ns) = join_with_byte 46 (map decimal (n ∷ ns))
 
+-- a word, and the number and direction of the rule that is cited behind it
+abbrev pub cited_fields : List ℕ → RuleRef → List (List ℕ)
+cited_fields word r = word ∷ decimal r.node ∷ codes "dir" ∷ decimal r.dir ∷ []
+
 abbrev pub origin_fields : Origin → List (List ℕ)
 origin_fields (Input i) = codes "input" ∷ decimal i ∷ []
-origin_fields (Rewrite a w p r) = codes "rewrite" ∷ decimal a ∷ codes "side" ∷ decimal w ∷ codes "at" ∷ position_text p ∷ codes "by" ∷ decimal r.node ∷ codes "dir" ∷ decimal r.dir ∷ []
-origin_fields (Overlap a b p) = codes "overlap" ∷ decimal a.node ∷ codes "dir" ∷ decimal a.dir ∷ codes "with" ∷ decimal b.node ∷ codes "dir" ∷ decimal b.dir ∷ codes "at" ∷ position_text p ∷ []
+origin_fields (Rewrite a w p r) = codes "rewrite" ∷ decimal a ∷ codes "side" ∷ decimal w ∷ codes "at" ∷ position_text p ∷ cited_fields (codes "by") r
+origin_fields (Overlap a b p) = cited_fields (codes "overlap") a ++ cited_fields (codes "with") b ++ codes "at" ∷ position_text p ∷ []
 
 abbrev pub step_line : List Name → ℕ → TraceStep → List ℕ
 step_line names k s = line (decimal k ∷ (origin_fields s.origin ++ codes ":" ∷ infix_text names (codes "=") s.pair.first s.pair.second))

@@ -5,8 +5,10 @@ mod fault;
 mod replaying;
 mod right;
 mod rule;
+mod text;
 mod trace;
 
 pub use fault::TraceFault;
 pub use replaying::replay_trace;
+pub use text::trace_text;
 pub use trace::{Step, Trace};
