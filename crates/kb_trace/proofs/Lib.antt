@@ -5,3 +5,4 @@ pub mod Overlapping
 pub mod Replayed
 pub mod Cited
 pub mod Deciding
+pub mod Lines

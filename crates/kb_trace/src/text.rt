@@ -71,7 +71,8 @@ fn push_origin(alloc: Global, line: &mut Fields, origin: &Origin) -> Result<(), 
             push_cited(alloc, line, b"overlap", *outer)?;
             push_cited(alloc, line, b"with", *inner)?;
             line.word(alloc, b"at")?;
-            line.push(position_text(alloc, position)?)
+            line.push(position_text(alloc, position)?)?;
+            Ok(())
         }
     }
 }
