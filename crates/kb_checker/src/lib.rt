@@ -12,3 +12,6 @@ mod verdict;
 pub use answer::Answer;
 pub use checking::check;
 pub use verdict::{Checked, Reject};
+
+#[cfg(test)]
+mod tests;

@@ -12,3 +12,6 @@ pub use fault::TraceFault;
 pub use replaying::replay_trace;
 pub use text::trace_text;
 pub use trace::{Step, Trace};
+
+#[cfg(test)]
+mod tests;
