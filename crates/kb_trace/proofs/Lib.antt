@@ -6,3 +6,4 @@ pub mod Replayed
 pub mod Cited
 pub mod Deciding
 pub mod Lines
+pub mod Reaching

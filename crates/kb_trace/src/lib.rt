@@ -2,6 +2,7 @@
 #![tactic(auto)]
 
 mod fault;
+mod reached;
 mod replaying;
 mod right;
 mod rule;
@@ -9,6 +10,7 @@ mod text;
 mod trace;
 
 pub use fault::TraceFault;
+pub use reached::trace_of;
 pub use replaying::replay_trace;
 pub use text::trace_text;
 pub use trace::{Step, Trace};

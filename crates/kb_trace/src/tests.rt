@@ -50,7 +50,10 @@ fn trace(alloc: Global, cited: u16, argument: u8) -> Result<Trace, Memory> {
     let mut position = Position::root(alloc);
     position.push(argument)?;
     let origin = Origin::Overlap {
-        outer: RuleRef { node: cited, dir: 0 },
+        outer: RuleRef {
+            node: cited,
+            dir: 0,
+        },
         inner: RuleRef { node: 1, dir: 0 },
         position,
     };
@@ -113,4 +116,13 @@ fn a_step_has_a_line(rt: HostRuntime) {
     let signature = Signature::new(Vec::new(alloc));
     let text = trace_text(alloc, &signature, &Trace::new(steps)).expect(&rt, "memory");
     assert!(rt; text.as_slice() == b"1 input 1 : x1 = x2\n".as_slice());
+}
+
+#[test]
+fn nothing_wanted_of_no_nodes_is_no_trace(rt: HostRuntime) {
+    let alloc = rt.alloc();
+    let nodes: Vec<(Pair, Origin)> = Vec::new(alloc);
+    let wanted: Vec<u16> = Vec::new(alloc);
+    let found = trace_of(alloc, &nodes, &wanted).expect(&rt, "memory");
+    assert!(rt; found.steps().is_empty());
 }
