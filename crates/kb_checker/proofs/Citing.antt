@@ -1,10 +1,9 @@
 -- The step that a rule cites.
-use Rattle.std.proofs.Common.{ℕ, ◌≡◌, ◌-◌, ◌<◌, ◌≤◌, ◌∙◌, refl, sym, ap, subst, arith, List, length, get_or, Option, Some, None, Bool, true, false, cond, ⊎_elim}
+use Rattle.std.proofs.Common.{ℕ, ◌≡◌, ◌-◌, ◌≤◌, ◌∙◌, refl, sym, ap, arith, List, length, get_or, Option, Some, None, Bool, true, false, cond, ⊎_elim}
 use Rattle.std.specs.Prelude.{IsTrue, ◌↔◌, option_map}
 use Rattle.std.proofs.lemmas.Option.{slice_get-map, slice_get-get_or}
 use Rattle.kb_term.specs.Tree.{Tree, tree_eq}
 use Rattle.kb_term.specs.Pair.{Pair, numbered, canonical, canonical_pair, IsCanonicalPair}
-use Rattle.kb_term.specs.Rule.{Rule}
 use Rattle.kb_term.proofs.OwnPair.{tree_eq-true, tree_eq-same}
 use Rattle.kb_term.proofs.Subtrees.{some_same}
 use Rattle.kb_overlap.specs.Trace.{TraceStep, item}

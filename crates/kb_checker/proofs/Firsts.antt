@@ -1,6 +1,6 @@
 -- The first member of a list that fails.
-use Rattle.std.proofs.Common.{ℕ, zero, suc, ◌≡◌, ◌+◌, ◌-◌, ◌<◌, ◌≤◌, ◌∙◌, refl, sym, ap, ap₂, subst, arith, List, [], ◌∷◌, ◌++◌, All, length, length-append, append_assoc, get_or, take, drop, map}
-use Rattle.std.proofs.lemmas.List.{get_or-map, length-map, take-append-drop, length-take-le, take_more, take_all, map-append}
+use Rattle.std.proofs.Common.{ℕ, zero, suc, ◌≡◌, ◌+◌, ◌-◌, ◌<◌, ◌≤◌, ◌∙◌, refl, sym, ap, subst, arith, List, [], ◌∷◌, ◌++◌, All, length, length-append, append_assoc, get_or, take, drop, map}
+use Rattle.std.proofs.lemmas.List.{get_or-map, length-map, take-append-drop, length-take-le, take_more, take_all}
 use Rattle.std.proofs.lemmas.List.Elements.{All-push, All-append}
 use Rattle.std.proofs.Math.Seq.{drop-cons}
 use Rattle.kb_checker.specs.Verdicts.{FailsFirst}

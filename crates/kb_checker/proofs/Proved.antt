@@ -1,21 +1,21 @@
 -- The pairs of a right trace are proved by the equations.
-use Rattle.std.proofs.Common.{ℕ, zero, suc, ◌≡◌, ◌∙◌, refl, sym, ap, subst, arith, inl, inr, ⊎_elim, List, [], ◌∷◌, ◌++◌, All, Contains, Option, Some, None, Result, Ok, Err, slice_get}
+use Rattle.std.proofs.Common.{ℕ, zero, suc, ◌≡◌, ◌∙◌, refl, sym, ap, subst, arith, ⊎_elim, List, [], ◌∷◌, ◌++◌, Contains, Option, Some, None, Ok}
 use Rattle.std.proofs.lemmas.List.Elements.{Contains-append_cases}
 use Rattle.kb_term.specs.Tree.{Tree, tree_eq}
 use Rattle.kb_term.specs.Position.{subtree_at}
 use Rattle.kb_term.specs.Substitution.{instance}
-use Rattle.kb_term.specs.Pair.{Pair, canonical, canonical_pair, IsSameEquation}
+use Rattle.kb_term.specs.Pair.{Pair, canonical, canonical_pair}
 use Rattle.kb_term.specs.Rule.{Rule, rule_of, pair_of_rule}
 use Rattle.kb_term.specs.Proving.{RewritesAt}
 use Rattle.kb_term.specs.declared.limit.Limit.{Limit}
 use Rattle.kb_term.specs.declared.origin.Origin.{Origin}
 use Rattle.kb_term.specs.declared.origin.Origin.TheVariants.{Input, Rewrite, Overlap}
-use Rattle.kb_term.proofs.Steps.{contains_first, contains_behind, contains_cases}
-use Rattle.kb_term.proofs.Subtrees.{some_same, subtree-instance}
+use Rattle.kb_term.proofs.Steps.{contains_cases}
+use Rattle.kb_term.proofs.Subtrees.{subtree-instance}
 use Rattle.kb_term.proofs.Bridge.{step_from_position}
 use Rattle.kb_term.proofs.StepsInside.{reaches_instance}
-use Rattle.kb_overlap.specs.Overlap.{IsOverlapOrLimit, overlap_limit, pair_or_limit}
-use Rattle.kb_overlap.specs.Trace.{TraceStep, item, side, other_side, IsRightInput, IsRightRewrite, IsRightOverlap, IsRightOrigin, IsRightAfter, IsRightTrace}
+use Rattle.kb_overlap.specs.Overlap.{overlap_limit, pair_or_limit}
+use Rattle.kb_overlap.specs.Trace.{TraceStep, item, side, other_side, IsRightRewrite, IsRightOverlap, IsRightOrigin, IsRightAfter, IsRightTrace}
 use Rattle.kb_trace.specs.Steps.{pairs_of}
 use Rattle.kb_laws.proofs.Conversion.{Either, Equal, equal_sym, equal_trans, equal_rule, equal_same, equal_variant, step_made_up}
 use Rattle.kb_laws.proofs.CompletionLaws.{Members}

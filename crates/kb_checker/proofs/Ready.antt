@@ -1,14 +1,12 @@
 -- Rules of an answer can be overlapped and measured.
-use Rattle.std.proofs.Common.{ℕ, ◌≡◌, ◌<◌, ◌≤◌, refl, sym, ap, subst, arith, All}
-use Rattle.kb_term.specs.Tree.{Tree, variables_of}
-use Rattle.kb_term.specs.Pair.{Pair, numbered}
+use Rattle.std.proofs.Common.{ℕ, ◌<◌, ◌≤◌, subst, arith, All}
+use Rattle.kb_term.specs.Pair.{Pair}
 use Rattle.kb_term.specs.Rule.{Rule, IsRuleBelow}
 use Rattle.kb_term.specs.Signature.{Signature, SymbolEntry, IsEquationWithinLimits}
 use Rattle.kb_term.proofs.RuleBelow.{numbered-below}
 use Rattle.kb_term.proofs.FewArguments.{few_from_arities}
 use Rattle.kb_linear.specs.Limits.{IsMeasurable, AreMeasurable}
 use Rattle.kb_checker.specs.Answers.{Answer, rules_of, IsAnswer, IsReady}
-use Rattle.kb_trace.specs.Steps.{ArePairsWithin}
 use Rattle.kb_checker.proofs.Sound.{all_mapped}
 use Rattle.kb_laws.proofs.Complete.{all_from}
 
@@ -34,13 +32,3 @@ rules_measurable a form = all_mapped (λ (r : Rule × ℕ). r.0) (λ (r : Rule).
       record { variables = all_from (λ n. n < 64) _ b.left; size = w.left.size; depth = w.left.depth },
       record { variables = all_from (λ n. n < 64) _ b.right; size = w.right.size; depth = w.right.depth },
     ))
-
--- the pairs of the trace pass no limit
-pub pairs_within : (a : Answer) → IsAnswer a → ArePairsWithin a.trace
-pairs_within a form = λ k d l.
-    let s = (form.trace.steps k d l).pair in
-    record {
-      first = record { size = s.first.size; depth = s.first.depth };
-      second = record { size = s.second.size; depth = s.second.depth };
-      few = s.variables;
-    }

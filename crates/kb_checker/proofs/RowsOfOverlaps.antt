@@ -1,5 +1,5 @@
 -- The overlaps of rules, row by row.
-use Rattle.std.proofs.Common.{ℕ, zero, suc, ◌≡◌, ◌+◌, ◌*◌, ◌<◌, ◌≤◌, ◌∙◌, refl, sym, ap, subst, subst₂, arith, inl, inr, ⊎_elim, List, [], ◌∷◌, ◌++◌, All, Contains, length, length-append, drop, map, cond, Bool, true, false, Some, slice_get, ◌==◌}
+use Rattle.std.proofs.Common.{ℕ, zero, suc, ◌≡◌, ◌+◌, ◌<◌, ◌≤◌, ◌∙◌, refl, sym, ap, subst, subst₂, arith, inl, inr, ⊎_elim, List, [], ◌∷◌, ◌++◌, All, length, length-append, drop, map, Bool, true, false, ◌==◌}
 use Rattle.std.proofs.lemmas.List.{length-map}
 use Rattle.std.proofs.lemmas.List.Elements.{All-contains, Contains-append_left, Contains-append_right}
 use Rattle.std.proofs.lemmas.Option.{slice_get_within}

@@ -1,12 +1,12 @@
 -- An accepted answer is good.
-use Rattle.std.proofs.Common.{ℕ, zero, suc, ◌≡◌, ◌≤◌, ◌↔◌, refl, sym, ap, subst, arith, List, [], ◌∷◌, All, Contains, map, length, true, ◌&&◌}
+use Rattle.std.proofs.Common.{ℕ, ◌≡◌, ap, subst, arith, List, [], ◌∷◌, All, map, length, true, ◌&&◌}
 use Rattle.std.specs.Prelude.{IsTrue, nat_le, nat_eq}
 use Rattle.std.specs.List.{list_all}
 use Rattle.std.proofs.lemmas.List.Elements.{All-contains}
-use Rattle.kb_term.specs.Tree.{Tree, variables_of}
+use Rattle.kb_term.specs.Tree.{Tree}
 use Rattle.kb_term.specs.Rule.{Rule, IsRule}
-use Rattle.kb_term.specs.Signature.{Signature, SymbolEntry, IsWellFormed, IsRuleOver, IsEquationWithinLimits}
-use Rattle.kb_term.specs.Proving.{Proves, IsTerminating, IsJoinable, equations_of}
+use Rattle.kb_term.specs.Signature.{Signature, IsWellFormed, IsRuleOver, IsEquationWithinLimits}
+use Rattle.kb_term.specs.Proving.{Proves, IsTerminating, equations_of}
 use Rattle.kb_term.proofs.Subtrees.{contains_mapped}
 use Rattle.kb_linear.specs.LinearOrder.{Interpretation, linear_value, IsInterpretationOf}
 use Rattle.kb_lpo.proofs.PathOrderLaws.{lpo_rule, terminating_by_lpo}
@@ -17,7 +17,6 @@ use Rattle.kb_cert.specs.declared.certificate.Certificate.TheVariants.{Lpo, Line
 use Rattle.kb_cert.proofs.Fields.{both_true}
 use Rattle.kb_cert.proofs.RowLaws.{rows_small}
 use Rattle.kb_cert.proofs.FamilyLaws.{linear_variables}
-use Rattle.kb_laws.specs.Runs.{ProveSame}
 use Rattle.kb_laws.proofs.Conversion.{Equal, equal_made_up}
 use Rattle.kb_laws.proofs.CompletionLaws.{Members, proves_from, proves_to, from_equations_of}
 use Rattle.kb_laws.proofs.ConfluenceLaws.{confluent_by_overlaps, joinable_by_confluence}

@@ -1,4 +1,4 @@
-use Rattle.std.proofs.Common.{ℕ, ◌≡◌, ◌∙◌, sym, ap, subst, subst₂, All, List}
+use Rattle.std.proofs.Common.{ℕ, ◌∙◌, sym, ap, subst, subst₂, All, List}
 use Rattle.std.specs.Prelude.{MatchOption}
 use Rattle.kb_term.specs.Tree.{Tree}
 use Rattle.kb_term.specs.Rule.{Rule}
@@ -6,11 +6,10 @@ use Rattle.kb_term.specs.Signature.{Problem}
 use Rattle.kb_term.specs.View.{equations_of_list}
 use Rattle.kb_linear.specs.Limits.{AreMeasurable}
 use Rattle.kb_cert.specs.Family.{Orders}
-use Rattle.kb_cert.specs.declared.certificate.Certificate.{Certificate}
 use Rattle.kb_overlap.specs.Trace.{TraceStep, IsRightTrace}
 use Rattle.kb_laws.specs.Overlaps.{OverlapsClose}
 use Rattle.kb_checker.specs.Answers.{rules_of, IsTraced, IsReady}
-use Rattle.kb_checker.specs.Verdicts.{FailsFirst, FirstUnclosed, IsProved, FailsToProve, IsAccepted, IsRejected}
+use Rattle.kb_checker.specs.Verdicts.{FailsFirst, FirstUnclosed, IsProved, FailsToProve, IsRejected}
 use Rattle.kb_checker.specs.declared.joining.Failure.{Failure}
 use Rattle.kb_checker.specs.declared.verdict.Reject.{Reject}
 use Rattle.kb_checker.proofs.Ready.{rules_ready, rules_measurable}

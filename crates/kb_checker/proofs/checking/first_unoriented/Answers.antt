@@ -1,4 +1,4 @@
-use Rattle.std.proofs.Common.{ℕ, ◌≡◌, ◌<◌, sym, subst, arith, length, get_or}
+use Rattle.std.proofs.Common.{◌<◌, sym, subst, arith, length, get_or}
 use Rattle.kb_term.specs.Tree.{variable}
 use Rattle.kb_term.specs.Rule.{Rule}
 use Rattle.kb_cert.specs.Family.{IsGreater, Orders}

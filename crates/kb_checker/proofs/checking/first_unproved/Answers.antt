@@ -1,4 +1,4 @@
-use Rattle.std.proofs.Common.{arith, subst, length}
+use Rattle.std.proofs.Common.{arith, subst}
 use Rattle.std.specs.Prelude.{MatchOption}
 use Rattle.std.proofs.lemmas.List.{length-map}
 use Rattle.kb_term.specs.Tree.{Tree}

@@ -1,7 +1,7 @@
 use Rattle.std.proofs.Common.{◌≡◌, ◌∙◌, sym, ap, ap₂, subst, arith, Some, None}
 use Rattle.kb_term.specs.Pair.{Pair, canonical, canonical_pair, IsCanonicalPair}
 use Rattle.kb_term.proofs.Subtrees.{some_same}
-use Rattle.kb_term.specs.View.{tree_of, pair_of}
+use Rattle.kb_term.specs.View.{pair_of}
 use Rattle.kb_overlap.specs.Trace.{item}
 use Rattle.kb_trace.specs.Steps.{pairs_of}
 use Rattle.kb_checker.proofs.Citing.{cited_pair, traced_not, traced_is}

@@ -1,9 +1,8 @@
-use Rattle.std.proofs.Common.{ℕ, ◌≡◌, ◌≤◌, ◌∙◌, ◌+◌, ◌++◌, sym, ap, subst, arith, All, List, length, length-append, map, Some}
-use Rattle.std.specs.Prelude.{MatchOption, slice_get, ◌==◌}
+use Rattle.std.proofs.Common.{ℕ, ◌∙◌, ◌+◌, ◌++◌, sym, ap, subst, arith, All, length, length-append, map, Some}
+use Rattle.std.specs.Prelude.{MatchOption, ◌==◌}
 use Rattle.std.proofs.lemmas.List.{length-map}
 use Rattle.std.proofs.lemmas.List.Elements.{All-append}
 use Rattle.std.proofs.lemmas.Option.{slice_get-get_or}
-use Rattle.kb_overlap.specs.Overlap.{Overlap, IsOverlapList}
 use Rattle.kb_overlap.specs.View.{overlap_of}
 use Rattle.kb_checker.specs.Answers.{IsReady}
 use Rattle.kb_checker.specs.Verdicts.{FailsFirst, Closes, FailsToClose, AreOverlapsOf}

@@ -1,4 +1,4 @@
-use Rattle.std.proofs.Common.{arith, subst, map, length}
+use Rattle.std.proofs.Common.{arith, subst, map}
 use Rattle.std.specs.Prelude.{MatchOption}
 use Rattle.std.proofs.lemmas.List.{length-map}
 use Rattle.kb_overlap.specs.View.{overlap_of}

@@ -1,6 +1,5 @@
-use Rattle.std.proofs.Common.{ℕ, ◌≡◌, ◌∙◌, ◌+◌, ◌++◌, sym, ap, subst, arith, All, length, length-append}
+use Rattle.std.proofs.Common.{◌≡◌, ◌+◌, ◌++◌, subst, arith, length, length-append}
 use Rattle.std.proofs.lemmas.List.Elements.{All-append}
-use Rattle.kb_overlap.specs.Overlap.{Overlap}
 use Rattle.kb_checker.specs.Verdicts.{FailsFirst, Closes, FailsToClose, IsRowAnswer, AreOuterOverlaps}
 use Rattle.kb_checker.proofs.Firsts.{fails_behind}
 use Rattle.kb_checker.proofs.RowsOfOverlaps.{outer_more, all_close}
