@@ -1,0 +1,7 @@
+pub mod Proved
+pub mod Sound
+pub mod Firsts
+pub mod Citing
+pub mod RowsOfOverlaps
+pub mod Ready
+pub mod Rejected

@@ -1,0 +1,105 @@
+-- An accepted answer is good.
+use Rattle.std.proofs.Common.{ℕ, ◌≡◌, ap, subst, arith, List, [], ◌∷◌, All, map, length, true, ◌&&◌}
+use Rattle.std.specs.Prelude.{IsTrue, nat_le, nat_eq}
+use Rattle.std.specs.List.{list_all}
+use Rattle.std.proofs.lemmas.List.Elements.{All-contains}
+use Rattle.kb_term.specs.Tree.{Tree}
+use Rattle.kb_term.specs.Rule.{Rule, IsRule}
+use Rattle.kb_term.specs.Signature.{Signature, IsWellFormed, IsRuleOver, IsEquationWithinLimits}
+use Rattle.kb_term.specs.Proving.{Proves, IsTerminating, equations_of}
+use Rattle.kb_term.proofs.Subtrees.{contains_mapped}
+use Rattle.kb_linear.specs.LinearOrder.{Interpretation, linear_value, IsInterpretationOf}
+use Rattle.kb_lpo.proofs.PathOrderLaws.{lpo_rule, terminating_by_lpo}
+use Rattle.kb_cert.specs.CertificateText.{is_between, is_row, are_rows, is_certificate}
+use Rattle.kb_cert.specs.Family.{IsGreater, Orders}
+use Rattle.kb_cert.specs.declared.certificate.Certificate.{Certificate}
+use Rattle.kb_cert.specs.declared.certificate.Certificate.TheVariants.{Lpo, Linear}
+use Rattle.kb_cert.proofs.Fields.{both_true}
+use Rattle.kb_cert.proofs.RowLaws.{rows_small}
+use Rattle.kb_cert.proofs.FamilyLaws.{linear_variables}
+use Rattle.kb_laws.proofs.Conversion.{Equal, equal_made_up}
+use Rattle.kb_laws.proofs.CompletionLaws.{Members, proves_from, proves_to, from_equations_of}
+use Rattle.kb_laws.proofs.ConfluenceLaws.{confluent_by_overlaps, joinable_by_confluence}
+use Rattle.kb_laws.proofs.Closing.{closed_joins, joined}
+use Rattle.kb_laws.proofs.Complete.{all_from, proved_by_joining}
+use Rattle.kb_laws.proofs.Stated.{interpretation_halts}
+use Rattle.kb_checker.specs.Answers.{Answer, rules_of, IsAnswer, IsTraced, IsGoodAnswer}
+use Rattle.kb_checker.specs.Verdicts.{IsOriented, IsProved, IsAccepted}
+use Rattle.kb_checker.proofs.Proved.{traced_proved}
+
+-- the rows of a certificate interpret the signature
+rows_fit : (g : Signature) (i : Interpretation) → are_rows g i ≡ true → IsInterpretationOf g i
+rows_fit [] [] h = tt
+rows_fit [] (row ∷ i) h = absurd (cc)
+rows_fit (f ∷ g) [] h = absurd (cc)
+rows_fit (f ∷ g) (row ∷ i) h =
+    let q = both_true (is_row f.arity row) (are_rows g i) h in
+    let r = both_true (nat_le row.0 15 && nat_eq (length row.1) f.arity) (list_all (is_between 1 3) row.1) q.0 in
+    let n : nat_eq (length row.1) f.arity ≡ true = (both_true (nat_le row.0 15) (nat_eq (length row.1) f.arity) r.0).1 in
+    let small = rows_small (f ∷ g) (row ∷ i) h 0 row (omega arith) in
+    ((grind (arith, n), λ k d l. (small.coefficients k d l).0), rows_fit g i q.1)
+
+-- what a certificate of the signature orients is a rule
+oriented_rule : (g : Signature) (c : Certificate) → IsTrue (is_certificate g c) → (s t : Tree) → IsWellFormed g t → IsGreater c s t → IsRule (record { left = s; right = t })
+oriented_rule g (Lpo p) m s t w h = lpo_rule p (record { left = s; right = t }) h
+oriented_rule g (Linear i) m s t w h = record {
+  no_variable = λ n e. let k = h (λ z. 0) in let q : linear_value i (λ z. 0) s ≡ 0 = ap (linear_value i (λ z. 0)) e in omega arith;
+  holds_variables = linear_variables g i (rows_fit g i m) s t w h;
+}
+
+-- and halts
+oriented_halts : (g : Signature) (c : Certificate) → IsTrue (is_certificate g c) → (rules : List Rule) → All (IsRuleOver g) rules → Orders c rules → IsTerminating g rules
+oriented_halts g (Lpo p) m rules over h = terminating_by_lpo p g rules over h
+oriented_halts g (Linear i) m rules over h = interpretation_halts g i (rows_fit g i m) rules over h
+
+pub all_mapped : {X Y : Type 0} (f : X → Y) (P : Y → Type 0) (xs : List X) → All (λ x. P (f x)) xs → All P (map f xs)
+all_mapped f P xs h = all_from P (map f xs) (λ y c. let m = contains_mapped f xs y c in subst P m.2 (All-contains (λ x. P (f x)) xs m.0 h m.1))
+
+all_both : {X : Type 0} (P Q R : X → Type 0) (xs : List X) → ((x : X) → P x → Q x → R x) → All P xs → All Q xs → All R xs
+all_both P Q R xs h p q = λ k d l. h _ (p k d l) (q k d l)
+
+module _ (a : Answer) (form : IsAnswer a) (h : IsAccepted a) where
+  abbrev rules : List Rule
+  rules = rules_of a.rules
+
+  ordered : Orders a.cert rules
+  ordered = h.orders
+
+  over : All (IsRuleOver a.problem.signature) rules
+  over = all_both (λ (r : Rule). IsEquationWithinLimits a.problem.signature (r.left, r.right)) (IsOriented a) (IsRuleOver a.problem.signature) rules (λ r w o. record {
+    is_rule = oriented_rule a.problem.signature a.cert form.cert r.left r.right w.right.well_formed o;
+    left = w.left.well_formed;
+    right = w.right.well_formed;
+  }) (all_mapped (λ (r : Rule × ℕ). r.0) (λ (r : Rule). IsEquationWithinLimits a.problem.signature (r.left, r.right)) a.rules (λ k d l. (form.rules k d l).sides)) h.orders
+
+  -- the rules prove each equation
+  forth : (s t : Tree) → Proves a.problem.equations s t → Proves (equations_of rules) s t
+  forth s t p = proves_to (equations_of rules) s t (equal_made_up (Members a.problem.equations) (Members (equations_of rules)) (λ r i.
+      let one = All-contains (IsProved rules) a.problem.equations (r.left, r.right) h.equations i in
+      proves_from (equations_of rules) r.left r.right (proved_by_joining rules r.left r.right (joined rules r.left r.right one))) s t (proves_from a.problem.equations s t p))
+
+  -- the equations prove each rule
+  back : (s t : Tree) → Proves (equations_of rules) s t → Proves a.problem.equations s t
+  back s t p = proves_to a.problem.equations s t (equal_made_up (Members (equations_of rules)) (Members a.problem.equations) (λ r i.
+      let m = contains_mapped (λ (r : Rule × ℕ). r.0) a.rules r (from_equations_of rules r i) in
+      subst (λ (x : Rule). Equal (Members a.problem.equations) x.left x.right) m.2
+      (traced_proved a.problem.equations a.trace m.0.1 m.0.0 h.steps (All-contains (IsTraced a.trace) a.rules m.0 h.citations m.1))) s t (proves_from (equations_of rules) s t p))
+
+  pub accepted_is_good : IsGoodAnswer a
+  accepted_is_good =
+      let g = a.problem.signature in
+      let halting = oriented_halts g a.cert form.cert rules over ordered in
+      let conf = confluent_by_overlaps g rules over halting (closed_joins rules h.overlaps) in
+      record {
+        system =
+            record {
+              over = over;
+              ordered = ordered;
+              terminating = halting;
+              confluent = conf;
+              proves_same = λ s t. (forth s t, back s t);
+              decides = λ s t ws wt. ((λ p. joinable_by_confluence g rules over conf s t ws wt (forth s t p)), (λ j. back s t (proved_by_joining rules s t j)));
+            };
+        right = h.steps;
+        traced = h.citations;
+      }

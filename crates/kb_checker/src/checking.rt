@@ -1,0 +1,155 @@
+// Checking an answer.
+ghost use Rattle.std.specs.Prelude.{◌≡◌, ◌∷◌, [], ◌≤◌, ◌↔◌, All, IfOk, IsTrue, MatchOption, length};
+ghost use Rattle.kb_linear.specs.Limits.{AreMeasurable};
+ghost use Rattle.kb_term.specs.Pair.{variables_of_pair};
+ghost use Rattle.kb_term.specs.View.{equations_of_list, pair_of};
+ghost use Rattle.kb_cert.specs.Family.{IsGreater, Orders};
+ghost use Rattle.kb_checker.specs.Answers.{IsAnswer, IsGoodAnswer, IsTraced, rules_of};
+ghost use Rattle.kb_checker.specs.Verdicts.{FailsFirst, IsProved, FailsToProve, pair_reason, equation_reason, IsVerdict};
+
+use crate::answer::Answer;
+use crate::closing::first_unclosed;
+use crate::joining::{Failure, join_failure};
+use crate::verdict::{Checked, Reject};
+use kb_cert::{Certificate, orients};
+use kb_term::{Memory, Pair, Rule, Term, canonical};
+use kb_trace::{Step, TraceFault, replay_trace};
+use std::alloc::Global;
+
+/// Checks an answer, whoever made it.
+///
+/// `Accepted` where each trace step is right, each rule has the canonical pair of the step that it cites, the certificate
+/// orients each rule, the terms of each overlap of the rules have one normal form, and so have the sides of each equation.
+/// Then the rules halt on every term over the signature, are confluent, and prove exactly what the equations prove. Else
+/// `Rejected` with the first item that fails, group by group in this order, and its number in its group.
+///
+/// A cited step is found by its number. Apart from normalising it takes time linear in the trace and the rules, and one
+/// unification for each two rules and each position of the outer left side.
+pub fn check(alloc: Global, a: &Answer) -> Result<Checked, Memory>
+    ensures verdict { IfOk result (IsVerdict a.now) }
+    ensures good { IfOk result (λ checked. checked ≡ Checked.Accepted → IsGoodAnswer a.now) }
+{
+    match replay_trace(alloc, a.problem(), a.trace()) {
+        Ok(_) => {}
+        Err(TraceFault::BadStep(n)) => return Ok(Checked::Rejected(Reject::BadStep, n)),
+        Err(TraceFault::Memory) => return Err(Memory),
+    }
+    if let Some(n) = first_untraced(alloc, a.trace().steps(), a.rules())? {
+        return Ok(Checked::Rejected(Reject::Untraced, n));
+    }
+    let rules = rules_alone(alloc, a.rules())?;
+    if let Some(n) = first_unoriented(a.cert(), &rules) {
+        return Ok(Checked::Rejected(Reject::NotOriented, n));
+    }
+    if let Some((failure, n)) = first_unclosed(alloc, &rules)? {
+        return Ok(Checked::Rejected(pair_reject(failure), n));
+    }
+    if let Some((failure, n)) = first_unproved(alloc, &rules, a.problem().equations())? {
+        return Ok(Checked::Rejected(equation_reject(failure), n));
+    }
+    Ok(Checked::Accepted)
+}
+
+fn pair_reject(failure: Failure) -> Reject
+    ensures { result ≡ pair_reason failure }
+{
+    match failure {
+        Failure::Large => Reject::PairLarge,
+        Failure::Steps => Reject::PairSteps,
+        Failure::Different => Reject::NotJoined,
+    }
+}
+
+fn equation_reject(failure: Failure) -> Reject
+    ensures { result ≡ equation_reason failure }
+{
+    match failure {
+        Failure::Large => Reject::EquationLarge,
+        Failure::Steps => Reject::EquationSteps,
+        Failure::Different => Reject::NotProved,
+    }
+}
+
+/// The rules without the steps that they cite.
+fn rules_alone(alloc: Global, rules: &[(Rule, u32)]) -> Result<Vec<Rule>, Memory>
+    ensures { IfOk result (λ alone. alone.items ≡ rules_of rules.now) }
+{
+    let mut alone = Vec::new(alloc);
+    for rule in rules {
+        alone.push(rule.0.clone()?)?;
+    }
+    Ok(alone)
+}
+
+/// The number, from 1, of the first rule that hasn't the canonical pair of the step that it cites.
+fn first_untraced(
+    alloc: Global,
+    trace: &[Step],
+    rules: &[(Rule, u32)],
+) -> Result<Option<u64>, Memory>
+    requires { All (λ r. length (variables_of_pair r.0.left r.0.right) ≤ 64) rules.now }
+    ensures { IfOk result (λ o. MatchOption o (All (IsTraced trace.now) rules.now) (FailsFirst (IsTraced trace.now) (λ r. IsTraced trace.now r → ⊥) rules.now)) }
+{
+    for k in 0..rules.len() {
+        let cited = &rules[k];
+        if !is_traced(alloc, trace, &cited.0, cited.1)? {
+            return Ok(Some((k + 1) as u64));
+        }
+    }
+    Ok(None)
+}
+
+/// Whether the step with the number is there and has the canonical pair of the rule.
+fn is_traced(alloc: Global, trace: &[Step], rule: &Rule, cited: u32) -> Result<bool, Memory>
+    requires { length (variables_of_pair rule.now.left rule.now.right) ≤ 64 }
+    ensures { IfOk result (λ b. IsTrue b ↔ IsTraced trace.now (rule.now, cited)) }
+{
+    if cited == 0 || cited as usize > trace.len() {
+        return Ok(false);
+    }
+    let pair = trace[cited as usize - 1].pair();
+    let first = pair.first();
+    let second = pair.second();
+    match canonical(alloc, rule.left(), rule.right())? {
+        None => Ok(false),
+        Some(found) => Ok(has_sides(&found, first, second)),
+    }
+}
+
+/// Whether these are the sides of the pair.
+fn has_sides(pair: &Pair, first: &Term, second: &Term) -> bool
+    ensures { IsTrue result ↔ (pair.now ≡ pair_of first.now second.now) }
+{
+    *pair.first() == *first && *pair.second() == *second
+}
+
+/// The number, from 1, of the first rule that the certificate doesn't orient.
+fn first_unoriented(cert: &Certificate, rules: &[Rule]) -> Option<u64>
+    requires { AreMeasurable rules.now }
+    ensures { MatchOption result (Orders cert.now rules.now) (FailsFirst (λ r. IsGreater cert.now r.left r.right) (λ r. IsGreater cert.now r.left r.right → ⊥) rules.now) }
+{
+    for k in 0..rules.len() {
+        if !orients(cert, &rules[k..k + 1]) {
+            return Some((k + 1) as u64);
+        }
+    }
+    None
+}
+
+/// The first equation whose sides don't have one normal form: why, and its number from 1.
+fn first_unproved(
+    alloc: Global,
+    rules: &[Rule],
+    equations: &[(Term, Term)],
+) -> Result<Option<(Failure, u64)>, Memory>
+    ensures { IfOk result (λ o. MatchOption o (All (IsProved rules.now) (equations_of_list equations.now)) (λ f. FailsFirst (IsProved rules.now) (FailsToProve rules.now f.0) (equations_of_list equations.now) f.1)) }
+{
+    for k in 0..equations.len() {
+        let equation = &equations[k];
+        match join_failure(alloc, rules, &equation.0, &equation.1)? {
+            None => {}
+            Some(failure) => return Ok(Some((failure, (k + 1) as u64))),
+        }
+    }
+    Ok(None)
+}

@@ -1,0 +1,89 @@
+// Whether the overlaps of rules close.
+ghost use Rattle.std.specs.Prelude.{◌≡◌, ◌+◌, ◌*◌, ◌≤◌, ◌<◌, All, IfOk, MatchOption, length, map};
+ghost use Rattle.kb_overlap.specs.View.{overlap_of};
+ghost use Rattle.kb_laws.specs.Overlaps.{OverlapsClose};
+ghost use Rattle.kb_checker.specs.Answers.{IsReady};
+ghost use Rattle.kb_checker.specs.Verdicts.{FailsFirst, Closes, FailsToClose, IsRowAnswer, FirstUnclosed};
+
+use crate::joining::{Failure, join_failure};
+use kb_overlap::{Overlap, overlaps};
+use kb_term::{Memory, Rule};
+use std::alloc::Global;
+
+/// What a look at the overlaps of one outer rule says.
+pub(crate) enum Row {
+    /// All close; so many overlaps there are with the earlier outer rules' ones.
+    Closed(u64),
+    /// Why the first that doesn't close does not, and its number among all, from 1.
+    Open(Failure, u64),
+}
+
+/// The first overlap of the rules that doesn't close: why, and its number from 1. None where all close.
+pub(crate) fn first_unclosed(
+    alloc: Global,
+    rules: &[Rule],
+) -> Result<Option<(Failure, u64)>, Memory>
+    requires ready { All IsReady rules.now }
+    requires few { length rules.now ≤ 4096 }
+    ensures { IfOk result (λ o. MatchOption o (OverlapsClose rules.now) (λ f. FirstUnclosed rules.now f.0 f.1)) }
+{
+    let mut count = 0;
+    for i in 0..rules.len() {
+        match close_row(alloc, rules, i, count)? {
+            Row::Closed(more) => count = more,
+            Row::Open(failure, n) => return Ok(Some((failure, n))),
+        }
+    }
+    Ok(None)
+}
+
+/// Whether the overlaps of the outer rule with each rule close, where the earlier outer rules have so many overlaps.
+fn close_row(alloc: Global, rules: &[Rule], i: usize, start: u64) -> Result<Row, Memory>
+    requires ready { All IsReady rules.now }
+    requires few { length rules.now ≤ 4096 }
+    requires there { i < length rules.now }
+    requires room { start ≤ 2097152 * i }
+    ensures { IfOk result (IsRowAnswer rules.now i start) }
+{
+    let outer = &rules[i];
+    let mut count = start;
+    for j in 0..rules.len() {
+        let found = overlaps(alloc, outer, &rules[j], i == j)?;
+        match first_open(alloc, rules, &found)? {
+            None => count += found.len() as u64,
+            Some((failure, k)) => return Ok(Row::Open(failure, count + k)),
+        }
+    }
+    Ok(Row::Closed(count))
+}
+
+/// The first of the overlaps that doesn't close: why, and its number from 1.
+fn first_open(
+    alloc: Global,
+    rules: &[Rule],
+    found: &[Overlap],
+) -> Result<Option<(Failure, u64)>, Memory>
+    ensures { IfOk result (λ o. MatchOption o (All (Closes rules.now) (map overlap_of found.now)) (λ f. FailsFirst (Closes rules.now) (FailsToClose rules.now f.0) (map overlap_of found.now) f.1)) }
+{
+    for k in 0..found.len() {
+        match close_failure(alloc, rules, &found[k])? {
+            None => {}
+            Some(failure) => return Ok(Some((failure, (k + 1) as u64))),
+        }
+    }
+    Ok(None)
+}
+
+/// Why the overlap doesn't close; none where it does.
+fn close_failure(
+    alloc: Global,
+    rules: &[Rule],
+    overlap: &Overlap,
+) -> Result<Option<Failure>, Memory>
+    ensures { IfOk result (λ o. MatchOption o (Closes rules.now (overlap_of overlap.now)) (λ f. FailsToClose rules.now f (overlap_of overlap.now))) }
+{
+    match &overlap.sides {
+        Err(_) => Ok(Some(Failure::Large)),
+        Ok((s, t)) => join_failure(alloc, rules, s, t),
+    }
+}

@@ -1,0 +1,17 @@
+//! The checker of answers: its yes is a theorem.
+//!
+//! It stands on terms, overlaps, rewriting, orders, traces and laws alone.
+#![tactic(auto)]
+
+mod answer;
+mod checking;
+mod closing;
+mod joining;
+mod verdict;
+
+pub use answer::Answer;
+pub use checking::check;
+pub use verdict::{Checked, Reject};
+
+#[cfg(test)]
+mod tests;

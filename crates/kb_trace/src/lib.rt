@@ -1,0 +1,19 @@
+//! Traces: how each pair of an answer follows from the equations and from earlier pairs.
+#![tactic(auto)]
+
+mod fault;
+mod reached;
+mod replaying;
+mod right;
+mod rule;
+mod text;
+mod trace;
+
+pub use fault::TraceFault;
+pub use reached::trace_of;
+pub use replaying::replay_trace;
+pub use text::trace_text;
+pub use trace::{Step, Trace};
+
+#[cfg(test)]
+mod tests;
