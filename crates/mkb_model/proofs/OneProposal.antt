@@ -330,7 +330,7 @@ module _ (b : Plain) (p : Name) (holds : HoldVariables (rules_at b (rules_of b p
   deduce_limit : (a c d e : RuleRef) (ds : List Deduced) (j : Job) (cause : LimitCause) → Proposes b (Overlap p a c) (Deduce d e ds) → Proposes b (Overlap p a c) (Limit j cause) → ⊥
   deduce_limit a c d e ds j cause (h, i, (r, s, m, n, one)) (k, (l, (t, u, o, q, two))) =
       let same : IsLargeOverlap (record { ref = a; rule = r }) (record { ref = c; rule = s }) cause.reason =
-              subst {A = Rule} (λ z. IsLargeOverlap (record { ref = a; rule = z }) (record { ref = c; rule = s }) cause.reason) (one_rule a r t m o) (subst {A = Rule} (λ z. IsLargeOverlap (record { ref = a; rule = t }) (record { ref = c; rule = z }) cause.reason) (one_rule c s u n q) two) in
+      subst {A = Rule} (λ z. IsLargeOverlap (record { ref = a; rule = z }) (record { ref = c; rule = s }) cause.reason) (one_rule a r t m o) (subst {A = Rule} (λ z. IsLargeOverlap (record { ref = a; rule = t }) (record { ref = c; rule = z }) cause.reason) (one_rule c s u n q) two) in
       within_large (record { ref = a; rule = r }) (record { ref = c; rule = s }) ds cause.reason one same
     where
       within_large : (x y : NamedRule) (ds : List Deduced) (r : Reason) → IsDeducing x y ds → IsLargeOverlap x y r → ⊥
@@ -342,17 +342,17 @@ module _ (b : Plain) (p : Name) (holds : HoldVariables (rules_at b (rules_of b p
   overlap_one : (a c : RuleRef) (x y : Proposed) → Proposes b (Overlap p a c) x → Proposes b (Overlap p a c) y → x ≡ y
   overlap_one a c (Deduce d e ds) (Deduce f g es) (h, i, (r, s, m, n, one)) (k, l, (t, u, o, q, two)) =
       let same : IsDeducing (record { ref = a; rule = r }) (record { ref = c; rule = s }) es =
-              subst {A = Rule} (λ z. IsDeducing (record { ref = a; rule = z }) (record { ref = c; rule = s }) es) (one_rule a r t m o) (subst {A = Rule} (λ z. IsDeducing (record { ref = a; rule = t }) (record { ref = c; rule = z }) es) (one_rule c s u n q) two) in
+      subst {A = Rule} (λ z. IsDeducing (record { ref = a; rule = z }) (record { ref = c; rule = s }) es) (one_rule a r t m o) (subst {A = Rule} (λ z. IsDeducing (record { ref = a; rule = t }) (record { ref = c; rule = z }) es) (one_rule c s u n q) two) in
       ap (λ (z : RuleRef). Deduce z e ds) (h ∙ sym k) ∙ ap (λ (z : RuleRef). Deduce f z ds) (i ∙ sym l)
       ∙ ap (λ (z : List Deduced). Deduce f g z) (deduced_same ds es one.overlaps same.overlaps (overlaps_both (both_ways (record { ref = a; rule = r }) (record { ref = c; rule = s })) one.overlaps same.overlaps one.all same.all) one.proposed same.proposed)
   overlap_one a c (Deduce d e ds) (Limit j cause) h k = absurd (deduce_limit a c d e ds j cause h k)
   overlap_one a c (Limit j cause) (Deduce d e ds) h k = absurd (deduce_limit a c d e ds j cause k h)
   overlap_one a c (Limit j cause) (Limit i d) (h, (e, (r, s, m, n, one))) (k, (f, (t, u, o, q, two))) =
       let same : IsLargeOverlap (record { ref = a; rule = r }) (record { ref = c; rule = s }) d.reason =
-              subst {A = Rule} (λ z. IsLargeOverlap (record { ref = a; rule = z }) (record { ref = c; rule = s }) d.reason) (one_rule a r t m o) (subst {A = Rule} (λ z. IsLargeOverlap (record { ref = a; rule = t }) (record { ref = c; rule = z }) d.reason) (one_rule c s u n q) two) in
+      subst {A = Rule} (λ z. IsLargeOverlap (record { ref = a; rule = z }) (record { ref = c; rule = s }) d.reason) (one_rule a r t m o) (subst {A = Rule} (λ z. IsLargeOverlap (record { ref = a; rule = t }) (record { ref = c; rule = z }) d.reason) (one_rule c s u n q) two) in
       let both = both_first AreAlike (λ (o : NamedOverlap). own_limit o.overlap.sides ≡ None) (λ (o : NamedOverlap). own_limit o.overlap.sides ≡ Some cause.reason) (λ (o : NamedOverlap). own_limit o.overlap.sides ≡ Some d.reason)
-              (λ x y l v w. none_some (sym w ∙ sym (alike_limit x y l) ∙ v)) (λ x y l v w. none_some (sym v ∙ alike_limit x y l ∙ w))
-              one.overlaps same.overlaps (overlaps_both (both_ways (record { ref = a; rule = r }) (record { ref = c; rule = s })) one.overlaps same.overlaps one.all same.all) one.first same.first in
+      (λ x y l v w. none_some (sym w ∙ sym (alike_limit x y l) ∙ v)) (λ x y l v w. none_some (sym v ∙ alike_limit x y l ∙ w))
+      one.overlaps same.overlaps (overlaps_both (both_ways (record { ref = a; rule = r }) (record { ref = c; rule = s })) one.overlaps same.overlaps one.all same.all) one.first same.first in
       limit_is j i (Overlap p a c) cause d h k (e ∙ sym f) (some_is (sym both.3 ∙ alike_limit both.0 both.1 both.2 ∙ both.4))
   overlap_one a c (Facts fs) y h k = absurd h
   overlap_one a c (Rewrite m w at r l t) y h k = absurd h
@@ -414,9 +414,9 @@ module _ (b : Plain) (p : Name) (holds : HoldVariables (rules_at b (rules_of b p
   one_stop : (os qs : List NamedOverlap) → AllOverlaps Rules os → AllOverlaps Rules qs → (r s : Reason) → FirstThat (IsFormed Rules) (IsStopped Rules r) os → FirstThat (IsFormed Rules) (IsStopped Rules s) qs → r ≡ s
   one_stop os qs h k r s f g =
       let both = both_first AreAlike (IsFormed Rules) (IsStopped Rules r) (IsStopped Rules s)
-              (λ x y l v w. formed_not_stopped Rules own_hold x r (formed_alike Rules own_hold y x (alike_swapped x y l) w) v)
-              (λ x y l v w. formed_not_stopped Rules own_hold y s (formed_alike Rules own_hold x y l v) w)
-              os qs (all_alike os qs h k) f g in
+      (λ x y l v w. formed_not_stopped Rules own_hold x r (formed_alike Rules own_hold y x (alike_swapped x y l) w) v)
+      (λ x y l v w. formed_not_stopped Rules own_hold y s (formed_alike Rules own_hold x y l v) w)
+      os qs (all_alike os qs h k) f g in
       stopped_one Rules own_hold both.1 r s (stopped_alike Rules own_hold r both.0 both.1 both.2 both.3) both.4
 
   same_both : {A : Type 0} (xs : List A) → Paired (λ (x y : A). x ≡ y) xs xs
@@ -426,9 +426,9 @@ module _ (b : Plain) (p : Name) (holds : HoldVariables (rules_at b (rules_of b p
   one_input : (inputs : List (Tree × Tree)) (r s : Reason) → FirstThat (HaveForms Rules) (λ e. PassesFirst Rules e r) inputs → FirstThat (HaveForms Rules) (λ e. PassesFirst Rules e s) inputs → r ≡ s
   one_input inputs r s f g =
       let both = both_first (λ (x y : Tree × Tree). x ≡ y) (HaveForms Rules) (λ e. PassesFirst Rules e r) (λ e. PassesFirst Rules e s)
-              (λ x y l v w. forms_no_pass Rules own_hold x r (subst {A = Tree × Tree} (HaveForms Rules) (sym l) w) v)
-              (λ x y l v w. forms_no_pass Rules own_hold y s (subst {A = Tree × Tree} (HaveForms Rules) l v) w)
-              inputs inputs (same_both inputs) f g in
+      (λ x y l v w. forms_no_pass Rules own_hold x r (subst {A = Tree × Tree} (HaveForms Rules) (sym l) w) v)
+      (λ x y l v w. forms_no_pass Rules own_hold y s (subst {A = Tree × Tree} (HaveForms Rules) l v) w)
+      inputs inputs (same_both inputs) f g in
       passes_one Rules own_hold both.1 r s (subst {A = Tree × Tree} (λ z. PassesFirst Rules z r) both.2 both.3) both.4
 
   one_limit : (r s : Reason) → IsOverlapStop Rules r ⊎ IsInputStop Rules Equations b.problem.equations r → IsOverlapStop Rules s ⊎ IsInputStop Rules Equations b.problem.equations s → r ≡ s

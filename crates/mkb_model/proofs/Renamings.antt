@@ -75,10 +75,13 @@ first_instance d e rules s p i h f = record {
 }
 
 rewrites_instance : (d : ℕ → Tree) (rule : Rule) (p : List ℕ) (s u : Tree) → RewritesAt rule p s u → RewritesAt rule p (instance d s) (instance d u)
-rewrites_instance d rule p s u (m, r) = ((λ x. instance d (m x)), record {
-  redex = subtree-instance d p s (instance m rule.left) r.redex ∙ ap Some (instance-instance d m rule.left);
-  result = ap (replace_at (instance d s) p) (sym (instance-instance d m rule.right)) ∙ replace-instance d p s (instance m rule.right) u r.result;
-})
+rewrites_instance d rule p s u (m, r) = (
+  (λ x. instance d (m x)),
+  record {
+    redex = subtree-instance d p s (instance m rule.left) r.redex ∙ ap Some (instance-instance d m rule.left);
+    result = ap (replace_at (instance d s) p) (sym (instance-instance d m rule.right)) ∙ replace-instance d p s (instance m rule.right) u r.result;
+  },
+)
 
 -- ---- steps
 
@@ -99,7 +102,7 @@ rewrites_back d e rule p s u held h (m, r) =
     let fixed : instance k s ≡ s = sym (instance-instance e d s) ∙ h in
     let left : instance k (instance m rule.left) ≡ instance m rule.left = some_is (sym (subtree-instance k p s (instance m rule.left) r.redex) ∙ ap (λ z. subtree_at z p) fixed ∙ r.redex) in
     let right : instance k (instance m rule.right) ≡ instance m rule.right = instance-instance k m rule.right
-            ∙ instance-agree (λ x. instance k (m x)) m rule.right (λ n o. agree_at (λ x. instance k (m x)) m rule.left (sym (instance-instance k m rule.left) ∙ left) n (occurs_from n rule.left (held n (occurs_to n rule.right o)))) in
+    ∙ instance-agree (λ x. instance k (m x)) m rule.right (λ n o. agree_at (λ x. instance k (m x)) m rule.left (sym (instance-instance k m rule.left) ∙ left) n (occurs_from n rule.left (held n (occurs_to n rule.right o)))) in
     instance-instance e d u ∙ some_is (sym (replace-instance k p s (instance m rule.right) u r.result) ∙ ap₂ (λ y z. replace_at y p z) fixed right ∙ r.result)
 
 step_back : (d e : ℕ → Tree) (rules : List Rule) (s u : Tree) → HoldVariables rules → Back d e s → StrategyStep rules s u → Back d e u
