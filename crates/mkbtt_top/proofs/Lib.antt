@@ -1,1 +1,2 @@
 mod OneRule
+mod Refusing
