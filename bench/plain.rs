@@ -468,6 +468,205 @@ const EIGHT: [u8; 8] = [1; 8];
 const WIDE: [u8; 24] =
     [2, 3, 2, 0, 1, 2, 3, 1, 3, 0, 0, 3, 2, 1, 1, 3, 2, 2, 1, 1, 1, 1, 2, 3];
 
+// ---- reading problems
+
+fn write_term(out: &mut String, t: &Term) {
+    match t {
+        Var(n) => {
+            out.push('x');
+            out.push_str(&(n + 1).to_string());
+        }
+        App(f, arguments) => {
+            out.push((b'a' + *f as u8) as char);
+            out.push('(');
+            for (k, argument) in arguments.iter().enumerate() {
+                if k > 0 {
+                    out.push(',');
+                }
+                write_term(out, argument);
+            }
+            out.push(')');
+        }
+    }
+}
+
+fn rules_text() -> Vec<u8> {
+    let mut out = String::from("(VAR");
+    for n in 1..65 {
+        out.push_str(&format!(" x{n}"));
+    }
+    out.push_str(")\n(RULES\n");
+    for _ in 0..240 {
+        write_term(&mut out, &full_tree(8, 0, 1, 0));
+        out.push_str(" == ");
+        write_term(&mut out, &full_tree(8, 0, 5, 0));
+        out.push('\n');
+    }
+    out.push_str(")\n");
+    out.into_bytes()
+}
+
+fn variables_text() -> Vec<u8> {
+    let mut out = b"(VAR".to_vec();
+    for number in 0..149_000u32 {
+        out.push(b' ');
+        let mut rest = number;
+        for _ in 0..6 {
+            out.push(b'a' + (rest % 16) as u8);
+            rest /= 16;
+        }
+    }
+    out.extend_from_slice(b")(RULES f(aaaaaa) == aaaaaa)");
+    out
+}
+
+/// A reader by recursive descent, with the limits of the language and no more care than a careful Rust programmer takes.
+struct Reader<'a> {
+    text: &'a [u8],
+    at: usize,
+    variables: std::collections::HashSet<&'a [u8]>,
+    symbols: Vec<(&'a [u8], Option<usize>)>,
+    local: Vec<&'a [u8]>,
+    count: usize,
+}
+
+impl<'a> Reader<'a> {
+    fn space(&mut self) {
+        while matches!(self.text.get(self.at), Some(b' ' | b'\n' | b'\t' | b'\r')) {
+            self.at += 1;
+        }
+    }
+
+    fn mark(&mut self, mark: &[u8]) -> Result<(), usize> {
+        self.space();
+        if self.text[self.at..].starts_with(mark) {
+            self.at += mark.len();
+            return Ok(());
+        }
+        Err(self.at)
+    }
+
+    fn is_end(&self, at: usize) -> bool {
+        let rest = &self.text[at..];
+        matches!(rest.first(), None | Some(b' ' | b'\n' | b'\t' | b'\r' | b'(' | b')' | b',' | b'|' | b'"'))
+            || rest.starts_with(b"->")
+            || rest.starts_with(b"==")
+    }
+
+    fn name(&mut self) -> Result<&'a [u8], usize> {
+        self.space();
+        let start = self.at;
+        while !self.is_end(self.at) {
+            self.at += 1;
+        }
+        if self.at == start || self.at - start > 64 { Err(start) } else { Ok(&self.text[start..self.at]) }
+    }
+
+    fn term(&mut self, depth: usize) -> Result<Term, usize> {
+        let name = self.name()?;
+        let place = self.at - name.len();
+        self.count += 1;
+        if self.count > 512 || depth > 64 {
+            return Err(place);
+        }
+        if self.variables.contains(name) {
+            let n = match self.local.iter().position(|v| *v == name) {
+                Some(n) => n,
+                None => {
+                    self.local.push(name);
+                    self.local.len() - 1
+                }
+            };
+            return if n < 64 { Ok(Var(n as u16)) } else { Err(place) };
+        }
+        let f = match self.symbols.iter().position(|s| s.0 == name) {
+            Some(f) => f,
+            None => {
+                self.symbols.push((name, None));
+                self.symbols.len() - 1
+            }
+        };
+        if f >= 24 {
+            return Err(place);
+        }
+        let mut arguments = Vec::new();
+        if self.mark(b"(").is_ok() && self.mark(b")").is_err() {
+            loop {
+                arguments.push(self.term(depth + 1)?);
+                if self.mark(b",").is_err() {
+                    break;
+                }
+                if arguments.len() == 8 {
+                    return Err(self.at - 1);
+                }
+            }
+            self.mark(b")")?;
+        }
+        match self.symbols[f].1 {
+            None => self.symbols[f].1 = Some(arguments.len()),
+            Some(arity) if arity == arguments.len() => {}
+            Some(_) => return Err(place),
+        }
+        Ok(App(f as u8, arguments))
+    }
+
+    fn side(&mut self) -> Result<Term, usize> {
+        self.count = 0;
+        self.term(1)
+    }
+
+    fn problem(&mut self) -> Result<Vec<(Term, Term)>, usize> {
+        let mut equations = Vec::new();
+        while {
+            self.space();
+            self.at < self.text.len()
+        } {
+            self.mark(b"(")?;
+            match self.name()? {
+                b"VAR" => {
+                    while self.mark(b")").is_err() {
+                        let name = self.name()?;
+                        if !self.variables.insert(name) {
+                            return Err(self.at - name.len());
+                        }
+                    }
+                }
+                b"RULES" => {
+                    while self.mark(b")").is_err() {
+                        self.local.clear();
+                        let left = self.side()?;
+                        if self.mark(b"==").is_err() {
+                            self.mark(b"->")?;
+                        }
+                        equations.push((left, self.side()?));
+                        if equations.len() > 256 {
+                            return Err(self.at);
+                        }
+                    }
+                }
+                _ => return Err(self.at),
+            }
+        }
+        Ok(equations)
+    }
+}
+
+fn reading_case(text: &[u8], times: u32) -> u64 {
+    let mut sum = text.len() as u64;
+    for _ in 0..times {
+        let valid = std::str::from_utf8(text).is_ok();
+        let mut reader =
+            Reader { text, at: 0, variables: Default::default(), symbols: Vec::new(), local: Vec::new(), count: 0 };
+        let code = match reader.problem() {
+            Ok(equations) if valid => equations.len() as u64 + 2_000_000,
+            Ok(_) => 0,
+            Err(at) => at as u64,
+        };
+        sum = with_next(sum, code);
+    }
+    sum
+}
+
 fn main() {
     let words: Vec<String> = std::env::args().skip(1).collect();
     let times: u32 = words[1].parse().unwrap();
@@ -501,6 +700,8 @@ fn main() {
             App(2, vec![full_tree(8, 0, 1, 0)]),
             times,
         ),
+        "read_rules" => reading_case(&rules_text(), times),
+        "read_variables" => reading_case(&variables_text(), times),
         name => panic!("no case {name}"),
     };
     println!("{sum}");

@@ -49,4 +49,6 @@ unify_comb 10000
 unify_doubling 10000
 rewrite_product 1000
 rewrite_tree 100
+read_rules 10
+read_variables 10
 CASES

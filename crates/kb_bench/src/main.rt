@@ -1,8 +1,9 @@
-//! Repeats a search for an order, a unification or a normalisation on a fixed case, to be timed from outside.
+//! Repeats a search for an order, a unification, a normalisation or the reading of a problem on a fixed case, to be timed from outside.
 //!
 //! The words are the name of a case and how often it is run; what is printed is a checksum of the answers.
 #![tactic(auto)]
 
+mod reading;
 mod rewriting;
 mod rules;
 mod runs;

@@ -2,6 +2,7 @@
 ghost use Rattle.std.specs.Prelude.{◌≤◌, length};
 ghost use Rattle.kb_linear.specs.Limits.{AreMeasurable};
 
+use crate::reading;
 use crate::rewriting::{product_case, tree_case};
 use crate::rules::{group_rules, linear_rules, path_rules};
 use crate::shapes::{comb, eight_doubles, eight_variables, full_tree, signature, unary};
@@ -27,6 +28,8 @@ pub enum Case {
     UnifyDoubling,
     RewriteProduct,
     RewriteTree,
+    ReadRules,
+    ReadVariables,
 }
 
 /// The case of this name.
@@ -45,6 +48,8 @@ pub(crate) fn case_named(name: &str) -> Option<Case> {
         "unify_doubling" => Some(Case::UnifyDoubling),
         "rewrite_product" => Some(Case::RewriteProduct),
         "rewrite_tree" => Some(Case::RewriteTree),
+        "read_rules" => Some(Case::ReadRules),
+        "read_variables" => Some(Case::ReadVariables),
         _ => None,
     }
 }
@@ -205,5 +210,7 @@ pub(crate) fn checksum(alloc: Global, case: Case, repetitions: u32) -> Result<u6
         }
         Case::RewriteProduct => product_case(alloc, repetitions),
         Case::RewriteTree => tree_case(alloc, repetitions),
+        Case::ReadRules => reading::rules_case(alloc, repetitions),
+        Case::ReadVariables => reading::variables_case(alloc, repetitions),
     }
 }

@@ -1,6 +1,6 @@
 use super::*;
 use kb_io::{MemorySink, MemorySource, OpenGate};
-use kb_syntax::Kind;
+use kb_syntax::{Bound, Kind};
 use std::alloc::{AllocError, Global};
 use std::test::Fail;
 
@@ -89,4 +89,42 @@ fn other_words_are_refused(rt: HostRuntime) -> Result<(), Fail> {
     assert_eq!(rt; status_code(&outcome.status), 7);
     assert!(rt; sink.bytes().is_empty());
     Ok(())
+}
+
+/// The problem with blanks behind it, so many bytes in all.
+fn padded(alloc: Global, length: usize) -> Result<Vec<u8>, AllocError> {
+    let mut bytes = Vec::from_slice(alloc, IDENTITY.as_bytes())?;
+    for _ in bytes.len()..length {
+        bytes.push(b' ')?;
+    }
+    Ok(bytes)
+}
+
+/// The status of a run on the problem with blanks behind it, and how many bytes were written.
+fn padded_run(rt: &HostRuntime, length: usize) -> Result<(Status, usize), AllocError> {
+    let alloc = rt.alloc();
+    let bytes = padded(alloc, length)?;
+    let mut source = MemorySource::new(bytes, Vec::new(alloc), 65_536);
+    let mut sink = MemorySink::new(alloc, 1000, Vec::new(alloc), 100)?;
+    let outcome = run(rt, alloc, &["complete"], &mut source, &mut sink, &OpenGate);
+    Ok((outcome.status, sink.bytes().len()))
+}
+
+#[test]
+fn a_text_of_1048576_bytes_is_read_and_one_byte_more_is_refused(rt: HostRuntime) {
+    let (status, _) = padded_run(&rt, 1_048_576).expect(&rt, "memory");
+    assert!(rt; status == Status::Done);
+    let (status, written) = padded_run(&rt, 1_048_577).expect(&rt, "memory");
+    assert!(rt; status == Status::Refused(Kind::Limit(Bound::Input), 1_048_576));
+    assert!(rt; written == 0);
+}
+
+#[test]
+fn a_text_that_ends_in_a_section_is_refused_at_its_end(rt: HostRuntime) {
+    let alloc = rt.alloc();
+    let mut source = source_of(alloc, "(RULES a == b").expect(&rt, "memory");
+    let mut sink = MemorySink::new(alloc, 1000, Vec::new(alloc), 9).expect(&rt, "memory");
+    let outcome = run(&rt, alloc, &["complete"], &mut source, &mut sink, &OpenGate);
+    assert!(rt; outcome.status == Status::Refused(Kind::Unclosed, 13));
+    assert!(rt; sink.bytes().is_empty());
 }
