@@ -2,7 +2,9 @@ use super::*;
 use kb_io::{MemorySink, MemorySource, OpenGate};
 use kb_syntax::{Bound, Kind};
 use std::alloc::{AllocError, Global};
+use std::sync::Wait;
 use std::test::Fail;
+use std::thread::Threads;
 
 const IDENTITY: &str = "(VAR x)(RULES f(x) == x)";
 
@@ -101,8 +103,11 @@ fn padded(alloc: Global, length: usize) -> Result<Vec<u8>, AllocError> {
 }
 
 /// The status of a run on the problem with blanks behind it, and how many bytes were written.
-fn padded_run(rt: &HostRuntime, length: usize) -> Result<(Status, usize), AllocError> {
-    let alloc = rt.alloc();
+fn padded_run<R: Threads + Wait + Sync>(
+    rt: &R,
+    alloc: Global,
+    length: usize,
+) -> Result<(Status, usize), AllocError> {
     let bytes = padded(alloc, length)?;
     let mut source = MemorySource::new(bytes, Vec::new(alloc), 65_536);
     let mut sink = MemorySink::new(alloc, 1000, Vec::new(alloc), 100)?;
@@ -112,9 +117,9 @@ fn padded_run(rt: &HostRuntime, length: usize) -> Result<(Status, usize), AllocE
 
 #[test]
 fn a_text_of_1048576_bytes_is_read_and_one_byte_more_is_refused(rt: HostRuntime) {
-    let (status, _) = padded_run(&rt, 1_048_576).expect(&rt, "memory");
+    let (status, _) = padded_run(&rt, rt.alloc(), 1_048_576).expect(&rt, "memory");
     assert!(rt; status == Status::Done);
-    let (status, written) = padded_run(&rt, 1_048_577).expect(&rt, "memory");
+    let (status, written) = padded_run(&rt, rt.alloc(), 1_048_577).expect(&rt, "memory");
     assert!(rt; status == Status::Refused(Kind::Limit(Bound::Input), 1_048_576));
     assert!(rt; written == 0);
 }
