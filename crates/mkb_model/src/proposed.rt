@@ -22,6 +22,30 @@ impl Model for FactList {
     ghost view = { λ l. l.items.items };
 }
 
+impl FactList {
+    /// The list of these facts. It takes no memory.
+    pub fn new(items: Vec<Fact>) -> FactList
+        ensures { result ≡ items.items }
+    {
+        FactList { items }
+    }
+
+    /// The facts.
+    pub fn items(&self) -> &[Fact]
+        ensures { result.now ≡ self.now }
+    {
+        &self.items
+    }
+
+    /// What the list is made of. It takes no memory.
+    pub fn into_items(self) -> Vec<Fact>
+        ensures { result.items ≡ self }
+    {
+        let FactList { items } = self;
+        items
+    }
+}
+
 /// A list of overlaps with their pairs.
 #[derive(Drop)]
 pub struct DeducedList {
@@ -39,6 +63,30 @@ impl Model for DeducedList {
     ghost coded = { Prim.hlevel (codes, coded_pair) };
 
     ghost view = { λ l. l.items.items };
+}
+
+impl DeducedList {
+    /// The list of these overlaps. It takes no memory.
+    pub fn new(items: Vec<Deduced>) -> DeducedList
+        ensures { result ≡ items.items }
+    {
+        DeducedList { items }
+    }
+
+    /// The overlaps.
+    pub fn items(&self) -> &[Deduced]
+        ensures { result.now ≡ self.now }
+    {
+        &self.items
+    }
+
+    /// What the list is made of. It takes no memory.
+    pub fn into_items(self) -> Vec<Deduced>
+        ensures { result.items ≡ self }
+    {
+        let DeducedList { items } = self;
+        items
+    }
 }
 
 /// What a job proposes.
