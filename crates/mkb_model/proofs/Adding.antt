@@ -1,13 +1,10 @@
 -- Adding the pairs of overlaps is a run of deductions of each process that gains them.
 use Rattle.std.proofs.Common.{ℕ, zero, suc, ◌≡◌, ◌≢◌, ◌⊎◌, ◌↔◌, inl, inr, refl, sym, ap, ◌∙◌, subst, arith, List, [], ◌∷◌, Some, ⊎_elim, Contains, true, false}
-use Rattle.std.specs.Prelude.{⊤}
 use Rattle.kb_term.proofs.Steps.{contains_behind, contains_first}
 use Rattle.kb_term.specs.Tree.{Tree}
 use Rattle.kb_term.specs.Pair.{Pair, IsSameEquation}
-use Rattle.kb_term.specs.Signature.{Signature, IsWellFormed}
+use Rattle.kb_term.specs.Signature.{Signature}
 use Rattle.kb_term.specs.Rule.{Rule, rule_of, rule_between}
-use Rattle.kb_term.specs.Proving.{RewritesAt}
-use Rattle.kb_term.specs.declared.origin.RuleRef.{RuleRef}
 use Rattle.kb_term.specs.declared.origin.Origin.TheVariants.{Overlap as ByOverlap}
 use Rattle.kb_label.specs.Names.{Name, has}
 use Rattle.mkb_model.specs.Plain.{Plain, PlainNode, label_at, rule_kind, constraint_kind, state_of, pair_in, sides}

@@ -1,25 +1,23 @@
 -- What is committed in a possible run of a problem within the limits is fine, and each process has each node in one role.
-use Rattle.std.proofs.Common.{ℕ, zero, suc, ◌+◌, ◌<◌, ◌≡◌, ◌≢◌, ◌⊎◌, inl, inr, refl, sym, ap, ◌∙◌, subst, arith, List, [], ◌∷◌, ◌++◌, map, filter, flat_map, length, Contains, All, Bool, true, false, cond, not, Option, Some, None, ⊎_elim}
-use Rattle.std.specs.Prelude.{⊤, IsFalse, option_map}
+use Rattle.std.proofs.Common.{ℕ, zero, suc, ◌+◌, ◌<◌, ◌≡◌, ◌≢◌, ◌⊎◌, inl, inr, refl, sym, ap, ◌∙◌, subst, arith, List, [], ◌∷◌, ◌++◌, filter, flat_map, length, Contains, All, Bool, true, false, not, Option, Some, None, ⊎_elim}
+use Rattle.std.specs.Prelude.{IsFalse, option_map}
 use Rattle.std.specs.List.{filter_map}
 use Rattle.std.specs.Option.{option_map_or}
 use Rattle.std.proofs.lemmas.List.Elements.{Contains-append_cases, Contains-append_left, Contains-append_right, All-contains}
-use Rattle.kb_term.proofs.Steps.{contains_cases, contains_behind, contains_first}
+use Rattle.kb_term.proofs.Steps.{contains_cases, contains_first}
 use Rattle.kb_term.specs.Tree.{Tree}
-use Rattle.kb_term.specs.View.{tree_of}
 use Rattle.kb_term.specs.Pair.{Pair, canonical_pair}
 use Rattle.kb_term.specs.Rule.{Rule, rule_of}
 use Rattle.kb_term.specs.Signature.{Signature, Problem, IsWellFormed, IsWithinLimits, IsEquationWithinLimits, IsRuleOver}
 use Rattle.kb_term.specs.declared.origin.RuleRef.{RuleRef}
 use Rattle.kb_term.specs.declared.origin.Origin.TheVariants.{Input}
-use Rattle.kb_cert.specs.Family.{Orders, IsGreater, IsOrderable, IsFirstOrder, family}
+use Rattle.kb_cert.specs.Family.{Orders, IsGreater, family}
 use Rattle.kb_cert.specs.declared.certificate.Certificate.{Certificate}
 use Rattle.kb_cert.proofs.FamilyLaws.{nothing_orderable}
-use Rattle.kb_laws.specs.Completion.{KbState}
 use Rattle.kb_laws.proofs.Complete.{all_from, run_sound}
 use Rattle.kb_laws.proofs.RunLaws.{run_chained}
 use Rattle.kb_laws.proofs.Orderable.{run_orderable}
-use Rattle.kb_label.specs.Names.{Name, root, has, name_eq, child, is_beginning, join, meet, minus}
+use Rattle.kb_label.specs.Names.{Name, root, has, child, join, meet, minus}
 use Rattle.kb_label.specs.declared.verdict.Reason.{Reason}
 use Rattle.kb_label.proofs.Members.{has-minus, has-meet}
 use Rattle.kb_node.specs.declared.node.NodeId.{NodeId}
@@ -28,18 +26,16 @@ use Rattle.kb_node.specs.declared.node.LabelKind.TheVariants.{R0, R1, E, C0, C1,
 use Rattle.kb_node.specs.declared.job.Deduced.{Deduced}
 use Rattle.kb_node.specs.declared.job.Job.{Job}
 use Rattle.kb_node.specs.declared.job.Job.TheVariants.{Reduce, Orient, Overlap, Close}
-use Rattle.mkb_model.specs.Plain.{Plain, PlainNode, label, label_at, rule_kind, constraint_kind, directions, node_numbers, is_equation, is_constraint, rules_of, constraints_of, pair_in, pair_at, rule_at, rules_at, state_of, ancestor, done_of}
-use Rattle.mkb_model.specs.DueJobs.{is_due, is_work_due, is_working}
-use Rattle.mkb_model.specs.Effects.{applied, effect, limit_of, give_up, effect_label, is_dropped, overlap_label, with_node, node_of, gains_equation}
-use Rattle.mkb_model.specs.Proposals.{NamedRule, named_rules, Proposes, OrientsBy, both_ways, all_ways, rules_on}
-use Rattle.mkb_model.specs.Invariants.{AreApart, HasOneRole}
+use Rattle.mkb_model.specs.Plain.{Plain, PlainNode, label, label_at, rule_kind, constraint_kind, directions, node_numbers, is_equation, is_constraint, rules_of, constraints_of, pair_in, pair_at, rule_at, rules_at, state_of, done_of}
+use Rattle.mkb_model.specs.DueJobs.{is_work_due, is_working}
+use Rattle.mkb_model.specs.Effects.{applied, effect, limit_of, give_up, effect_label, is_dropped, overlap_label, with_node, node_of}
+use Rattle.mkb_model.specs.Proposals.{NamedRule, Proposes, OrientsBy, both_ways, all_ways, rules_on}
+use Rattle.mkb_model.specs.Invariants.{HasOneRole}
 use Rattle.mkb_model.specs.Headline.{EachCompletes, states_before, states_of}
 use Rattle.mkb_model.specs.Journals.{Moment, Follows, IsPossibleRun, IsFreeJob, IsRunBy, IsFinishing, opening, with_input, with_inputs}
 use Rattle.mkb_model.specs.Ready.{IsOn, IsRole, KeepsPairs, OneRole, IsNew, IsReady, IsForkable, IsFine, CommitsFine, AllFine, CanOrient, IsDeducedFrom}
 use Rattle.mkb_model.specs.declared.proposed.Proposed.{Proposed}
 use Rattle.mkb_model.specs.declared.proposed.Proposed.TheVariants.{Facts, Rewrite, One, Both, Refuse, Deduce, Unjoined, Closed, Limit}
-use Rattle.mkb_model.specs.declared.entry.Effect.{Effect}
-use Rattle.mkb_model.specs.declared.entry.Ticket.{Ticket}
 use Rattle.mkb_model.specs.declared.entry.Entry.{Entry}
 use Rattle.mkb_model.specs.declared.entry.Entry.TheVariants.{Take, Commit, Drop, Abandon, Halt}
 use Rattle.mkb_model.proofs.Lists.{clash, decide, false_unless, and_left, and_right, some_is, none_some, none_in, filter_in, in_filter, flat_map_in, in_flat_map, filter_map_in, in_filter_map, in_numbers, map_in}
@@ -47,7 +43,7 @@ use Rattle.mkb_model.proofs.Roles.{kind_number, KeepsRoles, on_there, put_other,
 use Rattle.mkb_model.proofs.Views.{rule_listed}
 use Rattle.mkb_model.proofs.Changes.{Fits}
 use Rattle.mkb_model.proofs.Proper.{IsOrdered}
-use Rattle.mkb_model.proofs.Commits.{IsNoFork, IsApartFrom, orients}
+use Rattle.mkb_model.proofs.Commits.{orients}
 use Rattle.mkb_model.proofs.OneRoles.{one_role_applied, one_role_forked, one_role_fork_other}
 use Rattle.mkb_model.proofs.Fitting.{fits_run, fits-applied, proposed_pairs, pairs_stay}
 use Rattle.mkb_model.proofs.Ancestors.{ancestor_is, begins-refl}
@@ -55,9 +51,9 @@ use Rattle.mkb_model.proofs.Simulation.{begins-child, forked_names, apart_from}
 use Rattle.mkb_model.proofs.Readiness.{named_rule, rewrite_ready, rewriting_ready}
 use Rattle.mkb_model.proofs.Openings.{run_completes}
 use Rattle.mkb_model.proofs.Living.{within_budget}
-use Rattle.mkb_model.proofs.Flyers.{taken_free, free_due, unlike}
+use Rattle.mkb_model.proofs.Flyers.{taken_free, free_due}
 use Rattle.mkb_model.proofs.LivingLabels.{IsLabelled, labelled_run}
-use Rattle.mkb_model.proofs.Resting.{IsBit, rules_in}
+use Rattle.mkb_model.proofs.Resting.{rules_in}
 use Rattle.mkb_model.proofs.Restful.{Stands, stands_run}
 use Rattle.mkb_model.proofs.Staying.{closers_stay, orienters_stay, KeepsConstraints}
 use Rattle.mkb_model.proofs.Deductions.{HasNamed, overlaps_deduced, both_ways_in, all_ways_in, picks_in}

@@ -1,21 +1,20 @@
 -- In a possible run the certificate of each living process is of the family and orders its constraints, and its rules follow from them.
-use Rattle.std.proofs.Common.{ℕ, zero, suc, ◌+◌, ◌≤◌, ◌<◌, ◌≡◌, ◌≢◌, ◌⊎◌, inl, inr, refl, sym, ap, ◌∙◌, subst, arith, List, [], ◌∷◌, ◌++◌, map, filter, flat_map, length, Contains, Bool, true, false, cond, not, Option, Some, None, ⊎_elim}
-use Rattle.std.specs.Prelude.{⊤, IsTrue, IsFalse, option_map, take}
+use Rattle.std.proofs.Common.{ℕ, zero, suc, ◌≤◌, ◌<◌, ◌≡◌, ◌≢◌, ◌⊎◌, inl, inr, refl, sym, ap, ◌∙◌, subst, arith, List, [], ◌∷◌, ◌++◌, map, length, Contains, Bool, true, false, cond, Option, Some, None, ⊎_elim}
+use Rattle.std.specs.Prelude.{⊤, IsFalse, option_map, take}
 use Rattle.std.specs.List.{find}
 use Rattle.std.specs.Option.{option_map_or}
 use Rattle.std.proofs.lemmas.List.Elements.{Contains-append_left, Contains-append_right, All-contains}
-use Rattle.kb_term.proofs.Steps.{contains_cases, contains_first}
+use Rattle.kb_term.proofs.Steps.{contains_first}
 use Rattle.kb_term.specs.Tree.{Tree}
 use Rattle.kb_term.specs.Pair.{Pair}
 use Rattle.kb_term.specs.Rule.{Rule, rule_of}
-use Rattle.kb_term.specs.Signature.{Signature, Problem, IsWithinLimits}
+use Rattle.kb_term.specs.Signature.{Problem, IsWithinLimits}
 use Rattle.kb_term.specs.Proving as Proving
 use Rattle.kb_term.specs.declared.origin.RuleRef.{RuleRef}
-use Rattle.kb_term.proofs.Steps.{Step}
 use Rattle.kb_term.proofs.Bridge.{step_to_position, reaches_to}
 use Rattle.kb_cert.specs.Family.{Orders, IsGreater, family}
 use Rattle.kb_cert.specs.declared.certificate.Certificate.{Certificate}
-use Rattle.kb_cert.proofs.FamilyLaws.{nothing_orderable, first_member}
+use Rattle.kb_cert.proofs.FamilyLaws.{nothing_orderable}
 use Rattle.kb_laws.proofs.Complete.{all_from}
 use Rattle.kb_label.specs.Names.{Name, root, has, name_eq, child}
 use Rattle.kb_label.specs.declared.verdict.Reason.{Reason}
@@ -24,7 +23,7 @@ use Rattle.kb_node.specs.declared.node.NodeId.{NodeId}
 use Rattle.kb_node.specs.declared.node.LabelKind.TheVariants.{E, C0, C1}
 use Rattle.kb_node.specs.declared.job.Job.{Job}
 use Rattle.kb_node.specs.declared.job.Job.TheVariants.{Reduce, Orient, Overlap, Close}
-use Rattle.mkb_model.specs.Plain.{Plain, PlainNode, Certified, constraint_kind, rule_kind, constraints_of, is_rule, is_equation, pair_in, rule_at, rules_at, certificate_of, state_of}
+use Rattle.mkb_model.specs.Plain.{Plain, PlainNode, Certified, constraint_kind, constraints_of, is_equation, pair_in, rule_at, rules_at, certificate_of, state_of}
 use Rattle.mkb_model.specs.Effects.{applied, effect, limit_of, give_up, effect_label, is_dropped, certify_in, forked_certificates, counted}
 use Rattle.mkb_model.specs.Proposals.{Proposes, OrientsBy}
 use Rattle.mkb_model.specs.Invariants.{IsCertified, RulesFollow}
@@ -34,17 +33,16 @@ use Rattle.mkb_model.specs.declared.proposed.Proposed.{Proposed}
 use Rattle.mkb_model.specs.declared.proposed.Proposed.TheVariants.{Facts, Rewrite, One, Both, Refuse, Deduce, Unjoined, Closed, Limit}
 use Rattle.mkb_model.specs.declared.entry.Entry.{Entry}
 use Rattle.mkb_model.specs.declared.entry.Entry.TheVariants.{Take, Commit, Drop, Abandon, Halt}
-use Rattle.mkb_model.proofs.Lists.{clash, decide, some_is, none_some, none_in, filter_in, filter_map_in, in_filter_map}
-use Rattle.mkb_model.proofs.Roles.{kind_number, KeepsRoles, on_there}
+use Rattle.mkb_model.proofs.Lists.{clash, decide, some_is, none_some, none_in, filter_map_in, in_filter_map}
+use Rattle.mkb_model.proofs.Roles.{kind_number, on_there}
 use Rattle.mkb_model.proofs.Views.{rule_listed}
-use Rattle.mkb_model.proofs.Orienting.{OrientRoles, orient-roles, keeps-oriented}
-use Rattle.mkb_model.proofs.Commits.{IsApartFrom, pairs-applied, orients, fork_other, children_differ}
-use Rattle.mkb_model.proofs.OneRoles.{fork_roles, bit_number}
+use Rattle.mkb_model.proofs.Orienting.{OrientRoles, orient-roles}
+use Rattle.mkb_model.proofs.Commits.{IsApartFrom, pairs-applied, orients, children_differ, bit_number, fork_roles}
 use Rattle.mkb_model.proofs.Simulation.{forked_names, apart_from}
 use Rattle.mkb_model.proofs.Living.{within_budget}
 use Rattle.mkb_model.proofs.Flyers.{unlike}
 use Rattle.mkb_model.proofs.Restful.{Stands, stands_run}
-use Rattle.mkb_model.proofs.Staying.{KeepsConstraints, IsOthers, constraints_applied}
+use Rattle.mkb_model.proofs.Staying.{KeepsConstraints, constraints_applied}
 use Rattle.mkb_model.proofs.AllFine.{OrdersWith, orient_orders, constraints_in, in_constraints, rule_back, states_ordered, commits_fine, children_new, inputs_only}
 
 -- ---- lists of certificates

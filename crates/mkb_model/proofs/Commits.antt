@@ -1,6 +1,6 @@
 -- What each commit is for each process: zero or more steps of completion.
 use Rattle.std.proofs.Common.{ℕ, ◌≡◌, ◌≢◌, ◌↔◌, inl, refl, sym, ap, ◌∙◌, subst, arith, List, [], ◌∷◌, ◌++◌, map, Option, Some, None, ⊎_elim, Bool, true, false, cond, Contains}
-use Rattle.std.specs.Prelude.{⊤, IsFalse, IsTrue}
+use Rattle.std.specs.Prelude.{⊤, IsFalse}
 use Rattle.std.specs.Option.{option_map_or}
 use Rattle.kb_term.specs.Tree.{Tree}
 use Rattle.kb_term.specs.View.{tree_of}
@@ -21,7 +21,7 @@ use Rattle.kb_node.specs.declared.job.Deduced.{Deduced}
 use Rattle.mkb_model.specs.declared.proposed.Proposed.{Proposed}
 use Rattle.mkb_model.specs.declared.proposed.Proposed.TheVariants.{Facts, Rewrite, One, Both, Refuse, Deduce, Unjoined, Closed, Limit}
 use Rattle.kb_label.proofs.Members.{has-meet, name_eq-eq, name_eq-refl}
-use Rattle.mkb_model.specs.Ready.{IsOn, KeepsPairs, OneRole, IsDeducedFrom, IsRewriteOn, IsReady, IsNew}
+use Rattle.mkb_model.specs.Ready.{IsOn, KeepsPairs, OneRole, IsDeducedFrom, IsReady, IsNew}
 use Rattle.mkb_model.proofs.Lists.{clash, decide, false_unless, and_off_right, some_is, none_some}
 use Rattle.mkb_model.proofs.Roles.{on_there, on-gains, has-one, keeps-with_node, keeps-gains_rule, keeps-gains_equation, keeps-loses, keeps-fork, on-fork, KeepsRoles, keeps_trans, refused-no_rule, refused-no_constraint, kind_number}
 use Rattle.mkb_model.proofs.Pairs.{same_kept, pairs-oriented, pairs-gains, pairs-added, pairs-rewritten, pairs-fork}
@@ -189,6 +189,50 @@ children_differ [] = (refl, refl)
 children_differ (false ∷ p) = children_differ p
 children_differ (true ∷ p) = children_differ p
 
+-- the direction that a child of a fork takes
+abbrev pub bit_number : Bool → ℕ
+bit_number false = 0
+bit_number true = 1
+
+-- at a fork each child orients the equation in its own direction, from the roles of the forked process
+pub fork_roles : (xs : List PlainNode) (p : Name) (n : ℕ) → IsNew xs p → IsOn xs p n E → (bit : Bool)
+    → OrientRoles xs p (oriented (child p true) (record { node = n; dir = 1 }) (oriented (child p false) (record { node = n; dir = 0 }) (map (forked_node p) xs))) (child p bit) (record { node = n; dir = bit_number bit })
+fork_roles xs p n new on bit = go bit
+  where
+    x0 : List PlainNode
+    x0 = map (forked_node p) xs
+
+    a0 : RuleRef
+    a0 = record { node = n; dir = 0 }
+
+    a1 : RuleRef
+    a1 = record { node = n; dir = 1 }
+
+    x1 : List PlainNode
+    x1 = oriented (child p false) a0 x0
+
+    x2 : List PlainNode
+    x2 = oriented (child p true) a1 x1
+
+    here0 : SameRoles xs p x0 (child p false)
+    here0 = on-fork p false xs (new false)
+
+    here1 : SameRoles xs p x1 (child p true)
+    here1 m j =
+        let k = keeps-oriented (child p false) a0 x0 (child p true) (children_differ p).1 m j in
+        let h = on-fork p true xs (new true) m j in
+        ((λ o. h.0 (k.0 o)), λ o. k.1 (h.1 o))
+
+    roles0 : OrientRoles xs p x2 (child p false) a0
+    roles0 = orient_after xs p x1 (child p false) x2 a0 (orient_before xs p x0 (child p false) x1 (child p false) a0 here0 (orient-roles (child p false) a0 x0 (on_there x0 (child p false) n E ((here0 n E).1 on)))) (keeps-oriented (child p true) a1 x1 (child p false) (children_differ p).0)
+
+    roles1 : OrientRoles xs p x2 (child p true) a1
+    roles1 = orient_before xs p x1 (child p true) x2 (child p true) a1 here1 (orient-roles (child p true) a1 x1 (on_there x1 (child p true) n E ((here1 n E).1 on)))
+
+    go : (bit : Bool) → OrientRoles xs p (oriented (child p true) (record { node = n; dir = 1 }) (oriented (child p false) (record { node = n; dir = 0 }) (map (forked_node p) xs))) (child p bit) (record { node = n; dir = bit_number bit })
+    go false = roles0
+    go true = roles1
+
 -- each commit of a fork is zero steps of each other process, and one step for each child from the state of the forked process
 pub fork_reaches : (g : Signature) (b : Plain) (p : Name) (n : ℕ) (c : Plain) → c.nodes ≡ oriented (child p true) (record { node = n; dir = 1 }) (oriented (child p false) (record { node = n; dir = 0 }) (map (forked_node p) b.nodes))
     → Fits c.nodes → IsNew b.nodes p → IsOn b.nodes p n E → (r : Pair) → pair_in b.nodes n ≡ Some r
@@ -212,25 +256,11 @@ fork_reaches g b p n c nodes fits new on r there orders0 orders1 = (
     x1 : List PlainNode
     x1 = oriented (child p false) a0 x0
 
-    x2 : List PlainNode
-    x2 = oriented (child p true) a1 x1
-
     keeps : KeepsPairs b.nodes c.nodes
     keeps = subst {A = List PlainNode} (KeepsPairs b.nodes) (sym nodes) (λ m q e. pairs-oriented (child p true) a1 x1 m ∙ pairs-oriented (child p false) a0 x0 m ∙ pairs-fork p b.nodes m ∙ e)
 
-    here0 : SameRoles b.nodes p x0 (child p false)
-    here0 = on-fork p false b.nodes (new false)
-
-    here1 : SameRoles b.nodes p x1 (child p true)
-    here1 m j =
-        let k = keeps-oriented (child p false) a0 x0 (child p true) (children_differ p).1 m j in
-        let h = on-fork p true b.nodes (new true) m j in
-        ((λ o. h.0 (k.0 o)), λ o. k.1 (h.1 o))
-
     roles0 : OrientRoles b.nodes p c.nodes (child p false) a0
-    roles0 = subst {A = List PlainNode} (λ ys. OrientRoles b.nodes p ys (child p false) a0) (sym nodes)
-        (orient_after b.nodes p x1 (child p false) x2 a0 (orient_before b.nodes p x0 (child p false) x1 (child p false) a0 here0 (orient-roles (child p false) a0 x0 (on_there x0 (child p false) n E ((here0 n E).1 on)))) (keeps-oriented (child p true) a1 x1 (child p false) (children_differ p).0))
+    roles0 = subst {A = List PlainNode} (λ ys. OrientRoles b.nodes p ys (child p false) a0) (sym nodes) (fork_roles b.nodes p n new on false)
 
     roles1 : OrientRoles b.nodes p c.nodes (child p true) a1
-    roles1 = subst {A = List PlainNode} (λ ys. OrientRoles b.nodes p ys (child p true) a1) (sym nodes)
-        (orient_before b.nodes p x1 (child p true) x2 (child p true) a1 here1 (orient-roles (child p true) a1 x1 (on_there x1 (child p true) n E ((here1 n E).1 on))))
+    roles1 = subst {A = List PlainNode} (λ ys. OrientRoles b.nodes p ys (child p true) a1) (sym nodes) (fork_roles b.nodes p n new on true)

@@ -1,36 +1,34 @@
 -- Where the verdict is 'complete', the rules of the process are a complete system for the problem.
-use Rattle.std.proofs.Common.{ℕ, zero, suc, ◌+◌, ◌≤◌, ◌<◌, ◌≡◌, ◌≢◌, ◌⊎◌, inl, inr, refl, sym, ap, ap₂, ◌∙◌, subst, arith, eqb→eq, List, [], ◌∷◌, ◌++◌, map, filter, flat_map, length, Contains, Bool, true, false, cond, not, ◌&&◌, ◌==◌, Option, Some, None, ⊎_elim}
-use Rattle.std.specs.Prelude.{⊤, T, Ok, option_map, slice_get}
+use Rattle.std.proofs.Common.{ℕ, zero, suc, ◌+◌, ◌≡◌, ◌≢◌, inl, inr, refl, sym, ap, ◌∙◌, subst, arith, eqb→eq, List, [], ◌∷◌, ◌++◌, map, filter, flat_map, length, Contains, Bool, true, false, cond, ◌==◌, Option, Some, None, ⊎_elim}
+use Rattle.std.specs.Prelude.{⊤, T, option_map, slice_get}
 use Rattle.std.specs.List.{filter_map, cons_option}
 use Rattle.std.proofs.lemmas.Bool.{eq-eqb}
-use Rattle.std.proofs.lemmas.List.Elements.{Contains-append_cases, Contains-append_left, Contains-append_right}
+use Rattle.std.proofs.lemmas.List.Elements.{Contains-append_left, Contains-append_right}
 use Rattle.kb_term.proofs.Steps.{contains_cases, contains_behind, contains_first}
 use Rattle.kb_term.proofs.Instances.{instance-variable}
 use Rattle.kb_term.specs.Tree.{Tree, variable}
-use Rattle.kb_term.specs.Substitution.{instance}
 use Rattle.kb_term.specs.Rule.{Rule}
 use Rattle.kb_term.specs.Signature.{Problem, IsWithinLimits, IsEquationWithinLimits}
-use Rattle.kb_term.specs.Proving.{Step, IsPath, IsChain, Reaches, IsJoinable, EquationStep, Proves}
+use Rattle.kb_term.specs.Proving.{IsPath, IsChain, Reaches, IsJoinable, Proves}
 use Rattle.kb_term.specs.declared.origin.RuleRef.{RuleRef}
 use Rattle.std.proofs.lemmas.List.Elements.{All-contains}
 use Rattle.kb_rewrite.specs.NormalForm.{NormalisesTo, StrategyStep, IsNormal, form}
-use Rattle.kb_overlap.specs.Overlap.{Overlap as Listed, IsOverlapList}
+use Rattle.kb_overlap.specs.Overlap.{IsOverlapList}
 use Rattle.kb_cert.specs.Family.{family}
 use Rattle.kb_laws.specs.Complete.{IsCompleteSystem}
 use Rattle.kb_laws.specs.Overlaps.{OverlapsClose, HaveOneNormalForm}
 use Rattle.kb_laws.proofs.Closing.{strategy_step, closed_joins}
 use Rattle.kb_laws.proofs.Complete.{complete_state}
-use Rattle.kb_label.specs.Names.{Name, has}
-use Rattle.kb_label.specs.declared.verdict.Verdict.{Verdict}
+use Rattle.kb_label.specs.Names.{Name}
 use Rattle.kb_label.specs.declared.verdict.Verdict.TheVariants.{Complete}
 use Rattle.mkb_model.specs.Jobs.{ref_eq}
-use Rattle.mkb_model.specs.Plain.{Plain, numbers_from, node_numbers, directions, rules_of, is_rule, equations_of, equations_at, rule_at, rules_at, state_of}
-use Rattle.mkb_model.specs.Proposals.{NamedRule, NamedOverlap, named_rules, as_rules, OverlapsOf, OverlapsOfAll, all_ways, IsClosed, rules_on, equations_on, HasForm}
+use Rattle.mkb_model.specs.Plain.{Plain, numbers_from, node_numbers, directions, rules_of, is_rule, equations_at, rule_at, state_of}
+use Rattle.mkb_model.specs.Proposals.{NamedRule, NamedOverlap, named_rules, as_rules, OverlapsOf, OverlapsOfAll, all_ways, IsClosed, rules_on, HasForm, IsJoinedBy}
 use Rattle.mkb_model.specs.Verdicts.{verdict, HasCompleted}
 use Rattle.mkb_model.specs.Headline.{states_before, states_of}
 use Rattle.mkb_model.specs.Journals.{Moment, IsPossibleRun, IsFreeJob}
 use Rattle.mkb_model.specs.GoodAnswers.{IsGoodAnswer}
-use Rattle.mkb_model.proofs.Lists.{clash, decide, false_unless, same_test, and_both, and_left, and_right, and_off, and_off_right, some_is, none_some, none_in, in_map, in_flat_map, filter_in, flat_map_in, filter_map_in, numbers_in}
+use Rattle.mkb_model.proofs.Lists.{false_unless, same_test, and_both, and_off, and_off_right, some_is, none_some, none_in, in_map, in_flat_map, filter_in, flat_map_in, numbers_in}
 use Rattle.mkb_model.proofs.Meanings.{verdict_means}
 use Rattle.mkb_model.proofs.Readiness.{named_rule}
 use Rattle.mkb_model.proofs.Ancestors.{ancestor_is, begins-refl}
@@ -132,6 +130,11 @@ overlaps_among (x ∷ es) os (here, later, this, rest, is) e i = ⊎_elim
 both_in : (rs : List NamedRule) (x y : NamedRule) → Contains rs x → Contains rs y → Contains (all_ways rs) (x, y)
 both_in rs x y i k = in_flat_map (λ x. map (λ y. (x, y)) rs) rs x (x, y) i (in_map (λ z. (x, z)) rs y k)
 
+-- without equations what is joined is equal
+joined_equal : (u v : Tree) → IsJoinedBy [] u v → u ≡ v
+joined_equal u v (inl e) = e
+joined_equal u v (inr (q, e, i)) = none_in i
+
 -- without equations the two normal forms are one
 one_form : (rs : List NamedRule) (rules : List Rule) (s t u v : Tree) → as_rules rs ≡ rules → HasForm rs s u → HasForm rs t v → u ≡ v → HaveOneNormalForm rules s t
 one_form rs rules s t u v e h k q = (u, h.0, k.0, subst {A = List Rule} (λ z. NormalisesTo z s (form u h.0)) e h.1, subst {A = List Rule} (λ z. NormalisesTo z t (form u k.0)) e (subst {A = Tree} (λ z. NormalisesTo (as_rules rs) t (form z k.0)) (sym q) k.1))
@@ -147,7 +150,7 @@ overlaps_close rs rules inputs e apart closed i j outer inner hi hj =
       λ o c.
           let named : NamedOverlap = record { outer = x.0.ref; inner = y.0.ref; overlap = o } in
           let joins = closed.joined named (k.2 named (subst {A = List NamedOverlap} (λ zs. Contains zs named) (sym k.1.2) (in_map (λ o. record { outer = x.0.ref; inner = y.0.ref; overlap = o }) k.1.0 o c))) in
-          (joins.0.0, joins.0.1, joins.1, one_form rs rules joins.0.0 joins.0.1 joins.2.0 joins.2.1 e joins.2.2 joins.2.3 (⊎_elim (λ q. q) (λ q. none_in q.2) joins.2.4)),
+          (joins.0.0, joins.0.1, joins.1, one_form rs rules joins.0.0 joins.0.1 joins.2.0 joins.2.1 e joins.2.2 joins.2.3 (joined_equal joins.2.0 joins.2.1 joins.2.4)),
     )
 
 -- ---- normal forms

@@ -1,7 +1,6 @@
 -- A deduced pair comes of two steps from one well-formed term: a most general unifier of well-formed terms is well formed.
-use Rattle.std.proofs.Common.{ℕ, zero, suc, ◌+◌, ◌≡◌, ◌≢◌, ◌⊎◌, inl, inr, refl, sym, ap, ap₂, ◌∙◌, subst, arith, List, [], ◌∷◌, ◌++◌, map, flat_map, length, Contains, Bool, true, false, cond, Option, Some, None, ⊎_elim}
-use Rattle.std.specs.Prelude.{Result, Ok, Err, option_map, option_and_then}
-use Rattle.std.specs.List.{filter_map}
+use Rattle.std.proofs.Common.{ℕ, zero, suc, ◌≡◌, ◌⊎◌, inl, inr, refl, sym, ap, ap₂, ◌∙◌, subst, List, [], ◌∷◌, map, length, Contains, Bool, true, false, cond, Option, Some, None, ⊎_elim}
+use Rattle.std.specs.Prelude.{Ok, option_and_then}
 use Rattle.std.proofs.lemmas.List.Elements.{Contains-append_cases}
 use Rattle.kb_term.proofs.Steps.{contains_cases, contains_behind, contains_first}
 use Rattle.kb_term.specs.Tree.{Tree, Trees, variable, apply, no_trees, more_trees, list_of}
@@ -12,18 +11,17 @@ use Rattle.kb_term.specs.Rule.{Rule, rule_of, IsVariantRule}
 use Rattle.kb_term.specs.Signature.{Signature, HasArity, IsWellFormed, AreWellFormed, IsRuleOver}
 use Rattle.kb_term.specs.Proving.{RewritesAt}
 use Rattle.kb_term.specs.declared.limit.Limit.{Limit as TermLimit}
-use Rattle.kb_term.specs.declared.origin.RuleRef.{RuleRef}
 use Rattle.kb_term.proofs.Subtrees.{subtree-instance}
 use Rattle.kb_term.proofs.Instances.{instance-instance}
-use Rattle.kb_unify.specs.Unifier.{IsUnifier, IsMostGeneralUnifier}
-use Rattle.kb_overlap.specs.Overlap.{Overlap as Listed, IsOverlapOrLimit, ListsOverlaps, IsOverlapList, overlap_positions, overlap_limit, pair_or_limit}
+use Rattle.kb_unify.specs.Unifier.{IsMostGeneralUnifier}
+use Rattle.kb_overlap.specs.Overlap.{Overlap as Listed, IsOverlapOrLimit, ListsOverlaps, overlap_positions, overlap_limit, pair_or_limit}
 use Rattle.kb_laws.proofs.Cleaning.{has_arity, clean, cleans, clean_well, length-instances}
 use Rattle.kb_laws.proofs.Complete.{has_over}
 use Rattle.kb_label.specs.Names.{Name}
 use Rattle.kb_node.specs.declared.job.Deduced.{Deduced}
 use Rattle.mkb_model.specs.Jobs.{ref_eq}
-use Rattle.mkb_model.specs.Plain.{Plain, PlainNode, rule_kind, pair_in, sides}
-use Rattle.mkb_model.specs.Proposals.{NamedRule, NamedOverlap, OverlapsOf, OverlapsOfAll, AreDeduced, both_ways, all_ways, Picks}
+use Rattle.mkb_model.specs.Plain.{PlainNode, rule_kind, pair_in, sides}
+use Rattle.mkb_model.specs.Proposals.{NamedRule, NamedOverlap, OverlapsOfAll, AreDeduced, both_ways, all_ways, Picks}
 use Rattle.mkb_model.specs.Ready.{IsOn, IsDeducedFrom}
 use Rattle.mkb_model.proofs.Lists.{some_is, none_some, none_in, map_in, flat_map_in}
 use Rattle.mkb_model.proofs.Rewriting.{some_canonical}

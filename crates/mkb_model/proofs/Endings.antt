@@ -1,6 +1,6 @@
 -- What a verdict says, that it stays, and that where none stands and nothing may be taken a ticket is in flight.
-use Rattle.std.proofs.Common.{◌≡◌, ◌≢◌, ◌⊎◌, inl, inr, refl, sym, ap, ◌∙◌, subst, List, [], ◌∷◌, ◌++◌, map, flat_map, Contains, Bool, true, false, cond, not, ◌&&◌, ◌||◌, ◌==◌, Option, Some, None, ⊎_elim}
-use Rattle.std.specs.Prelude.{option_map, option_and_then, IsTrue}
+use Rattle.std.proofs.Common.{◌≡◌, ◌≢◌, ◌⊎◌, inl, inr, refl, sym, ◌∙◌, subst, List, [], ◌∷◌, ◌++◌, map, flat_map, Contains, Bool, true, false, cond, not, ◌&&◌, ◌||◌, ◌==◌, Option, Some, None, ⊎_elim}
+use Rattle.std.specs.Prelude.{option_map, option_and_then}
 use Rattle.std.specs.List.{find, list_any, list_all}
 use Rattle.std.proofs.lemmas.List.Elements.{Contains-append_cases, Contains-append_left, Contains-append_right}
 use Rattle.kb_term.proofs.Steps.{contains_cases, contains_behind, contains_first}
@@ -23,7 +23,7 @@ use Rattle.mkb_model.specs.declared.entry.Entry.{Entry}
 use Rattle.mkb_model.specs.declared.entry.Entry.TheVariants.{Take, Commit, Drop, Abandon, Halt}
 use Rattle.kb_label.proofs.Members.{name_eq-eq, name_eq-refl}
 use Rattle.mkb_model.specs.Journals.{IsLeaving}
-use Rattle.mkb_model.proofs.Lists.{clash, decide, false_unless, and_left, and_right, and_both, or_one, or_left, or_right, not_of_false, some_is, none_some, none_in, in_filter, map_in, flat_map_in, in_flat_map, find_in, find_none, none_any, all_of}
+use Rattle.mkb_model.proofs.Lists.{clash, decide, false_unless, and_both, or_one, or_left, or_right, not_of_false, none_some, none_in, in_filter, map_in, flat_map_in, in_flat_map, find_in, find_none, none_any, all_of}
 
 -- ---- names in lists
 

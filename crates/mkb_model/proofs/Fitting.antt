@@ -158,25 +158,25 @@ fits-applied b (Limit j cause) h f = f
 
 -- ---- what is proposed
 
--- a deduced pair is the canonical pair of the sides of an overlap
+-- a deduced pair is the canonical pair of the sides of an overlap, and names its rules and its position
 pub deduced_from : (ds : List Deduced) (os : List NamedOverlap) → AreDeduced ds os → (d : Deduced) → Contains ds d
-    → (o : NamedOverlap) × Contains os o × (s : Tree) × (t : Tree) × (o.overlap.sides ≡ Ok (s, t)) × (canonical_pair s t ≡ Some d.pair)
+    → (o : NamedOverlap) × Contains os o × (s : Tree) × (t : Tree) × (o.overlap.sides ≡ Ok (s, t)) × (canonical_pair s t ≡ Some d.pair) × (o.outer ≡ d.outer) × (o.inner ≡ d.inner) × (o.overlap.position ≡ d.position)
 deduced_from ds os h d i =
     let f : Deduced → RuleRef × RuleRef × List ℕ × Pair = λ d. (d.outer, d.inner, d.position, d.pair) in
     let j = subst {A = List (RuleRef × RuleRef × List ℕ × Pair)} (λ ts. Contains ts (f d)) h (in_map f ds d i) in
     let k = flat_map_in (λ (o : NamedOverlap). deduced_pair o o.overlap.sides) os (f d) j in
     let r = go k.0 k.0.overlap.sides refl k.2 in
-    (k.0, k.1, r.0, r.1, r.2, r.3)
+    (k.0, k.1, r.0, r.1, r.2, r.3, r.4, r.5, r.6)
   where
     in_list : (o : Option Pair) (q : Pair) → Contains (option_to_list o) q → o ≡ Some q
     in_list None q c = none_in c
     in_list (Some z) q c = ⊎_elim (λ e. ap Some e) (λ k. none_in k) (contains_cases z [] q c)
 
-    go : (o : NamedOverlap) (r : Result (Tree × Tree) TermLimit) → o.overlap.sides ≡ r → Contains (deduced_pair o r) (d.outer, d.inner, d.position, d.pair) → (s : Tree) × (t : Tree) × (o.overlap.sides ≡ Ok (s, t)) × (canonical_pair s t ≡ Some d.pair)
+    go : (o : NamedOverlap) (r : Result (Tree × Tree) TermLimit) → o.overlap.sides ≡ r → Contains (deduced_pair o r) (d.outer, d.inner, d.position, d.pair) → (s : Tree) × (t : Tree) × (o.overlap.sides ≡ Ok (s, t)) × (canonical_pair s t ≡ Some d.pair) × (o.outer ≡ d.outer) × (o.inner ≡ d.inner) × (o.overlap.position ≡ d.position)
     go o (Err l) e c = none_in c
     go o (Ok (s, t)) e c =
         let m = map_in (λ q. (o.outer, o.inner, o.overlap.position, q)) (option_to_list (canonical_pair s t)) (d.outer, d.inner, d.position, d.pair) c in
-        (s, t, e, in_list (canonical_pair s t) d.pair (subst {A = Pair} (Contains (option_to_list (canonical_pair s t))) (ap (λ (z : RuleRef × RuleRef × List ℕ × Pair). z.3) m.2) m.1))
+        (s, t, e, in_list (canonical_pair s t) d.pair (subst {A = Pair} (Contains (option_to_list (canonical_pair s t))) (ap (λ (z : RuleRef × RuleRef × List ℕ × Pair). z.3) m.2) m.1), ap (λ (z : RuleRef × RuleRef × List ℕ × Pair). z.0) m.2, ap (λ (z : RuleRef × RuleRef × List ℕ × Pair). z.1) m.2, ap (λ (z : RuleRef × RuleRef × List ℕ × Pair). z.2) m.2)
 
 pub proposed_pairs : (b : Plain) (j : Job) (x : Proposed) → Proposes b j x → HasPairs x
 proposed_pairs b (Overlap p a c) (Deduce d e ds) h = λ z i. let r = deduced_from ds h.2.4.overlaps h.2.4.proposed z i in (r.2, r.3, r.5)

@@ -1,5 +1,5 @@
 -- Tickets in flight: their takes were due; who orients or closes lives; two such tickets are of different processes.
-use Rattle.std.proofs.Common.{ℕ, suc, ◌+◌, ◌≤◌, ◌<◌, ◌≡◌, ◌≢◌, ◌⊎◌, inl, inr, refl, sym, ap, ◌∙◌, subst, arith, eqb→eq, List, [], ◌∷◌, ◌++◌, filter, length, Contains, Bool, true, false, cond, not, ◌==◌, ◌&&◌, get_or, Option, Some, None, ⊎_elim}
+use Rattle.std.proofs.Common.{ℕ, suc, ◌≤◌, ◌<◌, ◌≡◌, ◌≢◌, ◌⊎◌, inl, inr, refl, sym, ap, ◌∙◌, subst, arith, List, [], ◌∷◌, ◌++◌, filter, length, Contains, Bool, true, false, cond, not, ◌==◌, get_or, Option, Some, None, ⊎_elim}
 use Rattle.std.specs.Prelude.{⊤, AllPairs, IsFalse}
 use Rattle.std.specs.Option.{option_map_or}
 use Rattle.std.proofs.lemmas.Bool.{eq-eqb}
@@ -7,7 +7,7 @@ use Rattle.std.proofs.lemmas.List.{get_or_default}
 use Rattle.std.proofs.lemmas.List.Elements.{Contains-append_cases}
 use Rattle.kb_term.proofs.Steps.{contains_cases}
 use Rattle.kb_term.specs.Signature.{Problem}
-use Rattle.kb_label.specs.Names.{Name, root, has, name_eq, relabel}
+use Rattle.kb_label.specs.Names.{Name, has, name_eq}
 use Rattle.kb_label.proofs.Members.{name_eq-eq, name_eq-refl}
 use Rattle.kb_label.specs.declared.verdict.Reason.{Reason}
 use Rattle.kb_node.specs.declared.job.Job.{Job}
@@ -18,13 +18,13 @@ use Rattle.mkb_model.specs.DueJobs.{is_due, is_work_due, is_close_due, is_workin
 use Rattle.mkb_model.specs.Effects.{applied, effect, limit_of, give_up, effect_label}
 use Rattle.mkb_model.specs.Proposals.{Proposes}
 use Rattle.mkb_model.specs.Invariants.{FlightIsClear}
-use Rattle.mkb_model.specs.Journals.{Moment, Follows, IsPossibleRun, IsFreeJob, tickets, is_take, in_flight}
+use Rattle.mkb_model.specs.Journals.{Moment, Follows, IsPossibleRun, IsFreeJob, tickets, is_take}
 use Rattle.mkb_model.specs.declared.proposed.Proposed.{Proposed}
 use Rattle.mkb_model.specs.declared.proposed.Proposed.TheVariants.{Facts, Rewrite, One, Both, Refuse, Deduce, Unjoined, Closed, Limit}
 use Rattle.mkb_model.specs.declared.entry.Ticket.{Ticket}
 use Rattle.mkb_model.specs.declared.entry.Entry.{Entry}
 use Rattle.mkb_model.specs.declared.entry.Entry.TheVariants.{Take, Commit, Drop, Abandon, Halt}
-use Rattle.mkb_model.proofs.Lists.{clash, decide, false_unless, and_left, and_right, none_in, filter_in, flat_map_in, equal_or_more, not_true}
+use Rattle.mkb_model.proofs.Lists.{clash, false_unless, and_left, none_in, filter_in, flat_map_in, equal_or_more, not_true}
 use Rattle.mkb_model.proofs.Roles.{below}
 use Rattle.mkb_model.proofs.Flights.{effect_flight, flight_clear}
 use Rattle.mkb_model.proofs.Labels.{other_lives}

@@ -1,5 +1,5 @@
 -- What keeps a list of names a label: in name order, and of living processes.
-use Rattle.std.proofs.Common.{ℕ, ◌≤◌, ◌<◌, ◌≡◌, ◌≢◌, ◌⊎◌, inl, inr, refl, sym, ap, ◌∙◌, subst, List, [], ◌∷◌, ◌++◌, map, filter, length, Contains, Bool, true, false, not, ◌&&◌, ◌||◌, Option, Some, None, ⊎_elim}
+use Rattle.std.proofs.Common.{ℕ, ◌≤◌, ◌<◌, ◌≡◌, ◌≢◌, ◌⊎◌, inl, inr, refl, sym, ◌∙◌, subst, List, [], ◌∷◌, map, filter, length, Bool, true, false, not, ◌&&◌, ◌||◌, Option, Some, None, ⊎_elim}
 use Rattle.kb_term.specs.Tree.{Tree}
 use Rattle.kb_term.specs.Pair.{Pair, canonical_pair}
 use Rattle.kb_term.specs.declared.origin.RuleRef.{RuleRef}
@@ -9,16 +9,16 @@ use Rattle.kb_term.specs.declared.origin.Origin.{Origin}
 use Rattle.kb_term.specs.declared.origin.Origin.TheVariants.{Rewrite as ByRewrite, Overlap as ByOverlap}
 use Rattle.kb_overlap.specs.Trace.{other_side}
 use Rattle.kb_label.specs.Names.{Name, has, name_eq, child, add, join, meet, minus, relabel, IsInNameOrder}
-use Rattle.kb_label.proofs.Members.{has-filter, has-add, has-join, has-minus, name_eq-eq, name_eq-refl}
+use Rattle.kb_label.proofs.Members.{has-filter, has-add, has-join, name_eq-eq, name_eq-refl}
 use Rattle.kb_label.proofs.Ordered.{ordered-add, ordered-filter, ordered-join}
 use Rattle.kb_label.proofs.Forked.{relabelled}
 use Rattle.kb_label.proofs.Sets.{has-relabel, relabel-absent}
 use Rattle.kb_node.specs.declared.node.LabelKind.{LabelKind}
-use Rattle.kb_node.specs.declared.node.LabelKind.TheVariants.{R0, R1, E, C0, C1, X}
+use Rattle.kb_node.specs.declared.node.LabelKind.TheVariants.{R0, R1, E}
 use Rattle.kb_node.specs.declared.job.Deduced.{Deduced}
 use Rattle.mkb_model.specs.Plain.{PlainNode, label_at, rule_kind, constraint_kind, other}
 use Rattle.mkb_model.specs.Effects.{with_label, loses, gains, gains_equation, gains_rule, with_node, node_of, oriented, added, moved_to, rewritten, direction, if_strict, forked_node}
-use Rattle.mkb_model.proofs.Lists.{clash, decide, and_right, and_left, and_both, or_one, or_left, or_right, not_of_false, false_unless}
+use Rattle.mkb_model.proofs.Lists.{clash, and_right, and_left, and_both, or_one, or_left, or_right, not_of_false, false_unless}
 use Rattle.mkb_model.proofs.Roles.{below, put_same, put_other, put_beyond, here_or_other, IsHere, label-with_node, label-fork, has-one}
 
 -- the names are in order, and each is one of the living

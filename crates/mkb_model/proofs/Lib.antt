@@ -33,6 +33,8 @@ pub mod Certificates
 pub mod Completed
 pub mod Origins
 pub mod Sound
+pub mod Drops
+pub mod Unique
 pub mod Readiness
 pub mod Simulation
 pub mod OneRoles
@@ -46,8 +48,6 @@ mod EmptyRun
 mod ForkRun
 mod ForkViews
 mod Replays
-pub mod OneRun
-pub mod Drops
 pub mod Renamings
 pub mod Alike
 pub mod OneProposal

@@ -1,14 +1,14 @@
 -- The living names are what forks make of the first, and at most 256; tickets are numbered; the commits stay within the budget.
-use Rattle.std.proofs.Common.{ℕ, suc, ◌+◌, ◌≤◌, ◌<◌, ◌≡◌, ◌≢◌, refl, sym, ap, ◌∙◌, subst, arith, List, [], ◌∷◌, ◌++◌, filter, length, Contains, Bool, true, false, not, ◌==◌, get_or, Option, Some, None, ⊎_elim}
+use Rattle.std.proofs.Common.{ℕ, suc, ◌+◌, ◌≤◌, ◌≡◌, ◌≢◌, refl, sym, ap, ◌∙◌, subst, arith, List, [], ◌∷◌, ◌++◌, filter, length, Contains, Bool, true, false, not, ◌==◌, get_or, Option, Some, None, ⊎_elim}
 use Rattle.std.specs.Prelude.{AllPairs, nat_le}
 use Rattle.std.specs.Option.{option_map_or}
-use Rattle.std.proofs.lemmas.Bool.{leb-false, eq-eqb}
+use Rattle.std.proofs.lemmas.Bool.{leb-false}
 use Rattle.std.proofs.lemmas.List.Kept.{AllPairs-filter}
 use Rattle.std.proofs.lemmas.List.Quantifiers.{all_pairs_push}
 use Rattle.std.proofs.lemmas.List.Elements.{Contains-get_or, Contains-append_cases}
 use Rattle.kb_term.proofs.Steps.{contains_cases}
 use Rattle.kb_term.specs.Signature.{Problem}
-use Rattle.kb_label.specs.Names.{Name, root, has, relabel}
+use Rattle.kb_label.specs.Names.{Name, has, relabel}
 use Rattle.kb_label.specs.Forks.{IsForked, at_first, at_fork}
 use Rattle.kb_label.specs.declared.verdict.Reason.{Reason}
 use Rattle.kb_label.specs.declared.verdict.Reason.TheVariants.{Processes, Nodes}
@@ -18,7 +18,7 @@ use Rattle.kb_node.specs.declared.job.Job.{Job}
 use Rattle.mkb_model.specs.Plain.{Plain}
 use Rattle.mkb_model.specs.Effects.{applied, effect, limit_of, give_up, effect_label, first_some, some_if, is_full, most_living}
 use Rattle.mkb_model.specs.Invariants.{LivingIsForked, FlightIsNumbered, IsWithinBudget}
-use Rattle.mkb_model.specs.Journals.{Moment, Follows, IsRunBy, tickets, opening}
+use Rattle.mkb_model.specs.Journals.{Moment, Follows, IsRunBy, tickets}
 use Rattle.mkb_model.specs.declared.proposed.Proposed.{Proposed}
 use Rattle.mkb_model.specs.declared.proposed.Proposed.TheVariants.{Facts, Rewrite, One, Both, Refuse, Deduce, Unjoined, Closed, Limit}
 use Rattle.mkb_model.specs.declared.entry.Ticket.{Ticket}

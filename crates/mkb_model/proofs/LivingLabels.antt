@@ -1,5 +1,5 @@
 -- In a possible run every label names living processes, in their order.
-use Rattle.std.proofs.Common.{ℕ, zero, suc, ◌+◌, ◌<◌, ◌≡◌, ◌≢◌, ◌⊎◌, inl, inr, refl, sym, ap, ◌∙◌, subst, arith, List, [], ◌∷◌, ◌++◌, map, filter, length, Contains, Bool, true, false, cond, not, ◌&&◌, ◌==◌, get_or, Option, Some, None, ⊎_elim}
+use Rattle.std.proofs.Common.{ℕ, ◌+◌, ◌≡◌, refl, sym, ap, ◌∙◌, subst, List, [], ◌∷◌, map, Contains, Bool, true, false, cond, not, ◌&&◌, Option, Some, None, ⊎_elim}
 use Rattle.std.specs.Prelude.{⊤, IsFalse}
 use Rattle.std.specs.Option.{option_map_or}
 use Rattle.std.proofs.lemmas.Option.{slice_get-get_or}
@@ -11,17 +11,16 @@ use Rattle.kb_term.specs.Signature.{Problem}
 use Rattle.kb_term.specs.declared.origin.RuleRef.{RuleRef}
 use Rattle.kb_term.specs.declared.origin.Found.{Found}
 use Rattle.kb_term.specs.declared.origin.Origin.TheVariants.{Input}
-use Rattle.kb_label.specs.Names.{Name, root, has, child, relabel, add, join, meet, minus, IsInNameOrder}
+use Rattle.kb_label.specs.Names.{Name, root, has, child, relabel, join, meet, IsInNameOrder}
 use Rattle.kb_label.specs.declared.verdict.Reason.{Reason}
 use Rattle.kb_label.specs.declared.verdict.Reason.TheVariants.{Nodes, Processes, Size, Depth, Variables, Steps}
 use Rattle.kb_node.specs.declared.job.Job.{Job}
 use Rattle.kb_node.specs.declared.job.Job.TheVariants.{Reduce, Orient, Overlap, Close}
 use Rattle.kb_node.specs.declared.job.LimitCause.{LimitCause}
-use Rattle.kb_node.specs.declared.node.LabelKind.{LabelKind}
-use Rattle.kb_node.specs.declared.node.LabelKind.TheVariants.{R0, R1, E, C0, C1, X}
+use Rattle.kb_node.specs.declared.node.LabelKind.TheVariants.{E, X}
 use Rattle.mkb_model.specs.Jobs.{process_of, ref_eq}
-use Rattle.mkb_model.specs.Plain.{Plain, PlainNode, Done, GivenUp, label_in, label_at, label_or_none, rule_kind, other, pair_at, is_equation, is_over, done_of, nobody_over}
-use Rattle.mkb_model.specs.Effects.{applied, effect, limit_of, give_up, effect_label, rewrite_label, overlap_label, orient_label, redex_label, limit_label, not_over, if_strict, rewritten, oriented, added, gains, with_node, node_of, gains_done_in, reason_eq, is_dropped, forked_node}
+use Rattle.mkb_model.specs.Plain.{Plain, PlainNode, Done, GivenUp, label_in, label_at, label_or_none, rule_kind, other, pair_at, is_equation, is_over, done_of}
+use Rattle.mkb_model.specs.Effects.{applied, effect, limit_of, give_up, effect_label, rewrite_label, overlap_label, orient_label, redex_label, limit_label, not_over, if_strict, rewritten, oriented, with_node, node_of, gains_done_in, reason_eq, is_dropped, forked_node}
 use Rattle.mkb_model.specs.Proposals.{Proposes}
 use Rattle.mkb_model.specs.Invariants.{IsLabel, LabelsAreLabels}
 use Rattle.mkb_model.specs.Journals.{Moment, Follows, IsPossibleRun, IsFreeJob, opening, with_input, with_inputs}
@@ -31,7 +30,7 @@ use Rattle.mkb_model.specs.declared.entry.Ticket.{Ticket}
 use Rattle.mkb_model.specs.declared.entry.Entry.{Entry}
 use Rattle.mkb_model.specs.declared.entry.Entry.TheVariants.{Take, Commit, Drop, Abandon, Halt}
 use Rattle.mkb_model.proofs.Lists.{none_in, map_in}
-use Rattle.mkb_model.proofs.Labels.{IsLabelOf, AreLabels, label-none, label-one, label-filter, label-join, label-add, label-strict, label-relabel, child_lives, labels-gains, labels-gains_equation, labels-with_node, labels-oriented, labels-added, labels-rewritten, labels-fork}
+use Rattle.mkb_model.proofs.Labels.{IsLabelOf, AreLabels, label-none, label-one, label-filter, label-join, label-add, label-relabel, child_lives, labels-gains, labels-gains_equation, labels-with_node, labels-oriented, labels-added, labels-rewritten, labels-fork}
 use Rattle.mkb_model.proofs.Commits.{orients}
 use Rattle.mkb_model.proofs.Flyers.{is_own, own_of, OwnersLive, owners_live}
 

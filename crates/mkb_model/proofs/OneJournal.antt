@@ -19,7 +19,7 @@ use Rattle.mkb_model.specs.declared.entry.Entry.TheVariants.{Take, Commit, Drop,
 use Rattle.mkb_model.proofs.Lists.{clash, none_in}
 use Rattle.mkb_model.proofs.Living.{flight_numbered}
 use Rattle.mkb_model.proofs.AllFine.{earlier_run, states_ordered, commits_fine}
-use Rattle.mkb_model.proofs.OneRun.{one_take}
+use Rattle.mkb_model.proofs.Unique.{taken_once, ticket_once}
 use Rattle.mkb_model.proofs.OneProposal.{one_proposal}
 
 -- the rules of each process hold their variables
@@ -30,20 +30,6 @@ rules_hold P n ms c within run p rule i = ((states_ordered P n ms c within run (
 pub taken_one : (P : Problem) (n : ℕ) (ms : List Moment) (c : Plain) → IsWithinLimits P → IsPossibleRun P n ms c → (j : Job) (x y : Proposed) → Proposes c j x → Proposes c j y → x ≡ y
 taken_one P n ms c within run j x y = one_proposal c j x y (rules_hold P n ms c within run (process_of j))
 
--- tickets in flight with one number are one
-same_ticket : (ts : List Ticket) → AllPairs (λ (t u : Ticket). t.number ≢ u.number) ts → (x y : Ticket) → Contains ts x → Contains ts y → x.number ≡ y.number → x ≡ y
-same_ticket [] h x y i j e = none_in i
-same_ticket (z ∷ ts) h x y i j e = go (λ k l. same_ticket ts (λ m n d q r. h (suc m) (suc n) d (omega (arith, q)) (omega (arith, r))) x y k l e) (contains_cases z ts x i) (contains_cases z ts y j)
-  where
-    differs : (v : Ticket) → Contains ts v → z.number ≢ v.number
-    differs v (k, l, q) = subst {A = Ticket} (λ w. z.number ≢ w.number) q (h 0 (suc k) v (omega arith) (omega (arith, l)))
-
-    go : (Contains ts x → Contains ts y → x ≡ y) → (z ≡ x) ⊎ Contains ts x → (z ≡ y) ⊎ Contains ts y → x ≡ y
-    go later (inl p) (inl q) = sym p ∙ q
-    go later (inl p) (inr q) = absurd (differs y q (ap (λ (w : Ticket). w.number) p ∙ e))
-    go later (inr p) (inl q) = absurd (differs x p (ap (λ (w : Ticket). w.number) q ∙ sym e))
-    go later (inr p) (inr q) = later p q
-
 module _ (P : Problem) (n : ℕ) (within : IsWithinLimits P) (past : List Moment) (b : Plain) (run : IsPossibleRun P n past b) where
   -- two ends of one ticket end one proposal of one worker's job
   record OneEnd (v w : ℕ) (i j : Job) (x y : Proposed) : Type 0 where
@@ -53,12 +39,14 @@ module _ (P : Problem) (n : ℕ) (within : IsWithinLimits P) (past : List Moment
 
   one_end : (v w t : ℕ) (i j : Job) (x y : Proposed) → IsFinishing past b v t i x → IsFinishing past b w t j y → OneEnd v w i j x y
   one_end v w t i j x y f g =
-      let k = one_take IsFreeJob P n past b run f.before g.before v w t i j f.taken g.taken in
+      let q = ticket_once b.flight (flight_numbered IsFreeJob P n past b run).distinct (record { number = t; worker = v; job = i }) (record { number = t; worker = w; job = j }) f.flying g.flying refl in
+      let k : i ≡ j = ap (λ (z : Ticket). z.job) q in
+      let e : f.before ≡ g.before = taken_once P n past b run f.before g.before v w t i j f.taken g.taken in
       let r = earlier_run IsFreeJob P n past b run (record { board = f.before; entry = Take v t i }) f.taken in
       record {
-        worker = k.2;
-        job = k.1;
-        proposal = taken_one P n r.0 f.before within r.1 i x y f.proposed (subst {A = Plain} (λ z. Proposes z i y) (sym k.0) (subst {A = Job} (λ z. Proposes g.before z y) (sym k.1) g.proposed));
+        worker = ap (λ (z : Ticket). z.worker) q;
+        job = k;
+        proposal = taken_one P n r.0 f.before within r.1 i x y f.proposed (subst {A = Plain} (λ z. Proposes z i y) (sym e) (subst {A = Job} (λ z. Proposes g.before z y) (sym k) g.proposed));
       }
 
   commits_one : (v w t : ℕ) (e d : Effect) (c a : Plain) → IsCommitting past b v t e c → IsCommitting past b w t d a → (Commit v t e ≡ Commit w t d) × (c ≡ a)
@@ -92,7 +80,7 @@ module _ (P : Problem) (n : ℕ) (within : IsWithinLimits P) (past : List Moment
       let r = drops_one v w t p q c a (subst {A = ℕ} (λ m. IsDropping past b v m p c) y f) g in (ap (λ m. Drop v m p) y ∙ r.0, r.1)
   follow_one (Abandon v s) (Abandon w t) c a f g h =
       let y : s ≡ t = cc in
-      let q = same_ticket b.flight (flight_numbered IsFreeJob P n past b run).distinct (record { number = s; worker = v; job = f.job }) (record { number = t; worker = w; job = g.job }) f.flying g.flying y in
+      let q = ticket_once b.flight (flight_numbered IsFreeJob P n past b run).distinct (record { number = s; worker = v; job = f.job }) (record { number = t; worker = w; job = g.job }) f.flying g.flying y in
       (ap₂ (λ m k. Abandon m k) (ap (λ (z : Ticket). z.worker) q) y, f.leads_to ∙ ap (λ m. landed m b) y ∙ sym g.leads_to)
   follow_one Halt Halt c a f g h = (refl, f.1 ∙ sym g.1)
   follow_one (Take v s i) (Commit w t d) c a f g h = absurd (cc)

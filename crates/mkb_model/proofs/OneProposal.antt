@@ -1,5 +1,5 @@
 -- What a job proposes is a function of the board from which it was taken.
-use Rattle.std.proofs.Common.{ℕ, zero, suc, ◌≡◌, ◌⊎◌, inl, inr, refl, sym, ap, ap₂, ◌∙◌, subst, List, [], ◌∷◌, ◌++◌, map, not, ◌==◌, Contains, All, Bool, true, Option, Some, None, Ordering, Equal, Greater, ⊎_elim}
+use Rattle.std.proofs.Common.{ℕ, zero, suc, ◌≡◌, ◌⊎◌, inl, inr, refl, sym, ap, ap₂, ◌∙◌, subst, List, [], ◌∷◌, ◌++◌, map, not, ◌==◌, Contains, All, Bool, true, Option, Some, None, Ordering, Equal, Greater, nat_cmp, ⊎_elim}
 use Rattle.std.specs.Prelude.{◌≢◌, option_map}
 use Rattle.std.specs.List.{flat_map}
 use Rattle.std.proofs.lemmas.List.Elements.{All-head, All-tail, All-contains, Contains-append_right}
@@ -18,6 +18,8 @@ use Rattle.kb_term.specs.declared.limit.Limit.{Limit as TermLimit}
 use Rattle.kb_term.specs.declared.origin.RuleRef.{RuleRef}
 use Rattle.kb_term.specs.declared.origin.Found.{Found}
 use Rattle.kb_term.specs.declared.origin.Found.TheVariants.{No, Variant, Strict}
+use Rattle.std.specs.Ordering.{ordering_then}
+use Rattle.kb_term.proofs.CanonicalPairs.{nat_equal, then_equal}
 use Rattle.kb_term.proofs.Instances.{instance-agree, agree_at}
 use Rattle.kb_term.proofs.Steps.{contains_cases, contains_behind, contains_first, occurs_from, occurs_to}
 use Rattle.kb_overlap.specs.Trace.{side}
@@ -32,7 +34,7 @@ use Rattle.kb_node.specs.declared.job.Job.TheVariants.{Reduce, Orient, Overlap, 
 use Rattle.kb_node.specs.declared.job.Fact.{Fact}
 use Rattle.kb_node.specs.declared.job.Deduced.{Deduced}
 use Rattle.kb_node.specs.declared.job.LimitCause.{LimitCause}
-use Rattle.mkb_model.specs.Jobs.{process_of}
+use Rattle.mkb_model.specs.Jobs.{numbers_cmp, process_of}
 use Rattle.mkb_model.specs.Plain.{Plain, other, pair_at, pair_in, rule_at, rules_at, rules_of, constraints_of}
 use Rattle.mkb_model.specs.DueJobs.{reducers, is_usable}
 use Rattle.mkb_model.specs.Proposals.{Proposes, NamedRule, named_rules, as_rules, rules_on, equations_on, redex_cmp, IsUsableRedex, IsFirstRedex, IsIrreducible, IsFactOf, AreMissingFacts, unknown, NamedOverlap, both_ways, all_ways, OrientsBy, reason_of, own_limit, FirstThat, HaveForms, PassesFirst, IsFormed, IsJoined, IsUnjoined, IsStopped, IsUnjoining, IsClosed, IsOverlapStop, IsInputStop, IsDeducing, IsLargeOverlap, AllOverlaps, Picks}
@@ -41,7 +43,7 @@ use Rattle.mkb_model.specs.declared.proposed.Proposed.TheVariants.{Facts, Rewrit
 use Rattle.mkb_model.proofs.Lists.{none_some, some_is, filter_in, in_map, map_in, in_filter_map}
 use Rattle.mkb_model.proofs.Readiness.{named_rule}
 use Rattle.mkb_model.proofs.Completed.{named_are}
-use Rattle.mkb_model.proofs.OneRun.{neither_greater, redex_flip, redex_equal, named_alike}
+use Rattle.mkb_model.proofs.Unique.{neither, redex_flip}
 use Rattle.mkb_model.proofs.Alike.{Both as Paired, both_first, both_in, both_picked, AreAlike, overlaps_both, alike_swapped, alike_limit, deduced_same, formed_alike, joined_alike, unjoined_alike, stopped_alike, forms_no_pass, passes_one, formed_not_stopped, joined_formed, joined_not_unjoined, stopped_one}
 
 -- ---- terms of the program
@@ -80,6 +82,26 @@ first_one {A} P xs (Some x) (Some y) (p, before, after, e, none) (q, front, back
 
 -- ---- redexes and facts
 
+numbers_equal : (xs ys : List ℕ) → numbers_cmp xs ys ≡ Equal → xs ≡ ys
+numbers_equal [] [] h = refl
+numbers_equal [] (y ∷ ys) h = absurd (cc)
+numbers_equal (x ∷ xs) [] h = absurd (cc)
+numbers_equal (x ∷ xs) (y ∷ ys) h = let e = then_equal (nat_cmp x y) (numbers_cmp xs ys) h in ap₂ {C = List ℕ} (λ z zs. z ∷ zs) (nat_equal x y e.0) (numbers_equal xs ys e.1)
+
+redex_equal : (v : ℕ) (at : List ℕ) (a : RuleRef) (w : ℕ) (pos : List ℕ) (c : RuleRef) → redex_cmp v at a w pos c ≡ Equal → (v ≡ w) × (at ≡ pos) × (a ≡ c)
+redex_equal v at a w pos c h =
+    let sides = then_equal (nat_cmp v w) (ordering_then (numbers_cmp at pos) (ordering_then (nat_cmp a.node c.node) (nat_cmp a.dir c.dir))) h in
+    let places = then_equal (numbers_cmp at pos) (ordering_then (nat_cmp a.node c.node) (nat_cmp a.dir c.dir)) sides.1 in
+    let refs = then_equal (nat_cmp a.node c.node) (nat_cmp a.dir c.dir) places.1 in
+    (nat_equal v w sides.0, numbers_equal at pos places.0, ap₂ {C = RuleRef} (λ n d. record { node = n; dir = d }) (nat_equal a.node c.node refs.0) (nat_equal a.dir c.dir refs.1))
+
+-- the rule of a name is one
+named_alike : (b : Plain) (refs : List RuleRef) (a : RuleRef) (r s : Rule) → Contains (named_rules b refs) (record { ref = a; rule = r }) → Contains (named_rules b refs) (record { ref = a; rule = s }) → r ≡ s
+named_alike b refs a r s i j =
+    let x = (named_rule b refs a r i).1 in
+    let y = (named_rule b refs a s j).1 in
+    sym x.2 ∙ ap (λ (q : Pair). rule_of q a.dir) (some_is (sym x.1 ∙ y.1)) ∙ y.2
+
 variant_encompasses : (t : Tree) (rule : Rule) → IsVariant t rule.left → Encompasses t rule.left
 variant_encompasses t rule (r, back, h) = ([], (t, refl, ((λ x. variable (back x)), h.back_again)))
 
@@ -113,7 +135,7 @@ first_redex_one : (b : Plain) (refs : List RuleRef) (pair : Pair) (usable : ℕ 
 first_redex_one b refs pair usable w v at pos a c k l t u held f g = record { side_is = e.0; at_is = e.1; rule_is = e.2; kind_is = found_one (side pair w) f.is_redex.rule k l f.is_redex.found found; result_is = rewrites_one f.is_redex.rule at (side pair w) t u (held f.is_redex.rule among) f.is_redex.rewrites rewrites }
   where
     e : (w ≡ v) × (at ≡ pos) × (a ≡ c)
-    e = redex_equal w at a v pos c (neither_greater (redex_cmp w at a v pos c) (f.is_first v pos c l u g.is_redex) (subst {A = Ordering} (λ z. z ≢ Greater) (redex_flip w at a v pos c) (g.is_first w at a k t f.is_redex)))
+    e = redex_equal w at a v pos c (neither (redex_cmp w at a v pos c) (f.is_first v pos c l u g.is_redex) (subst {A = Ordering} (λ z. z ≢ Greater) (redex_flip w at a v pos c) (g.is_first w at a k t f.is_redex)))
 
     rule : f.is_redex.rule ≡ g.is_redex.rule
     rule = named_alike b refs a f.is_redex.rule g.is_redex.rule f.is_redex.listed (subst {A = RuleRef} (λ z. Contains (named_rules b refs) (record { ref = z; rule = g.is_redex.rule })) (sym e.2) g.is_redex.listed)

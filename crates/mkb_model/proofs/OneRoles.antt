@@ -21,15 +21,15 @@ use Rattle.mkb_model.specs.declared.proposed.Proposed.TheVariants.{Facts, Rewrit
 use Rattle.kb_label.proofs.Members.{name_eq-eq}
 use Rattle.mkb_model.specs.Ready.{IsOn, IsRole, OneRole, IsRewriteOn, IsReady, IsNew}
 use Rattle.mkb_model.proofs.Lists.{decide, some_is, none_some}
-use Rattle.mkb_model.proofs.Roles.{on_there, kinds_decide, on-gains, on-fork, equation-no_rule}
+use Rattle.mkb_model.proofs.Roles.{on_there, kinds_decide, on-gains, equation-no_rule}
 use Rattle.mkb_model.proofs.Views.{SameRoles, rule_sym, rule_trans, rule_of-between, rules-view, rule_listed}
 use Rattle.mkb_model.proofs.Changes.{Fits}
-use Rattle.mkb_model.proofs.Orienting.{OrientRoles, orient-roles, orient_before, orient_after, keeps-oriented}
+use Rattle.mkb_model.proofs.Orienting.{OrientRoles, orient-roles, keeps-oriented}
 use Rattle.mkb_model.proofs.Adding.{rule_role, add_one, add-one_role, keeps-added}
 use Rattle.mkb_model.proofs.Rewriting.{source_of, rule_of-other, direction-rule}
 use Rattle.mkb_model.proofs.Rewritings.{rewriting_one_role}
 use Rattle.mkb_model.proofs.Proper.{IsOrdered, composed_not_reversed}
-use Rattle.mkb_model.proofs.Commits.{IsNoFork, IsApartFrom, keeps-rewritten, orients, fork_other, children_differ}
+use Rattle.mkb_model.proofs.Commits.{IsNoFork, IsApartFrom, keeps-rewritten, orients, fork_other, bit_number, fork_roles}
 
 pub one_role_keeps : (xs ys : List PlainNode) (p q : Name) → SameRoles xs p ys q → OneRole xs p → OneRole ys q
 one_role_keeps xs ys p q s one n i j ri rj oi oj = one n i j ri rj ((s n i).0 oi) ((s n j).0 oj)
@@ -124,50 +124,6 @@ one_role_applied g b (Deduce a c ds) ready acts ordered fits plain q one = ⊎_e
 one_role_applied g b (Unjoined p ds) ready acts ordered fits plain q one = ⊎_elim (λ h. one_role_added (p ∷ []) ds b.nodes q h one) (λ h. one_role_keeps b.nodes (added (p ∷ []) ds b.nodes) q q (keeps-added (p ∷ []) ds b.nodes q h) one) (decide (has (p ∷ []) q))
 one_role_applied g b (Closed p) ready acts ordered fits plain q one = one
 one_role_applied g b (Limit j cause) ready acts ordered fits plain q one = one
-
--- the direction that a child of a fork takes
-abbrev pub bit_number : Bool → ℕ
-bit_number false = 0
-bit_number true = 1
-
--- at a fork each child orients the equation in its own direction, from the roles of the forked process
-pub fork_roles : (xs : List PlainNode) (p : Name) (n : ℕ) → IsNew xs p → IsOn xs p n E → (bit : Bool)
-    → OrientRoles xs p (oriented (child p true) (record { node = n; dir = 1 }) (oriented (child p false) (record { node = n; dir = 0 }) (map (forked_node p) xs))) (child p bit) (record { node = n; dir = bit_number bit })
-fork_roles xs p n new on bit = go bit
-  where
-    x0 : List PlainNode
-    x0 = map (forked_node p) xs
-
-    a0 : RuleRef
-    a0 = record { node = n; dir = 0 }
-
-    a1 : RuleRef
-    a1 = record { node = n; dir = 1 }
-
-    x1 : List PlainNode
-    x1 = oriented (child p false) a0 x0
-
-    x2 : List PlainNode
-    x2 = oriented (child p true) a1 x1
-
-    here0 : SameRoles xs p x0 (child p false)
-    here0 = on-fork p false xs (new false)
-
-    here1 : SameRoles xs p x1 (child p true)
-    here1 m j =
-        let k = keeps-oriented (child p false) a0 x0 (child p true) (children_differ p).1 m j in
-        let h = on-fork p true xs (new true) m j in
-        ((λ o. h.0 (k.0 o)), λ o. k.1 (h.1 o))
-
-    roles0 : OrientRoles xs p x2 (child p false) a0
-    roles0 = orient_after xs p x1 (child p false) x2 a0 (orient_before xs p x0 (child p false) x1 (child p false) a0 here0 (orient-roles (child p false) a0 x0 (on_there x0 (child p false) n E ((here0 n E).1 on)))) (keeps-oriented (child p true) a1 x1 (child p false) (children_differ p).0)
-
-    roles1 : OrientRoles xs p x2 (child p true) a1
-    roles1 = orient_before xs p x1 (child p true) x2 (child p true) a1 here1 (orient-roles (child p true) a1 x1 (on_there x1 (child p true) n E ((here1 n E).1 on)))
-
-    go : (bit : Bool) → OrientRoles xs p (oriented (child p true) (record { node = n; dir = 1 }) (oriented (child p false) (record { node = n; dir = 0 }) (map (forked_node p) xs))) (child p bit) (record { node = n; dir = bit_number bit })
-    go false = roles0
-    go true = roles1
 
 -- a fork keeps it for the two children and for all others
 pub one_role_forked : (b : Plain) (p : Name) (n : ℕ) → IsNew b.nodes p → IsOn b.nodes p n E → OneRole b.nodes p → (bit : Bool)

@@ -1,23 +1,22 @@
 -- In a possible run each pair follows from the input equations and earlier pairs, as its origin says.
-use Rattle.std.proofs.Common.{ℕ, zero, suc, ◌+◌, ◌≤◌, ◌<◌, ◌≡◌, ◌≢◌, ◌⊎◌, inl, inr, refl, sym, ap, ap₂, ◌∙◌, subst, arith, List, [], ◌∷◌, ◌++◌, map, flat_map, length, Contains, Bool, true, false, cond, not, Option, Some, None, ⊎_elim}
-use Rattle.std.specs.Prelude.{⊤, IsFalse, Result, Ok, Err, option_map, option_to_list, slice_get, take}
+use Rattle.std.proofs.Common.{ℕ, zero, suc, ◌+◌, ◌≡◌, ◌⊎◌, inl, inr, refl, sym, ap, ◌∙◌, subst, arith, List, [], ◌∷◌, ◌++◌, map, length, Contains, Bool, true, false, cond, Option, Some, None, ⊎_elim}
+use Rattle.std.specs.Prelude.{IsFalse, Result, Ok, option_map, slice_get, take}
 use Rattle.std.specs.Option.{option_map_or}
-use Rattle.kb_term.proofs.Steps.{contains_cases, contains_behind, contains_first}
+use Rattle.kb_term.proofs.Steps.{contains_behind, contains_first}
 use Rattle.kb_term.specs.Tree.{Tree}
 use Rattle.kb_term.specs.View.{tree_of}
 use Rattle.kb_term.specs.Pair.{Pair, canonical_pair}
 use Rattle.kb_term.specs.Rule.{Rule, IsRule, rule_of}
-use Rattle.kb_term.specs.Signature.{Signature, Problem, IsWithinLimits, IsRuleOver}
+use Rattle.kb_term.specs.Signature.{Signature, Problem, IsWithinLimits}
 use Rattle.kb_term.specs.declared.limit.Limit.{Limit as TermLimit}
 use Rattle.kb_term.specs.declared.origin.RuleRef.{RuleRef}
 use Rattle.kb_term.specs.declared.origin.Found.{Found}
 use Rattle.kb_term.specs.declared.origin.Origin.{Origin}
 use Rattle.kb_term.specs.declared.origin.Origin.TheVariants.{Input, Rewrite as ByRewrite, Overlap as ByOverlap}
-use Rattle.kb_overlap.specs.Trace.{item, other_side, IsRightOrigin, IsRightRewrite, IsRightOverlap}
+use Rattle.kb_overlap.specs.Trace.{item, other_side, IsRightOrigin, IsRightOverlap}
 use Rattle.kb_overlap.specs.Overlap.{Overlap as Listed, IsOverlapOrLimit}
-use Rattle.kb_label.specs.Names.{Name, root, has, child, is_empty, join, minus}
+use Rattle.kb_label.specs.Names.{Name, root, has, child, is_empty, join}
 use Rattle.kb_label.proofs.Members.{name_eq-refl}
-use Rattle.kb_node.specs.declared.node.NodeId.{NodeId}
 use Rattle.kb_node.specs.declared.node.LabelKind.{LabelKind}
 use Rattle.kb_node.specs.declared.node.LabelKind.TheVariants.{R0, R1, E, C0, C1, X}
 use Rattle.kb_node.specs.declared.job.Deduced.{Deduced}
@@ -25,21 +24,21 @@ use Rattle.kb_node.specs.declared.job.Job.{Job}
 use Rattle.kb_node.specs.declared.job.Job.TheVariants.{Reduce, Orient, Overlap, Close}
 use Rattle.mkb_model.specs.Plain.{Plain, PlainNode, rule_kind, label_at, pair_in, pair_at, state_of}
 use Rattle.mkb_model.specs.Effects.{with_label_in, with_label, gains, loses, gains_equation, gains_rule, with_node, new_node, node_of, is_present, oriented, added, rewritten, rewrite_label, overlap_label, applied, effect, is_dropped, forked_node}
-use Rattle.mkb_model.specs.Proposals.{Proposes, NamedRule, NamedOverlap, OverlapsOfAll, AreDeduced, deduced_pair, both_ways, all_ways, rules_on}
+use Rattle.mkb_model.specs.Proposals.{Proposes, NamedRule, NamedOverlap, OverlapsOfAll, AreDeduced, both_ways, all_ways, rules_on}
 use Rattle.mkb_model.specs.Invariants.{PairsFollow}
 use Rattle.mkb_model.specs.Journals.{Moment, Follows, IsPossibleRun, IsFreeJob, IsFinishing, opening, with_input, with_inputs}
-use Rattle.mkb_model.specs.Ready.{IsOn, KeepsPairs, IsRewriteOn}
+use Rattle.mkb_model.specs.Ready.{KeepsPairs, IsRewriteOn}
 use Rattle.mkb_model.specs.declared.proposed.Proposed.{Proposed}
 use Rattle.mkb_model.specs.declared.proposed.Proposed.TheVariants.{Facts, Rewrite, One, Both, Refuse, Deduce, Unjoined, Closed, Limit}
 use Rattle.mkb_model.specs.declared.entry.Entry.{Entry}
 use Rattle.mkb_model.specs.declared.entry.Entry.TheVariants.{Take, Commit, Drop, Abandon, Halt}
-use Rattle.mkb_model.proofs.Lists.{clash, or_left, some_is, none_some, none_in, map_in, in_map, flat_map_in}
+use Rattle.mkb_model.proofs.Lists.{clash, or_left, some_is, none_some}
 use Rattle.mkb_model.proofs.Pairs.{pairs-with_node}
 use Rattle.mkb_model.proofs.Views.{rule_listed}
 use Rattle.mkb_model.proofs.Proper.{IsOrdered}
 use Rattle.mkb_model.proofs.Rewriting.{source_of}
 use Rattle.mkb_model.proofs.Rewritings.{lost_nodes, moved_nodes}
-use Rattle.mkb_model.proofs.Fitting.{effect_cases, pairs_stay}
+use Rattle.mkb_model.proofs.Fitting.{deduced_from, effect_cases, pairs_stay}
 use Rattle.mkb_model.proofs.Readiness.{rewrite_ready}
 use Rattle.mkb_model.proofs.Living.{within_budget}
 use Rattle.mkb_model.proofs.Deductions.{HasNamed, named_overlap, picks_in}
@@ -182,26 +181,6 @@ right_rewritten es xs l n w p a kind u f rule r = go (canonical_pair u (other_si
 
 -- ---- deduced pairs
 
--- a deduced pair comes of two rules of a process, and names them
-deduced_origin : (ds : List Deduced) (os : List NamedOverlap) → AreDeduced ds os → (d : Deduced) → Contains ds d
-    → (o : NamedOverlap) × Contains os o × (s : Tree) × (t : Tree) × (o.overlap.sides ≡ Ok (s, t)) × (canonical_pair s t ≡ Some d.pair) × (o.outer ≡ d.outer) × (o.inner ≡ d.inner) × (o.overlap.position ≡ d.position)
-deduced_origin ds os h d i =
-    let f : Deduced → RuleRef × RuleRef × List ℕ × Pair = λ d. (d.outer, d.inner, d.position, d.pair) in
-    let j = subst {A = List (RuleRef × RuleRef × List ℕ × Pair)} (λ ts. Contains ts (f d)) h (in_map f ds d i) in
-    let k = flat_map_in (λ (o : NamedOverlap). deduced_pair o o.overlap.sides) os (f d) j in
-    let r = go k.0 k.0.overlap.sides refl k.2 in
-    (k.0, k.1, r.0, r.1, r.2, r.3, r.4, r.5, r.6)
-  where
-    in_list : (o : Option Pair) (q : Pair) → Contains (option_to_list o) q → o ≡ Some q
-    in_list None q c = none_in c
-    in_list (Some z) q c = ⊎_elim (λ e. ap Some e) (λ k. none_in k) (contains_cases z [] q c)
-
-    go : (o : NamedOverlap) (r : Result (Tree × Tree) TermLimit) → o.overlap.sides ≡ r → Contains (deduced_pair o r) (d.outer, d.inner, d.position, d.pair) → (s : Tree) × (t : Tree) × (o.overlap.sides ≡ Ok (s, t)) × (canonical_pair s t ≡ Some d.pair) × (o.outer ≡ d.outer) × (o.inner ≡ d.inner) × (o.overlap.position ≡ d.position)
-    go o (Err l) e c = none_in c
-    go o (Ok (s, t)) e c =
-        let m = map_in (λ q. (o.outer, o.inner, o.overlap.position, q)) (option_to_list (canonical_pair s t)) (d.outer, d.inner, d.position, d.pair) c in
-        (s, t, e, in_list (canonical_pair s t) d.pair (subst {A = Pair} (Contains (option_to_list (canonical_pair s t))) (ap (λ (z : RuleRef × RuleRef × List ℕ × Pair). z.3) m.2) m.1), ap (λ (z : RuleRef × RuleRef × List ℕ × Pair). z.0) m.2, ap (λ (z : RuleRef × RuleRef × List ℕ × Pair). z.1) m.2, ap (λ (z : RuleRef × RuleRef × List ℕ × Pair). z.2) m.2)
-
 comes_from : (g : Signature) (xs : List PlainNode) (p : Name) (es : List (NamedRule × NamedRule)) (all some : List NamedOverlap) (ds : List Deduced) → OverlapsOfAll es all → ((o : NamedOverlap) → Contains some o → Contains all o)
     → ((e : NamedRule × NamedRule) → Contains es e → HasNamed g xs p e.0 × HasNamed g xs p e.1) → AreDeduced ds some → (d : Deduced) → Contains ds d → ComesFrom xs d
 comes_from g xs p es all some ds lists sub named proposed d i = (
@@ -220,7 +199,7 @@ comes_from g xs p es all some ds lists sub named proposed d i = (
 )
   where
     r : (o : NamedOverlap) × Contains some o × (s : Tree) × (t : Tree) × (o.overlap.sides ≡ Ok (s, t)) × (canonical_pair s t ≡ Some d.pair) × (o.outer ≡ d.outer) × (o.inner ≡ d.inner) × (o.overlap.position ≡ d.position)
-    r = deduced_origin ds some proposed d i
+    r = deduced_from ds some proposed d i
 
     k : (e : NamedRule × NamedRule) × Contains es e × (r.0.outer ≡ e.0.ref) × (r.0.inner ≡ e.1.ref) × IsOverlapOrLimit e.0.rule e.1.rule r.0.overlap
     k = named_overlap es all lists r.0 (sub r.0 r.1)

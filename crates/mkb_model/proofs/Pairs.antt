@@ -1,6 +1,5 @@
 -- The pairs of the nodes: they stay where they are, and new ones come at the end.
 use Rattle.std.proofs.Common.{ℕ, zero, suc, ◌+◌, ◌<◌, ◌≡◌, ◌⊎◌, inl, inr, refl, ap, ◌∙◌, arith, List, [], ◌∷◌, ◌++◌, map, Bool, true, false, cond, length, Option, Some, None, Ordering, Less, Equal, Greater, is_eq}
-use Rattle.std.specs.Prelude.{slice_get, option_map}
 use Rattle.std.specs.List.{list_any}
 use Rattle.kb_term.specs.Tree.{Tree}
 use Rattle.kb_term.specs.Pair.{Pair, pair_cmp}

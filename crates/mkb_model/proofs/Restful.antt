@@ -1,25 +1,24 @@
 -- In a possible run each process that is closed or being closed is at rest, and a closed one has no job of its own in flight.
-use Rattle.std.proofs.Common.{ℕ, suc, ◌+◌, ◌≡◌, ◌≢◌, ◌⊎◌, inl, inr, refl, sym, ap, ◌∙◌, subst, List, [], ◌∷◌, ◌++◌, filter, Contains, Bool, true, false, not, ◌&&◌, ◌==◌, Option, Some, None, ⊎_elim}
-use Rattle.std.specs.Prelude.{⊤, IsFalse}
+use Rattle.std.proofs.Common.{ℕ, ◌≡◌, ◌≢◌, ◌⊎◌, inl, inr, refl, sym, ap, ◌∙◌, subst, List, [], ◌∷◌, filter, Contains, true, false, not, ◌==◌, Option, Some, None, ⊎_elim}
+use Rattle.std.specs.Prelude.{IsFalse}
 use Rattle.std.specs.List.{list_any}
 use Rattle.std.specs.Option.{option_map_or}
 use Rattle.std.proofs.lemmas.List.Elements.{Contains-append_cases}
 use Rattle.kb_term.proofs.Steps.{contains_cases}
 use Rattle.kb_term.specs.Signature.{Problem}
-use Rattle.kb_label.specs.Names.{Name, has, name_eq, add, relabel}
+use Rattle.kb_label.specs.Names.{Name, has, name_eq}
 use Rattle.kb_label.specs.declared.verdict.Reason.{Reason}
 use Rattle.kb_label.proofs.Members.{has-add, name_eq-eq}
 use Rattle.kb_label.proofs.Sets.{relabel-absent}
 use Rattle.kb_node.specs.declared.job.Job.{Job}
 use Rattle.kb_node.specs.declared.job.Job.TheVariants.{Reduce, Orient, Overlap, Close}
-use Rattle.kb_node.specs.declared.node.NodeId.{NodeId}
 use Rattle.kb_node.specs.declared.node.LabelKind.TheVariants.{E, X}
 use Rattle.mkb_model.specs.Jobs.{process_of}
 use Rattle.mkb_model.specs.Plain.{Plain, is_equation, is_over, label}
 use Rattle.mkb_model.specs.DueJobs.{is_due, is_work_due, is_close_due, is_working, work_of}
 use Rattle.mkb_model.specs.Effects.{applied, effect, limit_of, give_up, effect_label, counted, is_dropped}
 use Rattle.mkb_model.specs.Proposals.{Proposes}
-use Rattle.mkb_model.specs.Invariants.{FlightIsClear, FactsHold, AreApart, IsFlying, IsAtRest, ClosedIsAtRest}
+use Rattle.mkb_model.specs.Invariants.{FlightIsClear, FactsHold, AreApart, ClosedIsAtRest}
 use Rattle.mkb_model.specs.Journals.{Moment, Follows, IsPossibleRun, IsFreeJob, in_flight, landed}
 use Rattle.mkb_model.specs.Ready.{KeepsPairs}
 use Rattle.mkb_model.specs.declared.proposed.Proposed.{Proposed}

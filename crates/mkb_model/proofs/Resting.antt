@@ -1,8 +1,7 @@
 -- A process that is closed or being closed is at rest: what another ticket proposes does not act on it.
-use Rattle.std.proofs.Common.{ℕ, zero, suc, ◌+◌, ◌<◌, ◌≡◌, ◌≢◌, ◌⊎◌, ◌↔◌, inl, inr, refl, sym, ap, ◌∙◌, subst, arith, eqb→eq, List, [], ◌∷◌, ◌++◌, map, filter, flat_map, length, Contains, Bool, true, false, cond, not, ◌&&◌, ◌||◌, ◌==◌, Option, Some, None, ⊎_elim}
-use Rattle.std.specs.Prelude.{⊤, T, IsFalse, option_map}
+use Rattle.std.proofs.Common.{ℕ, zero, suc, ◌<◌, ◌≡◌, ◌≢◌, ◌⊎◌, inl, inr, refl, sym, ap, ◌∙◌, subst, arith, eqb→eq, List, [], ◌∷◌, ◌++◌, map, flat_map, length, Contains, Bool, true, false, cond, not, ◌&&◌, ◌||◌, ◌==◌, Option, Some, None, ⊎_elim}
+use Rattle.std.specs.Prelude.{⊤, T, option_map}
 use Rattle.std.specs.List.{find, list_any}
-use Rattle.std.specs.Option.{option_map_or}
 use Rattle.std.proofs.lemmas.Bool.{eq-eqb}
 use Rattle.std.proofs.lemmas.List.Elements.{Contains-append_cases, Contains-append_left, Contains-append_right}
 use Rattle.kb_term.proofs.Steps.{contains_cases, contains_behind, contains_first}
@@ -11,37 +10,33 @@ use Rattle.kb_term.specs.View.{tree_of}
 use Rattle.kb_term.specs.Substitution.{instance}
 use Rattle.kb_term.specs.Pair.{Pair}
 use Rattle.kb_term.specs.Rule.{Rule, rule_of}
-use Rattle.kb_term.specs.Signature.{Problem}
-use Rattle.kb_term.specs.Proving.{RewritesAt}
 use Rattle.kb_overlap.specs.Trace.{side}
 use Rattle.kb_rewrite.specs.NormalForm.{IsFound, Encompasses}
 use Rattle.kb_term.specs.declared.origin.RuleRef.{RuleRef}
 use Rattle.kb_term.specs.declared.origin.Found.{Found}
 use Rattle.kb_term.specs.declared.origin.Found.TheVariants.{No, Variant, Strict}
-use Rattle.kb_label.specs.Names.{Name, has, name_eq, meet, minus}
+use Rattle.kb_label.specs.Names.{Name, has, name_eq, meet}
 use Rattle.kb_label.proofs.Members.{has-filter, has-minus, has-meet, name_eq-eq}
 use Rattle.kb_node.specs.declared.job.Fact.{Fact}
 use Rattle.kb_node.specs.declared.job.Job.{Job}
 use Rattle.kb_node.specs.declared.job.Job.TheVariants.{Reduce, Orient, Overlap, Close}
-use Rattle.kb_node.specs.declared.job.LimitCause.{LimitCause}
 use Rattle.kb_node.specs.declared.node.NodeId.{NodeId}
 use Rattle.kb_node.specs.declared.node.LabelKind.{LabelKind}
-use Rattle.kb_node.specs.declared.node.LabelKind.TheVariants.{R0, R1, E, C0, C1, X}
+use Rattle.kb_node.specs.declared.node.LabelKind.TheVariants.{R0, R1, E, X}
 use Rattle.mkb_model.specs.Jobs.{process_of, kind_number, ref_eq, ref_le}
-use Rattle.mkb_model.specs.Plain.{Plain, PlainNode, label, label_at, rule_kind, other, directions, node_numbers, is_equation, is_rule, rules_of, done_of, is_over, known, pair_at, rule_at}
-use Rattle.mkb_model.specs.DueJobs.{is_usable, is_open, reducers, is_node_of, is_reducible, is_working, is_work_due, is_close_due, is_due, work_of}
+use Rattle.mkb_model.specs.Plain.{Plain, label, label_at, rule_kind, other, directions, node_numbers, is_equation, is_rule, rules_of, done_of, is_over, known, pair_at, rule_at}
+use Rattle.mkb_model.specs.DueJobs.{is_usable, is_open, reducers, is_node_of, is_reducible, is_working, is_work_due, is_due, work_of}
 use Rattle.mkb_model.specs.Effects.{rewrite_label, overlap_label, orient_label, effect_label, limit_label, redex_label, not_over, is_strict}
-use Rattle.mkb_model.specs.Invariants.{FactsHold, IsTrueFact, IsAtRest}
-use Rattle.mkb_model.specs.Proposals.{NamedRule, named_rules, IsUsableRedex, Proposes}
+use Rattle.mkb_model.specs.Invariants.{FactsHold, IsAtRest}
+use Rattle.mkb_model.specs.Proposals.{named_rules, IsUsableRedex, Proposes}
 use Rattle.mkb_model.specs.Ready.{IsOn, KeepsPairs}
 use Rattle.mkb_model.specs.declared.proposed.Proposed.{Proposed}
 use Rattle.mkb_model.specs.declared.proposed.Proposed.TheVariants.{Facts, Rewrite, One, Both, Refuse, Deduce, Unjoined, Closed, Limit}
-use Rattle.mkb_model.specs.declared.entry.Ticket.{Ticket}
-use Rattle.mkb_model.proofs.Lists.{clash, decide, false_unless, and_left, and_right, and_both, and_false, and_off, and_off_right, or_one, or_left, or_right, or_off, not_true, not_false, not_of_true, not_of_false, some_is, none_some, none_in, in_filter, filter_in, map_in, in_map, flat_map_in, in_flat_map, find_in, any_none, none_any, in_numbers}
+use Rattle.mkb_model.proofs.Lists.{clash, false_unless, and_left, and_right, and_both, and_false, and_off_right, or_one, or_left, or_right, or_off, not_true, not_false, not_of_false, some_is, none_some, none_in, in_filter, filter_in, map_in, in_map, flat_map_in, in_flat_map, find_in, any_none, none_any, in_numbers}
 use Rattle.mkb_model.proofs.Roles.{on_there, has-one}
 use Rattle.mkb_model.proofs.Rewriting.{source_of}
 use Rattle.mkb_model.proofs.Readiness.{named_rule}
-use Rattle.mkb_model.proofs.Flyers.{is_own, own_of, free_due}
+use Rattle.mkb_model.proofs.Flyers.{is_own, own_of}
 use Rattle.mkb_model.proofs.Unmoved.{IsUnmoved, role_tests}
 
 -- ---- rest, told by roles

@@ -4,14 +4,12 @@ use Rattle.std.specs.Ordering.{ordering_index}
 use Rattle.kb_term.specs.Tree.{Tree, tree_eq, tree_cmp}
 use Rattle.kb_term.specs.Pair.{Pair, canonical, numbered, canonical_pair, IsSameEquation}
 use Rattle.kb_term.specs.Rule.{rule_of, IsVariantRule, rule_between}
-use Rattle.kb_term.specs.Proving.{RewritesAt}
-use Rattle.kb_rewrite.specs.NormalForm.{IsFound}
 use Rattle.kb_overlap.specs.Trace.{side, other_side}
 use Rattle.kb_term.specs.declared.origin.RuleRef.{RuleRef}
 use Rattle.kb_term.specs.declared.origin.Found.{Found}
 use Rattle.kb_term.specs.declared.origin.Found.TheVariants.{No, Variant, Strict}
 use Rattle.kb_label.specs.Names.{Name, has, meet, join}
-use Rattle.mkb_model.specs.Plain.{Plain, PlainNode, label, label_at, rule_kind, other, pair_in, sides}
+use Rattle.mkb_model.specs.Plain.{Plain, PlainNode, label, label_at, rule_kind, other, sides}
 use Rattle.mkb_model.specs.Effects.{loses, rewrite_label, direction, is_strict, if_strict, pair_eq}
 use Rattle.kb_node.specs.declared.node.LabelKind.{LabelKind}
 use Rattle.kb_node.specs.declared.node.LabelKind.TheVariants.{R0, R1, E, C0, C1, X}

@@ -273,7 +273,7 @@ label-fork p (x ∷ xs) zero C1 = refl
 label-fork p (x ∷ xs) zero X = refl
 label-fork p (x ∷ xs) (suc m) j = label-fork p xs m j
 
-or-false : (x : Bool) → (x || false) ≡ x
+pub or-false : (x : Bool) → (x || false) ≡ x
 or-false true = refl
 or-false false = refl
 

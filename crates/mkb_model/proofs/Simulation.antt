@@ -1,6 +1,6 @@
 -- Each entry of a run is zero or more steps of each living process, from the state of its living ancestor, where what is committed is ready.
 use Rattle.std.proofs.Common.{ℕ, ◌≡◌, ◌≢◌, ◌⊎◌, inl, inr, refl, sym, ◌∙◌, subst, List, [], ◌∷◌, Option, Some, None, ⊎_elim, Bool, true, false, cond, not}
-use Rattle.std.specs.Prelude.{⊤, IsFalse}
+use Rattle.std.specs.Prelude.{IsFalse}
 use Rattle.std.specs.Option.{option_map_or}
 use Rattle.kb_term.specs.Signature.{Signature, Problem}
 use Rattle.kb_laws.specs.Completion.{KbState, KbReaches, IsSameState}
@@ -15,7 +15,7 @@ use Rattle.mkb_model.specs.declared.proposed.Proposed.TheVariants.{Facts, Rewrit
 use Rattle.mkb_model.specs.declared.entry.Entry.{Entry}
 use Rattle.mkb_model.specs.declared.entry.Entry.TheVariants.{Take, Commit, Drop, Abandon, Halt}
 use Rattle.kb_label.proofs.Members.{has-add, has-minus, name_eq-eq, name_eq-refl}
-use Rattle.mkb_model.specs.Ready.{OneRole, IsReady, IsNew, IsFine, CommitsFine, AllFine}
+use Rattle.mkb_model.specs.Ready.{IsFine, CommitsFine, AllFine}
 use Rattle.mkb_model.specs.Invariants.{AreApart}
 use Rattle.mkb_model.proofs.Lists.{clash, false_unless, and_left, and_right, or_one, not_true}
 use Rattle.mkb_model.proofs.Roles.{has-one}

@@ -1,9 +1,7 @@
 -- The laws as they are stated, from what is proved of the pairs at their numbers.
-use Rattle.std.proofs.Common.{ℕ, zero, suc, ◌<◌, ◌≡◌, ◌≢◌, refl, sym, ap, ◌∙◌, subst, arith, List, [], ◌∷◌, length, Contains, get_or, Some}
-use Rattle.std.specs.Prelude.{AllPairs, slice_get, option_map}
+use Rattle.std.proofs.Common.{ℕ, ◌<◌, ◌≡◌, ◌≢◌, sym, ap, ◌∙◌, arith, List, [], length, get_or, Some}
+use Rattle.std.specs.Prelude.{option_map}
 use Rattle.std.proofs.lemmas.Option.{slice_get-get_or}
-use Rattle.std.proofs.lemmas.List.Elements.{Contains-get_or}
-use Rattle.kb_term.specs.Pair.{Pair, IsCanonical, IsTrivial}
 use Rattle.kb_term.specs.Signature.{Problem}
 use Rattle.mkb_model.specs.Plain.{Plain, PlainNode, pair_in}
 use Rattle.mkb_model.specs.DueJobs.{first_job, free_jobs}

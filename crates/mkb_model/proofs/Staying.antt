@@ -1,6 +1,6 @@
 -- While a process orients it keeps its constraints, and while it closes it keeps all its roles.
-use Rattle.std.proofs.Common.{ℕ, zero, suc, ◌+◌, ◌≤◌, ◌≡◌, ◌≢◌, ◌⊎◌, ◌↔◌, inl, inr, refl, sym, ap, ◌∙◌, subst, arith, List, [], ◌∷◌, ◌++◌, filter, map, Contains, Bool, true, false, not, ◌==◌, Option, Some, None, ⊎_elim}
-use Rattle.std.specs.Prelude.{⊤, IsTrue, IsFalse}
+use Rattle.std.proofs.Common.{ℕ, ◌≡◌, ◌≢◌, ◌↔◌, inr, refl, sym, ap, ◌∙◌, subst, arith, List, [], ◌∷◌, filter, Contains, true, not, ◌==◌, Option, Some, None, ⊎_elim}
+use Rattle.std.specs.Prelude.{⊤}
 use Rattle.std.specs.Option.{option_map_or}
 use Rattle.std.proofs.lemmas.List.Elements.{Contains-append_cases}
 use Rattle.kb_term.proofs.Steps.{contains_cases}
@@ -13,21 +13,20 @@ use Rattle.kb_term.specs.declared.origin.RuleRef.{RuleRef}
 use Rattle.kb_term.specs.declared.origin.Found.{Found}
 use Rattle.kb_term.specs.declared.origin.Origin.{Origin}
 use Rattle.kb_term.specs.declared.origin.Origin.TheVariants.{Rewrite as ByRewrite, Overlap as ByOverlap}
-use Rattle.kb_label.specs.Names.{Name, has, name_eq, join, meet, minus}
+use Rattle.kb_label.specs.Names.{Name, has, join, meet, minus}
 use Rattle.kb_label.specs.declared.verdict.Reason.{Reason}
 use Rattle.kb_node.specs.declared.node.NodeId.{NodeId}
 use Rattle.kb_node.specs.declared.node.LabelKind.{LabelKind}
-use Rattle.kb_node.specs.declared.node.LabelKind.TheVariants.{R0, R1, E, C0, C1, X}
+use Rattle.kb_node.specs.declared.node.LabelKind.TheVariants.{R0, R1, E, X}
 use Rattle.kb_node.specs.declared.job.Deduced.{Deduced}
 use Rattle.kb_node.specs.declared.job.Job.{Job}
-use Rattle.kb_node.specs.declared.job.Job.TheVariants.{Reduce, Orient, Overlap, Close}
+use Rattle.kb_node.specs.declared.job.Job.TheVariants.{Orient, Close}
 use Rattle.mkb_model.specs.Jobs.{process_of}
 use Rattle.mkb_model.specs.Plain.{Plain, PlainNode, label_at, rule_kind, constraint_kind, other, pair_at}
 use Rattle.mkb_model.specs.Effects.{applied, effect, limit_of, give_up, effect_label, with_label, loses, gains, gains_equation, gains_rule, with_node, node_of, added, moved_to, rewritten, rewrite_label, overlap_label, direction, if_strict}
 use Rattle.mkb_model.specs.Proposals.{Proposes}
-use Rattle.mkb_model.specs.Invariants.{FlightIsClear}
-use Rattle.mkb_model.specs.Journals.{Moment, Follows, IsPossibleRun, IsFreeJob, in_flight, tickets}
-use Rattle.mkb_model.specs.Ready.{IsOn, KeepsPairs}
+use Rattle.mkb_model.specs.Journals.{Moment, Follows, IsPossibleRun, IsFreeJob}
+use Rattle.mkb_model.specs.Ready.{IsOn}
 use Rattle.mkb_model.specs.declared.proposed.Proposed.{Proposed}
 use Rattle.mkb_model.specs.declared.proposed.Proposed.TheVariants.{Facts, Rewrite, One, Both, Refuse, Deduce, Unjoined, Closed, Limit}
 use Rattle.mkb_model.specs.declared.entry.Effect.{Effect}
@@ -36,13 +35,13 @@ use Rattle.mkb_model.specs.declared.entry.Entry.{Entry}
 use Rattle.mkb_model.specs.declared.entry.Entry.TheVariants.{Take, Commit, Drop, Abandon, Halt}
 use Rattle.mkb_model.proofs.Lists.{none_in}
 use Rattle.mkb_model.proofs.Roles.{KeepsRoles, keeps_trans, put_other, label-with_node, equation-no_constraint, rule-no_constraint, refused-no_constraint}
-use Rattle.mkb_model.proofs.Flights.{effect_flight, flight_clear}
+use Rattle.mkb_model.proofs.Flights.{effect_flight}
 use Rattle.mkb_model.proofs.Fitting.{pairs_stay}
 use Rattle.mkb_model.proofs.Orienting.{keeps-oriented}
 use Rattle.mkb_model.proofs.Commits.{IsApartFrom, fork_other}
 use Rattle.mkb_model.proofs.Flyers.{is_own, own_of, owners_differ, owners_live, not_landed, taken_free, unlike}
 use Rattle.mkb_model.proofs.Unmoved.{same_roles, apart_forked}
-use Rattle.mkb_model.proofs.Restful.{Stands, stands_run, IsResting, resting_run, stays}
+use Rattle.mkb_model.proofs.Restful.{Stands, stands_run, resting_run, stays}
 
 -- ---- from a take to a later board
 

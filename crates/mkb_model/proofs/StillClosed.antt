@@ -1,39 +1,36 @@
 -- What is closed stays closed: who keeps its roles keeps its rules and equations, name by name.
-use Rattle.std.proofs.Common.{ℕ, zero, suc, ◌+◌, ◌-◌, ◌≤◌, ◌<◌, ◌≡◌, ◌≢◌, ◌⊎◌, inl, inr, refl, sym, ap, ap₂, ◌∙◌, subst, arith, List, [], ◌∷◌, ◌++◌, map, filter, flat_map, length, Contains, Bool, true, false, cond, Option, Some, None, ⊎_elim}
-use Rattle.std.specs.Prelude.{IsFalse, option_map}
+use Rattle.std.proofs.Common.{ℕ, zero, suc, ◌+◌, ◌-◌, ◌≤◌, ◌<◌, ◌≡◌, refl, sym, ap, ap₂, ◌∙◌, subst, arith, List, [], ◌∷◌, ◌++◌, map, filter, flat_map, length, Contains, Bool, true, false, cond, Option, None, ⊎_elim}
+use Rattle.std.specs.Prelude.{option_map}
 use Rattle.std.specs.List.{filter_map, cons_option}
-use Rattle.std.specs.Option.{option_map_or}
-use Rattle.std.proofs.lemmas.List.{append_assoc}
+use Rattle.std.proofs.lemmas.List.{append_assoc, append-nil}
 use Rattle.kb_term.proofs.Steps.{contains_cases, contains_behind, contains_first}
 use Rattle.kb_term.specs.Tree.{Tree}
-use Rattle.kb_term.specs.Pair.{Pair}
-use Rattle.kb_term.specs.Rule.{Rule, rule_of}
+use Rattle.kb_term.specs.Rule.{rule_of}
 use Rattle.kb_term.specs.Signature.{Problem}
 use Rattle.kb_term.specs.declared.origin.RuleRef.{RuleRef}
 use Rattle.kb_label.specs.Names.{Name, has}
-use Rattle.kb_label.specs.declared.verdict.Reason.{Reason}
 use Rattle.kb_node.specs.declared.node.LabelKind.TheVariants.{E}
 use Rattle.kb_node.specs.declared.job.Job.{Job}
 use Rattle.kb_node.specs.declared.job.Job.TheVariants.{Reduce, Orient, Overlap, Close}
 use Rattle.mkb_model.specs.Plain.{Plain, PlainNode, numbers_from, node_numbers, directions, is_equation, is_rule, rules_of, equations_of, pair_in, pair_at, rule_at, rule_kind, sides, equations_at}
-use Rattle.mkb_model.specs.Effects.{applied, effect, limit_of, give_up, effect_label, is_dropped}
+use Rattle.mkb_model.specs.Effects.{applied, effect}
 use Rattle.mkb_model.specs.Proposals.{NamedRule, named_rules, Proposes, IsClosed, IsClosedOn, rules_on, equations_on}
-use Rattle.mkb_model.specs.Journals.{Moment, Follows, IsPossibleRun, IsFreeJob, opening}
+use Rattle.mkb_model.specs.Journals.{Moment, Follows, IsPossibleRun, IsFreeJob}
 use Rattle.mkb_model.specs.Ready.{KeepsPairs}
 use Rattle.mkb_model.specs.declared.proposed.Proposed.{Proposed}
 use Rattle.mkb_model.specs.declared.proposed.Proposed.TheVariants.{Closed}
 use Rattle.mkb_model.specs.declared.entry.Entry.{Entry}
 use Rattle.mkb_model.specs.declared.entry.Entry.TheVariants.{Take, Commit, Drop, Abandon, Halt}
-use Rattle.mkb_model.proofs.Lists.{clash, decide, false_unless, some_is, none_some, none_in, filter_in, flat_map_in, numbers_in}
-use Rattle.mkb_model.proofs.Roles.{KeepsRoles, keeps_trans, below, on_there}
+use Rattle.mkb_model.proofs.Lists.{clash, false_unless, none_some, none_in, filter_in, flat_map_in, numbers_in}
+use Rattle.mkb_model.proofs.Roles.{KeepsRoles, below, on_there}
 use Rattle.mkb_model.proofs.Pairs.{pairs_trans}
-use Rattle.mkb_model.proofs.Fitting.{pairs_stay, pairs_follow, effect_cases}
+use Rattle.mkb_model.proofs.Fitting.{pairs_stay, effect_cases}
 use Rattle.mkb_model.proofs.Commits.{pairs-applied}
 use Rattle.mkb_model.proofs.Living.{within_budget, effect_setting}
 use Rattle.mkb_model.proofs.Flyers.{taken_free}
 use Rattle.mkb_model.proofs.Unmoved.{role_tests}
 use Rattle.mkb_model.proofs.Resting.{rules_in}
-use Rattle.mkb_model.proofs.Restful.{stands_run, IsResting, resting_run, stays, effect_closed, closing_job, not_forked, IsForkOfClosed}
+use Rattle.mkb_model.proofs.Restful.{stands_run, resting_run, stays, effect_closed, closing_job, not_forked, IsForkOfClosed}
 use Rattle.mkb_model.proofs.Staying.{closers_stay}
 use Rattle.mkb_model.proofs.AllFine.{pair_there, earlier_run}
 
@@ -98,10 +95,6 @@ module _ (b c : Plain) (p : Name) (roles : KeepsRoles b.nodes c.nodes p) (keeps 
       ∙ ap₂ (λ (x y : List ℕ). x ++ y) (filter_same (is_equation c p) (is_equation b p) (λ n. role_tests b c p roles n E) (node_numbers b))
       (filter_nothing (is_equation c p) (numbers_from (0 + length b.nodes) more) (λ n i. false_unless (is_equation c p n) (λ o. let l = on_there b.nodes p n E ((roles n E).0 o) in let r = (numbers_in (0 + length b.nodes) more n i).0 in absurd (omega (arith, l, r)))))
       ∙ append-nil (equations_of b p)
-    where
-      append-nil : {A : Type 0} (xs : List A) → xs ++ [] ≡ xs
-      append-nil [] = refl
-      append-nil (x ∷ xs) = ap (x ∷◌) (append-nil xs)
 
   pub same_rules : rules_of c p ≡ rules_of b p
   same_rules = ap (λ ns. filter (is_rule c p) (flat_map directions ns)) numbers_more ∙ ap (filter (is_rule c p)) (flat_map_append directions (node_numbers b) (numbers_from (0 + length b.nodes) more))
@@ -115,10 +108,6 @@ module _ (b c : Plain) (p : Name) (roles : KeepsRoles b.nodes c.nodes p) (keeps 
       absurd (omega (arith, l, r, e)))))
       ∙ append-nil (rules_of b p)
     where
-      append-nil : {A : Type 0} (xs : List A) → xs ++ [] ≡ xs
-      append-nil [] = refl
-      append-nil (x ∷ xs) = ap (x ∷◌) (append-nil xs)
-
       node : (k : ℕ) (a : RuleRef) → Contains (directions k) a → k ≡ a.node
       node k a i = ⊎_elim (λ e. ap (λ (z : RuleRef). z.node) e) (λ j. ⊎_elim (λ e. ap (λ (z : RuleRef). z.node) e) (λ q. none_in q) (contains_cases (record { node = k; dir = 1 }) [] a j)) (contains_cases (record { node = k; dir = 0 }) (record { node = k; dir = 1 } ∷ []) a i)
 

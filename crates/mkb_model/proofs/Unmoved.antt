@@ -1,31 +1,30 @@
 -- A process that the effect label does not name keeps its roles, its overlapped rules, and whether it is closed or gave up.
-use Rattle.std.proofs.Common.{ℕ, ◌+◌, ◌≡◌, ◌≢◌, ◌⊎◌, ◌↔◌, inl, inr, refl, sym, ap, ◌∙◌, subst, List, [], ◌∷◌, ◌++◌, map, filter, Contains, Bool, true, false, cond, not, ◌&&◌, ◌||◌, ◌==◌, Option, Some, None, ⊎_elim}
-use Rattle.std.specs.Prelude.{⊤, IsFalse, option_map}
+use Rattle.std.proofs.Common.{ℕ, ◌≡◌, ◌≢◌, refl, sym, ap, ◌∙◌, subst, List, [], ◌∷◌, ◌++◌, map, Bool, true, false, cond, not, ◌&&◌, ◌||◌, ◌==◌, Option, Some, None}
+use Rattle.std.specs.Prelude.{IsFalse, option_map}
 use Rattle.std.specs.List.{find, list_any}
 use Rattle.std.specs.Option.{option_map_or}
 use Rattle.kb_term.specs.View.{tree_of}
 use Rattle.kb_term.specs.Pair.{Pair}
 use Rattle.kb_term.specs.declared.origin.RuleRef.{RuleRef}
 use Rattle.kb_term.specs.declared.origin.Found.{Found}
-use Rattle.kb_label.specs.Names.{Name, has, name_eq, child, relabel, add, join}
+use Rattle.kb_label.specs.Names.{Name, has, name_eq, relabel, join}
 use Rattle.kb_label.specs.declared.verdict.Reason.{Reason}
 use Rattle.kb_label.proofs.Members.{has-add, has-join, has-filter, name_eq-refl}
 use Rattle.kb_node.specs.declared.job.Fact.{Fact}
 use Rattle.kb_node.specs.declared.node.LabelKind.{LabelKind}
-use Rattle.kb_node.specs.declared.node.LabelKind.TheVariants.{R0, R1, E, C0, C1, X}
+use Rattle.kb_node.specs.declared.node.LabelKind.TheVariants.{X}
 use Rattle.mkb_model.specs.Jobs.{ref_eq}
 use Rattle.mkb_model.specs.Plain.{Plain, PlainNode, Done, GivenUp, done_in, done_of, is_over, known, is_equation, pair_at, label_at}
-use Rattle.mkb_model.specs.Effects.{applied, effect, limit_of, give_up, effect_label, rewrite_label, overlap_label, orient_label, not_over, oriented, added, gains, rewritten, gains_done_in, reason_eq, is_dropped}
+use Rattle.mkb_model.specs.Effects.{applied, effect, limit_of, give_up, effect_label, rewrite_label, overlap_label, orient_label, not_over, rewritten, gains_done_in, reason_eq, is_dropped}
 use Rattle.mkb_model.specs.Invariants.{AreApart}
 use Rattle.mkb_model.specs.declared.proposed.Proposed.{Proposed}
 use Rattle.mkb_model.specs.declared.proposed.Proposed.TheVariants.{Facts, Rewrite, One, Both, Refuse, Deduce, Unjoined, Closed, Limit}
-use Rattle.mkb_model.proofs.Lists.{clash, some_is, none_some, and_off_right, same_test}
-use Rattle.mkb_model.proofs.Roles.{KeepsRoles, keeps-gains, relabel-other, has-one}
+use Rattle.mkb_model.proofs.Lists.{clash, none_some, and_off_right, same_test}
+use Rattle.mkb_model.proofs.Roles.{KeepsRoles, keeps-gains, relabel-other, or-false, has-one}
 use Rattle.mkb_model.proofs.Orienting.{keeps-oriented}
 use Rattle.mkb_model.proofs.Adding.{keeps-added}
 use Rattle.mkb_model.proofs.Commits.{IsApartFrom, keeps-rewritten, fork_other, orients}
 use Rattle.mkb_model.proofs.Simulation.{apart_from}
-use Rattle.mkb_model.proofs.Flyers.{IsUnforked}
 
 -- nothing of the process changed
 pub record IsUnmoved (b c : Plain) (p : Name) : Type 0 where
@@ -51,10 +50,6 @@ done_gained p a c l h (d ∷ ds) x y = go (ref_eq d.first a && ref_eq d.second c
 
     joined : has (join d.names l) p ≡ has d.names p
     joined = has-join d.names l p ∙ ap (λ z. has d.names p || z) h ∙ or-false (has d.names p)
-      where
-        or-false : (z : Bool) → (z || false) ≡ z
-        or-false true = refl
-        or-false false = refl
 
     go : (z : Bool) → has (done_in (gains_done_in a c l ds) x y) p ≡ has (done_in ds x y) p → has (done_in (cond z (record d { names = join d.names l } ∷ ds) (d ∷ gains_done_in a c l ds)) x y) p ≡ has (done_in (d ∷ ds) x y) p
     go true ih = inner (ref_eq d.first x && ref_eq d.second y) (join d.names l) (done_in ds x y) joined refl
@@ -135,10 +130,6 @@ unmoved_applied b (Limit j cause) p acts h apart owners lives = record { roles =
 unmoved_over : (b : Plain) (r : Reason) (l : List Name) (p : Name) → has l p ≡ false → IsUnmoved b (give_up r l b) p
 unmoved_over b r l p h = record { roles = same_roles b.nodes p; done = λ a e. refl; closed = refl; over = over_mapped p (λ (g : GivenUp). cond (reason_eq g.reason r) (record g { names = join g.names (not_over b l) }) g) (λ g. go g (reason_eq g.reason r)) b.over; known = λ n w a v k. k }
   where
-    or-false : (z : Bool) → (z || false) ≡ z
-    or-false true = refl
-    or-false false = refl
-
     not_in : has (not_over b l) p ≡ false
     not_in = has-filter (λ q. not (is_over b q)) l p ∙ and_off_right (not (is_over b p)) (has l p) h
 

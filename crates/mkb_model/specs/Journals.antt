@@ -192,24 +192,6 @@ move_of Halt = halts
 abbrev pub moves_of : List Moment → List Move
 moves_of ms = map (λ (m : Moment). move_of m.entry) ms
 
--- the entry commits
-abbrev pub is_commit : Entry → Bool
-is_commit (Commit w t e) = true
-is_commit e = false
-
--- a commit was made since the ticket was taken
-pub record HasCommitSince (past : List Moment) (t : ℕ) : Type 0 where
-  pub later : List Moment
-  pub take : Moment
-  pub earlier : List Moment
-  pub parts : past ≡ later ++ take ∷ earlier
-  pub worker : ℕ
-  pub job : Job
-  pub taken : take.entry ≡ Take worker t job
-  pub commit : Moment
-  pub since : Contains later commit
-  pub commits : IsTrue (is_commit commit.entry)
-
 -- ---- workers
 
 -- the worker that an entry names, and 0 for a halt

@@ -9,3 +9,4 @@ pub mod Ready
 pub mod Headline
 pub mod Invariants
 pub mod GoodAnswers
+pub mod Tickets

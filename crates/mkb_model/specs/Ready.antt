@@ -1,5 +1,5 @@
 -- When a commit is right for what the board has become since the ticket was taken.
-use Rattle.std.specs.Prelude.{ℕ, List, [], ◌∷◌, ◌++◌, Bool, true, false, ◌≡◌, ◌≢◌, IsTrue, Contains, ⊤, Option, Some}
+use Rattle.std.specs.Prelude.{ℕ, List, [], ◌∷◌, ◌++◌, Bool, true, false, ◌≡◌, ◌≢◌, IsTrue, Contains, ⊤, Some}
 use Rattle.kb_term.specs.Tree.{Tree}
 use Rattle.kb_term.specs.View.{tree_of}
 use Rattle.kb_term.specs.Pair.{Pair, IsSameEquation}
@@ -13,7 +13,7 @@ use Rattle.kb_rewrite.specs.NormalForm.{IsFound}
 use Rattle.kb_cert.specs.Family.{IsOrderable}
 use Rattle.kb_label.specs.Names.{Name, has, child}
 use Rattle.kb_node.specs.declared.node.LabelKind.{LabelKind}
-use Rattle.kb_node.specs.declared.node.LabelKind.TheVariants.{R0, R1, E, C0, C1, X}
+use Rattle.kb_node.specs.declared.node.LabelKind.TheVariants.{R0, R1, E}
 use Rattle.kb_node.specs.declared.job.Deduced.{Deduced}
 use Rattle.kb_node.specs.declared.job.Job.{Job}
 use Rattle.mkb_model.specs.Plain.{Plain, PlainNode, label_at, rule_kind, other, pair_in, sides, rules_at, constraints_of}

@@ -8,15 +8,17 @@ ghost use Rattle.kb_laws.specs.Completion.{KbReaches, kb_start};
 ghost use Rattle.mkb_model.specs.Plain.{Plain, state_of};
 ghost use Rattle.mkb_model.specs.DueJobs.{first_job, free_jobs};
 ghost use Rattle.mkb_model.specs.Verdicts.{verdict, VerdictMeans};
-ghost use Rattle.mkb_model.specs.Journals.{Moment, Follows, IsFreeJob, IsPossibleRun, IsRun, IsLeaving, HasCommitSince, journal_of, moves_of, opening, tickets};
+ghost use Rattle.mkb_model.specs.Journals.{Moment, Follows, IsFreeJob, IsPossibleRun, IsRun, IsLeaving, IsDropping, After, journal_of, moves_of, opening, tickets};
 ghost use Rattle.mkb_model.specs.Ready.{KeepsPairs, AllFine};
+ghost use Rattle.kb_node.specs.declared.job.Job.{Job};
+ghost use Rattle.kb_node.specs.declared.job.Job.TheVariants.{Close};
+ghost use Rattle.mkb_model.specs.Tickets.{CommitCameSince};
 ghost use Rattle.mkb_model.specs.GoodAnswers.{IsGoodAnswer};
 ghost use Rattle.mkb_model.specs.Proposals.{IsClosedOn, Proposes};
 ghost use Rattle.mkb_model.specs.Headline.{EachCompletes};
 ghost use Rattle.mkb_model.specs.Invariants.{IsSound, ClosedIsAtRest, RulesFollow, IsCertified, FactsHold, FlightIsClear, FlightIsNumbered, HasOneRole, LabelsAreLabels, LivingIsForked, PairsDiffer, IsWithinBudget};
 ghost use Rattle.mkb_model.specs.declared.entry.Entry.{Entry};
 ghost use Rattle.mkb_model.specs.declared.proposed.Proposed.{Proposed};
-ghost use Rattle.kb_node.specs.declared.job.Job.{Job};
 
 /// A legal run, in which each take is of the first job, is a possible run, in which each take is of any due job that clashes
 /// with none in flight.
@@ -116,16 +118,23 @@ pub fn complete_is_good()
     ensures { (problem : Problem) (budget : ℕ) (past : List Moment) (board : Plain) (p : Name) → IsWithinLimits problem → IsPossibleRun problem budget past board → verdict board ≡ Some (Complete p) → IsGoodAnswer problem board p }
 {}
 
-/// A job that is taken has something to act on, so where its ticket is dropped, a commit was made since the take.
-pub fn drops_follow_commits()
-    ensures { (problem : Problem) (budget : ℕ) (past : List Moment) (board : Plain) (worker ticket : ℕ) (process : Name) (next : Plain) → IsPossibleRun problem budget past board → Follows IsFreeJob past board (Entry.Drop worker ticket process) next → HasCommitSince past ticket }
+/// In each possible run a ticket is dropped only where a commit was made since its take; and a closing is never dropped.
+pub fn tickets_are_dropped_after_commits()
+    ensures since { (problem : Problem) (budget : ℕ) (past : List Moment) (board : Plain) (worker ticket : ℕ) (p : Name) (next : Plain) → IsPossibleRun problem budget past board → (drop : IsDropping past board worker ticket p next) → CommitCameSince past drop.finishing.before worker ticket drop.job }
+    ensures closings { (problem : Problem) (budget : ℕ) (past : List Moment) (board : Plain) (worker ticket : ℕ) (p : Name) (next : Plain) → IsPossibleRun problem budget past board → (drop : IsDropping past board worker ticket p next) → (q : Name) → drop.job ≢ Close q }
 {}
 
-/// What a job proposes is a function of the board. So at most one possible run of a problem within the limits has the moves that
-/// the lines of a journal text keep: the worker, the ticket and the job of each take, and the ticket of each other entry. A
-/// journal has one run without any condition.
-pub fn journals_have_one_run()
+/// A journal decides its run: two possible runs of one problem and budget with the same entries have the same boards. So a legal
+/// journal leads to one board.
+pub fn journals_decide_runs()
+    ensures runs { (problem : Problem) (budget : ℕ) (past other : List Moment) (board end : Plain) → IsPossibleRun problem budget past board → IsPossibleRun problem budget other end → journal_of past ≡ journal_of other → (past ≡ other) × (board ≡ end) }
+    ensures after { (problem : Problem) (budget : ℕ) (journal : List Entry) (board end : Plain) → After problem budget journal board → After problem budget journal end → board ≡ end }
+{}
+
+/// What a job proposes is a function of the board on which it is taken. So at most one possible run of a problem within the
+/// limits has given moves, which the lines of a journal text keep: the worker, the ticket and the job of each take, and the
+/// ticket of each other entry but a halt.
+pub fn moves_decide_runs()
     ensures proposals { (problem : Problem) (budget : ℕ) (past : List Moment) (board : Plain) → IsWithinLimits problem → IsPossibleRun problem budget past board → (job : Job) (one other : Proposed) → Proposes board job one → Proposes board job other → one ≡ other }
-    ensures moves { (problem : Problem) (budget : ℕ) → IsWithinLimits problem → (past others : List Moment) (board other : Plain) → IsPossibleRun problem budget past board → IsPossibleRun problem budget others other → moves_of past ≡ moves_of others → (past ≡ others) × (board ≡ other) }
-    ensures entries { (problem : Problem) (budget : ℕ) (past others : List Moment) (board other : Plain) → IsPossibleRun problem budget past board → IsPossibleRun problem budget others other → journal_of past ≡ journal_of others → (past ≡ others) × (board ≡ other) }
+    ensures runs { (problem : Problem) (budget : ℕ) → IsWithinLimits problem → (past other : List Moment) (board end : Plain) → IsPossibleRun problem budget past board → IsPossibleRun problem budget other end → moves_of past ≡ moves_of other → (past ≡ other) × (board ≡ end) }
 {}
