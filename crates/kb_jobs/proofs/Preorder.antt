@@ -43,6 +43,14 @@ starts (more_trees t ts) i q c =
     (λ k. let r = starts ts (suc i) q k in (r.0, r.1, r.2, let l = r.3 in omega (arith, l)))
     (Contains-append_cases (map (λ p. i ∷ p) (positions_of t)) (positions_in ts (suc i)) q c)
 
+apart : (t : Tree) (ts : Trees) (i : ℕ) (p q : List ℕ) → Contains (map (λ p. i ∷ p) (positions_of t)) p → Contains (positions_in ts (suc i)) q → numbers_cmp p q ≡ Less
+apart t ts i p q j k =
+    let m = map_in (λ p. i ∷ p) (positions_of t) p j in
+    let r = starts ts (suc i) q k in
+    let l = r.3 in
+    subst {A = List ℕ} (λ z. numbers_cmp z q ≡ Less) m.2 (subst {A = List ℕ} (λ z. numbers_cmp (i ∷ m.0) z ≡ Less) (sym r.2) (ap (λ o. ordering_then o (numbers_cmp m.0 r.1)) (nat_less i r.0 (omega (arith, l)))))
+
+
 mutual
   pub ascending_of : (t : Tree) → Ascending (positions_of t)
   ascending_of (variable n) = ((λ q i. none_in i), tt)
@@ -51,13 +59,6 @@ mutual
   ascending_in : (ts : Trees) (i : ℕ) → Ascending (positions_in ts i)
   ascending_in no_trees i = tt
   ascending_in (more_trees t ts) i = ascending_append (map (λ p. i ∷ p) (positions_of t)) (positions_in ts (suc i)) (ascending_map i (positions_of t) (ascending_of t)) (ascending_in ts (suc i)) (λ p q j k. apart t ts i p q j k)
-
-  apart : (t : Tree) (ts : Trees) (i : ℕ) (p q : List ℕ) → Contains (map (λ p. i ∷ p) (positions_of t)) p → Contains (positions_in ts (suc i)) q → numbers_cmp p q ≡ Less
-  apart t ts i p q j k =
-      let m = map_in (λ p. i ∷ p) (positions_of t) p j in
-      let r = starts ts (suc i) q k in
-      let l = r.3 in
-      subst {A = List ℕ} (λ z. numbers_cmp z q ≡ Less) m.2 (subst {A = List ℕ} (λ z. numbers_cmp (i ∷ m.0) z ≡ Less) (sym r.2) (ap (λ o. ordering_then o (numbers_cmp m.0 r.1)) (nat_less i r.0 (omega (arith, l)))))
 
 -- what stands behind a position comes after it
 pub comes_after : (before : List (List ℕ)) (p : List ℕ) (after : List (List ℕ)) → Ascending (before ++ p ∷ after) → (q : List ℕ) → Contains after q → numbers_cmp p q ≡ Less
@@ -73,7 +74,7 @@ mutual
   position_of (apply f ts) (zero ∷ p) u h = none_some h
   position_of (apply f ts) (suc k ∷ p) u h = contains_behind [] (positions_in ts 1) (suc k ∷ p) (subst {A = ℕ} (λ z. Contains (positions_in ts 1) (z ∷ p)) (omega arith) (position_in ts 1 k p u h))
 
-  position_in : (ts : Trees) (b k : ℕ) (p : List ℕ) (u : Tree) → option_and_then (λ t. subtree_at t p) (argument ts (suc k)) ≡ Some u → Contains (positions_in ts b) (b + k ∷ p)
+  position_in : (ts : Trees) (b k : ℕ) (p : List ℕ) (u : Tree) → option_and_then (λ t. subtree_at t p) (argument ts (suc k)) ≡ Some u → Contains (positions_in ts b) ((b + k) ∷ p)
   position_in no_trees b k p u h = none_some h
-  position_in (more_trees t ts) b zero p u h = Contains-append_left (map (λ p. b ∷ p) (positions_of t)) (positions_in ts (suc b)) (b + 0 ∷ p) (subst {A = ℕ} (λ z. Contains (map (λ p. b ∷ p) (positions_of t)) (z ∷ p)) (omega arith) (in_map (λ p. b ∷ p) (positions_of t) p (position_of t p u h)))
-  position_in (more_trees t ts) b (suc k) p u h = Contains-append_right (map (λ p. b ∷ p) (positions_of t)) (positions_in ts (suc b)) (b + suc k ∷ p) (subst {A = ℕ} (λ z. Contains (positions_in ts (suc b)) (z ∷ p)) (omega arith) (position_in ts (suc b) k p u h))
+  position_in (more_trees t ts) b zero p u h = Contains-append_left (map (λ p. b ∷ p) (positions_of t)) (positions_in ts (suc b)) ((b + 0) ∷ p) (subst {A = ℕ} (λ z. Contains (map (λ p. b ∷ p) (positions_of t)) (z ∷ p)) (omega arith) (in_map (λ p. b ∷ p) (positions_of t) p (position_of t p u h)))
+  position_in (more_trees t ts) b (suc k) p u h = Contains-append_right (map (λ p. b ∷ p) (positions_of t)) (positions_in ts (suc b)) ((b + suc k) ∷ p) (subst {A = ℕ} (λ z. Contains (positions_in ts (suc b)) (z ∷ p)) (omega arith) (position_in ts (suc b) k p u h))

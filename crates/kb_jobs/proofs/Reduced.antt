@@ -98,11 +98,14 @@ module _ (s : ReduceSnapshot) (fits : IsReducible s) where
       strict Strict f h e = f.1
 
   none_usable : HasNoRedex s.rules.rules.items (not (is_any s 0)) (side s.pair 0) → HasNoRedex s.rules.rules.items (not (is_any s 1)) (side s.pair 1) → IsIrreducible (listed s.rules) s.pair (usable s)
-  none_usable first second w p c k t u = let r = searched w p c k t u in go w u.is_side r.2
+  none_usable first second w p c k t u = go u.is_side
     where
-      go : (w : ℕ) → (w ≡ 0) ⊎ (w ≡ 1) → IsRedex s.rules.rules.items (not (is_any s w)) (side s.pair w) p (searched w p c k t u).0 → ⊥
-      go w (inl e) r = first p (searched w p c k t u).0 (subst {A = ℕ} (λ z. IsRedex s.rules.rules.items (not (is_any s z)) (side s.pair z) p (searched w p c k t u).0) e r)
-      go w (inr e) r = second p (searched w p c k t u).0 (subst {A = ℕ} (λ z. IsRedex s.rules.rules.items (not (is_any s z)) (side s.pair z) p (searched w p c k t u).0) e r)
+      r : (i : ℕ) × (slice_get s.rules.names.items i ≡ Some c) × Searched w p i
+      r = searched w p c k t u
+
+      go : (w ≡ 0) ⊎ (w ≡ 1) → ⊥
+      go (inl e) = first p r.0 (subst {A = ℕ} (λ z. IsRedex s.rules.rules.items (not (is_any s z)) (side s.pair z) p r.0) e r.2)
+      go (inr e) = second p r.0 (subst {A = ℕ} (λ z. IsRedex s.rules.rules.items (not (is_any s z)) (side s.pair z) p r.0) e r.2)
 
   -- a found redex may be rewritten
   may_be : (w : ℕ) (p : List ℕ) (i : ℕ) (r : Searched w p i) (k : Found) → IsFound (side s.pair w) r.rule k → IsTrue (usable s w k)
@@ -174,10 +177,16 @@ module _ (s : ReduceSnapshot) (fits : IsReducible s) where
   fact_nodes [] fs h f i = none_in (subst {A = List Fact} (λ z. Contains z f) h i)
   fact_nodes (u ∷ us) fs (g, rest, e, one, more) f i = ⊎_elim (λ q. ap (λ (z : Fact). z.node.0) (sym q) ∙ ap (λ (z : NodeId). z.0) one.node) (λ j. fact_nodes us rest more f j) (contains_cases g rest f (subst {A = List Fact} (λ z. Contains z f) e i))
 
-  fact_keys : (us : List (ℕ × ℕ)) (fs : List Fact) → AreFactsAt s us fs → map (λ (f : Fact). (f.side, f.rule)) fs ≡ map (λ (u : ℕ × ℕ). (u.0, name_at s u.1)) us
-  fact_keys [] fs h = ap (map (λ (f : Fact). (f.side, f.rule))) h
+  abbrev key : Fact → ℕ × RuleRef
+  key f = (f.side, f.rule)
+
+  abbrev place : ℕ × ℕ → ℕ × RuleRef
+  place u = (u.0, name_at s u.1)
+
+  fact_keys : (us : List (ℕ × ℕ)) (fs : List Fact) → AreFactsAt s us fs → map key fs ≡ map place us
+  fact_keys [] fs h = ap (map key) h
   fact_keys (u ∷ us) fs (g, rest, e, one, more) =
-      ap (map (λ (f : Fact). (f.side, f.rule))) e ∙ ap (λ (x : ℕ × RuleRef). x ∷ map (λ (f : Fact). (f.side, f.rule)) rest) (ap (λ z. (z, g.rule)) one.side_is ∙ ap (λ (z : RuleRef). (u.0, z)) one.name) ∙ ap (λ zs. (u.0, name_at s u.1) ∷ zs) (fact_keys us rest more)
+      ap (map key) e ∙ ap (λ (x : ℕ × RuleRef). x ∷ map key rest) (ap {B = ℕ × RuleRef} (λ z. (z, g.rule)) one.side_is ∙ ap {B = ℕ × RuleRef} (λ (z : RuleRef). (u.0, z)) one.name) ∙ ap (λ zs. place u ∷ zs) (fact_keys us rest more)
 
   fact_true : (u : ℕ × ℕ) (f : Fact) → u.1 < length s.rules.rules.items → IsFactAt s u f → IsFactOf (listed s.rules) s.pair f
   fact_true u f l h =
