@@ -1,25 +1,36 @@
 -- The first redex that a search finds is the first that may be rewritten.
-use Rattle.std.proofs.Common.{ℕ, zero, suc, ◌<◌, ◌≤◌, ◌≡◌, ◌≢◌, ◌⊎◌, inl, inr, refl, sym, ap, ◌∙◌, subst, arith, List, [], ◌∷◌, ◌++◌, map, length, Contains, All, Bool, true, false, not, Option, Some, None, Ordering, Less, Equal, Greater, nat_cmp, ⊎_elim}
-use Rattle.std.specs.Prelude.{IsTrue, slice_get, option_map}
+use Rattle.std.proofs.Common.{ℕ, zero, suc, ◌<◌, ◌≤◌, ◌≡◌, ◌≢◌, ◌⊎◌, inl, inr, refl, sym, ap, ◌∙◌, subst, arith, List, [], ◌∷◌, ◌++◌, map, take, get_or, length, Contains, All, Bool, true, false, not, Option, Some, None, Ordering, Less, Equal, Greater, nat_cmp, ⊎_elim}
+use Rattle.std.specs.Prelude.{IsTrue, slice_get, option_map, Result, Ok, Err}
 use Rattle.std.specs.Option.{option_map_or}
 use Rattle.std.specs.Ordering.{ordering_then}
 use Rattle.std.proofs.lemmas.Bool.{cases_order}
+use Rattle.std.proofs.lemmas.Option.{slice_get-get_or}
 use Rattle.std.proofs.lemmas.List.Elements.{All-head, All-tail, Contains-append_cases}
 use Rattle.kb_term.specs.Tree.{Tree}
 use Rattle.kb_term.specs.Position.{subtree_at, positions_of}
 use Rattle.kb_term.specs.Substitution.{instance, IsVariant}
 use Rattle.kb_term.specs.Rule.{Rule}
 use Rattle.kb_term.specs.Proving.{RewritesAt}
+use Rattle.kb_term.specs.Pair.{term_limit}
+use Rattle.kb_term.specs.View.{tree_of}
+use Rattle.kb_term.specs.Made.{IsLimitedAnswer}
+use Rattle.kb_term.specs.declared.term.Term.{Term}
+use Rattle.kb_term.specs.declared.limit.Limit.{Limit}
+use Rattle.kb_term.specs.declared.fault.TermFault.{TermFault}
+use Rattle.kb_term.specs.declared.fault.TermFault.TheVariants.{Large}
 use Rattle.kb_term.specs.declared.origin.RuleRef.{RuleRef}
 use Rattle.kb_term.specs.declared.origin.Found.{Found}
 use Rattle.kb_term.specs.declared.origin.Found.TheVariants.{No, Variant, Strict}
 use Rattle.kb_term.proofs.Steps.{contains_cases, contains_behind, contains_first}
 use Rattle.kb_overlap.specs.Trace.{side}
 use Rattle.kb_rewrite.specs.NormalForm.{IsFound, IsRedex, IsFirstRedex as IsFirst, HasNoRedex}
+use Rattle.kb_rewrite.specs.Search.{IsRedexAnswer, IsStepAnswer}
+use Rattle.kb_rewrite.specs.declared.redex.Redex.{Redex}
 use Rattle.kb_node.specs.declared.job.Fact.{Fact}
+use Rattle.kb_node.specs.declared.job.LimitCause.{LimitCause}
 use Rattle.kb_node.specs.declared.node.NodeId.{NodeId}
 use Rattle.mkb_model.specs.Jobs.{numbers_cmp}
-use Rattle.mkb_model.specs.Proposals.{NamedRule, IsUsableRedex, IsFirstRedex, IsIrreducible, IsFactOf, AreMissingFacts, redex_cmp}
+use Rattle.mkb_model.specs.Proposals.{NamedRule, IsUsableRedex, IsFirstRedex, IsIrreducible, IsFactOf, IsRewriting, IsLargeRewriting, AreMissingFacts, redex_cmp, reason_of}
 use Rattle.mkb_model.proofs.Lists.{clash, not_true, none_in, none_some, some_is}
 use Rattle.kb_jobs.specs.Rules.{named, listed, AreInOrder, ComesBefore, AreNamed}
 use Rattle.kb_jobs.specs.Reducing.{is_any, usable, name_at, no_name, unknown_of, IsReducible, IsFactAt, AreFactsAt}
@@ -50,6 +61,10 @@ slice_in [] i x e = none_some e
 slice_in {X} (y ∷ ys) zero x e = subst {A = X} (Contains (y ∷ ys)) (some_is e) (contains_first y ys)
 slice_in (y ∷ ys) (suc i) x e = contains_behind y ys x (slice_in ys i x e)
 
+-- what indexing gave is the member with the number
+pub read_at : {X : Type 0} (xs : List X) (i : ℕ) (x : X) → i < length xs → x ≡ get_or xs i x → slice_get xs i ≡ Some x
+read_at xs i x h is = slice_get-get_or xs i x h ∙ ap Some (sym is)
+
 in_order : (names : List RuleRef) → AreInOrder names → (i j : ℕ) (a c : RuleRef) → i < j → slice_get names i ≡ Some a → slice_get names j ≡ Some c → ComesBefore a c
 in_order [] h i j a c l e f = none_some e
 in_order (x ∷ names) h i zero a c l e f = absurd (omega (arith, l))
@@ -68,6 +83,16 @@ name_there s h i l =
     m.1 ∙ ap Some (sym (ap (λ (o : Option RuleRef). option_map_or (λ (a : RuleRef). a) o no_name) m.1))
 
 -- ---- redexes
+
+-- a search that found nothing, in the words of the caller
+pub no_redex : (rules : List Rule) (b : Bool) (t : Tree) (o : Option Redex) (rules' : List Rule) (t' : Tree) → rules ≡ rules' → t ≡ t' → o ≡ None → IsRedexAnswer rules b t o → HasNoRedex rules' b t'
+no_redex rules b t o rules' t' e f g h =
+    subst {A = List Rule} (λ z. HasNoRedex z b t') e (subst {A = Tree} (λ z. HasNoRedex rules b z) f (subst {A = Option Redex} (λ z. IsRedexAnswer rules b t z) g h))
+
+side_cases : (w : ℕ) → w ≤ 1 → (w ≡ 0) ⊎ (w ≡ 1)
+side_cases zero h = inl refl
+side_cases (suc zero) h = inr refl
+side_cases (suc (suc w)) h = absurd (omega (arith, h))
 
 less_fine : (o : Ordering) → o ≡ Less → o ≢ Greater
 less_fine o h k = absurd (clash_orders (sym h ∙ k))
@@ -171,7 +196,46 @@ module _ (s : ReduceSnapshot) (fits : IsReducible s) where
           let m = searched 0 q c k t u' in
           absurd (before d q m.0 m.2)
 
+  -- the first redex found, with what the step answers, is what is proposed
+  pub rewriting : (w : ℕ) (redex : Redex) (a : RuleRef) (t : Tree) (answer : Result Term TermFault) (u : Term) → w ≤ 1 → t ≡ side s.pair w → IsRedexAnswer s.rules.rules.items (not (is_any s w)) (side s.pair w) (Some redex)
+      → slice_get s.rules.names.items redex.rule ≡ Some a → IsStepAnswer s.rules.rules.items t redex.position redex.rule answer → answer ≡ Ok u → (w ≡ 1 → HasNoRedex s.rules.rules.items (not (is_any s 0)) (side s.pair 0))
+      → IsRewriting (listed s.rules) s.pair (usable s) w redex.position a redex.kind (tree_of u)
+  rewriting w redex a t answer u small e found there step is before =
+      let f = found.0 in
+      let r = step f.redex.rule f.redex.there in
+      let made : (tree_of u ≡ r.0) × (term_limit r.0 ≡ None) = subst {A = Result Term TermFault} (IsLimitedAnswer r.0) is r.2 in
+      subst {A = Tree} (IsRewriting (listed s.rules) s.pair (usable s) w redex.position a redex.kind) (sym made.0)
+      (record {
+        first = first_found w redex.position redex.rule a redex.kind r.0 (side_cases w small) f there (found.1 f.redex.rule f.redex.there) (subst {A = Tree} (λ z. RewritesAt f.redex.rule redex.position z r.0) e r.1) before;
+        fits = made.1;
+      })
+
+  pub large : (w : ℕ) (redex : Redex) (a : RuleRef) (t : Tree) (answer : Result Term TermFault) (limit : Limit) (cause : LimitCause) → w ≤ 1 → t ≡ side s.pair w → IsRedexAnswer s.rules.rules.items (not (is_any s w)) (side s.pair w) (Some redex)
+      → slice_get s.rules.names.items redex.rule ≡ Some a → IsStepAnswer s.rules.rules.items t redex.position redex.rule answer → answer ≡ Err (Large limit) → (w ≡ 1 → HasNoRedex s.rules.rules.items (not (is_any s 0)) (side s.pair 0))
+      → cause.redex ≡ Some (w, a, redex.kind) → cause.reason ≡ reason_of limit → IsLargeRewriting (listed s.rules) s.pair (usable s) cause
+  large w redex a t answer limit cause small e found there step is before redex_is reason_is =
+      let f = found.0 in
+      let r = step f.redex.rule f.redex.there in
+      record {
+        side = w;
+        at = redex.position;
+        rule = a;
+        kind = redex.kind;
+        result = r.0;
+        limit = limit;
+        first = first_found w redex.position redex.rule a redex.kind r.0 (side_cases w small) f there (found.1 f.redex.rule f.redex.there) (subst {A = Tree} (λ z. RewritesAt f.redex.rule redex.position z r.0) e r.1) before;
+        passes = subst {A = Result Term TermFault} (IsLimitedAnswer r.0) is r.2;
+        redex_is = redex_is;
+        reason_is = reason_is;
+      }
+
   -- ---- facts
+
+  -- one more fact
+  pub facts_more : (us : List (ℕ × ℕ)) (i : ℕ) (u : ℕ × ℕ) (fs : List Fact) (f : Fact) → slice_get us i ≡ Some u → AreFactsAt s (take i us) fs → IsFactAt s u f → AreFactsAt s (take (suc i) us) (fs ++ f ∷ [])
+  facts_more [] i u fs f e h k = none_some e
+  facts_more (x ∷ us) zero u fs f e h k = (f, [], ap (λ z. z ++ f ∷ []) h, subst {A = ℕ × ℕ} (λ z. IsFactAt s z f) (sym (some_is e)) k, refl)
+  facts_more (x ∷ us) (suc i) u fs f e (g, rest, q, one, more) k = (g, rest ++ f ∷ [], ap (λ z. z ++ f ∷ []) q, one, facts_more us i u rest f e more k)
 
   fact_nodes : (us : List (ℕ × ℕ)) (fs : List Fact) → AreFactsAt s us fs → (f : Fact) → Contains fs f → f.node.0 ≡ s.node.0
   fact_nodes [] fs h f i = none_in (subst {A = List Fact} (λ z. Contains z f) h i)

@@ -82,14 +82,16 @@ fn rewrite(
             kind,
             result,
         }),
-        Err(TermFault::Large(limit)) => Ok(Proposed::Limit {
-            job: Job::Reduce(s.process, s.node),
-            cause: LimitCause {
-                redex: Some((w, rule, kind)),
-                reason: reason_of(limit),
-            },
-        }),
-        Err(TermFault::Memory) => Err(Memory),
+        Err(fault) => match fault {
+            TermFault::Memory => Err(Memory),
+            TermFault::Large(limit) => Ok(Proposed::Limit {
+                job: Job::Reduce(s.process, s.node),
+                cause: LimitCause {
+                    redex: Some((w, rule, kind)),
+                    reason: reason_of(limit),
+                },
+            }),
+        },
     }
 }
 
