@@ -1,3 +1,5 @@
 pub mod Rules
 pub mod Reducing
 pub mod Orienting
+pub mod Groups
+pub mod Overlapping

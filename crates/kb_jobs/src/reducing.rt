@@ -5,14 +5,14 @@ ghost use Rattle.kb_term.specs.View.{tree_of};
 ghost use Rattle.kb_overlap.specs.Trace.{side};
 ghost use Rattle.kb_rewrite.specs.NormalForm.{HasNoRedex, IsFound};
 ghost use Rattle.kb_rewrite.specs.Search.{IsRedexAnswer};
-ghost use Rattle.mkb_model.specs.Proposals.{reason_of as reason_of_limit};
 ghost use Rattle.kb_jobs.specs.Reducing.{is_any, IsReducible, IsFactAt, AreFactsAt, ProposesReduce};
 
+use crate::groups::reason_of;
 use crate::rules::NamedRules;
-use kb_label::{Process, Reason};
+use kb_label::Process;
 use kb_node::{Fact, Job, LimitCause, NodeId};
 use kb_rewrite::{Redex, first_redex, found, step};
-use kb_term::{Limit, Memory, Pair, Term, TermFault};
+use kb_term::{Memory, Pair, Term, TermFault};
 use mkb_model::{FactList, Proposed};
 use std::alloc::Global;
 
@@ -27,16 +27,6 @@ pub struct ReduceSnapshot {
     pub any_first: bool,
     pub any_second: bool,
     pub unknown: Vec<(u8, u32)>,
-}
-
-fn reason_of(limit: Limit) -> Reason
-    ensures { result ≡ reason_of_limit limit }
-{
-    match limit {
-        Limit::Size => Reason::Size,
-        Limit::Depth => Reason::Depth,
-        Limit::Variables => Reason::Variables,
-    }
 }
 
 /// Rewrites the node at its first redex that may be rewritten: side 0 before side 1, then positions in preorder, then rules in
