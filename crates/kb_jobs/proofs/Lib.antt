@@ -1,2 +1,4 @@
 pub mod Preorder
 pub mod Reduced
+pub mod Adding
+pub mod TakenLaws

@@ -56,7 +56,7 @@ named_in (a ∷ names) (r ∷ rules) x c =
     (λ k. let m = named_in names rules x k in (suc m.0, m.1, m.2))
     (contains_cases (record { ref = a; rule = r }) (named names rules) x c)
 
-slice_in : {X : Type 0} (xs : List X) (i : ℕ) (x : X) → slice_get xs i ≡ Some x → Contains xs x
+pub slice_in : {X : Type 0} (xs : List X) (i : ℕ) (x : X) → slice_get xs i ≡ Some x → Contains xs x
 slice_in [] i x e = none_some e
 slice_in {X} (y ∷ ys) zero x e = subst {A = X} (Contains (y ∷ ys)) (some_is e) (contains_first y ys)
 slice_in (y ∷ ys) (suc i) x e = contains_behind y ys x (slice_in ys i x e)

@@ -3,3 +3,4 @@ pub mod Reducing
 pub mod Orienting
 pub mod Groups
 pub mod Overlapping
+pub mod Taken

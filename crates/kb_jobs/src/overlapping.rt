@@ -55,9 +55,10 @@ fn both_ways(alloc: Global, s: &OverlapSnapshot) -> Result<Vec<Group>, Memory>
 {
     let mut groups = Vec::new(alloc);
     groups.push(group_of(alloc, s.first, &s.first_rule, s.second, &s.second_rule)?)?;
-    if !is_same(s.first, s.second) {
-        groups.push(group_of(alloc, s.second, &s.second_rule, s.first, &s.first_rule)?)?;
+    if is_same(s.first, s.second) {
+        return Ok(groups);
     }
+    groups.push(group_of(alloc, s.second, &s.second_rule, s.first, &s.first_rule)?)?;
     Ok(groups)
 }
 
