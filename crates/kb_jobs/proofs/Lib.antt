@@ -2,3 +2,4 @@ pub mod Preorder
 pub mod Reduced
 pub mod Adding
 pub mod TakenLaws
+pub mod Settling

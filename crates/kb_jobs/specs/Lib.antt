@@ -4,3 +4,5 @@ pub mod Orienting
 pub mod Groups
 pub mod Overlapping
 pub mod Taken
+pub mod Closing
+pub mod Working

@@ -2,9 +2,11 @@
 use Rattle.std.specs.Prelude.{◌≡◌, ◌||◌, List, [], ◌∷◌, ◌++◌, Some}
 use Rattle.mkb_model.specs.Plain.{Plain, pair_at, rule_at, rules_at, constraints_of, is_equation, is_rule}
 use Rattle.mkb_model.specs.DueJobs.{reducers}
-use Rattle.mkb_model.specs.Proposals.{named_rules, unknown}
+use Rattle.mkb_model.specs.Proposals.{named_rules, unknown, rules_on, equations_on}
 use Rattle.kb_jobs.specs.Rules.{listed}
 use Rattle.kb_jobs.specs.Reducing.{unknown_of}
+use Rattle.kb_jobs.specs.Closing.{equations_of, inputs_of}
+use Rattle.kb_jobs.specs.declared.closing.CloseSnapshot.{CloseSnapshot}
 use Rattle.kb_jobs.specs.declared.reducing.ReduceSnapshot.{ReduceSnapshot}
 use Rattle.kb_jobs.specs.declared.orienting.OrientSnapshot.{OrientSnapshot}
 use Rattle.kb_jobs.specs.declared.overlapping.OverlapSnapshot.{OverlapSnapshot}
@@ -27,3 +29,9 @@ pub record IsTakenOrient (b : Plain) (s : OrientSnapshot) : Type 0 where
 pub record IsTakenOverlap (b : Plain) (s : OverlapSnapshot) : Type 0 where
   pub first : rule_at b s.first ≡ Some s.first_rule
   pub second : rule_at b s.second ≡ Some s.second_rule
+
+-- the snapshot has the process's rules and equations, and the input equations
+pub record IsTakenClose (b : Plain) (s : CloseSnapshot) : Type 0 where
+  pub rules : listed s.rules ≡ rules_on b s.process
+  pub equations : equations_of s.equations.items ≡ equations_on b s.process
+  pub inputs : inputs_of s ≡ b.problem.equations
