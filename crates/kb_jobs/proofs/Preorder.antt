@@ -50,7 +50,6 @@ apart t ts i p q j k =
     let l = r.3 in
     subst {A = List ℕ} (λ z. numbers_cmp z q ≡ Less) m.2 (subst {A = List ℕ} (λ z. numbers_cmp (i ∷ m.0) z ≡ Less) (sym r.2) (ap (λ o. ordering_then o (numbers_cmp m.0 r.1)) (nat_less i r.0 (omega (arith, l)))))
 
-
 mutual
   pub ascending_of : (t : Tree) → Ascending (positions_of t)
   ascending_of (variable n) = ((λ q i. none_in i), tt)

@@ -75,10 +75,16 @@ close_taken : (b : Plain) (s : CloseSnapshot) (x : Proposed) → IsTakenClose b 
 close_taken b s (Unjoined p pairs) t h = (h.0, subst {A = List NamedRule} (λ r. IsUnjoining r (equations_on b s.process) pairs) t.rules (subst {A = List (Tree × Tree)} (λ e. IsUnjoining (listed s.rules) e pairs) t.equations h.1))
 close_taken b s (Closed p) t h =
     (h.0, subst {A = List NamedRule} (λ r. IsClosed r (equations_on b s.process) b.problem.equations) t.rules (subst {A = List (Tree × Tree)} (λ e. IsClosed (listed s.rules) e b.problem.equations) t.equations (subst {A = List (Tree × Tree)} (λ i. IsClosed (listed s.rules) (equations_of s.equations.items) i) t.inputs h.1)))
-close_taken b s (Limit j cause) t h = (h.0, (h.1.0, ⊎_elim
-  (λ o. inl (subst {A = List NamedRule} (λ r. IsOverlapStop r cause.reason) t.rules o))
-  (λ i. inr (subst {A = List NamedRule} (λ r. IsInputStop r (equations_on b s.process) b.problem.equations cause.reason) t.rules (subst {A = List (Tree × Tree)} (λ e. IsInputStop (listed s.rules) e b.problem.equations cause.reason) t.equations (subst {A = List (Tree × Tree)} (λ z. IsInputStop (listed s.rules) (equations_of s.equations.items) z cause.reason) t.inputs i))))
-  h.1.1))
+close_taken b s (Limit j cause) t h = (
+  h.0,
+  (
+    h.1.0,
+    ⊎_elim
+        (λ o. inl (subst {A = List NamedRule} (λ r. IsOverlapStop r cause.reason) t.rules o))
+        (λ i. inr (subst {A = List NamedRule} (λ r. IsInputStop r (equations_on b s.process) b.problem.equations cause.reason) t.rules (subst {A = List (Tree × Tree)} (λ e. IsInputStop (listed s.rules) e b.problem.equations cause.reason) t.equations (subst {A = List (Tree × Tree)} (λ z. IsInputStop (listed s.rules) (equations_of s.equations.items) z cause.reason) t.inputs i))))
+        h.1.1,
+  ),
+)
 close_taken b s x t h = absurd h
 
 pub work_taken : (b : Plain) (s : Snapshot) (x : Proposed) → IsTaken b s → ProposesBy s x → Proposes b (job_of s) x

@@ -221,7 +221,12 @@ fn is_joined(alloc: Global, equations: &[Pair], u: &Term, v: &Term) -> Result<bo
 }
 
 // Normalises both terms, the first before the second.
-fn normal_forms(alloc: Global, rules: &NamedRules, first: &Term, second: &Term) -> Result<Forms, Memory>
+fn normal_forms(
+    alloc: Global,
+    rules: &NamedRules,
+    first: &Term,
+    second: &Term,
+) -> Result<Forms, Memory>
     requires { length rules.now.names.items ≡ length rules.now.rules.items }
     ensures { IfOk result (AreForms (listed rules.now) (tree_of first.now) (tree_of second.now)) }
 {

@@ -8,9 +8,9 @@ mod orienting;
 mod overlapping;
 mod reducing;
 mod rules;
-mod working;
 #[cfg(test)]
 mod tests;
+mod working;
 
 pub use closing::{CloseSnapshot, close};
 pub use laws::work_is_as_on_the_board;

@@ -62,7 +62,11 @@ fn rewrite(
 {
     let rule = s.rules.names[redex.rule as usize];
     let stepped = step(alloc, &s.rules.rules, t, &redex);
-    let Redex { position, rule: _, kind } = redex;
+    let Redex {
+        position,
+        rule: _,
+        kind,
+    } = redex;
     match stepped {
         Ok(result) => Ok(Proposed::Rewrite {
             node: s.node,

@@ -7,7 +7,8 @@ use Rattle.kb_jobs.specs.Rules.{listed}
 use Rattle.kb_jobs.specs.Closing.{AreForms, inputs_of}
 use Rattle.kb_jobs.specs.declared.closing.Forms.{Forms}
 use Rattle.kb_jobs.proofs.Reduced.{read_at}
-use Rattle.kb_jobs.proofs.Adding.{map_there, take_next, one_more, stops_there}
+use Rattle.kb_jobs.proofs.Adding.{map_there, take_next, take_length, one_more, stops_there}
+use Rattle.std.proofs.lemmas.List.{length-map}
 use Rattle.kb_jobs.proofs.closing.input_limit.Goals as goal
 
 abbrev both_trees : Term × Term → Tree × Tree
@@ -35,3 +36,9 @@ loop-i-preserved c =
     let next : suc i ≡ i + 1 = omega arith in
     subst {A = ℕ} (λ n. (x : Tree × Tree) → Contains (take n (inputs_of s)) x → HaveForms L x) next
     (subst {A = List (Tree × Tree)} (λ z. (x : Tree × Tree) → Contains z x → HaveForms L x) (sym (take_next (inputs_of s) i (both_trees e) there)) (one_more (HaveForms L) (take i (inputs_of s)) (both_trees e) c.loop-i.invariant ((tree_of c.in-Both.field-0, made.0), (tree_of c.in-Both.field-1, made.1))))
+
+pub returns : goal.returns
+returns c =
+    let s = c.args.s.now in
+    let all : take c.loop-i.i (inputs_of s) ≡ inputs_of s = take_length (inputs_of s) c.loop-i.i (omega (arith, length-map s.inputs.items both_trees, c.len-i-end.ensures, c.loop-i-test.false)) in
+    subst {A = List (Tree × Tree)} (λ z. (x : Tree × Tree) → Contains z x → HaveForms (listed s.rules) x) all c.loop-i.invariant

@@ -14,8 +14,8 @@ returns-in-Ok c =
     let inside : c.args.redex.rule < length s.rules.names.items = omega (arith, c.requires.reducible.rules.as_many, rule_inside s.rules.rules.items c.args.redex.rule f.redex.rule f.redex.there) in (
       refl,
       rewriting s c.requires.reducible c.args.w c.args.redex c.index-rule.result.now (tree_of c.args.t.now) c.step-stepped.result c.in-Ok.result c.requires.side c.requires.term c.requires.first
-      (read_at s.rules.names.items c.args.redex.rule c.index-rule.result.now inside c.index-rule.ensures)
-      (λ r e. c.step-stepped.ensures r (ap (λ (rs : List Rule). slice_get rs c.args.redex.rule) c.deref.ensures.value ∙ e)) c.in-Ok.is c.requires.before,
+          (read_at s.rules.names.items c.args.redex.rule c.index-rule.result.now inside c.index-rule.ensures)
+          (λ r e. c.step-stepped.ensures r (ap (λ (rs : List Rule). slice_get rs c.args.redex.rule) c.deref.ensures.value ∙ e)) c.in-Ok.is c.requires.before,
     )
 
 pub returns : goal.returns
@@ -25,6 +25,6 @@ returns c =
     let inside : c.args.redex.rule < length s.rules.names.items = omega (arith, c.requires.reducible.rules.as_many, rule_inside s.rules.rules.items c.args.redex.rule f.redex.rule f.redex.there) in (
       refl,
       large s c.requires.reducible c.args.w c.args.redex c.index-rule.result.now (tree_of c.args.t.now) c.step-stepped.result c.in-Large.limit _ c.requires.side c.requires.term c.requires.first
-      (read_at s.rules.names.items c.args.redex.rule c.index-rule.result.now inside c.index-rule.ensures)
-      (λ r e. c.step-stepped.ensures r (ap (λ (rs : List Rule). slice_get rs c.args.redex.rule) c.deref.ensures.value ∙ e)) (c.in-Err.is ∙ ap Err c.in-Large.is) c.requires.before refl c.reason_of.ensures,
+          (read_at s.rules.names.items c.args.redex.rule c.index-rule.result.now inside c.index-rule.ensures)
+          (λ r e. c.step-stepped.ensures r (ap (λ (rs : List Rule). slice_get rs c.args.redex.rule) c.deref.ensures.value ∙ e)) (c.in-Err.is ∙ ap Err c.in-Large.is) c.requires.before refl c.reason_of.ensures,
     )
