@@ -1,5 +1,5 @@
 // Worked examples: each call once, with ample memory.
-ghost use Rattle.std.specs.Prelude.{IfOk, ◌≡◌, ◌×◌, length};
+ghost use Rattle.std.specs.Prelude.{IfOk};
 ghost use Rattle.kb_jobs.specs.Rules.{AreNamed};
 
 use crate::*;
