@@ -1,0 +1,94 @@
+-- What jobs propose by snapshots is what they propose on the board.
+use Rattle.std.proofs.Common.{ℕ, zero, suc, ◌≡◌, ◌⊎◌, inl, inr, refl, sym, ap, ap₂, ◌∙◌, subst, ⊎_elim, List, Bool, Option, Some, None}
+use Rattle.std.specs.Prelude.{◌||◌}
+use Rattle.kb_term.specs.Pair.{Pair}
+use Rattle.kb_term.specs.Rule.{Rule}
+use Rattle.kb_term.specs.Signature.{Signature}
+use Rattle.kb_term.specs.View.{tree_of}
+use Rattle.kb_term.specs.declared.origin.Found.{Found}
+use Rattle.kb_term.specs.declared.origin.Found.TheVariants.{No, Variant, Strict}
+use Rattle.kb_cert.specs.Family.{IsFirstOrder}
+use Rattle.kb_cert.specs.declared.certificate.Certificate.{Certificate}
+use Rattle.kb_node.specs.declared.job.Job.TheVariants.{Reduce, Orient, Overlap, Close}
+use Rattle.mkb_model.specs.Plain.{Plain, other}
+use Rattle.mkb_model.specs.DueJobs.{is_usable, reducers}
+use Rattle.mkb_model.specs.Proposals.{NamedRule, named_rules, unknown, IsRewriting, IsLargeRewriting, AreMissingFacts, OnReduce, OrientsBy, Proposes, rules_on, equations_on, IsUnjoining, IsClosed, IsOverlapStop, IsInputStop}
+use Rattle.mkb_model.specs.declared.proposed.Proposed.{Proposed}
+use Rattle.mkb_model.specs.declared.proposed.Proposed.TheVariants.{Facts, Rewrite, Limit, One, Both, Refuse, Deduce, Unjoined, Closed}
+use Rattle.kb_jobs.specs.Rules.{listed}
+use Rattle.kb_jobs.specs.Reducing.{usable, is_any, ProposesReduce}
+use Rattle.kb_jobs.specs.Orienting.{rules_towards, OrientsTowards, ProposesOrient}
+use Rattle.kb_jobs.specs.Overlapping.{ProposesOverlap}
+use Rattle.kb_jobs.specs.Taken.{IsTakenReduce, IsTakenOrient, IsTakenOverlap, IsTakenClose}
+use Rattle.kb_jobs.specs.Closing.{equations_of, inputs_of, ProposesClose}
+use Rattle.kb_jobs.specs.Working.{job_of, IsTaken, ProposesBy}
+use Rattle.kb_jobs.specs.declared.working.Snapshot.{Snapshot}
+use Rattle.kb_jobs.specs.declared.working.Snapshot.TheVariants.{Reduce as ReduceOf, Orient as OrientOf, Overlap as OverlapOf, Close as CloseOf}
+use Rattle.kb_jobs.specs.declared.closing.CloseSnapshot.{CloseSnapshot}
+use Rattle.kb_term.specs.Tree.{Tree}
+use Rattle.kb_jobs.specs.declared.reducing.ReduceSnapshot.{ReduceSnapshot}
+use Rattle.kb_jobs.specs.declared.orienting.OrientSnapshot.{OrientSnapshot}
+use Rattle.kb_jobs.specs.declared.overlapping.OverlapSnapshot.{OverlapSnapshot}
+use mathlib.Core.Path.{fun_ext}
+
+usable_at : (b : Plain) (s : ReduceSnapshot) → IsTakenReduce b s → (w : ℕ) (k : Found) → usable s w k ≡ is_usable b s.process s.node.0 w k
+usable_at b s t w No = refl
+usable_at b s t zero Variant = t.any_first
+usable_at b s t (suc w) Variant = t.any_second
+usable_at b s t w Strict = refl
+
+on_reduce : (b : Plain) (s : ReduceSnapshot) → IsTakenReduce b s → (P : List NamedRule → Pair → (ℕ → Found → Bool) → Type 0) → P (listed s.rules) s.pair (usable s) → OnReduce b s.process s.node.0 P
+on_reduce b s t P h =
+    (s.pair, t.pair, subst {A = List NamedRule} (λ r. P r s.pair (is_usable b s.process s.node.0)) t.rules (subst {A = ℕ → Found → Bool} (λ u. P (listed s.rules) s.pair u) (fun_ext (λ w. fun_ext (λ k. usable_at b s t w k))) h))
+
+reduce_taken : (b : Plain) (s : ReduceSnapshot) (x : Proposed) → IsTakenReduce b s → ProposesReduce s x → Proposes b (Reduce s.process s.node) x
+reduce_taken b s (Facts fs) t h =
+    on_reduce b s t (λ rules pair may. AreMissingFacts rules pair may s.node.0 (unknown b s.process s.node.0) fs) (subst (λ z. AreMissingFacts (listed s.rules) s.pair (usable s) s.node.0 z fs) t.unknown h)
+reduce_taken b s (Rewrite m w at a kind result) t h = (h.0, on_reduce b s t (λ rules pair may. IsRewriting rules pair may w at a kind (tree_of result)) h.1)
+reduce_taken b s (Limit j cause) t h = (h.0, on_reduce b s t (λ rules pair may. IsLargeRewriting rules pair may cause) h.1)
+reduce_taken b s x t h = absurd h
+
+towards_taken : (b : Plain) (s : OrientSnapshot) → IsTakenOrient b s → (d : ℕ) (o : Option Certificate) → (d ≡ 0) ⊎ (d ≡ 1) → OrientsTowards s d o → OrientsBy b s.process s.node.0 d o
+towards_taken b s t d o (inl e) h =
+    subst {A = ℕ} (λ z. OrientsBy b s.process s.node.0 z o) (sym e)
+    (subst {A = List Rule} (λ z. IsFirstOrder b.problem.signature z o) t.forth (subst {A = Signature} (λ z. IsFirstOrder z s.forth.items o) t.signature (subst {A = ℕ} (λ z. OrientsTowards s z o) e h)))
+towards_taken b s t d o (inr e) h =
+    subst {A = ℕ} (λ z. OrientsBy b s.process s.node.0 z o) (sym e)
+    (subst {A = List Rule} (λ z. IsFirstOrder b.problem.signature z o) t.back (subst {A = Signature} (λ z. IsFirstOrder z s.back.items o) t.signature (subst {A = ℕ} (λ z. OrientsTowards s z o) e h)))
+
+other_way : (d : ℕ) → (d ≡ 0) ⊎ (d ≡ 1) → (other d ≡ 0) ⊎ (other d ≡ 1)
+other_way d (inl e) = inr (ap other e)
+other_way d (inr e) = inl (ap other e)
+
+orient_taken : (b : Plain) (s : OrientSnapshot) (x : Proposed) → IsTakenOrient b s → ProposesOrient s x → Proposes b (Orient s.process s.node) x
+orient_taken b s (One p n d c) t h = (h.0, h.1, h.2, towards_taken b s t d (Some c) h.2 h.3, towards_taken b s t (other d) None (other_way d h.2) h.4)
+orient_taken b s (Both p n c0 c1) t h = (h.0, h.1, towards_taken b s t 0 (Some c0) (inl refl) h.2, towards_taken b s t 1 (Some c1) (inr refl) h.3)
+orient_taken b s (Refuse p n) t h = (h.0, h.1, towards_taken b s t 0 None (inl refl) h.2, towards_taken b s t 1 None (inr refl) h.3)
+orient_taken b s x t h = absurd h
+
+overlap_taken : (b : Plain) (s : OverlapSnapshot) (x : Proposed) → IsTakenOverlap b s → ProposesOverlap s x → Proposes b (Overlap s.process s.first s.second) x
+overlap_taken b s (Deduce a c pairs) t h = (h.0, h.1, (s.first_rule, s.second_rule, t.first, t.second, h.2))
+overlap_taken b s (Limit j cause) t h = (h.0, (h.1.0, (s.first_rule, s.second_rule, t.first, t.second, h.1.1)))
+overlap_taken b s x t h = absurd h
+
+close_taken : (b : Plain) (s : CloseSnapshot) (x : Proposed) → IsTakenClose b s → ProposesClose s x → Proposes b (Close s.process) x
+close_taken b s (Unjoined p pairs) t h = (h.0, subst {A = List NamedRule} (λ r. IsUnjoining r (equations_on b s.process) pairs) t.rules (subst {A = List (Tree × Tree)} (λ e. IsUnjoining (listed s.rules) e pairs) t.equations h.1))
+close_taken b s (Closed p) t h =
+    (h.0, subst {A = List NamedRule} (λ r. IsClosed r (equations_on b s.process) b.problem.equations) t.rules (subst {A = List (Tree × Tree)} (λ e. IsClosed (listed s.rules) e b.problem.equations) t.equations (subst {A = List (Tree × Tree)} (λ i. IsClosed (listed s.rules) (equations_of s.equations.items) i) t.inputs h.1)))
+close_taken b s (Limit j cause) t h = (
+  h.0,
+  (
+    h.1.0,
+    ⊎_elim
+        (λ o. inl (subst {A = List NamedRule} (λ r. IsOverlapStop r cause.reason) t.rules o))
+        (λ i. inr (subst {A = List NamedRule} (λ r. IsInputStop r (equations_on b s.process) b.problem.equations cause.reason) t.rules (subst {A = List (Tree × Tree)} (λ e. IsInputStop (listed s.rules) e b.problem.equations cause.reason) t.equations (subst {A = List (Tree × Tree)} (λ z. IsInputStop (listed s.rules) (equations_of s.equations.items) z cause.reason) t.inputs i))))
+        h.1.1,
+  ),
+)
+close_taken b s x t h = absurd h
+
+pub work_taken : (b : Plain) (s : Snapshot) (x : Proposed) → IsTaken b s → ProposesBy s x → Proposes b (job_of s) x
+work_taken b (ReduceOf s) x t h = reduce_taken b s x t h
+work_taken b (OrientOf s) x t h = orient_taken b s x t h
+work_taken b (OverlapOf s) x t h = overlap_taken b s x t h
+work_taken b (CloseOf s) x t h = close_taken b s x t h

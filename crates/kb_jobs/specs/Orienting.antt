@@ -1,0 +1,32 @@
+-- What an Orient proposes, by what it reads.
+use Rattle.std.specs.Prelude.{ℕ, zero, suc, ◌≡◌, ◌≤◌, ◌⊎◌, List, length, Option, Some, None}
+use Rattle.kb_term.specs.Rule.{Rule}
+use Rattle.kb_linear.specs.Limits.{AreMeasurable}
+use Rattle.kb_cert.specs.Family.{IsFirstOrder}
+use Rattle.kb_cert.specs.declared.certificate.Certificate.{Certificate}
+use Rattle.mkb_model.specs.Plain.{other}
+use Rattle.mkb_model.specs.declared.proposed.Proposed.{Proposed}
+use Rattle.mkb_model.specs.declared.proposed.Proposed.TheVariants.{One, Both, Refuse}
+use Rattle.kb_jobs.specs.declared.orienting.OrientSnapshot.{OrientSnapshot}
+
+-- the constraints with the rule of the direction
+abbrev pub rules_towards : OrientSnapshot → ℕ → List Rule
+rules_towards s zero = s.forth.items
+rules_towards s (suc d) = s.back.items
+
+-- the first member of the family that orders the constraints with the rule of the direction
+abbrev pub OrientsTowards : OrientSnapshot → ℕ → Option Certificate → Type 0
+OrientsTowards s d = IsFirstOrder s.signature (rules_towards s d)
+
+-- what an Orient may read: at most 24 symbols, and terms within the limits
+pub record IsOrientable (s : OrientSnapshot) : Type 0 where
+  pub few : length s.signature ≤ 24
+  pub forth : AreMeasurable s.forth.items
+  pub back : AreMeasurable s.back.items
+
+-- what an Orient proposes: a rule in one direction, a fork into both, or that there is neither
+abbrev pub ProposesOrient : OrientSnapshot → Proposed → Type 0
+ProposesOrient s (One p n d c) = (p ≡ s.process) × (n ≡ s.node) × ((d ≡ 0) ⊎ (d ≡ 1)) × OrientsTowards s d (Some c) × OrientsTowards s (other d) None
+ProposesOrient s (Both p n c0 c1) = (p ≡ s.process) × (n ≡ s.node) × OrientsTowards s 0 (Some c0) × OrientsTowards s 1 (Some c1)
+ProposesOrient s (Refuse p n) = (p ≡ s.process) × (n ≡ s.node) × OrientsTowards s 0 None × OrientsTowards s 1 None
+ProposesOrient s x = ⊥

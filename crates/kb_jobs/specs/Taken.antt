@@ -1,0 +1,37 @@
+-- Snapshots that are taken from a board.
+use Rattle.std.specs.Prelude.{◌≡◌, ◌||◌, List, [], ◌∷◌, ◌++◌, Some}
+use Rattle.mkb_model.specs.Plain.{Plain, pair_at, rule_at, rules_at, constraints_of, is_equation, is_rule}
+use Rattle.mkb_model.specs.DueJobs.{reducers}
+use Rattle.mkb_model.specs.Proposals.{named_rules, unknown, rules_on, equations_on}
+use Rattle.kb_jobs.specs.Rules.{listed}
+use Rattle.kb_jobs.specs.Reducing.{unknown_of}
+use Rattle.kb_jobs.specs.Closing.{equations_of, inputs_of}
+use Rattle.kb_jobs.specs.declared.closing.CloseSnapshot.{CloseSnapshot}
+use Rattle.kb_jobs.specs.declared.reducing.ReduceSnapshot.{ReduceSnapshot}
+use Rattle.kb_jobs.specs.declared.orienting.OrientSnapshot.{OrientSnapshot}
+use Rattle.kb_jobs.specs.declared.overlapping.OverlapSnapshot.{OverlapSnapshot}
+
+-- the snapshot has the pair, the process's rules elsewhere, and what is unknown; on a side any redex may be rewritten where the process has the equation, or the rule with that side on the right
+pub record IsTakenReduce (b : Plain) (s : ReduceSnapshot) : Type 0 where
+  pub pair : pair_at b s.node.0 ≡ Some s.pair
+  pub rules : listed s.rules ≡ named_rules b (reducers b s.process s.node.0)
+  pub any_first : s.any_first ≡ (is_equation b s.process s.node.0 || is_rule b s.process (record { node = s.node.0; dir = 1 }))
+  pub any_second : s.any_second ≡ (is_equation b s.process s.node.0 || is_rule b s.process (record { node = s.node.0; dir = 0 }))
+  pub unknown : unknown_of s ≡ unknown b s.process s.node.0
+
+-- the snapshot has the board's signature, and the process's constraints with the rule of each direction of the node behind them
+pub record IsTakenOrient (b : Plain) (s : OrientSnapshot) : Type 0 where
+  pub signature : s.signature ≡ b.problem.signature
+  pub forth : s.forth.items ≡ rules_at b (constraints_of b s.process ++ record { node = s.node.0; dir = 0 } ∷ [])
+  pub back : s.back.items ≡ rules_at b (constraints_of b s.process ++ record { node = s.node.0; dir = 1 } ∷ [])
+
+-- the snapshot has the two rules that its names name
+pub record IsTakenOverlap (b : Plain) (s : OverlapSnapshot) : Type 0 where
+  pub first : rule_at b s.first ≡ Some s.first_rule
+  pub second : rule_at b s.second ≡ Some s.second_rule
+
+-- the snapshot has the process's rules and equations, and the input equations
+pub record IsTakenClose (b : Plain) (s : CloseSnapshot) : Type 0 where
+  pub rules : listed s.rules ≡ rules_on b s.process
+  pub equations : equations_of s.equations.items ≡ equations_on b s.process
+  pub inputs : inputs_of s ≡ b.problem.equations
