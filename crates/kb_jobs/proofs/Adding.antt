@@ -1,18 +1,16 @@
 -- Groups of overlaps: what each adds, and how they make up the overlaps of all pairs of rules.
-use Rattle.std.proofs.Common.{ℕ, zero, suc, ◌+◌, ◌≤◌, ◌<◌, ◌≡◌, ◌⊎◌, refl, sym, ap, ◌∙◌, subst, arith, List, [], ◌∷◌, ◌++◌, map, take, drop, flat_map, length, Contains, append_assoc, Bool, true, false, Option, Some, None, Ok, ⊎_elim}
-use Rattle.std.specs.Prelude.{slice_get, if◌then◌else◌, nat_lt, Result}
+use Rattle.std.proofs.Common.{ℕ, zero, suc, ◌≤◌, ◌≡◌, refl, sym, ap, ◌∙◌, subst, arith, List, [], ◌∷◌, ◌++◌, map, take, drop, flat_map, length, Contains, append_assoc, Bool, true, false, Option, Some, None, Ok, ⊎_elim}
+use Rattle.std.specs.Prelude.{slice_get, if◌then◌else◌, nat_lt}
 use Rattle.std.proofs.lemmas.Bool.Decides.{nat_tests}
-use Rattle.std.proofs.lemmas.List.{append-nil, map-append}
+use Rattle.std.proofs.lemmas.List.{append-nil}
 use Rattle.std.proofs.lemmas.List.Concat.{flat_map-append}
 use Rattle.std.proofs.lemmas.List.Elements.{Contains-append_cases}
 use Rattle.kb_term.specs.Tree.{Tree}
-use Rattle.kb_term.specs.Rule.{Rule}
-use Rattle.kb_term.specs.Pair.{Pair, variables_of_pair, pair_limit, first_limit, limit_if, term_limit}
+use Rattle.kb_term.specs.Pair.{Pair, variables_of_pair, pair_limit, first_limit, limit_if}
 use Rattle.kb_term.specs.declared.limit.Limit.{Limit}
 use Rattle.kb_term.specs.declared.limit.Limit.TheVariants.{Size, Depth, Variables}
 use Rattle.kb_term.specs.declared.origin.RuleRef.{RuleRef}
 use Rattle.kb_term.proofs.Steps.{contains_cases}
-use Rattle.kb_label.specs.declared.verdict.Reason.{Reason}
 use Rattle.kb_node.specs.declared.job.Deduced.{Deduced}
 use Rattle.kb_overlap.specs.Overlap.{pair_or_limit}
 use Rattle.mkb_model.specs.Jobs.{ref_eq}

@@ -1,12 +1,12 @@
 -- The positions of a term in preorder: each comes before all behind it.
-use Rattle.std.proofs.Common.{ℕ, zero, suc, ◌+◌, ◌≤◌, ◌≡◌, ◌⊎◌, inl, inr, refl, sym, ap, ap₂, ◌∙◌, subst, arith, List, [], ◌∷◌, ◌++◌, map, Contains, Option, Some, None, Ordering, Less, Equal, nat_cmp, ⊎_elim}
+use Rattle.std.proofs.Common.{ℕ, zero, suc, ◌+◌, ◌≤◌, ◌≡◌, refl, sym, ap, ◌∙◌, subst, arith, List, [], ◌∷◌, ◌++◌, map, Contains, Some, Less, Equal, nat_cmp, ⊎_elim}
 use Rattle.std.specs.Prelude.{⊤, option_and_then}
 use Rattle.std.specs.Ordering.{ordering_then}
 use Rattle.std.proofs.lemmas.Bool.Decides.{nat_tests}
 use Rattle.std.proofs.lemmas.List.Elements.{Contains-append_cases, Contains-append_left, Contains-append_right}
 use Rattle.kb_term.specs.Tree.{Tree, variable, apply, Trees, no_trees, more_trees}
 use Rattle.kb_term.specs.Position.{subtree_at, argument, positions_of, positions_in}
-use Rattle.kb_term.proofs.Steps.{contains_cases, contains_behind, contains_first}
+use Rattle.kb_term.proofs.Steps.{contains_behind, contains_first}
 use Rattle.mkb_model.specs.Jobs.{numbers_cmp}
 use Rattle.mkb_model.proofs.Lists.{none_in, none_some, map_in, in_map}
 

@@ -1,13 +1,13 @@
 -- The first redex that a search finds is the first that may be rewritten.
 use Rattle.std.proofs.Common.{ℕ, zero, suc, ◌<◌, ◌≤◌, ◌≡◌, ◌≢◌, ◌⊎◌, inl, inr, refl, sym, ap, ◌∙◌, subst, arith, List, [], ◌∷◌, ◌++◌, map, take, get_or, length, Contains, All, Bool, true, false, not, Option, Some, None, Ordering, Less, Equal, Greater, nat_cmp, ⊎_elim}
-use Rattle.std.specs.Prelude.{IsTrue, slice_get, option_map, Result, Ok, Err}
+use Rattle.std.specs.Prelude.{IsTrue, slice_get, Result, Ok, Err}
 use Rattle.std.specs.Option.{option_map_or}
 use Rattle.std.specs.Ordering.{ordering_then}
 use Rattle.std.proofs.lemmas.Bool.{cases_order}
 use Rattle.std.proofs.lemmas.Option.{slice_get-get_or}
 use Rattle.std.proofs.lemmas.List.Elements.{All-head, All-tail, Contains-append_cases}
 use Rattle.kb_term.specs.Tree.{Tree}
-use Rattle.kb_term.specs.Position.{subtree_at, positions_of}
+use Rattle.kb_term.specs.Position.{subtree_at}
 use Rattle.kb_term.specs.Substitution.{instance, IsVariant}
 use Rattle.kb_term.specs.Rule.{Rule}
 use Rattle.kb_term.specs.Proving.{RewritesAt}

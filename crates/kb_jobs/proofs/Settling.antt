@@ -1,17 +1,16 @@
 -- Which overlaps join, and what of them is proposed; and the variables of normal forms.
-use Rattle.std.proofs.Common.{ℕ, zero, suc, ◌+◌, ◌≤◌, ◌<◌, ◌≡◌, ◌≢◌, ◌⊎◌, ◌↔◌, inl, inr, refl, sym, ap, ap₂, ◌∙◌, subst, arith, List, [], ◌∷◌, ◌++◌, map, take, filter, flat_map, length, Contains, append_assoc, Bool, true, false, not, cond, Option, Some, None, Ok, ⊎_elim, eq-eqb, eqb-true, ne_eqb}
-use Rattle.std.specs.Prelude.{IsTrue, ◌==◌, Result, slice_get}
+use Rattle.std.proofs.Common.{ℕ, zero, suc, ◌≤◌, ◌<◌, ◌≡◌, ◌≢◌, ◌⊎◌, ◌↔◌, inl, inr, refl, sym, ap, ap₂, ◌∙◌, subst, arith, List, [], ◌∷◌, ◌++◌, map, take, filter, flat_map, length, Contains, append_assoc, Bool, true, false, not, cond, Option, Some, None, Ok, ⊎_elim, eq-eqb, eqb-true, ne_eqb}
+use Rattle.std.specs.Prelude.{IsTrue, ◌==◌, slice_get}
 use Rattle.std.specs.List.{list_any}
 use Rattle.std.proofs.lemmas.List.{append-nil, map-append}
 use Rattle.std.proofs.lemmas.List.Concat.{flat_map-append}
 use Rattle.std.proofs.lemmas.List.Elements.{Contains-append_cases, Contains-append_left, Contains-append_right}
 use Rattle.kb_term.specs.Tree.{Tree, variable, apply, no_trees, variables_of}
 use Rattle.kb_term.specs.Rule.{Rule}
-use Rattle.kb_term.specs.Pair.{Pair, canonical, canonical_pair, variables_of_pair, distinct}
+use Rattle.kb_term.specs.Pair.{Pair, canonical, canonical_pair, distinct}
 use Rattle.kb_term.specs.Substitution.{instance}
 use Rattle.kb_term.specs.TermOrder.{pair_eq}
 use Rattle.kb_term.specs.Tree.{tree_eq}
-use Rattle.kb_term.specs.declared.limit.Limit.{Limit as TermLimit}
 use Rattle.kb_term.specs.declared.origin.RuleRef.{RuleRef}
 use Rattle.kb_term.proofs.Steps.{contains_cases, contains_behind, contains_first, occurs_from, occurs_to, Occurs}
 use Rattle.kb_term.proofs.Instances.{instance-variable, instance-agree, agree_at}
@@ -20,7 +19,7 @@ use Rattle.kb_term.proofs.Distinct.{has}
 use Rattle.kb_term.proofs.Variants.{filter_kept, distinct_in, in_distinct}
 use Rattle.kb_term.proofs.OwnPair.{tree_eq-true, tree_eq-same}
 use Rattle.kb_node.proofs.Finding.{pair_eq-same, pair_eq-refl}
-use Rattle.kb_rewrite.specs.NormalForm.{HoldVariables, Normalised, form, NormalisesTo}
+use Rattle.kb_rewrite.specs.NormalForm.{HoldVariables, form, NormalisesTo}
 use Rattle.kb_rewrite.specs.Answers.{normalised}
 use Rattle.kb_rewrite.specs.declared.normalising.Normal.{Normal}
 use Rattle.kb_jobs.specs.declared.rules.NamedRules.{NamedRules}
@@ -36,7 +35,6 @@ use Rattle.kb_jobs.specs.Closing.{equations_of, IsClosable, IsSettled, Settles, 
 use Rattle.kb_jobs.specs.declared.closing.CloseSnapshot.{CloseSnapshot}
 use Rattle.kb_jobs.specs.declared.closing.Parting.{Parting}
 use Rattle.kb_jobs.proofs.Adding.{deduced, one_more, take_next, groups_append}
-use mathlib.Core.Bool.{true≢false}
 
 -- ---- the members of which a condition holds
 

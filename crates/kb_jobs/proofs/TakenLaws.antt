@@ -1,6 +1,5 @@
 -- What jobs propose by snapshots is what they propose on the board.
-use Rattle.std.proofs.Common.{ℕ, zero, suc, ◌≡◌, ◌⊎◌, inl, inr, refl, sym, ap, ap₂, ◌∙◌, subst, ⊎_elim, List, Bool, Option, Some, None}
-use Rattle.std.specs.Prelude.{◌||◌}
+use Rattle.std.proofs.Common.{ℕ, zero, suc, ◌≡◌, ◌⊎◌, inl, inr, refl, sym, ap, subst, ⊎_elim, List, Bool, Option, Some, None}
 use Rattle.kb_term.specs.Pair.{Pair}
 use Rattle.kb_term.specs.Rule.{Rule}
 use Rattle.kb_term.specs.Signature.{Signature}
@@ -11,16 +10,16 @@ use Rattle.kb_cert.specs.Family.{IsFirstOrder}
 use Rattle.kb_cert.specs.declared.certificate.Certificate.{Certificate}
 use Rattle.kb_node.specs.declared.job.Job.TheVariants.{Reduce, Orient, Overlap, Close}
 use Rattle.mkb_model.specs.Plain.{Plain, other}
-use Rattle.mkb_model.specs.DueJobs.{is_usable, reducers}
-use Rattle.mkb_model.specs.Proposals.{NamedRule, named_rules, unknown, IsRewriting, IsLargeRewriting, AreMissingFacts, OnReduce, OrientsBy, Proposes, rules_on, equations_on, IsUnjoining, IsClosed, IsOverlapStop, IsInputStop}
+use Rattle.mkb_model.specs.DueJobs.{is_usable}
+use Rattle.mkb_model.specs.Proposals.{NamedRule, unknown, IsRewriting, IsLargeRewriting, AreMissingFacts, OnReduce, OrientsBy, Proposes, equations_on, IsUnjoining, IsClosed, IsOverlapStop, IsInputStop}
 use Rattle.mkb_model.specs.declared.proposed.Proposed.{Proposed}
 use Rattle.mkb_model.specs.declared.proposed.Proposed.TheVariants.{Facts, Rewrite, Limit, One, Both, Refuse, Deduce, Unjoined, Closed}
 use Rattle.kb_jobs.specs.Rules.{listed}
-use Rattle.kb_jobs.specs.Reducing.{usable, is_any, ProposesReduce}
-use Rattle.kb_jobs.specs.Orienting.{rules_towards, OrientsTowards, ProposesOrient}
+use Rattle.kb_jobs.specs.Reducing.{usable, ProposesReduce}
+use Rattle.kb_jobs.specs.Orienting.{OrientsTowards, ProposesOrient}
 use Rattle.kb_jobs.specs.Overlapping.{ProposesOverlap}
 use Rattle.kb_jobs.specs.Taken.{IsTakenReduce, IsTakenOrient, IsTakenOverlap, IsTakenClose}
-use Rattle.kb_jobs.specs.Closing.{equations_of, inputs_of, ProposesClose}
+use Rattle.kb_jobs.specs.Closing.{equations_of, ProposesClose}
 use Rattle.kb_jobs.specs.Working.{job_of, IsTaken, ProposesBy}
 use Rattle.kb_jobs.specs.declared.working.Snapshot.{Snapshot}
 use Rattle.kb_jobs.specs.declared.working.Snapshot.TheVariants.{Reduce as ReduceOf, Orient as OrientOf, Overlap as OverlapOf, Close as CloseOf}

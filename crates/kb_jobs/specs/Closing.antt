@@ -1,5 +1,5 @@
 -- What a Close proposes, by what it reads.
-use Rattle.std.specs.Prelude.{ℕ, ◌≡◌, ◌≢◌, ◌⊎◌, List, [], ◌∷◌, ◌++◌, map, length, slice_get, Contains, Bool, true, false, Option, Some, None, Ok}
+use Rattle.std.specs.Prelude.{ℕ, ◌≡◌, ◌≢◌, ◌⊎◌, List, [], ◌∷◌, ◌++◌, map, length, slice_get, Contains, true, false, Option, Some, None, Ok}
 use Rattle.kb_term.specs.Tree.{Tree}
 use Rattle.kb_term.specs.Rule.{Rule}
 use Rattle.kb_term.specs.Pair.{Pair}
@@ -10,12 +10,11 @@ use Rattle.kb_overlap.specs.declared.overlap.Overlap.{Overlap}
 use Rattle.kb_rewrite.specs.NormalForm.{HoldVariables}
 use Rattle.kb_label.specs.declared.verdict.Reason.{Reason}
 use Rattle.kb_node.specs.declared.job.Job.TheVariants.{Close}
-use Rattle.kb_node.specs.declared.job.Deduced.{Deduced}
 use Rattle.mkb_model.specs.Plain.{sides}
 use Rattle.mkb_model.specs.Proposals.{NamedRule, NamedOverlap, all_ways, AllOverlaps, AreDeduced, FirstThat, Picks, HasForm, PassesFirst, HaveForms, IsFormed, IsJoined, IsUnjoined, IsStopped, IsClosed, IsUnjoining, IsOverlapStop, IsInputStop, IsPlainCause}
 use Rattle.mkb_model.specs.declared.proposed.Proposed.{Proposed}
 use Rattle.mkb_model.specs.declared.proposed.Proposed.TheVariants.{Unjoined, Closed, Limit}
-use Rattle.kb_jobs.specs.Rules.{listed, AreNamed}
+use Rattle.kb_jobs.specs.Rules.{listed}
 use Rattle.kb_jobs.specs.Groups.{IsOverlappable, AreGroupsOf}
 use Rattle.kb_jobs.specs.declared.groups.Group.{Group}
 use Rattle.kb_jobs.specs.declared.rules.NamedRules.{NamedRules}

@@ -1,5 +1,5 @@
 -- What a Reduce proposes, by what it reads.
-use Rattle.std.specs.Prelude.{ℕ, zero, suc, ◌≡◌, ◌<◌, ◌≤◌, ◌^◌, List, [], ◌∷◌, map, length, Bool, true, false, All, Some, slice_get, Contains}
+use Rattle.std.specs.Prelude.{ℕ, zero, suc, ◌≡◌, ◌<◌, ◌≤◌, ◌^◌, List, [], ◌∷◌, map, length, Bool, true, false, All, Some, slice_get}
 use Rattle.std.specs.Option.{option_map_or}
 use Rattle.kb_term.specs.FewArguments.{HasFewArguments}
 use Rattle.kb_term.specs.Rule.{Rule}

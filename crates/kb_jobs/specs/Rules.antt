@@ -1,5 +1,5 @@
 -- Rules with their names.
-use Rattle.std.specs.Prelude.{ℕ, ◌≡◌, List, [], ◌∷◌, length, Contains, AllPairs, ⊤}
+use Rattle.std.specs.Prelude.{◌≡◌, List, [], ◌∷◌, length, Contains, ⊤}
 use Rattle.std.specs.Ordering.{ordering_then, nat_cmp}
 use Rattle.std.specs.declared.cmp.Ordering.TheVariants.{Less}
 use Rattle.kb_term.specs.Rule.{Rule}

@@ -1,5 +1,5 @@
 -- Snapshots that are taken from a board.
-use Rattle.std.specs.Prelude.{◌≡◌, ◌||◌, List, [], ◌∷◌, ◌++◌, Some}
+use Rattle.std.specs.Prelude.{◌≡◌, ◌||◌, [], ◌∷◌, ◌++◌, Some}
 use Rattle.mkb_model.specs.Plain.{Plain, pair_at, rule_at, rules_at, constraints_of, is_equation, is_rule}
 use Rattle.mkb_model.specs.DueJobs.{reducers}
 use Rattle.mkb_model.specs.Proposals.{named_rules, unknown, rules_on, equations_on}

@@ -1,5 +1,4 @@
-use Rattle.std.proofs.Common.{ℕ, suc, ◌≡◌, ◌+◌, ◌<◌, refl, ap, sym, ◌∙◌, subst, List, length, map, take, flat_map, Some, arith}
-use Rattle.std.specs.Prelude.{slice_get}
+use Rattle.std.proofs.Common.{ℕ, suc, ◌≡◌, ◌+◌, sym, subst, List, map, take, flat_map, arith}
 use Rattle.mkb_model.specs.Proposals.{NamedRule}
 use Rattle.kb_jobs.specs.Rules.{listed}
 use Rattle.kb_jobs.specs.Groups.{AreGroupsOf}

@@ -1,6 +1,5 @@
-use Rattle.std.proofs.Common.{ℕ, suc, ◌≡◌, ◌+◌, ◌<◌, ◌≤◌, inl, refl, ap, sym, ◌∙◌, subst, List, [], length, map, take, flat_map, Bool, true, false, Option, Some, None, arith}
+use Rattle.std.proofs.Common.{ℕ, suc, ◌≡◌, ◌+◌, ◌<◌, inl, refl, ap, sym, subst, List, [], length, map, take, flat_map, Option, arith}
 use Rattle.kb_label.specs.declared.verdict.Reason.{Reason}
-use Rattle.kb_node.specs.declared.job.Job.TheVariants.{Close}
 use Rattle.mkb_model.specs.declared.proposed.Proposed.{Proposed}
 use Rattle.mkb_model.specs.Proposals.{NamedOverlap, IsFormed, IsStopped}
 use Rattle.mkb_model.proofs.Lists.{none_in, clash}

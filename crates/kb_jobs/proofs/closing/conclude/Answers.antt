@@ -1,4 +1,4 @@
-use Rattle.std.proofs.Common.{ℕ, ◌≡◌, ◌<◌, ◌≤◌, inr, refl, ap, sym, ◌∙◌, subst, List, [], ◌∷◌, length, Option, Some, None, arith}
+use Rattle.std.proofs.Common.{◌≡◌, inr, refl, ap, sym, subst, List, [], ◌∷◌, length, Option, arith}
 use Rattle.std.proofs.lemmas.List.{length-map}
 use Rattle.kb_label.specs.declared.verdict.Reason.{Reason}
 use Rattle.kb_node.specs.declared.job.Deduced.{Deduced}

@@ -1,4 +1,4 @@
-use Rattle.std.proofs.Common.{refl, ap, sym, ◌∙◌, true}
+use Rattle.std.proofs.Common.{refl, sym, ◌∙◌, true}
 use Rattle.kb_term.specs.View.{tree_of}
 use Rattle.kb_jobs.specs.Closing.{equations_of}
 use Rattle.kb_jobs.proofs.Settling.{joined_none, joined_some}

@@ -1,6 +1,6 @@
 use Rattle.std.proofs.Common.{inl, inr, refl, ap, sym, Some}
 use Rattle.kb_term.specs.View.{tree_of}
-use Rattle.kb_rewrite.specs.NormalForm.{form, long, large}
+use Rattle.kb_rewrite.specs.NormalForm.{long, large}
 use Rattle.kb_rewrite.specs.declared.normalising.Normal.TheVariants.{Form, Long, Large}
 use Rattle.kb_jobs.proofs.Settling.{form_there}
 use Rattle.kb_jobs.proofs.closing.normal_forms.Goals as goal

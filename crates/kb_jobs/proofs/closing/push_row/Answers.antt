@@ -1,5 +1,4 @@
-use Rattle.std.proofs.Common.{ℕ, suc, ◌≡◌, ◌+◌, ◌<◌, ◌++◌, [], ◌∷◌, subst, List, length, take, Some, arith}
-use Rattle.kb_term.specs.Rule.{Rule}
+use Rattle.std.proofs.Common.{ℕ, suc, ◌≡◌, ◌+◌, ◌<◌, subst, List, length, take, arith}
 use Rattle.mkb_model.specs.Proposals.{NamedRule}
 use Rattle.kb_jobs.specs.Rules.{listed}
 use Rattle.kb_jobs.specs.Closing.{AddsRow}

@@ -1,4 +1,4 @@
-use Rattle.std.proofs.Common.{ℕ, suc, ◌≡◌, ◌+◌, ◌<◌, ◌≤◌, ◌++◌, [], ◌∷◌, ap, sym, ◌∙◌, subst, List, length, take, Contains, Option, Some, None, arith, append_assoc}
+use Rattle.std.proofs.Common.{ℕ, suc, ◌≡◌, ◌+◌, ◌<◌, ◌++◌, [], ◌∷◌, ap, sym, ◌∙◌, subst, List, length, take, Contains, Option, arith, append_assoc}
 use Rattle.std.proofs.lemmas.List.{append-nil, length-map}
 use Rattle.kb_label.specs.declared.verdict.Reason.{Reason}
 use Rattle.mkb_model.specs.Proposals.{NamedOverlap, IsFormed, IsStopped}

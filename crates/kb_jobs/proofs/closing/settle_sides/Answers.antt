@@ -1,4 +1,4 @@
-use Rattle.std.proofs.Common.{◌≡◌, refl, ap, sym, ◌∙◌, inr, subst, List, true, false}
+use Rattle.std.proofs.Common.{refl, sym, inr, subst, List, true}
 use Rattle.kb_term.specs.View.{tree_of}
 use Rattle.mkb_model.proofs.Lists.{clash}
 use Rattle.kb_jobs.specs.Rules.{listed}
@@ -8,7 +8,6 @@ use Rattle.kb_jobs.specs.declared.closing.Parting.{Parting}
 use Rattle.kb_term.specs.Pair.{Pair}
 use Rattle.mkb_model.specs.Proposals.{IsJoinedBy}
 use Rattle.kb_jobs.specs.declared.closing.Forms.{Forms}
-use Rattle.kb_jobs.specs.declared.closing.Forms.TheVariants.{Both, Stop}
 use Rattle.kb_jobs.proofs.Settling.{held_listed, forms_few, settles_joined, settles_apart}
 use Rattle.kb_jobs.proofs.closing.settle_sides.Goals as goal
 

@@ -1,4 +1,4 @@
-use Rattle.std.proofs.Common.{◌≡◌, Bool, List, [], ◌∷◌, map, refl, sym, ap, ◌∙◌, subst}
+use Rattle.std.proofs.Common.{◌≡◌, Bool, List, [], ◌∷◌, map, refl, ap, subst}
 use Rattle.kb_overlap.specs.Overlap.{IsOverlapList}
 use Rattle.kb_overlap.specs.View.{overlap_of}
 use Rattle.kb_overlap.specs.declared.overlap.Overlap.{Overlap}

@@ -1,4 +1,4 @@
-use Rattle.std.proofs.Common.{ℕ, suc, ◌≡◌, ◌+◌, ◌<◌, ◌≤◌, refl, ap, sym, ◌∙◌, subst, List, length, take, flat_map, Option, Some, None, arith}
+use Rattle.std.proofs.Common.{ℕ, suc, ◌≡◌, ◌+◌, ◌<◌, refl, sym, subst, List, length, take, flat_map, Option, Some, None, arith}
 use Rattle.kb_label.specs.declared.verdict.Reason.{Reason}
 use Rattle.kb_node.specs.declared.job.Deduced.{Deduced}
 use Rattle.mkb_model.specs.Proposals.{NamedOverlap, own_limit, both_ways, AreDeduced}

@@ -1,5 +1,4 @@
-use Rattle.std.proofs.Common.{ℕ, suc, ◌≡◌, ◌+◌, ◌<◌, ◌++◌, map, ap, sym, ◌∙◌, subst, List, length, take, Some, None, Ok, arith}
-use Rattle.std.specs.Prelude.{slice_get}
+use Rattle.std.proofs.Common.{ℕ, suc, ◌≡◌, ◌+◌, ◌<◌, ◌++◌, map, ap, sym, ◌∙◌, subst, length, take, Some, None, Ok, arith}
 use Rattle.kb_overlap.specs.View.{sides_of}
 use Rattle.kb_term.specs.View.{tree_of}
 use Rattle.mkb_model.specs.Proposals.{NamedOverlap, own_limit, deduced_pair}

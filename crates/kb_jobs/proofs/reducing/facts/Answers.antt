@@ -1,4 +1,4 @@
-use Rattle.std.proofs.Common.{ℕ, suc, ◌≡◌, ◌+◌, ◌<◌, sym, subst, List, length, take, arith, add-one}
+use Rattle.std.proofs.Common.{ℕ, suc, ◌≡◌, ◌+◌, ◌<◌, sym, subst, List, length, take, arith}
 use Rattle.kb_node.specs.declared.job.Fact.{Fact}
 use Rattle.kb_jobs.specs.Reducing.{AreFactsAt}
 use Rattle.kb_jobs.proofs.Reduced.{facts_more, read_at}

@@ -1,6 +1,5 @@
-use Rattle.std.proofs.Common.{◌≡◌, refl, sym, ap, ◌∙◌, subst, Some, not, List}
+use Rattle.std.proofs.Common.{sym, subst, not, List}
 use Rattle.kb_term.specs.View.{tree_of}
-use Rattle.kb_rewrite.specs.NormalForm.{HasNoRedex}
 use Rattle.kb_node.specs.declared.job.Fact.{Fact}
 use Rattle.kb_jobs.specs.Reducing.{is_any, AreFactsAt}
 use Rattle.kb_jobs.proofs.Reduced.{no_redex, facts_missing}

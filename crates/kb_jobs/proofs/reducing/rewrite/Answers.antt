@@ -1,7 +1,6 @@
-use Rattle.std.proofs.Common.{◌≡◌, ◌<◌, refl, sym, ap, ◌∙◌, subst, Some, Err, List, length, arith}
+use Rattle.std.proofs.Common.{◌<◌, refl, ap, ◌∙◌, Err, List, length, arith}
 use Rattle.std.specs.Prelude.{slice_get}
 use Rattle.kb_term.specs.View.{tree_of}
-use Rattle.kb_term.specs.declared.fault.TermFault.TheVariants.{Large}
 use Rattle.kb_term.specs.Rule.{Rule}
 use Rattle.kb_rewrite.proofs.FirstRedexes.{rule_inside}
 use Rattle.kb_jobs.proofs.Reduced.{rewriting, large, read_at}
