@@ -7,3 +7,6 @@ pub mod Cited
 pub mod Deciding
 pub mod Lines
 pub mod Reaching
+pub mod StepForms
+pub mod OneStep
+pub mod TraceLines

@@ -2,7 +2,9 @@
 #![tactic(auto)]
 
 mod fault;
+mod fields;
 mod reached;
+mod reading;
 mod replaying;
 mod right;
 mod rule;
@@ -11,6 +13,7 @@ mod trace;
 
 pub use fault::TraceFault;
 pub use reached::trace_of;
+pub use reading::read_trace;
 pub use replaying::replay_trace;
 pub use text::trace_text;
 pub use trace::{Step, Trace};
