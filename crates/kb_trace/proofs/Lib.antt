@@ -10,3 +10,6 @@ pub mod Reaching
 pub mod StepForms
 pub mod OneStep
 pub mod TraceLines
+pub mod FieldLists
+pub mod FieldsRead
+pub mod StepsRead

@@ -118,7 +118,7 @@ same_front (x ∷ xs) (y ∷ ys) zs ws h e =
     let r = same_front xs ys zs ws h (ap tail_of e) in
     (ap₂ (λ x xs. x ∷ xs) (ap head_of e) r.0, r.1)
 
-again : (signature : Signature) (bytes : List ℕ) (t : Tree) → bytes ≡ term_text (names_of signature) t → TermSpelled signature (term_text (names_of signature) t) t → TermSpelled signature bytes t
+pub again : (signature : Signature) (bytes : List ℕ) (t : Tree) → bytes ≡ term_text (names_of signature) t → TermSpelled signature (term_text (names_of signature) t) t → TermSpelled signature bytes t
 again signature bytes t e h = record { within = h.within; variables = h.variables; spelling = e }
 
 pub one_step : (signature : Signature) → IsSignature signature → (k l : ℕ) (s u : TraceStep) → IsStepForm signature s → IsStepForm signature u → step_fields (names_of signature) k s ≡ step_fields (names_of signature) l u → s ≡ u

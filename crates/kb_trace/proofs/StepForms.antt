@@ -98,18 +98,18 @@ number_without c h n l = decimal_without c n (omega arith) (omega arith)
 origin_without : (c : ℕ) → c < 40 → (o : Origin) → is_origin o ≡ true → AreWithout c (origin_fields o)
 origin_without c h (Input i) e =
     let l = up_to 256 i e in
-    (word_without c h (codes "input") refl, number_without c h i (omega arith), tt)
+    (word_without c h (codes "input") refl, (number_without c h i (omega arith), tt))
 origin_without c h (Rewrite a w p r) e =
     let f = rewrite_form a w p r e in
     let l = f.node in
     let m = f.side in
     let k = f.rule in
-    (word_without c h (codes "rewrite") refl, number_without c h a (omega arith), word_without c h (codes "side") refl, number_without c h w (omega arith), word_without c h (codes "at") refl, position_without c h p f.position, word_without c h (codes "by") refl, number_without c h r.node (omega arith), word_without c h (codes "dir") refl, number_without c h r.dir (omega arith), tt)
+    (word_without c h (codes "rewrite") refl, (number_without c h a (omega arith), (word_without c h (codes "side") refl, (number_without c h w (omega arith), (word_without c h (codes "at") refl, (position_without c h p f.position, (word_without c h (codes "by") refl, (number_without c h r.node (omega arith), (word_without c h (codes "dir") refl, (number_without c h r.dir (omega arith), tt))))))))))
 origin_without c h (Overlap a b p) e =
     let f = overlap_form a b p e in
     let l = f.outer in
     let k = f.inner in
-    (word_without c h (codes "overlap") refl, number_without c h a.node (omega arith), word_without c h (codes "dir") refl, number_without c h a.dir (omega arith), word_without c h (codes "with") refl, number_without c h b.node (omega arith), word_without c h (codes "dir") refl, number_without c h b.dir (omega arith), word_without c h (codes "at") refl, position_without c h p f.position, tt)
+    (word_without c h (codes "overlap") refl, (number_without c h a.node (omega arith), (word_without c h (codes "dir") refl, (number_without c h a.dir (omega arith), (word_without c h (codes "with") refl, (number_without c h b.node (omega arith), (word_without c h (codes "dir") refl, (number_without c h b.dir (omega arith), (word_without c h (codes "at") refl, (position_without c h p f.position, tt))))))))))
 
 -- ---- pairs
 
@@ -144,9 +144,26 @@ pair_fields names p = codes ":" ∷ infix_text names (codes "=") p.first p.secon
 pair_without : (c : ℕ) → IsBlank c → (signature : Signature) → IsSignature signature → (p : Pair) → IsPairForm signature p → AreWithout c (pair_fields (names_of signature) p)
 pair_without c k signature s p f =
     let names = names_of signature in
-    (word_without c k.low (codes ":") refl, text_without c k signature s 64 p.first (spelled_bounded signature (term_text names p.first) p.first (first_spelled signature p f)), word_without c k.low (codes "=") refl, text_without c k signature s 64 p.second (spelled_bounded signature (term_text names p.second) p.second (second_spelled signature p f)), tt)
+    (word_without c k.low (codes ":") refl, (text_without c k signature s 64 p.first (spelled_bounded signature (term_text names p.first) p.first (first_spelled signature p f)), (word_without c k.low (codes "=") refl, (text_without c k signature s 64 p.second (spelled_bounded signature (term_text names p.second) p.second (second_spelled signature p f)), tt))))
 
 pub step_without : (c : ℕ) → IsBlank c → (signature : Signature) → IsSignature signature → (k : ℕ) → k < 2 ^ 64 → (s : TraceStep) → IsStepForm signature s → AreWithout c (step_fields (names_of signature) k s)
 step_without c b signature s k l step f =
     let low = b.low in
     (decimal_without c k (omega arith) l, are_without-append c (origin_fields step.origin) (pair_fields (names_of signature) step.pair) (origin_without c b.low step.origin f.origin) (pair_without c b signature s step.pair f.pair))
+
+-- ---- lists of argument numbers
+
+pub each_up_to : (p : List ℕ) → list_all (is_up_to 8) p ≡ true → (k : ℕ) → k < length p → IsUpTo 8 (get_or p k 0)
+each_up_to [] h k l = absurd (omega arith)
+each_up_to (n ∷ ns) h zero l = up_to 8 n (and_true (is_up_to 8 n) (list_all (is_up_to 8) ns) h).0
+each_up_to (n ∷ ns) h (suc k) l = each_up_to ns (and_true (is_up_to 8 n) (list_all (is_up_to 8) ns) h).1 k (omega arith)
+
+pub all_more : (p : List ℕ) (n : ℕ) → list_all (is_up_to 8) p ≡ true → is_up_to 8 n ≡ true → list_all (is_up_to 8) (p ++ n ∷ []) ≡ true
+all_more [] n h e = λ i. e i && true
+all_more (m ∷ ms) n h e =
+    let r = and_true (is_up_to 8 m) (list_all (is_up_to 8) ms) h in
+    let k = all_more ms n r.1 e in
+    λ i. r.0 i && k i
+
+pub is_position-true : (p : List ℕ) → length p ≤ 63 → list_all (is_up_to 8) p ≡ true → is_position p ≡ true
+is_position-true p h e = let l = true_le (length p) 63 h in λ i. l i && e i

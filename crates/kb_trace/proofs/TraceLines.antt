@@ -1,8 +1,10 @@
 -- The text of a trace decides the trace, and a text that isn't one has a first line that is no step's.
-use Rattle.std.proofs.Common.{append-nil, append_assoc, ◌≡◌, refl, ap, ap₂, sym, ◌∙◌, subst, arith, ℕ, zero, suc, ◌+◌, ◌-◌, ◌<◌, ◌≤◌, ◌==◌, ◌^◌, List, [], ◌∷◌, ◌++◌, Option, Some, None, length, All, length-append}
+use Rattle.std.proofs.Common.{append-nil, append_assoc, ◌≡◌, refl, ap, ap₂, sym, ◌∙◌, subst, arith, ℕ, zero, suc, ◌+◌, ◌-◌, ◌<◌, ◌≤◌, ◌==◌, ◌^◌, List, [], ◌∷◌, ◌++◌, Bool, true, false, drop, Option, Some, None, length, All, length-append}
 use Rattle.std.specs.Prelude.{codes, decimal, option_map}
 use Rattle.std.specs.List.{join_with_byte, slice_split}
-use Rattle.std.proofs.lemmas.List.Elements.{All-head, All-tail}
+use Rattle.std.proofs.lemmas.Bool.{false≢true}
+use Rattle.std.proofs.lemmas.List.{drop-drop, drop_all, length_push, length-drop}
+use Rattle.std.proofs.lemmas.List.Elements.{All-head, All-push, All-tail}
 use Rattle.kb_term.specs.Signature.{Signature, IsSignature}
 use Rattle.kb_overlap.specs.Trace.{TraceStep}
 use Rattle.kb_text.specs.Fields.{IsWithout}
@@ -15,6 +17,7 @@ use Rattle.kb_text.proofs.PlainTexts.{space_blank, feed_blank, high_byte, join_w
 use Rattle.kb_trace.specs.TraceText.{origin_fields, step_fields, step_line, step_lines, trace_text, IsStepForm, IsTraceForm, IsTraceText}
 use Rattle.kb_trace.specs.Reading.{BeginsWithStep}
 use Rattle.kb_trace.proofs.StepForms.{step_without, pair_fields}
+use Rattle.kb_trace.proofs.Lines.{step_lines-more}
 use Rattle.kb_trace.proofs.OneStep.{one_step}
 
 -- a step's line without its line feed
@@ -27,10 +30,10 @@ line_then names k s rest = append_assoc (body names k s) (10 ∷ []) rest
 lines_then : (names : List Name) (k : ℕ) (s : TraceStep) (ss : List TraceStep) (rest : List ℕ) → step_lines names k (s ∷ ss) ++ rest ≡ body names k s ++ 10 ∷ (step_lines names (k + 1) ss ++ rest)
 lines_then names k s ss rest = append_assoc (step_line names k s) (step_lines names (k + 1) ss) rest ∙ line_then names k s (step_lines names (k + 1) ss ++ rest)
 
-pub body_without : (signature : Signature) → IsSignature signature → (k : ℕ) → k ≤ 10000 → (s : TraceStep) → IsStepForm signature s → IsWithout 10 (body (names_of signature) k s)
+pub body_without : (signature : Signature) → IsSignature signature → (k : ℕ) → k ≤ 100000 → (s : TraceStep) → IsStepForm signature s → IsWithout 10 (body (names_of signature) k s)
 body_without signature i k h s f = join_without 10 32 (step_fields (names_of signature) k s) (high_byte 32 10 (omega arith)) (step_without 10 feed_blank signature i k (omega arith) s f)
 
-pub body_fields : (signature : Signature) → IsSignature signature → (k : ℕ) → k ≤ 10000 → (s : TraceStep) → IsStepForm signature s → slice_split (λ b. b == 32) (body (names_of signature) k s) ≡ step_fields (names_of signature) k s
+pub body_fields : (signature : Signature) → IsSignature signature → (k : ℕ) → k ≤ 100000 → (s : TraceStep) → IsStepForm signature s → slice_split (λ b. b == 32) (body (names_of signature) k s) ≡ step_fields (names_of signature) k s
 body_fields signature i k h s f = fields_cut 32 (decimal k) (origin_fields s.origin ++ pair_fields (names_of signature) s.pair) (step_without 32 space_blank signature i k (omega arith) s f)
 
 -- ---- one trace
@@ -132,7 +135,7 @@ front_goes_on signature i k (s ∷ ss) (u ∷ us) rest front f g h e d =
 
 pub bad_line : (signature : Signature) → IsSignature signature → (steps : List TraceStep) (rest lines : List ℕ) (n : ℕ) → IsTraceForm signature steps → 0 < length rest → lines ≡ step_lines (names_of signature) 1 steps ++ rest → n ≡ length steps + 1
     → ((s : TraceStep) (back : List ℕ) → ¬ BeginsWithStep signature n rest s back) → IsBadLine (IsTraceText signature) lines n
-bad_line signature i steps rest lines n f l e c no = record {
+bad_line signature i steps rest lines n f l e c refused = record {
   from_one = omega arith;
   before = (trace_text signature steps, step_lines names 1 steps, (steps, f, refl), at_before (step_lines names 1 steps) (ap (λ (x : List ℕ). first_lines x (length steps)) (sym (append-nil (step_lines names 1 steps))) ∙ front_of_steps signature i 1 steps [] f.steps small), at_before lines (ap (λ (x : List ℕ). first_lines x (length steps)) e ∙ front_of_steps signature i 1 steps rest f.steps small));
   with_it = λ b. none b.2.0 b.2.1 (front_goes_on signature i 1 steps b.2.0 rest b.1 f.steps b.2.1.steps small (at_next (step_lines names 1 b.2.0) b.1 (ap (λ (x : List ℕ). first_lines x n) (sym b.2.2) ∙ b.3)) (at_next (step_lines names 1 steps ++ rest) b.1 (ap (λ (x : List ℕ). first_lines x n) (sym e) ∙ b.4)));
@@ -156,4 +159,49 @@ bad_line signature i steps rest lines n f l e c no = record {
         let count = tf.count in
         let more = g.more in
         let place : 1 + length steps ≡ n = omega arith in
-        no g.step g.back (record { count = omega arith; form = g.form; spelling = g.spelling ∙ ap (λ j. step_line names j g.step ++ g.back) place })
+        refused g.step g.back (record { count = omega arith; form = g.form; spelling = g.spelling ∙ ap (λ j. step_line names j g.step ++ g.back) place })
+
+-- ---- reading line by line
+
+pub no_feed : (xs ys : List ℕ) → IsWithout 10 (xs ++ 10 ∷ ys) → ⊥
+no_feed [] ys h = false≢true (sym h.0)
+no_feed (x ∷ xs) ys h = no_feed xs ys h.1
+
+-- the steps so far, the number of the next line, and where it begins
+pub record IsReadPart (signature : Signature) (lines : List ℕ) (at number : ℕ) (steps : List TraceStep) : Type 0 where
+  pub within : at ≤ length lines
+  pub number_is : number ≡ length steps + 1
+  pub parts : lines ≡ step_lines (names_of signature) 1 steps ++ drop at lines
+  pub form : IsTraceForm signature steps
+
+pub part_pushed : (signature : Signature) (lines rest : List ℕ) (at size number : ℕ) (steps news : List TraceStep) (step : TraceStep) → IsReadPart signature lines at number steps → rest ≡ drop at lines → BeginsWithStep signature number rest step (drop size rest) → size ≤ length rest → news ≡ steps ++ step ∷ []
+    → IsReadPart signature lines (at + size) (number + 1) news
+part_pushed signature lines rest at size number steps news step r e b h n =
+    let within = r.within in
+    let number_is = r.number_is in
+    let long : length news ≡ length steps + 1 = ap length n ∙ length_push steps step in
+    let left : length rest ≡ length lines - at = ap length e ∙ length-drop at lines in
+    let count = b.count in
+    let names = names_of signature in
+    let place : number ≡ 1 + length steps = omega arith in
+    record {
+      within = omega arith;
+      number_is = omega arith;
+      parts = r.parts ∙ ap (step_lines names 1 steps ++◌) (sym e ∙ b.spelling ∙ ap (λ j. step_line names j step ++ drop size rest) place ∙ ap (step_line names (1 + length steps) step ++◌) (ap (drop size) e ∙ drop-drop size at lines))
+        ∙ sym (append_assoc (step_lines names 1 steps) (step_line names (1 + length steps) step) (drop (at + size) lines))
+        ∙ ap (λ (x : List ℕ). x ++ drop (at + size) lines) (sym (step_lines-more names 1 steps step) ∙ ap (step_lines names 1) (sym n));
+      form = record { count = omega arith; steps = subst (All (IsStepForm signature)) (sym n) (All-push (IsStepForm signature) steps step r.form.steps b.form) };
+    }
+
+pub part_bad : (signature : Signature) → IsSignature signature → (lines rest : List ℕ) (at number : ℕ) (steps : List TraceStep) → IsReadPart signature lines at number steps → rest ≡ drop at lines → at < length lines → ((s : TraceStep) (back : List ℕ) → ¬ BeginsWithStep signature number rest s back)
+    → IsBadLine (IsTraceText signature) lines number
+part_bad signature i lines rest at number steps r e h refused =
+    let left : length rest ≡ length lines - at = ap length e ∙ length-drop at lines in
+    bad_line signature i steps rest lines number r.form (omega arith) (r.parts ∙ ap (step_lines (names_of signature) 1 steps ++◌) (sym e)) r.number_is refused
+
+pub part_whole : (signature : Signature) (lines : List ℕ) (at number : ℕ) (steps : List TraceStep) → IsReadPart signature lines at number steps → length lines ≤ at → lines ≡ trace_text signature steps
+part_whole signature lines at number steps r h =
+    r.parts ∙ ap (step_lines (names_of signature) 1 steps ++◌) (drop_all at lines h) ∙ append-nil (step_lines (names_of signature) 1 steps)
+
+pub part_one : (signature : Signature) → IsSignature signature → (lines : List ℕ) (t u : List TraceStep) → IsTraceForm signature t → IsTraceForm signature u → lines ≡ trace_text signature t → lines ≡ trace_text signature u → t ≡ u
+part_one signature i lines t u f g e d = let count = f.count in one_trace signature i 1 t u f.steps g.steps (omega arith) (sym e ∙ d)

@@ -1,5 +1,5 @@
 // Reading the fields of a step's line.
-ghost use Rattle.std.specs.Prelude.{◌≡◌, ◌+◌, ◌<◌, ◌≤◌, ◌↔◌, ℕ, List, IfOk, IsTrue, MatchOption, codes, decimal, length};
+ghost use Rattle.std.specs.Prelude.{◌≡◌, ◌+◌, ◌-◌, ◌<◌, ◌≤◌, ◌^◌, ◌↔◌, ℕ, List, IfOk, IsTrue, MatchOption, decimal, length, map};
 ghost use Rattle.kb_term.specs.Pair.{Pair};
 ghost use Rattle.kb_term.specs.Signature.{IsSignature};
 ghost use Rattle.kb_term.specs.View.{tree_of};
@@ -7,6 +7,7 @@ ghost use Rattle.kb_term.specs.declared.origin.RuleRef.{RuleRef};
 ghost use Rattle.kb_term.specs.declared.origin.Origin.{Origin};
 ghost use Rattle.kb_term.specs.declared.origin.Origin.TheVariants.{Input, Rewrite, Overlap};
 ghost use Rattle.kb_overlap.specs.Trace.{TraceStep};
+ghost use Rattle.kb_trace.specs.TraceText.{is_position};
 ghost use Rattle.kb_trace.specs.Reading.{IsNumberText, IsLabelled, IsPositionText, IsPositionIn, IsOriginIn, IsOwnPair, IsPairIn, IsStepIn};
 
 use crate::trace::Step;
@@ -26,6 +27,13 @@ const LONGEST: usize = 63;
 /// The greatest number of an argument.
 const ARGUMENTS: u16 = 8;
 
+/// Whether the field is the word.
+fn is_word(field: &[u8], word: &[u8]) -> bool
+    ensures { IsTrue result ↔ (field.now ≡ word.now) }
+{
+    field == word
+}
+
 /// The number, from the least to the greatest, that the field is.
 fn number_between(field: &[u8], least: u16, greatest: u16) -> Option<u16>
     ensures { MatchOption result ((n : ℕ) → ¬ IsNumberText field.now least greatest n) (IsNumberText field.now least greatest) }
@@ -33,7 +41,10 @@ fn number_between(field: &[u8], least: u16, greatest: u16) -> Option<u16>
     match read_number(field) {
         None => None,
         Some(number) => {
-            if number < least as u32 || number > greatest as u32 {
+            if number < least as u32 {
+                return None;
+            }
+            if number > greatest as u32 {
                 return None;
             }
             Some(number as u16)
@@ -59,7 +70,8 @@ fn labelled(
     least: u16,
     greatest: u16,
 ) -> Option<u16>
-    requires { at + 1 < length fields.now }
+    requires inside { at + 1 < length fields.now }
+    requires small { at ≤ 16 }
     ensures { MatchOption result ((n : ℕ) → ¬ IsLabelled fields.now at word.now least greatest n) (IsLabelled fields.now at word.now least greatest) }
 {
     if fields.field(at) != word {
@@ -68,25 +80,32 @@ fn labelled(
     number_between(fields.field(at + 1), least, greatest)
 }
 
-/// The position that the field is: e for the root, else at most 63 argument numbers from 1 to 8, joined by dots.
-fn read_position(alloc: Global, field: &[u8]) -> Result<Option<Position>, Memory>
-    ensures { IfOk result (λ read. MatchOption read ((p : List ℕ) → ¬ IsPositionText field.now p) (IsPositionText field.now)) }
+/// The position of the argument numbers: at most 63, from 1 to 8.
+fn position_of(alloc: Global, numbers: &Fields) -> Result<Option<Position>, Memory>
+    ensures { IfOk result (λ read. MatchOption read ((p : List ℕ) → IsTrue (is_position p) → ¬ (map decimal p ≡ numbers.now)) (λ p. IsTrue (is_position p) × (map decimal p ≡ numbers.now))) }
 {
-    let mut position = Position::root(alloc);
-    if field == b"e" {
-        return Ok(Some(position));
-    }
-    let numbers = Fields::cut(alloc, field, b'.')?;
     if numbers.len() > LONGEST {
         return Ok(None);
     }
+    let mut position = Position::root(alloc);
     for k in 0..numbers.len() {
-        match number_between(numbers.field(k), 1, ARGUMENTS) {
-            None => return Ok(None),
-            Some(number) => position.push(number as u8)?,
-        }
+        let Some(number) = number_between(numbers.field(k), 1, ARGUMENTS) else {
+            return Ok(None);
+        };
+        position.push(number as u8)?;
     }
     Ok(Some(position))
+}
+
+/// The position that the field is: e for the root, else argument numbers joined by dots.
+fn read_position(alloc: Global, field: &[u8]) -> Result<Option<Position>, Memory>
+    ensures { IfOk result (λ read. MatchOption read ((p : List ℕ) → ¬ IsPositionText field.now p) (IsPositionText field.now)) }
+{
+    if is_word(field, b"e") {
+        return Ok(Some(Position::root(alloc)));
+    }
+    let numbers = Fields::cut(alloc, field, b'.')?;
+    position_of(alloc, &numbers)
 }
 
 /// The position behind the word `at` at a place.
@@ -95,10 +114,11 @@ fn labelled_position(
     fields: &Fields,
     at: usize,
 ) -> Result<Option<Position>, Memory>
-    requires { at + 1 < length fields.now }
+    requires inside { at + 1 < length fields.now }
+    requires small { at ≤ 16 }
     ensures { IfOk result (λ read. MatchOption read ((p : List ℕ) → ¬ IsPositionIn fields.now at p) (IsPositionIn fields.now at)) }
 {
-    if fields.field(at) != b"at" {
+    if fields.field(at) != b"at".as_slice() {
         return Ok(None);
     }
     read_position(alloc, fields.field(at + 1))
@@ -220,27 +240,44 @@ fn is_pair_of(pair: &Pair, first: &Term, second: &Term) -> bool
     *pair.first() == *first && *pair.second() == *second
 }
 
-/// The pair in the four fields from a place on.
+/// The place of the last four fields.
+fn last_four(fields: &Fields) -> usize
+    requires { 4 ≤ length fields.now }
+    ensures place { result + 4 ≡ length fields.now }
+    ensures room { result + 4 < 2 ^ 64 }
+{
+    fields.len() - 4
+}
+
+/// The pair in the last four fields.
 fn read_pair(
     alloc: Global,
     signature: &Signature,
     fields: &Fields,
-    at: usize,
 ) -> Result<Option<Pair>, Memory>
     requires few { length signature.now ≤ 256 }
-    requires four { at + 4 ≡ length fields.now }
-    ensures { IfOk result (λ read. MatchOption read ((p : Pair) → ¬ IsPairIn signature.now fields.now at p) (IsPairIn signature.now fields.now at)) }
+    requires names { IsSignature signature.now }
+    requires four { 4 ≤ length fields.now }
+    ensures { IfOk result (λ read. MatchOption read ((p : Pair) → ¬ IsPairIn signature.now fields.now (length fields.now - 4) p) (IsPairIn signature.now fields.now (length fields.now - 4))) }
 {
-    if fields.field(at) != b":" || fields.field(at + 2) != b"=" {
+    let at = last_four(fields);
+    let colon = fields.field(at);
+    if !is_word(colon, b":") {
         return Ok(None);
     }
-    let Some(first) = read_term(alloc, signature, fields.field(at + 1))? else {
+    let sign = fields.field(at + 2);
+    if !is_word(sign, b"=") {
+        return Ok(None);
+    }
+    let first = fields.field(at + 1);
+    let Some(s) = read_term(alloc, signature, first)? else {
         return Ok(None);
     };
-    let Some(second) = read_term(alloc, signature, fields.field(at + 3))? else {
+    let second = fields.field(at + 3);
+    let Some(t) = read_term(alloc, signature, second)? else {
         return Ok(None);
     };
-    own_pair(alloc, &first, &second)
+    own_pair(alloc, &s, &t)
 }
 
 /// The step with the number that the fields of a line are.
@@ -251,6 +288,7 @@ pub(crate) fn step_of(
     fields: &Fields,
 ) -> Result<Option<Step>, Memory>
     requires few { length signature.now ≤ 256 }
+    requires names { IsSignature signature.now }
     ensures { IfOk result (λ read. MatchOption read ((s : TraceStep) → ¬ IsStepIn signature.now number fields.now s) (IsStepIn signature.now number fields.now)) }
 {
     if fields.len() < 5 {
@@ -262,7 +300,7 @@ pub(crate) fn step_of(
     let Some(origin) = read_origin(alloc, fields)? else {
         return Ok(None);
     };
-    let Some(pair) = read_pair(alloc, signature, fields, fields.len() - 4)? else {
+    let Some(pair) = read_pair(alloc, signature, fields)? else {
         return Ok(None);
     };
     Ok(Some(Step::new(origin, pair)))

@@ -3,6 +3,7 @@
 
 mod fault;
 mod fields;
+mod laws;
 mod reached;
 mod reading;
 mod replaying;
@@ -12,6 +13,7 @@ mod text;
 mod trace;
 
 pub use fault::TraceFault;
+pub use laws::texts_are_of_one_trace;
 pub use reached::trace_of;
 pub use reading::read_trace;
 pub use replaying::replay_trace;

@@ -1,5 +1,5 @@
 // Reading the text of a trace.
-ghost use Rattle.std.specs.Prelude.{◌≡◌, ◌<◌, ◌≤◌, ◌×◌, List, ℕ, IfOk, IfErr, MatchOption, drop, length};
+ghost use Rattle.std.specs.Prelude.{◌≡◌, ◌<◌, ◌≤◌, List, ℕ, IfOk, IfErr, MatchOption, drop, length};
 ghost use Rattle.kb_term.specs.Signature.{IsSignature};
 ghost use Rattle.kb_overlap.specs.Trace.{TraceStep};
 ghost use Rattle.kb_text.specs.Fields.{IsTextFault};
@@ -73,16 +73,15 @@ pub fn read_trace(alloc: Global, sig: &Signature, lines: &[u8]) -> Result<Trace,
     names_are_identifiers(sig);
     let mut steps = Vec::new(alloc);
     let mut at = 0;
+    let mut number = 1;
     while at < lines.len() {
         let (_, rest) = lines.split_at(at);
-        let number = steps.len() + 1;
-        match next_step(alloc, sig, number, rest)? {
-            None => return Err(TextFault::BadText(number as u64)),
-            Some((step, size)) => {
-                steps.push(step)?;
-                at += size;
-            }
-        }
+        let Some((step, size)) = next_step(alloc, sig, number, rest)? else {
+            return Err(TextFault::BadText(number as u64));
+        };
+        steps.push(step)?;
+        at += size;
+        number += 1;
     }
     Ok(Trace::new(steps))
 }
