@@ -85,10 +85,12 @@ mutual
   arguments_without c k signature s d no_trees b = tt
   arguments_without c k signature s d (more_trees t ts) b =
       let names = names_of signature in
-      let low = k.low in
-      (high_byte 40 c k.low, without-append c (term_text names t ++ later_text names ts) (41 ∷ [])
-      (without-append c (term_text names t) (later_text names ts) (text_without c k signature s d t b.0) (later_without c k signature s d ts b.1))
-      (high_byte 41 c (omega arith), tt))
+      let low = k.low in (
+        high_byte 40 c k.low,
+        without-append c (term_text names t ++ later_text names ts) (41 ∷ [])
+            (without-append c (term_text names t) (later_text names ts) (text_without c k signature s d t b.0) (later_without c k signature s d ts b.1))
+            (high_byte 41 c (omega arith), tt),
+      )
 
   later_without : (c : ℕ) → IsBlank c → (signature : Signature) → IsSignature signature → (d : ℕ) (ts : Trees) → AreBounded signature d ts → IsWithout c (later_text (names_of signature) ts)
   later_without c k signature s d no_trees b = tt

@@ -51,7 +51,7 @@ one_trace signature i k (s ∷ ss) (u ∷ us) f g h e =
     let sf = All-head (IsStepForm signature) s ss f in
     let uf = All-head (IsStepForm signature) u us g in
     let r = one_line 10 (body names k s) (body names k u) (step_lines names (k + 1) ss) (step_lines names (k + 1) us) (body_without signature i k (omega arith) s sf) (body_without signature i k (omega arith) u uf)
-        (sym (line_then names k s (step_lines names (k + 1) ss)) ∙ e ∙ line_then names k u (step_lines names (k + 1) us)) in
+    (sym (line_then names k s (step_lines names (k + 1) ss)) ∙ e ∙ line_then names k u (step_lines names (k + 1) us)) in
     let fields = sym (body_fields signature i k (omega arith) s sf) ∙ ap (slice_split (λ b. b == 32)) r.0 ∙ body_fields signature i k (omega arith) u uf in
     ap₂ (λ x xs. x ∷ xs) (one_step signature i k k s u sf uf fields) (one_trace signature i (k + 1) ss us (All-tail (IsStepForm signature) s ss f) (All-tail (IsStepForm signature) u us g) (omega arith) r.1)
 
@@ -94,7 +94,7 @@ whole_goes_on signature i k (s ∷ ss) [] rest f g h l e =
 whole_goes_on signature i k (s ∷ ss) (u ∷ us) rest f g h l e =
     let names = names_of signature in
     let r = one_line 10 (body names k s) (body names k u) (step_lines names (k + 1) ss ++ rest) (step_lines names (k + 1) us) (body_without signature i k (omega arith) s (All-head (IsStepForm signature) s ss f)) (body_without signature i k (omega arith) u (All-head (IsStepForm signature) u us g))
-        (sym (lines_then names k s ss rest) ∙ e ∙ line_then names k u (step_lines names (k + 1) us)) in
+    (sym (lines_then names k s ss rest) ∙ e ∙ line_then names k u (step_lines names (k + 1) us)) in
     next_step signature k u us (length ss) rest (whole_goes_on signature i (k + 1) ss us rest (All-tail (IsStepForm signature) s ss f) (All-tail (IsStepForm signature) u us g) (omega arith) l r.1)
 
 record IsMapped (o : Option (List ℕ)) (xs front : List ℕ) : Type 0 where
@@ -115,7 +115,7 @@ front_goes_on signature i k [] (u ∷ us) rest front f g h e d =
     let uf = All-head (IsStepForm signature) u us g in
     let place : k ≡ k + 0 = omega arith in
     let is : Some (step_line names k u) ≡ Some front = ap (option_map (λ (x : List ℕ). body names k u ++ 10 ∷ x)) (sym (first_lines-none (step_lines names (k + 1) us)))
-        ∙ sym (first_lines-line (body names k u) (step_lines names (k + 1) us) 0 (body_without signature i k (omega arith) u uf)) ∙ ap (λ (x : List ℕ). first_lines x 1) (sym (line_then names k u (step_lines names (k + 1) us))) ∙ e in
+    ∙ sym (first_lines-line (body names k u) (step_lines names (k + 1) us) 0 (body_without signature i k (omega arith) u uf)) ∙ ap (λ (x : List ℕ). first_lines x 1) (sym (line_then names k u (step_lines names (k + 1) us))) ∙ e in
     let same : step_line names k u ≡ front = cc in
     let back = behind_front rest 1 front d in
     record { step = u; back = back.0; more = omega arith; form = uf; spelling = back.1 ∙ ap (λ (x : List ℕ). x ++ back.0) (sym same) ∙ ap (λ j. step_line names j u ++ back.0) place }
@@ -124,9 +124,9 @@ front_goes_on signature i k (s ∷ ss) (u ∷ us) rest front f g h e d =
     let sw = body_without signature i k (omega arith) s (All-head (IsStepForm signature) s ss f) in
     let uw = body_without signature i k (omega arith) u (All-head (IsStepForm signature) u us g) in
     let p = mapped (first_lines (step_lines names (k + 1) us) (suc (length ss))) (body names k u) front
-        (sym (first_lines-line (body names k u) (step_lines names (k + 1) us) (suc (length ss)) uw) ∙ ap (λ (x : List ℕ). first_lines x (suc (suc (length ss)))) (sym (line_then names k u (step_lines names (k + 1) us))) ∙ e) in
+    (sym (first_lines-line (body names k u) (step_lines names (k + 1) us) (suc (length ss)) uw) ∙ ap (λ (x : List ℕ). first_lines x (suc (suc (length ss)))) (sym (line_then names k u (step_lines names (k + 1) us))) ∙ e) in
     let q = mapped (first_lines (step_lines names (k + 1) ss ++ rest) (suc (length ss))) (body names k s) front
-        (sym (first_lines-line (body names k s) (step_lines names (k + 1) ss ++ rest) (suc (length ss)) sw) ∙ ap (λ (x : List ℕ). first_lines x (suc (suc (length ss)))) (sym (lines_then names k s ss rest)) ∙ d) in
+    (sym (first_lines-line (body names k s) (step_lines names (k + 1) ss ++ rest) (suc (length ss)) sw) ∙ ap (λ (x : List ℕ). first_lines x (suc (suc (length ss)))) (sym (lines_then names k s ss rest)) ∙ d) in
     let r = one_line 10 (body names k s) (body names k u) q.inner p.inner sw uw (q.same ∙ sym p.same) in
     next_step signature k u us (length ss) rest
     (front_goes_on signature i (k + 1) ss us rest p.inner (All-tail (IsStepForm signature) s ss f) (All-tail (IsStepForm signature) u us g) (omega arith) p.some (q.some ∙ ap Some r.1))
@@ -188,8 +188,8 @@ part_pushed signature lines rest at size number steps news step r e b h n =
       within = omega arith;
       number_is = omega arith;
       parts = r.parts ∙ ap (step_lines names 1 steps ++◌) (sym e ∙ b.spelling ∙ ap (λ j. step_line names j step ++ drop size rest) place ∙ ap (step_line names (1 + length steps) step ++◌) (ap (drop size) e ∙ drop-drop size at lines))
-        ∙ sym (append_assoc (step_lines names 1 steps) (step_line names (1 + length steps) step) (drop (at + size) lines))
-        ∙ ap (λ (x : List ℕ). x ++ drop (at + size) lines) (sym (step_lines-more names 1 steps step) ∙ ap (step_lines names 1) (sym n));
+          ∙ sym (append_assoc (step_lines names 1 steps) (step_line names (1 + length steps) step) (drop (at + size) lines))
+          ∙ ap (λ (x : List ℕ). x ++ drop (at + size) lines) (sym (step_lines-more names 1 steps step) ∙ ap (step_lines names 1) (sym n));
       form = record { count = omega arith; steps = subst (All (IsStepForm signature)) (sym n) (All-push (IsStepForm signature) steps step r.form.steps b.form) };
     }
 

@@ -63,13 +63,7 @@ fn is_number(field: &[u8], number: u16) -> bool
 }
 
 /// The number behind the word at a place.
-fn labelled(
-    fields: &Fields,
-    at: usize,
-    word: &[u8],
-    least: u16,
-    greatest: u16,
-) -> Option<u16>
+fn labelled(fields: &Fields, at: usize, word: &[u8], least: u16, greatest: u16) -> Option<u16>
     requires inside { at + 1 < length fields.now }
     requires small { at ≤ 16 }
     ensures { MatchOption result ((n : ℕ) → ¬ IsLabelled fields.now at word.now least greatest n) (IsLabelled fields.now at word.now least greatest) }
@@ -109,11 +103,7 @@ fn read_position(alloc: Global, field: &[u8]) -> Result<Option<Position>, Memory
 }
 
 /// The position behind the word `at` at a place.
-fn labelled_position(
-    alloc: Global,
-    fields: &Fields,
-    at: usize,
-) -> Result<Option<Position>, Memory>
+fn labelled_position(alloc: Global, fields: &Fields, at: usize) -> Result<Option<Position>, Memory>
     requires inside { at + 1 < length fields.now }
     requires small { at ≤ 16 }
     ensures { IfOk result (λ read. MatchOption read ((p : List ℕ) → ¬ IsPositionIn fields.now at p) (IsPositionIn fields.now at)) }
@@ -250,11 +240,7 @@ fn last_four(fields: &Fields) -> usize
 }
 
 /// The pair in the last four fields.
-fn read_pair(
-    alloc: Global,
-    signature: &Signature,
-    fields: &Fields,
-) -> Result<Option<Pair>, Memory>
+fn read_pair(alloc: Global, signature: &Signature, fields: &Fields) -> Result<Option<Pair>, Memory>
     requires few { length signature.now ≤ 256 }
     requires names { IsSignature signature.now }
     requires four { 4 ≤ length fields.now }

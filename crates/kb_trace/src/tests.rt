@@ -143,7 +143,8 @@ fn bad_line(rt: &impl Abort, alloc: Global, lines: &[u8]) -> u64 {
 fn a_trace_is_read_back(rt: HostRuntime) {
     let alloc = rt.alloc();
     let signature = Signature::new(Vec::new(alloc));
-    let lines = b"1 input 256 : x1 = x2\n2 rewrite 1 side 0 at 1.8 by 1 dir 1 : x1 = x2\n3 overlap 4096 dir 0 with 1 dir 1 at e : x1 = x2\n";
+    let lines =
+        b"1 input 256 : x1 = x2\n2 rewrite 1 side 0 at 1.8 by 1 dir 1 : x1 = x2\n3 overlap 4096 dir 0 with 1 dir 1 at e : x1 = x2\n";
     let t = read_trace(alloc, &signature, lines.as_slice()).expect(&rt, "read");
     let text = trace_text(alloc, &signature, &t).expect(&rt, "memory");
     assert!(rt; text.as_slice() == lines.as_slice());

@@ -2,8 +2,7 @@ use Rattle.std.proofs.Common.{arith, ◌≡◌, ◌+◌, ◌-◌, ◌≤◌, ◌
 use Rattle.std.proofs.lemmas.List.{length-drop}
 use Rattle.std.proofs.lemmas.List.Elements.{All-nil}
 use Rattle.kb_overlap.specs.Trace.{TraceStep}
-use Rattle.kb_text.specs.Terms.{names_of}
-use Rattle.kb_trace.specs.TraceText.{IsStepForm, step_lines}
+use Rattle.kb_trace.specs.TraceText.{IsStepForm, IsTraceForm, trace_text}
 use Rattle.kb_trace.proofs.TraceLines.{IsReadPart, part_pushed, part_bad, part_whole, part_one}
 use Rattle.kb_trace.proofs.reading.read_trace.Goals as goal
 
@@ -28,9 +27,9 @@ returns-in_default-clause-fault c =
 pub returns-clause-read : goal.returns-clause-read
 returns-clause-read c =
     let r = c.loop-at.invariant.read in
-    (r.form, part_whole c.args.sig.now c.args.lines.now c.loop-at.at c.loop-at.number c.loop-at.steps.items r (omega arith))
+    (subst (IsTraceForm c.args.sig.now) (sym c.new.ensures) r.form, part_whole c.args.sig.now c.args.lines.now c.loop-at.at c.loop-at.number c.loop-at.steps.items r (omega arith) ∙ ap (trace_text c.args.sig.now) (sym c.new.ensures))
 
 pub returns-clause-one : goal.returns-clause-one
 returns-clause-one c = λ u f e.
     let r = c.loop-at.invariant.read in
-    part_one c.args.sig.now c.loop-at.invariant.names c.args.lines.now c.loop-at.steps.items u r.form f (part_whole c.args.sig.now c.args.lines.now c.loop-at.at c.loop-at.number c.loop-at.steps.items r (omega arith)) e
+    c.new.ensures ∙ part_one c.args.sig.now c.loop-at.invariant.names c.args.lines.now c.loop-at.steps.items u r.form f (part_whole c.args.sig.now c.args.lines.now c.loop-at.at c.loop-at.number c.loop-at.steps.items r (omega arith)) e
