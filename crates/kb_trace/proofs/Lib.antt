@@ -10,6 +10,4 @@ pub mod Reaching
 pub mod StepForms
 pub mod OneStep
 pub mod TraceLines
-pub mod FieldLists
 pub mod FieldsRead
-pub mod StepsRead
