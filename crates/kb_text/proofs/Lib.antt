@@ -8,6 +8,10 @@ pub mod IdentifierLaws
 pub mod Boundaries
 pub mod TextLaws
 pub mod LineLaws
+pub mod Cuts
+pub mod Numbers
+pub mod PlainTexts
+pub mod LineFronts
 pub mod Leads
 pub mod RunTerms
 pub mod RunTexts

@@ -5,6 +5,7 @@ pub mod Fronts
 pub mod Problems
 pub mod Refusals
 pub mod Lines
+pub mod Fields
 pub mod Terms
 pub mod Starts
 pub mod TokenValues

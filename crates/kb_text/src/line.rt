@@ -1,12 +1,14 @@
 // Lines of fields.
-ghost use Rattle.std.specs.Prelude.{◌≡◌, ◌<◌, ◌++◌, ◌∷◌, [], OnOk, decimal, map, length};
-ghost use Rattle.std.specs.List.{join_with_byte};
+ghost use Rattle.std.specs.Prelude.{◌≡◌, ◌<◌, ◌==◌, ◌++◌, ◌∷◌, [], ℕ, List, OnOk, IfOk, decimal, get_or, map, length};
+ghost use Rattle.std.specs.List.{join_with_byte, slice_split};
+ghost use Rattle.kb_text.specs.Fields.{behind};
 ghost use Rattle.kb_text.specs.Lines.{line, parted};
 
 use crate::text::push_number;
 use kb_term::Memory;
 use std::alloc::Global;
 use std::marker::Model;
+use std::mem::replace;
 
 fn push_joined(out: &mut Vec<u8>, fields: &[Vec<u8>], separator: u8) -> Result<(), Memory>
     ensures { OnOk result (out.new.items ≡ out.old.items ++ join_with_byte separator (map (λ f. f.items) fields.now)) }
@@ -26,6 +28,44 @@ fn push_field(out: &mut Vec<u8>, separator: u8, i: usize, field: &[u8]) -> Resul
     }
     out.extend_from_slice(field)?;
     Ok(())
+}
+
+// One byte more of a text that is cut: it ends the part, or goes on with it.
+fn push_byte(
+    alloc: Global,
+    parts: &mut Vec<Vec<u8>>,
+    part: &mut Vec<u8>,
+    separator: u8,
+    b: u8,
+) -> Result<(), Memory>
+    ensures { OnOk result ((rest : List ℕ) → map (λ f. f.items) parts.new.items ++ behind part.new.items (slice_split (λ b. b == separator) rest) ≡ map (λ f. f.items) parts.old.items ++ behind part.old.items (slice_split (λ b. b == separator) (b ∷ rest))) }
+{
+    if b == separator {
+        let whole = replace(part, Vec::new(alloc));
+        parts.push(whole)?;
+        return Ok(());
+    }
+    part.push(b)?;
+    Ok(())
+}
+
+fn parts_of(alloc: Global, text: &[u8], separator: u8) -> Result<Vec<Vec<u8>>, Memory>
+    ensures { IfOk result (λ parts. map (λ f. f.items) parts.items ≡ slice_split (λ b. b == separator) text.now) }
+{
+    let mut parts = Vec::new(alloc);
+    let mut part = Vec::new(alloc);
+    for i in 0..text.len() {
+        push_byte(alloc, &mut parts, &mut part, separator, text[i])?;
+    }
+    parts.push(part)?;
+    Ok(parts)
+}
+
+fn field_at(fields: &[Vec<u8>], i: usize) -> &[u8]
+    requires { i < length fields.now }
+    ensures { result.now ≡ get_or (map (λ f. f.items) fields.now) i [] }
+{
+    &fields[i]
 }
 
 /// Fields, which are written parted by one byte.
@@ -50,6 +90,29 @@ impl Fields {
         Fields {
             items: Vec::new(alloc),
         }
+    }
+
+    /// The parts of a text between its separators: one where it has none. The time is linear in the text.
+    pub fn cut(alloc: Global, text: &[u8], separator: u8) -> Result<Fields, Memory>
+        ensures { IfOk result (λ fields. fields ≡ slice_split (λ b. b == separator) text.now) }
+    {
+        let items = parts_of(alloc, text, separator)?;
+        Ok(Fields { items })
+    }
+
+    /// How many fields there are.
+    pub fn len(&self) -> usize
+        ensures { result ≡ length self.now }
+    {
+        self.items.len()
+    }
+
+    /// The field with the number i, from 0.
+    pub fn field(&self, i: usize) -> &[u8]
+        requires { i < length self.now }
+        ensures { result.now ≡ get_or self.now i [] }
+    {
+        field_at(&self.items, i)
     }
 
     /// Adds a field at the end.

@@ -44,3 +44,12 @@ fn a_problem_is_written(rt: HostRuntime) {
         b"(VAR xx1 xx2)\n(RULES\nxx1 == xx2\n)\n".as_slice()
     );
 }
+
+#[test]
+fn a_text_is_cut(rt: HostRuntime) {
+    let fields = Fields::cut(rt.alloc(), b"12 x  y", b' ').expect(&rt, "memory");
+    assert_eq!(rt; fields.len(), 4);
+    assert!(rt; matches!(read_number(b"4096"), Some(4096)));
+    assert!(rt; matches!(read_number(b"04"), None));
+    assert!(rt; matches!(line_length(b"ab\nc\n"), Some(2)));
+}

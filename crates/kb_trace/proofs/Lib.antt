@@ -7,3 +7,7 @@ pub mod Cited
 pub mod Deciding
 pub mod Lines
 pub mod Reaching
+pub mod StepForms
+pub mod OneStep
+pub mod TraceLines
+pub mod FieldsRead

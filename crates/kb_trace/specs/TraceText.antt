@@ -24,8 +24,11 @@ origin_fields (Input i) = codes "input" ∷ decimal i ∷ []
 origin_fields (Rewrite a w p r) = codes "rewrite" ∷ decimal a ∷ codes "side" ∷ decimal w ∷ codes "at" ∷ position_text p ∷ cited_fields (codes "by") r
 origin_fields (Overlap a b p) = cited_fields (codes "overlap") a ++ cited_fields (codes "with") b ++ codes "at" ∷ position_text p ∷ []
 
+abbrev pub step_fields : List Name → ℕ → TraceStep → List (List ℕ)
+step_fields names k s = decimal k ∷ (origin_fields s.origin ++ codes ":" ∷ infix_text names (codes "=") s.pair.first s.pair.second)
+
 abbrev pub step_line : List Name → ℕ → TraceStep → List ℕ
-step_line names k s = line (decimal k ∷ (origin_fields s.origin ++ codes ":" ∷ infix_text names (codes "=") s.pair.first s.pair.second))
+step_line names k s = line (step_fields names k s)
 
 -- the steps, numbered from k
 abbrev pub step_lines : List Name → ℕ → List TraceStep → List ℕ
@@ -63,6 +66,10 @@ pub record IsTraceForm (sig : Signature) (t : List TraceStep) : Type 0 where
   pub count : length t ≤ 4096
   pub steps : All (IsStepForm sig) t
 
+-- the bytes are the text of such a trace
+abbrev pub IsTraceText : Signature → List ℕ → Type 0
+IsTraceText sig bytes = (t : List TraceStep) × IsTraceForm sig t × (bytes ≡ trace_text sig t)
+
 -- the line of a text that is the first that isn't of the form of a trace's text
 abbrev pub IsBadTraceLine : Signature → List ℕ → ℕ → Type 0
-IsBadTraceLine sig bytes n = IsBadLine (λ text. (t : List TraceStep) × IsTraceForm sig t × (text ≡ trace_text sig t)) bytes n
+IsBadTraceLine sig bytes n = IsBadLine (IsTraceText sig) bytes n

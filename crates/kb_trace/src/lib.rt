@@ -2,7 +2,10 @@
 #![tactic(auto)]
 
 mod fault;
+mod fields;
+mod laws;
 mod reached;
+mod reading;
 mod replaying;
 mod right;
 mod rule;
@@ -10,7 +13,9 @@ mod text;
 mod trace;
 
 pub use fault::TraceFault;
+pub use laws::texts_are_of_one_trace;
 pub use reached::trace_of;
+pub use reading::read_trace;
 pub use replaying::replay_trace;
 pub use text::trace_text;
 pub use trace::{Step, Trace};

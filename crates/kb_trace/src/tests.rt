@@ -8,7 +8,9 @@ use kb_term::{
     Memory, Origin, Pair, Position, Problem, RuleRef, Signature, Symbol, Term, Terms, canonical,
     pair_limit,
 };
+use kb_text::TextFault;
 use std::alloc::Global;
+use std::process::Abort;
 
 fn applied(alloc: Global, f: u8, t: Term) -> Result<Term, Memory> {
     let mut items = Vec::new(alloc);
@@ -125,4 +127,35 @@ fn nothing_wanted_of_no_nodes_is_no_trace(rt: HostRuntime) {
     let wanted: Vec<u16> = Vec::new(alloc);
     let found = trace_of(alloc, &nodes, &wanted).expect(&rt, "memory");
     assert!(rt; found.steps().is_empty());
+}
+
+/// The number of the first bad line; 0 where the text is read.
+fn bad_line(rt: &impl Abort, alloc: Global, lines: &[u8]) -> u64 {
+    let signature = Signature::new(Vec::new(alloc));
+    match read_trace(alloc, &signature, lines) {
+        Ok(_) => 0,
+        Err(TextFault::BadText(n)) => n,
+        Err(TextFault::Memory) => panic!(rt; "memory"),
+    }
+}
+
+#[test]
+fn a_trace_is_read_back(rt: HostRuntime) {
+    let alloc = rt.alloc();
+    let signature = Signature::new(Vec::new(alloc));
+    let lines =
+        b"1 input 256 : x1 = x2\n2 rewrite 1 side 0 at 1.8 by 1 dir 1 : x1 = x2\n3 overlap 4096 dir 0 with 1 dir 1 at e : x1 = x2\n";
+    let t = read_trace(alloc, &signature, lines.as_slice()).expect(&rt, "read");
+    let text = trace_text(alloc, &signature, &t).expect(&rt, "memory");
+    assert!(rt; text.as_slice() == lines.as_slice());
+}
+
+#[test]
+fn the_first_bad_line_is_named(rt: HostRuntime) {
+    let alloc = rt.alloc();
+    assert!(rt; bad_line(&rt, alloc, b"01 input 1 : x1 = x2\n") == 1);
+    assert!(rt; bad_line(&rt, alloc, b"1 input 1 : x2 = x1\n") == 1);
+    assert!(rt; bad_line(&rt, alloc, b"1 input 1 : x1 = x2\n2 input 1 : x1 = x2") == 2);
+    assert!(rt; bad_line(&rt, alloc, b"1 input 1 : x1 = x2\n2 input  1 : x1 = x2\n") == 2);
+    assert!(rt; bad_line(&rt, alloc, b"1 input 1 : x1 = x2\n\n") == 2);
 }

@@ -1,0 +1,26 @@
+-- Texts that are cut at one byte.
+use Rattle.std.specs.Prelude.{◌≡◌, ℕ, ◌+◌, ◌<◌, ◌==◌, List, [], ◌∷◌, ◌++◌, false, length, take, drop, ⊤}
+use Rattle.kb_text.specs.Lines.{IsBadLine}
+use Rattle.kb_text.specs.declared.fault.TextFault.{TextFault}
+use Rattle.kb_text.specs.declared.fault.TextFault.TheVariants.{BadText, Memory}
+
+-- no byte of the text is c
+abbrev pub IsWithout : ℕ → List ℕ → Type 0
+IsWithout c [] = ⊤
+IsWithout c (b ∷ bytes) = ((b == c) ≡ false) × IsWithout c bytes
+
+-- the parts, with these bytes before the first
+abbrev pub behind : List ℕ → List (List ℕ) → List (List ℕ)
+behind bytes [] = bytes ∷ []
+behind bytes (part ∷ parts) = (bytes ++ part) ∷ parts
+
+-- the first line feed of the text stands behind n bytes
+pub record IsFirstLine (text : List ℕ) (n : ℕ) : Type 0 where
+  pub within : n < length text
+  pub without : IsWithout 10 (take n text)
+  pub parts : text ≡ take n text ++ 10 ∷ drop (n + 1) text
+
+-- why a text isn't of the form: BadText names the first line that isn't of its form
+abbrev pub IsTextFault : (List ℕ → Type 0) → List ℕ → TextFault → Type 0
+IsTextFault IsOfForm text (BadText n) = IsBadLine IsOfForm text n
+IsTextFault IsOfForm text Memory = ⊤
