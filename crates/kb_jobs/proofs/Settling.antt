@@ -12,6 +12,7 @@ use Rattle.kb_term.specs.Substitution.{instance}
 use Rattle.kb_term.specs.TermOrder.{pair_eq}
 use Rattle.kb_term.specs.Tree.{tree_eq}
 use Rattle.kb_term.specs.declared.origin.RuleRef.{RuleRef}
+use Rattle.mkb_model.proofs.Variables.{put, number_there, few_less}
 use Rattle.kb_term.proofs.Steps.{contains_cases, contains_behind, contains_first, occurs_from, occurs_to, Occurs}
 use Rattle.kb_term.proofs.Instances.{instance-variable, instance-agree, agree_at}
 use Rattle.kb_term.proofs.NameList.{IsUnique, unique-distinct}
@@ -128,41 +129,6 @@ joined_some qs u v q b is e = (there, back)
 
 -- ---- the variables of a normal form
 
-filter_less : (p : ℕ → Bool) (xs : List ℕ) → length (filter p xs) ≤ length xs
-filter_less p [] = omega arith
-filter_less p (x ∷ xs) = go (p x) (filter_less p xs)
-  where
-    go : (b : Bool) → length (filter p xs) ≤ length xs → length (cond b (x ∷ filter p xs) (filter p xs)) ≤ length (x ∷ xs)
-    go true h = omega arith
-    go false h = omega arith
-
-filter_lost : (p : ℕ → Bool) (xs : List ℕ) (y : ℕ) → Contains xs y → p y ≡ false → length (filter p xs) < length xs
-filter_lost p [] y c e = none_in c
-filter_lost p (x ∷ xs) y c e = go (p x) refl (filter_less p xs) (filter_lost p xs y)
-  where
-    go : (b : Bool) → p x ≡ b → length (filter p xs) ≤ length xs → (Contains xs y → p y ≡ false → length (filter p xs) < length xs) → length (cond b (x ∷ filter p xs) (filter p xs)) < length (x ∷ xs)
-    go false q h rest = omega arith
-    go true q h rest = ⊎_elim (λ s. clash q (ap p s ∙ e)) (λ d. let r = rest d e in omega arith) (contains_cases x xs y c)
-
-has_there : (x : ℕ) (xs : List ℕ) → Contains xs x → has x xs ≡ true
-has_there x [] c = none_in c
-has_there x (y ∷ ys) c = in_any (λ z. z == x) (y ∷ ys) x c (eq-eqb x x refl)
-
--- different numbers that are all among others are no more than those
-unique_less : (xs ys : List ℕ) → IsUnique xs → ((x : ℕ) → Contains xs x → Contains ys x) → length xs ≤ length ys
-unique_less [] ys h k = omega arith
-unique_less (x ∷ xs) ys h k =
-    let r = unique_less xs (filter (λ z. not (z == x)) ys) h.1 (λ y c. filter_kept (λ z. not (z == x)) ys y (ap not (ne_eqb y x (λ e. clash (has_there x xs (subst {A = ℕ} (Contains xs) e c)) h.0))) (k y (contains_behind x xs y c))) in
-    let l = filter_lost (λ z. not (z == x)) ys x (k x (contains_first x xs)) (ap not (eq-eqb x x refl)) in
-    omega (arith, r, l)
-
-few_less : (xs ys : List ℕ) → ((x : ℕ) → Contains xs x → Contains ys x) → length (distinct xs) ≤ length (distinct ys)
-few_less xs ys h = unique_less (distinct xs) (distinct ys) (unique-distinct xs) (λ x c. in_distinct ys x (h x (distinct_in xs x c)))
-
--- a constant in place of one variable
-abbrev put : ℕ → ℕ → Tree
-put x n = cond (n == x) (apply 0 no_trees) (variable n)
-
 form_variables : (rules : List Rule) → HoldVariables rules → (s u : Tree) (n : ℕ) → NormalisesTo rules s (form u n) → (x : ℕ) → Contains (variables_of u) x → ¬ (Contains (variables_of s) x → ⊥)
 form_variables rules held s u n f x c missing = apart (agree_at (put x) variable u (sym (instance-variable (instance (put x) u)) ∙ (normalises_instance (put x) variable rules s (form u n) held back f).1 ∙ sym (instance-variable u)) x (occurs_from x u c))
   where
@@ -174,14 +140,6 @@ form_variables rules held s u n f x c missing = apart (agree_at (put x) variable
 
     apart : put x x ≡ variable x → ⊥
     apart e = let k : apply 0 no_trees ≡ variable x = sym (ap (λ b. cond b (apply 0 no_trees) (variable x)) (eq-eqb x x refl)) ∙ e in cc
-
--- a number is in a list or not
-number_there : (xs : List ℕ) (x : ℕ) → ¬ (Contains xs x → ⊥) → Contains xs x
-number_there xs x h = go (list_any (λ z. z == x) xs) refl
-  where
-    go : (b : Bool) → list_any (λ z. z == x) xs ≡ b → Contains xs x
-    go true e = let r = any_in (λ z. z == x) xs e in subst {A = ℕ} (Contains xs) (eqb-true r.0 x r.2) r.1
-    go false e = absurd (h (λ c. clash (in_any (λ z. z == x) xs x c (eq-eqb x x refl)) e))
 
 pub forms_few : (rules : List NamedRule) → HoldVariables (as_rules rules) → (s t u v : Tree) → HasForm rules s u → HasForm rules t v → AreFew s t → AreFew u v
 forms_few rules held s t u v (m, f) (n, g) few =

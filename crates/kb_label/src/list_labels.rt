@@ -30,6 +30,15 @@ impl Model for NameLog {
     ghost invariant = { λ log. IsForked log.living × (length log.living ≤ MAX_BITS + 1) };
 }
 
+impl NameLog {
+    /// The processes that live, in their order.
+    pub fn processes(&self) -> &[Process]
+        ensures { result.now ≡ self.now }
+    {
+        self.living.as_slice()
+    }
+}
+
 impl Living for NameLog {
     ghost living_names = { λ log. log };
 

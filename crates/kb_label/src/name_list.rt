@@ -50,6 +50,13 @@ impl NameList {
         self.names.len()
     }
 
+    /// The names, in their order.
+    pub(crate) fn as_slice(&self) -> &[Process]
+        ensures { result.now ≡ self.now }
+    {
+        self.names.as_slice()
+    }
+
     /// Whether there is no name.
     pub(crate) fn is_empty(&self) -> bool
         ensures { result ≡ is_empty self.now }

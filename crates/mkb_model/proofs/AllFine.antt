@@ -215,7 +215,7 @@ module _ (g : Signature) (before b : Plain) (keeps : KeepsPairs before.nodes b.n
       (overlaps_deduced g b.nodes p (all_ways (rules_on before p)) h.1.overlaps h.1.listed ds h.1.all (λ o k. picks_in _ h.1.overlaps h.1.listed h.1.picked o k) (unjoined_named p roles) h.1.proposed z i)
 
 -- an orienting that is taken names an equation of the process
-due_equation : (b : Plain) (p : Name) (n : NodeId) → IsFreeJob b (Orient p n) → is_equation b p n.0 ≡ true
+pub due_equation : (b : Plain) (p : Name) (n : NodeId) → IsFreeJob b (Orient p n) → is_equation b p n.0 ≡ true
 due_equation b p n free = and_left (is_equation b p n.0) (not (has (label b n.0 X) p)) (and_right (is_working b p) (is_work_due b (Orient p n)) (free_due b (Orient p n) free).3)
 
 module _ (P : Problem) (n : ℕ) (past : List Moment) (b : Plain) (run : IsPossibleRun P n past b) (s : Stands b) (ordered : (p : Name) → IsOrdered P.signature (state_of b p)) (w t : ℕ) (j : Job) (x : Proposed) (f : IsFinishing past b w t j x) (acts : IsFalse (is_dropped b x)) where

@@ -56,7 +56,7 @@ mutual
 
 -- an instance of a well-formed term under well-formed ones is well formed
 mutual
-  well_instance : (g : Signature) (m : ℕ → Tree) (t : Tree) → ((n : ℕ) → IsWellFormed g (m n)) → IsWellFormed g t → IsWellFormed g (instance m t)
+  pub well_instance : (g : Signature) (m : ℕ → Tree) (t : Tree) → ((n : ℕ) → IsWellFormed g (m n)) → IsWellFormed g t → IsWellFormed g (instance m t)
   well_instance g m (variable n) h w = h n
   well_instance g m (apply f ts) h w = (subst {A = ℕ} (HasArity g f) (sym (length-instances m ts)) w.0, wells_instance g m ts h w.1)
 
@@ -70,7 +70,7 @@ well_argument g no_trees (suc i) u w e = none_some e
 well_argument g (more_trees t ts) (suc zero) u w e = subst {A = Tree} (IsWellFormed g) (some_is e) w.0
 well_argument g (more_trees t ts) (suc (suc i)) u w e = well_argument g ts (suc i) u w.1 e
 
-well_subtree : (g : Signature) (p : List ℕ) (t u : Tree) → IsWellFormed g t → subtree_at t p ≡ Some u → IsWellFormed g u
+pub well_subtree : (g : Signature) (p : List ℕ) (t u : Tree) → IsWellFormed g t → subtree_at t p ≡ Some u → IsWellFormed g u
 well_subtree g [] t u w e = subst {A = Tree} (IsWellFormed g) (some_is e) w
 well_subtree g (i ∷ p) (variable n) u w e = none_some e
 well_subtree g (i ∷ p) (apply f ts) u w e = go (argument ts i) refl (λ x k l. well_subtree g p x u k l) e

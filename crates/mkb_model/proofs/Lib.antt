@@ -52,3 +52,5 @@ pub mod Renamings
 pub mod Alike
 pub mod OneProposal
 pub mod OneJournal
+pub mod Variables
+pub mod Sizes

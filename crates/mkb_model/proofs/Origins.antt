@@ -230,7 +230,7 @@ comes_from g xs p es all some ds lists sub named proposed d i = (
 
 -- ---- commits
 
-some_named : (l : List Name) → is_empty l ≡ false → (p : Name) × (has l p ≡ true)
+pub some_named : (l : List Name) → is_empty l ≡ false → (p : Name) × (has l p ≡ true)
 some_named [] h = clash refl h
 some_named (p ∷ l) h = (p, or_left _ (has l p) (name_eq-refl p))
 

@@ -5,6 +5,7 @@ pub mod Effects
 pub mod Proposals
 pub mod Verdicts
 pub mod Journals
+pub mod Limits
 pub mod Ready
 pub mod Headline
 pub mod Invariants

@@ -9,6 +9,7 @@ ghost use Rattle.mkb_model.specs.Plain.{Plain, state_of};
 ghost use Rattle.mkb_model.specs.DueJobs.{first_job, free_jobs};
 ghost use Rattle.mkb_model.specs.Verdicts.{verdict, VerdictMeans};
 ghost use Rattle.mkb_model.specs.Journals.{Moment, Follows, IsFreeJob, IsPossibleRun, IsRun, IsLeaving, IsDropping, After, journal_of, moves_of, opening, tickets};
+ghost use Rattle.mkb_model.specs.Limits.{AreLimited};
 ghost use Rattle.mkb_model.specs.Ready.{KeepsPairs, AllFine};
 ghost use Rattle.kb_node.specs.declared.job.Job.{Job};
 ghost use Rattle.kb_node.specs.declared.job.Job.TheVariants.{Close};
@@ -53,6 +54,12 @@ pub fn living_names_come_of_forks()
 pub fn pairs_stay()
     ensures differ { (problem : Problem) (budget : ℕ) (past : List Moment) (board : Plain) → IsPossibleRun problem budget past board → PairsDiffer board }
     ensures numbers { (problem : Problem) (budget : ℕ) (past : List Moment) (board : Plain) (earlier : Moment) → IsPossibleRun problem budget past board → Contains past earlier → KeepsPairs earlier.board.nodes board.nodes }
+{}
+
+/// In each possible run of a problem within the limits the pair of each node is within the limits: both sides are terms over the
+/// signature of at most size 512 and depth 64, with at most 64 variables together.
+pub fn pairs_are_within_limits()
+    ensures { (problem : Problem) (budget : ℕ) (past : List Moment) (board : Plain) → IsWithinLimits problem → IsPossibleRun problem budget past board → AreLimited problem.signature board.nodes }
 {}
 
 /// The board is of the run's problem and budget, and has at most as many commits as the budget.
