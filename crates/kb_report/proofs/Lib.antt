@@ -1,2 +1,7 @@
 mod FormLaws
 mod AnswerLaws
+mod LinesOfTexts
+mod Fronts
+mod SectionLaws
+mod SystemLines
+mod OrderLines

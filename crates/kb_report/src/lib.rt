@@ -1,14 +1,14 @@
-//! The texts of answers.
+//! The texts of answers and summaries.
 #![tactic(auto)]
 
 mod answer;
 mod form;
+mod report;
+mod summary;
 
-pub use answer::one_rule_text;
 pub use form::{
     is_equation_within_limits, is_interpretation, is_problem_within_limits, is_term_within_limits,
     is_well_formed,
 };
-
-#[cfg(test)]
-mod tests;
+pub use report::{Report, answer_text};
+pub use summary::{Summary, summary_text};

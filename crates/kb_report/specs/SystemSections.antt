@@ -1,0 +1,59 @@
+-- The sections of the text of a system.
+use Rattle.std.specs.Prelude.{ℕ, ◌≡◌, ◌≤◌, List, [], ◌∷◌, ◌++◌, length, map, codes, decimal, All, IsTrue, ⊤}
+use Rattle.std.specs.List.{join_with_byte}
+use Rattle.kb_term.specs.Tree.{Tree}
+use Rattle.kb_term.specs.Rule.{Rule}
+use Rattle.kb_term.specs.Signature.{SymbolEntry, Signature, IsSignature, IsEquationWithinLimits}
+use Rattle.kb_text.specs.Names.{Name}
+use Rattle.kb_text.specs.Terms.{names_of, infix_text}
+use Rattle.kb_cert.specs.CertificateText.{cert_fields, is_certificate}
+use Rattle.kb_cert.specs.declared.certificate.Certificate.{Certificate}
+use Rattle.kb_overlap.specs.Trace.{TraceStep}
+use Rattle.kb_trace.specs.TraceText.{step_fields, IsStepForm}
+use Rattle.kb_checker.specs.Answers.{IsRuleForm}
+use Rattle.kb_report.specs.Answers.{entry_text}
+use Rattle.kb_report.specs.Sections.{Section, OneLine, Items}
+
+-- ---- lines without their line feeds
+
+abbrev pub symbols_body : Signature → List ℕ
+symbols_body sig = join_with_byte 32 (codes "SYMBOLS" ∷ map entry_text sig)
+
+abbrev pub equation_body : List Name → Tree × Tree → List ℕ
+equation_body names e = join_with_byte 32 (infix_text names (codes "=") e.0 e.1)
+
+abbrev pub rule_body : List Name → Rule × ℕ → List ℕ
+rule_body names r = join_with_byte 32 (infix_text names (codes "->") r.0.left r.0.right ++ codes ":" ∷ decimal r.1 ∷ [])
+
+abbrev pub order_body : List Name → Certificate → List ℕ
+order_body names c = join_with_byte 32 (codes "ORDER" ∷ cert_fields names c)
+
+abbrev pub step_body : List Name → ℕ → TraceStep → List ℕ
+step_body names k s = join_with_byte 32 (step_fields names k s)
+
+-- ---- the sections
+
+-- at most 24 symbols of at most 8 arguments, whose names are different identifiers
+pub record AreSymbols (sig : Signature) : Type 0 where
+  pub names : IsSignature sig
+  pub few : length sig ≤ 24
+  pub arities : All (λ (f : SymbolEntry). f.arity ≤ 8) sig
+
+-- the line that is this word
+abbrev pub Word : List ℕ → Section ⊤
+Word word = OneLine (λ u. ⊤) (λ u. word)
+
+abbrev pub Symbols : Section Signature
+Symbols = OneLine AreSymbols symbols_body
+
+abbrev pub Equations : Signature → ℕ → Section (List (Tree × Tree))
+Equations sig = Items (IsEquationWithinLimits sig) (λ k. equation_body (names_of sig))
+
+abbrev pub Rules : Signature → ℕ → Section (List (Rule × ℕ))
+Rules sig = Items (IsRuleForm sig) (λ k. rule_body (names_of sig))
+
+abbrev pub Order : Signature → Section Certificate
+Order sig = OneLine (λ c. IsTrue (is_certificate sig c)) (order_body (names_of sig))
+
+abbrev pub Steps : Signature → ℕ → Section (List TraceStep)
+Steps sig = Items (IsStepForm sig) (step_body (names_of sig))
