@@ -5,3 +5,5 @@ mod Fronts
 mod SectionLaws
 mod SystemLines
 mod OrderLines
+mod ReadLines
+mod SidesRead

@@ -1,5 +1,5 @@
 -- Sections of a text of lines: each begins with a line that fixes it, and one line more is told from the lines before it.
-use Rattle.std.specs.Prelude.{◌≡◌, ℕ, ◌+◌, ◌≤◌, List, [], ◌∷◌, ◌++◌, length, decimal, All, ⊤}
+use Rattle.std.specs.Prelude.{◌≡◌, ℕ, ◌+◌, ◌≤◌, ◌<◌, ◌⊎◌, List, [], ◌∷◌, ◌++◌, length, get_or, take, drop, decimal, All, ⊤}
 use Rattle.kb_text.specs.Fields.{IsWithout}
 use Rattle.kb_text.specs.declared.fault.TextFault.{TextFault}
 use Rattle.kb_text.specs.declared.fault.TextFault.TheVariants.{BadText, Memory}
@@ -30,12 +30,26 @@ item_lines line k (x ∷ xs) = line k x ∷ item_lines line (k + 1) xs
 abbrev pub Items : {X : Type 0} → (X → Type 0) → (ℕ → X → List ℕ) → ℕ → Section (List X)
 Items IsOfForm line count xs lines = All IsOfForm xs × (length xs ≡ count) × (lines ≡ item_lines line 1 xs)
 
--- a word, and a number of at most this behind it
+-- a number of at most this behind the word
 abbrev pub counted_line : List ℕ → ℕ → List ℕ
-counted_line word n = word ++ 32 ∷ decimal n
+counted_line word n = word ++ decimal n
 
 abbrev pub Count : List ℕ → ℕ → Section ℕ
 Count word highest = OneLine (λ n. n ≤ highest) (counted_line word)
+
+-- the line that is this word
+abbrev pub Word : List ℕ → Section ⊤
+Word word = OneLine (λ u. ⊤) (λ u. word)
+
+-- the bytes are the line of a value of this form, without its line feed
+pub record IsLineOf {X : Type 0} (IsOfForm : X → Type 0) (line : X → List ℕ) (bytes : List ℕ) (x : X) : Type 0 where
+  pub form : IsOfForm x
+  pub spelling : bytes ≡ line x
+
+-- the text is a line without line feeds in it, and the rest
+pub record IsFirstLine (text line rest : List ℕ) : Type 0 where
+  pub without : IsWithout 10 line
+  pub parts : text ≡ line ++ 10 ∷ rest
 
 -- the text is the line of a value of this form, and the rest
 pub record BeginsWithLine {X : Type 0} (IsOfForm : X → Type 0) (line : X → List ℕ) (text : List ℕ) (x : X) (rest : List ℕ) : Type 0 where
@@ -64,3 +78,13 @@ pub record IsBadFrom {X : Type 0} (S : Section X) (text : List ℕ) (first numbe
 abbrev pub IsSectionFault : {X : Type 0} → Section X → List ℕ → ℕ → TextFault → Type 0
 IsSectionFault S text first (BadText number) = IsBadFrom S text first number
 IsSectionFault S text first Memory = ⊤
+
+-- the first lines of the text, n of them, take so many bytes; they are so many as asked for, or there are no more
+pub record AreFirstLines (text : List ℕ) (most n size : ℕ) : Type 0 where
+  pub within : size ≤ length text
+  pub few : n ≤ most
+  pub lines : Lines
+  pub count_is : length lines ≡ n
+  pub without : (k : ℕ) (d : List ℕ) → k < n → IsWithout 10 (get_or lines k d)
+  pub front : take size text ≡ text_of lines
+  pub all : (n ≡ most) ⊎ IsWithout 10 (drop size text)

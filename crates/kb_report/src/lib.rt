@@ -3,8 +3,13 @@
 
 mod answer;
 mod form;
+mod header;
+mod order;
 mod report;
+mod sides;
+mod steps;
 mod summary;
+mod symbols;
 
 pub use form::{
     is_equation_within_limits, is_interpretation, is_problem_within_limits, is_term_within_limits,

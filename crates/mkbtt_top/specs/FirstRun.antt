@@ -12,7 +12,8 @@ use Rattle.kb_overlap.specs.Trace.{IsRightTrace}
 use Rattle.kb_text.specs.Terms.{IsPairForm}
 use Rattle.kb_laws.specs.Complete.{IsCompleteSystem}
 use Rattle.kb_text.specs.Problems.{Spells}
-use Rattle.kb_report.specs.Answers.{Answer, AnswerSpelled, one_rule_answer}
+use Rattle.kb_checker.specs.Answers.{Answer}
+use Rattle.kb_report.specs.Answers.{AnswerSpelled, one_rule_answer}
 use Rattle.kb_cert.specs.CertificateText.{are_rows}
 use Rattle.kb_cert.specs.declared.certificate.Certificate.TheVariants.{Linear}
 use Rattle.kb_text.specs.Refusals.{IsRefused}
