@@ -95,14 +95,14 @@ front_longer rest (x ∷ xs) front f e =
     front_longer rest xs m.inner f.1 m.some
 
 -- lines that have at least so many
-record HasFirst (lines : Lines) (n : ℕ) (front : List ℕ) : Type 0 where
-  firsts : Lines
-  back : Lines
-  count : length firsts ≡ n
-  parts : lines ≡ firsts ++ back
-  text_is : text_of firsts ≡ front
+pub record HasFirst (lines : Lines) (n : ℕ) (front : List ℕ) : Type 0 where
+  pub firsts : Lines
+  pub back : Lines
+  pub count : length firsts ≡ n
+  pub parts : lines ≡ firsts ++ back
+  pub text_is : text_of firsts ≡ front
 
-front_of_lines : (n : ℕ) (lines : Lines) (front : List ℕ) → AreWithout 10 lines → first_lines (text_of lines) n ≡ Some front → HasFirst lines n front
+pub front_of_lines : (n : ℕ) (lines : Lines) (front : List ℕ) → AreWithout 10 lines → first_lines (text_of lines) n ≡ Some front → HasFirst lines n front
 front_of_lines zero lines front f e = record { firsts = []; back = lines; count = refl; parts = refl; text_is = (let s : Some [] ≡ Some front = sym (first_lines-none (text_of lines)) ∙ e in cc) }
 front_of_lines (suc n) [] front f e = absurd (cc)
 front_of_lines (suc n) (x ∷ xs) front f e =

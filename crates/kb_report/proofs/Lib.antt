@@ -7,3 +7,4 @@ mod SystemLines
 mod OrderLines
 mod ReadLines
 mod SidesRead
+mod NamesRead

@@ -130,16 +130,16 @@ item_of P f k (x ∷ xs) (b ∷ bs) line more a e =
     let same : k + 1 + length bs ≡ k + suc (length bs) = omega arith in
     record { item = r.item; form = r.form; line_is = r.line_is ∙ ap (λ n. f n r.item) same }
 
-pub items_bad : {X : Type 0} (P : X → Type 0) (f : ℕ → X → List ℕ) (text rest : List ℕ) (items : List X) (at count first number : ℕ) (some : X) → P some → AreReadItems P f text items at → rest ≡ drop at text → length items < count → number ≡ first + length items
+pub items_bad_at : {X : Type 0} (P : X → Type 0) (f : ℕ → X → List ℕ) (text rest : List ℕ) (items : List X) (count first number : ℕ) (some : X) → P some → All P items → text ≡ text_of (item_lines f 1 items) ++ rest → length items < count → number ≡ first + length items
     → ((x : X) (back : List ℕ) → ¬ BeginsWithLine P (f (length items + 1)) rest x back) → IsBadFrom (Items P f count) text first number
-items_bad {X} P f text rest items at count first number some p r e h n none =
+items_bad_at {X} P f text rest items count first number some p a e h n none =
     let long = lines-length f 1 items in
     record {
       lines = item_lines f 1 items;
       number_is = omega arith;
       rest = rest;
-      parts = r.parts ∙ ap (text_of (item_lines f 1 items) ++◌) (sym e);
-      begin = (items ++ replicate (count - length items) some, item_lines f (1 + length items) (replicate (count - length items) some), (filled P items some (count - length items) r.each p, long_enough, sym (lines-more f 1 items (replicate (count - length items) some))));
+      parts = e;
+      begin = (items ++ replicate (count - length items) some, item_lines f (1 + length items) (replicate (count - length items) some), (filled P items some (count - length items) a p, long_enough, sym (lines-more f 1 items (replicate (count - length items) some))));
       with_it = λ line back w q x more s.
           let i = item_of P f 1 x (item_lines f 1 items) line more s.0 s.2 in
           let place : 1 + length (item_lines f 1 items) ≡ length items + 1 = omega arith in
@@ -149,3 +149,8 @@ items_bad {X} P f text rest items at count first number some p r e h n none =
   where
     long_enough : length (items ++ replicate (count - length items) some) ≡ count
     long_enough = omega (arith, length-append items (replicate (count - length items) some), length-replicate (count - length items) some)
+
+pub items_bad : {X : Type 0} (P : X → Type 0) (f : ℕ → X → List ℕ) (text rest : List ℕ) (items : List X) (at count first number : ℕ) (some : X) → P some → AreReadItems P f text items at → rest ≡ drop at text → length items < count → number ≡ first + length items
+    → ((x : X) (back : List ℕ) → ¬ BeginsWithLine P (f (length items + 1)) rest x back) → IsBadFrom (Items P f count) text first number
+items_bad P f text rest items at count first number some p r e h n none =
+    items_bad_at P f text rest items count first number some p r.each (r.parts ∙ ap (text_of (item_lines f 1 items) ++◌) (sym e)) h n none

@@ -79,7 +79,7 @@ one_entry e f s t q =
     let names = r.0 in
     λ i. record { name = names i; arity = arities i }
 
-one_entries : (s t : Signature) → All IsSmall s → All IsSmall t → map entry_text s ≡ map entry_text t → s ≡ t
+pub one_entries : (s t : Signature) → All IsSmall s → All IsSmall t → map entry_text s ≡ map entry_text t → s ≡ t
 one_entries [] [] a b e = refl
 one_entries [] (f ∷ fs) a b e = absurd (let n = ap length e in omega arith)
 one_entries (f ∷ fs) [] a b e = absurd (let n = ap length e in omega arith)

@@ -1,5 +1,5 @@
 -- Sections of a text of lines: each begins with a line that fixes it, and one line more is told from the lines before it.
-use Rattle.std.specs.Prelude.{◌≡◌, ℕ, ◌+◌, ◌≤◌, ◌<◌, ◌⊎◌, List, [], ◌∷◌, ◌++◌, length, get_or, take, drop, decimal, All, ⊤}
+use Rattle.std.specs.Prelude.{◌≡◌, ℕ, ◌+◌, ◌≤◌, ◌⊎◌, List, [], ◌∷◌, ◌++◌, length, drop, decimal, All, ⊤}
 use Rattle.kb_text.specs.Fields.{IsWithout}
 use Rattle.kb_text.specs.declared.fault.TextFault.{TextFault}
 use Rattle.kb_text.specs.declared.fault.TextFault.TheVariants.{BadText, Memory}
@@ -85,6 +85,6 @@ pub record AreFirstLines (text : List ℕ) (most n size : ℕ) : Type 0 where
   pub few : n ≤ most
   pub lines : Lines
   pub count_is : length lines ≡ n
-  pub without : (k : ℕ) (d : List ℕ) → k < n → IsWithout 10 (get_or lines k d)
-  pub front : take size text ≡ text_of lines
+  pub without : All (IsWithout 10) lines
+  pub parts : text ≡ text_of lines ++ drop size text
   pub all : (n ≡ most) ⊎ IsWithout 10 (drop size text)
