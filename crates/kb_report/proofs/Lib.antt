@@ -8,3 +8,5 @@ mod OrderLines
 mod ReadLines
 mod SidesRead
 mod NamesRead
+mod StepsRead
+mod SystemForm

@@ -43,8 +43,8 @@ get_any (x ∷ xs) (suc i) d e h = get_any xs i d e (omega arith)
 abbrev pub IsName : List ℕ → Type 0
 IsName bytes = IsIdentifier bytes × (length bytes ≤ 64)
 
-pub name_at : (es : List Entry) (i : ℕ) (e d : Entry) (bytes : List ℕ) → i < length es → e ≡ get_or es i e → bytes ≡ e.0.items → bytes ≡ (get_or es i d).0.items
-name_at es i e d bytes h g b = b ∙ ap (λ (x : Entry). x.0.items) (g ∙ get_any es i e d h)
+pub name_at : (es : List Entry) (i : ℕ) (e d : Entry) (bytes : List ℕ) → i < length es → bytes ≡ (get_or es i e).0.items → bytes ≡ (get_or es i d).0.items
+name_at es i e d bytes h b = b ∙ ap (λ (x : Entry). x.0.items) (get_any es i e d h)
 
 pub named_more : (es : List Entry) (i : ℕ) → ((k : ℕ) (d : Entry) → k < i → IsName (get_or es k d).0.items) → ((d : Entry) → IsName (get_or es i d).0.items) → (k : ℕ) (d : Entry) → k < i + 1 → IsName (get_or es k d).0.items
 named_more es i h here k d l = ⊎_elim (h k d) (λ m. let same : i ≡ k = omega arith in subst {A = ℕ} (λ n. IsName (get_or es n d).0.items) same (here d)) (cases_lt k i)

@@ -5,6 +5,7 @@ mod answer;
 mod form;
 mod header;
 mod order;
+mod read;
 mod report;
 mod sides;
 mod steps;
@@ -15,5 +16,6 @@ pub use form::{
     is_equation_within_limits, is_interpretation, is_problem_within_limits, is_term_within_limits,
     is_well_formed,
 };
+pub use read::read_answer;
 pub use report::{Report, answer_text};
 pub use summary::{Summary, summary_text};

@@ -12,7 +12,7 @@ use std::alloc::Global;
 /// How many lines the text begins with, so many at most, and how many bytes they take.
 fn front_of(text: &[u8], most: usize) -> (usize, usize)
     requires { most ≤ 4096 }
-    ensures lines { AreFirstLines text.now most result.0 result.1 }
+    ensures { AreFirstLines text.now most result.0 result.1 }
 {
     let mut at = 0;
     for k in 0..most {

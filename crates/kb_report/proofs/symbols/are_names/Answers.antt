@@ -10,7 +10,7 @@ loop-i-preserved c =
     let i = c.loop-i.i in
     let e = c.index-symbols-i.result in
     record {
-      named = named_more es i c.loop-i.invariant.named (λ d. subst IsName (name_at es i e d c.deref.result.now c.loop-i-test.true c.index-symbols-i.is c.deref.ensures.value) (c.is_name.ensures.0 c.if-not-is_name.false));
+      named = named_more es i c.loop-i.invariant.named (λ d. subst IsName (name_at es i e d c.deref.result.now c.loop-i-test.true c.deref.ensures.value) (c.is_name.ensures.0 c.if-not-is_name.false));
       differ = differ_more es i c.loop-i.invariant.differ (c.is_new.ensures.0 c.if-not-is_new.false);
     }
 
@@ -21,7 +21,7 @@ returns-then-not-is_name c = (
       let es = c.args.symbols.now in
       let i = c.loop-i.i in
       let e = c.index-symbols-i.result in
-      absurd (false≢true (sym c.if-not-is_name.true ∙ c.is_name.ensures.1 (subst IsName (sym (name_at es i e e c.deref.result.now c.loop-i-test.true c.index-symbols-i.is c.deref.ensures.value)) (named_at es s i e c.loop-i-test.true)))),
+      absurd (false≢true (sym c.if-not-is_name.true ∙ c.is_name.ensures.1 (subst IsName (sym (name_at es i e e c.deref.result.now c.loop-i-test.true c.deref.ensures.value)) (named_at es s i e c.loop-i-test.true)))),
 )
 
 pub returns-then-not-is_new : goal.returns-then-not-is_new

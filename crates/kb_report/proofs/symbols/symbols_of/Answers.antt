@@ -1,8 +1,8 @@
-use Rattle.std.proofs.Common.{arith, ◌≡◌, ◌∷◌, List, ℕ, length, ap, ap₂, sym, ◌∙◌, subst, drop}
+use Rattle.std.proofs.Common.{arith, ◌≡◌, ◌∷◌, ◌≤◌, List, ℕ, length, ap, ap₂, sym, ◌∙◌, subst, drop}
 use Rattle.std.specs.Prelude.{map}
 use Rattle.std.specs.List.{join_with_byte}
 use Rattle.std.proofs.lemmas.Bool.{false≢true}
-use Rattle.std.proofs.lemmas.List.{length-map}
+use Rattle.std.proofs.lemmas.List.{length-drop, length-map}
 use Rattle.std.proofs.lemmas.List.Splits.{join_with_byte-slice_split}
 use Rattle.kb_term.specs.Signature.{Signature, SymbolEntry, IsSignature, symbols_of_list}
 use Rattle.kb_text.proofs.IdentifierLaws.{Entry}
@@ -34,7 +34,7 @@ returns c =
     let read = rw c.in-Some.is at c.in_ok-symbols.ensures in
     let names : IsSignature s = subst (λ (es : List Entry). IsSignature (symbols_of_list es)) c.deref.ensures.value (c.are_names.ensures.0 c.if-not-are_names.false) in
     let n = ap length read.1 in
-    let few : length s ≤ 24 = ? in
+    let few : length s ≤ 24 = omega (arith, length-map s entry_text, length-drop 1 c.in_ok-fields.fields) in
     subst {A = Signature} (IsSymbolsLine c.args.line.now) (sym c.new.ensures) (record {
       form = record { names = names; few = few; arities = read.0 };
       spelling = sym (join_with_byte-slice_split 32 c.args.line.now) ∙ ap (join_with_byte 32) (sym c.in_ok-fields.ensures ∙ first_field _ (omega arith) ∙ ap₂ (λ (x : List ℕ) (xs : List (List ℕ)). x ∷ xs) (sym c.field.ensures ∙ c.is_word.ensures.0 c.if-not-is_word.false) (sym read.1));
