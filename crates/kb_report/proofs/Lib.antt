@@ -10,3 +10,4 @@ mod SidesRead
 mod NamesRead
 mod StepsRead
 mod SystemForm
+mod Reading

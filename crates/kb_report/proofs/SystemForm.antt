@@ -1,5 +1,5 @@
 -- The text of a system is that of its sections, one behind the other.
-use Rattle.std.proofs.Common.{append-nil, append_assoc, ◌≡◌, refl, ap, ap₂, sym, ◌∙◌, subst, arith, ℕ, zero, suc, ◌+◌, ◌<◌, ◌≤◌, ◌^◌, List, [], ◌∷◌, ◌++◌, length, All}
+use Rattle.std.proofs.Common.{append-nil, append_assoc, ◌≡◌, refl, ap, ap₂, sym, ◌∙◌, subst, arith, ℕ, zero, suc, ◌+◌, ◌<◌, ◌≤◌, ◌^◌, List, [], ◌∷◌, ◌++◌, length, drop, get_or, All}
 use Rattle.std.specs.Prelude.{codes, decimal, flat_map, replicate, IsTrue, ⊤}
 use Rattle.std.proofs.lemmas.Fmt.{decimal_injective}
 use Rattle.std.proofs.lemmas.List.{length-replicate}
@@ -8,7 +8,7 @@ use Rattle.kb_term.specs.Rule.{Rule}
 use Rattle.kb_term.specs.Signature.{Signature, IsSignature, IsEquationWithinLimits}
 use Rattle.kb_term.specs.Tree.{Tree, variable}
 use Rattle.kb_text.specs.Fields.{IsWithout}
-use Rattle.kb_text.specs.Lines.{IsBadLine, Begins}
+use Rattle.kb_text.specs.Lines.{counted, IsBadLine, Begins}
 use Rattle.kb_text.specs.Names.{Name}
 use Rattle.kb_text.specs.Terms.{names_of}
 use Rattle.kb_text.proofs.Cuts.{AreWithout, are_without-append, without-append}
@@ -16,14 +16,14 @@ use Rattle.kb_text.proofs.PlainTexts.{word_without, decimal_without}
 use Rattle.kb_cert.specs.CertificateText.{is_certificate}
 use Rattle.kb_cert.specs.declared.certificate.Certificate.{Certificate}
 use Rattle.kb_overlap.specs.Trace.{TraceStep}
-use Rattle.kb_trace.specs.TraceText.{IsStepForm}
+use Rattle.kb_trace.specs.TraceText.{trace_text, IsStepForm}
 use Rattle.kb_checker.specs.Answers.{Answer, IsAnswer, IsRuleForm}
-use Rattle.kb_report.specs.Answers.{equation_line, rule_line, system_text, IsSystem, AnswerSpelled, IsSystemText}
+use Rattle.kb_report.specs.Answers.{head_line, end_line, symbols_line, equation_line, equation_lines, rule_line, rule_lines, order_line, system_text, IsSystem, AnswerSpelled, IsSystemText}
 use Rattle.kb_report.specs.Sections.{Lines, text_of, Section, OneLine, item_lines, Items, counted_line, Count, Word}
 use Rattle.kb_report.specs.SystemSections.{symbols_body, equation_body, rule_body, order_body, step_body, AreSymbols, Symbols, Equations, Rules, Order, Steps}
-use Rattle.kb_report.proofs.LinesOfTexts.{text_of-append}
+use Rattle.kb_report.proofs.LinesOfTexts.{text_of-append, same_lines}
 use Rattle.kb_report.proofs.Fronts.{IsSection, Then, Goes, then_goes, IsText}
-use Rattle.kb_report.proofs.SectionLaws.{line_section, items_section}
+use Rattle.kb_report.proofs.SectionLaws.{line_section, items_section, items_without}
 use Rattle.kb_report.proofs.SystemLines.{symbols_without, one_symbols, equation_without, one_equation}
 use Rattle.kb_report.proofs.OrderLines.{order_without, one_order, some_cert}
 use Rattle.kb_report.proofs.SidesRead.{some_equation, some_rule, rule_without, one_rule}
@@ -180,8 +180,8 @@ in_order lines (a, s, e) =
     let symbols : FromSymbols (symbols_body sig ∷ counted_line equations_word (length es) ∷ (item_lines (λ k. equation_body names) 1 es ++ lines_from_rules names a.rules a.cert a.trace)) = (sig, symbols_body sig ∷ [], counted_line equations_word (length es) ∷ (item_lines (λ k. equation_body names) 1 es ++ lines_from_rules names a.rules a.cert a.trace), (record { names = s.signature; few = f.problem.symbols; arities = f.problem.arities }, refl), equations, refl) in
     (tt, head_word ∷ [], symbols_body sig ∷ counted_line equations_word (length es) ∷ (item_lines (λ k. equation_body names) 1 es ++ lines_from_rules names a.rules a.cert a.trace), (tt, refl), symbols, e)
 
-joined : (lines xs ys as bs : Lines) → lines ≡ xs ++ ys → xs ≡ as → ys ≡ bs → lines ≡ as ++ bs
-joined lines xs ys as bs e x y = e ∙ ap₂ (λ (u v : Lines). u ++ v) x y
+joined : (lines xs ys ps bs : Lines) → lines ≡ xs ++ ys → xs ≡ ps → ys ≡ bs → lines ≡ ps ++ bs
+joined lines xs ys ps bs e x y = e ∙ ap₂ (λ (u v : Lines). u ++ v) x y
 
 end_lines : (lines : Lines) → FromEnd lines → lines ≡ end_word ∷ []
 end_lines lines (u, xs, ys, s, n, e) = joined lines xs ys (end_word ∷ []) [] e s.1 n
@@ -216,12 +216,12 @@ record RuleLines (sig : Signature) (lines : Lines) : Type 0 where
   lines_are : lines ≡ lines_from_rules (names_of sig) rules cert trace
 
 rules_are : (sig : Signature) (lines : Lines) → FromRules sig lines → RuleLines sig lines
-rules_are sig lines (n, xs, ys, s, (rs, us, vs, q, (c, as, bs, o, d, h), g), e) =
+rules_are sig lines (n, xs, ys, s, (rs, us, vs, q, (c, ps, bs, o, d, h), g), e) =
     let names = names_of sig in
     let long = q.1 in
     let low = s.0 in
     let t = trace_are sig bs d in
-    let behind = joined vs as bs (order_body names c ∷ []) (lines_from_trace names t.trace) h o.1 t.lines_are in
+    let behind = joined vs ps bs (order_body names c ∷ []) (lines_from_trace names t.trace) h o.1 t.lines_are in
     record {
       rules = rs;
       cert = c;
@@ -235,7 +235,7 @@ rules_are sig lines (n, xs, ys, s, (rs, us, vs, q, (c, as, bs, o, d, h), g), e) 
     }
 
 pub from_order : (lines : Lines) → FromHead lines → IsSystemLines lines
-from_order lines (u, xs, ys, s, (sig, as, bs, y, (n, cs, ds, k, (es, fs, gs, q, d, g), h), m), e) =
+from_order lines (u, xs, ys, s, (sig, ps, bs, y, (n, cs, ds, k, (es, fs, gs, q, d, g), h), m), e) =
     let names = names_of sig in
     let long = q.1 in
     let low = k.0 in
@@ -243,7 +243,7 @@ from_order lines (u, xs, ys, s, (sig, as, bs, y, (n, cs, ds, k, (es, fs, gs, q, 
     let rest = lines_from_rules names r.rules r.cert r.trace in
     let equations = joined ds fs gs (item_lines (λ k. equation_body names) 1 es) rest g q.2 r.lines_are in
     let counted = joined bs cs ds (counted_line equations_word n ∷ []) (item_lines (λ k. equation_body names) 1 es ++ rest) h k.1 equations in
-    let symbols = joined ys as bs (symbols_body sig ∷ []) (counted_line equations_word n ∷ (item_lines (λ k. equation_body names) 1 es ++ rest)) m y.1 counted in
+    let symbols = joined ys ps bs (symbols_body sig ∷ []) (counted_line equations_word n ∷ (item_lines (λ k. equation_body names) 1 es ++ rest)) m y.1 counted in
     let whole = joined lines xs ys (head_word ∷ []) (symbols_body sig ∷ counted_line equations_word n ∷ (item_lines (λ k. equation_body names) 1 es ++ rest)) e s.1 symbols in
     (
       record { problem = record { signature = sig; equations = es }; rules = r.rules; cert = r.cert; trace = r.trace },
@@ -270,5 +270,163 @@ rule_texts : (names : List Name) (k : ℕ) (rs : List (Rule × ℕ)) → flat_ma
 rule_texts names k [] = refl
 rule_texts names k (r ∷ rs) = append_assoc (rule_body names r) (10 ∷ []) (flat_map (rule_line names) rs) ∙ ap (λ (t : List ℕ). rule_body names r ++ 10 ∷ t) (rule_texts names (k + 1) rs)
 
+-- a line and what is behind it
+line_and : (body rest more : List ℕ) → rest ≡ more → (body ++ 10 ∷ []) ++ rest ≡ body ++ 10 ∷ more
+line_and body rest more e = append_assoc body (10 ∷ []) rest ∙ ap (λ (t : List ℕ). body ++ 10 ∷ t) e
+
+-- a line, lines of items and what is behind them
+lines_and : (body flat rest : List ℕ) (items more : Lines) → flat ≡ text_of items → rest ≡ text_of more → ((body ++ 10 ∷ []) ++ flat) ++ rest ≡ body ++ 10 ∷ text_of (items ++ more)
+lines_and body flat rest items more f e =
+    append_assoc (body ++ 10 ∷ []) flat rest ∙ line_and body (flat ++ rest) (text_of (items ++ more)) (ap₂ (λ (x y : List ℕ). x ++ y) f e ∙ sym (text_of-append items more))
+
+all_right : (h s e r o c t n : List ℕ) → h ++ s ++ e ++ r ++ o ++ c ++ t ++ n ≡ h ++ (s ++ (e ++ (r ++ (o ++ (c ++ (t ++ n))))))
+all_right h s e r o c t n =
+    append_assoc (h ++ s ++ e ++ r ++ o ++ c) t n ∙ append_assoc (h ++ s ++ e ++ r ++ o) c (t ++ n) ∙ append_assoc (h ++ s ++ e ++ r) o (c ++ (t ++ n))
+    ∙ append_assoc (h ++ s ++ e) r (o ++ (c ++ (t ++ n))) ∙ append_assoc (h ++ s) e (r ++ (o ++ (c ++ (t ++ n)))) ∙ append_assoc h s (e ++ (r ++ (o ++ (c ++ (t ++ n)))))
+
 pub text_is : (a : Answer) → system_text a ≡ text_of (system_lines a)
-text_is a = ?
+text_is a =
+    all_right head_line (symbols_line sig) (equation_lines a.problem) (rule_lines names a.rules) (order_line names a.cert) (counted (codes "TRACE") (length a.trace)) (trace_text sig a.trace) end_line
+    ∙ ap (head_line ++◌) (line_and (symbols_body sig) _ _ equations)
+  where
+    sig : Signature
+    sig = a.problem.signature
+
+    names : List Name
+    names = names_of sig
+
+    steps : trace_text sig a.trace ++ end_line ≡ text_of (item_lines (step_body names) 1 a.trace ++ end_word ∷ [])
+    steps = ap (λ (t : List ℕ). t ++ end_line) (trace_lines names 1 a.trace) ∙ sym (text_of-append (item_lines (step_body names) 1 a.trace) (end_word ∷ []))
+
+    trace : counted (codes "TRACE") (length a.trace) ++ (trace_text sig a.trace ++ end_line) ≡ text_of (lines_from_trace names a.trace)
+    trace = line_and (counted_line trace_word (length a.trace)) (trace_text sig a.trace ++ end_line) (text_of (item_lines (step_body names) 1 a.trace ++ end_word ∷ [])) steps
+
+    order : order_line names a.cert ++ (counted (codes "TRACE") (length a.trace) ++ (trace_text sig a.trace ++ end_line)) ≡ text_of (order_body names a.cert ∷ lines_from_trace names a.trace)
+    order = line_and (order_body names a.cert) _ (text_of (lines_from_trace names a.trace)) trace
+
+    rules : rule_lines names a.rules ++ (order_line names a.cert ++ (counted (codes "TRACE") (length a.trace) ++ (trace_text sig a.trace ++ end_line))) ≡ text_of (lines_from_rules names a.rules a.cert a.trace)
+    rules = lines_and (counted_line rules_word (length a.rules)) (flat_map (rule_line names) a.rules) _ (item_lines (λ k. rule_body names) 1 a.rules) (order_body names a.cert ∷ lines_from_trace names a.trace) (rule_texts names 1 a.rules) order
+
+    equations : equation_lines a.problem ++ (rule_lines names a.rules ++ (order_line names a.cert ++ (counted (codes "TRACE") (length a.trace) ++ (trace_text sig a.trace ++ end_line))))
+        ≡ text_of (counted_line equations_word (length a.problem.equations) ∷ (item_lines (λ k. equation_body names) 1 a.problem.equations ++ lines_from_rules names a.rules a.cert a.trace))
+    equations = lines_and (counted_line equations_word (length a.problem.equations)) (flat_map (equation_line names) a.problem.equations) _ (item_lines (λ k. equation_body names) 1 a.problem.equations) (lines_from_rules names a.rules a.cert a.trace) (equation_texts names 1 a.problem.equations) rules
+
+-- ---- no line holds a line feed
+
+counted_without : (word : List ℕ) (n : ℕ) → IsWithout 10 word → n ≤ 4096 → IsWithout 10 (counted_line word n)
+counted_without word n w h = without-append 10 word (decimal n) w (decimal_without 10 n (omega arith) (omega arith))
+
+pub head_without : IsWithout 10 head_word
+head_without = (refl, (refl, (refl, (refl, (refl, (refl, (refl, tt)))))))
+
+pub end_without : IsWithout 10 end_word
+end_without = (refl, (refl, (refl, tt)))
+
+pub equations_without : IsWithout 10 equations_word
+equations_without = (refl, (refl, (refl, (refl, (refl, (refl, (refl, (refl, (refl, (refl, tt))))))))))
+
+pub rules_without : IsWithout 10 rules_word
+rules_without = (refl, (refl, (refl, (refl, (refl, (refl, tt))))))
+
+pub trace_without : IsWithout 10 trace_word
+trace_without = (refl, (refl, (refl, (refl, (refl, (refl, tt))))))
+
+without_of : (a : Answer) → IsSystem a → AreWithout 10 (system_lines a)
+without_of a s =
+    let sig = a.problem.signature in
+    let names = names_of sig in
+    let i = s.signature in
+    let f = s.form in
+    let count_e = f.problem.count in
+    let count_t = f.trace.count in
+    let items_t = items_without (IsStepForm sig) (step_body names) 1 a.trace (step_without sig i) f.trace.steps (omega arith) in
+    let count_r = f.count in
+    let items_r = items_without (IsRuleForm sig) (λ k. rule_body names) 1 a.rules (λ k r l q. rule_without sig i r q) f.rules (omega arith) in
+    let items_e = items_without (IsEquationWithinLimits sig) (λ k. equation_body names) 1 a.problem.equations (λ k e l q. equation_without sig i e q) f.problem.each (omega arith) in
+    let symbols = symbols_without sig (record { names = i; few = f.problem.symbols; arities = f.problem.arities }) in
+    (head_without, (symbols, (counted_without equations_word (length a.problem.equations) equations_without (omega arith),
+      are_without-append 10 (item_lines (λ k. equation_body names) 1 a.problem.equations) (lines_from_rules names a.rules a.cert a.trace) items_e
+      (counted_without rules_word (length a.rules) rules_without f.count, are_without-append 10 (item_lines (λ k. rule_body names) 1 a.rules) (order_body names a.cert ∷ lines_from_trace names a.trace) items_r
+        (order_without sig i a.cert f.cert, (counted_without trace_word (length a.trace) trace_without f.trace.count, are_without-append 10 (item_lines (step_body names) 1 a.trace) (end_word ∷ []) items_t (end_without, tt)))))))
+
+pub lines_without : (lines : Lines) → IsSystemLines lines → AreWithout 10 lines
+lines_without lines (a, s, e) = subst (AreWithout 10) (sym e) (without_of a s)
+
+-- ---- one answer
+
+record AreSame (es fs : List (Tree × Tree)) (rs qs : List (Rule × ℕ)) (c d : Certificate) (t u : List TraceStep) : Type 0 where
+  equations : es ≡ fs
+  rules : rs ≡ qs
+  cert : c ≡ d
+  trace : t ≡ u
+
+abbrev answer_over : Signature → Answer → Answer
+answer_over sig b = record { problem = record { signature = sig; equations = b.problem.equations }; rules = b.rules; cert = b.cert; trace = b.trace }
+
+over_one : (sig : Signature) → IsSignature sig → (a b : Answer) → IsAnswer (answer_over sig a) → IsAnswer (answer_over sig b) → system_lines (answer_over sig a) ≡ system_lines (answer_over sig b) → AreSame a.problem.equations b.problem.equations a.rules b.rules a.cert b.cert a.trace b.trace
+over_one sig i a b f g e =
+    let names = names_of sig in
+    let f_equations = f.problem.count in
+    let f_rules = f.count in
+    let f_steps = f.trace.count in
+    let g_equations = g.problem.count in
+    let g_rules = g.count in
+    let g_steps = g.trace.count in
+    let from_count : counted_line equations_word (length a.problem.equations) ∷ (item_lines (λ k. equation_body names) 1 a.problem.equations ++ lines_from_rules names a.rules a.cert a.trace)
+        ≡ counted_line equations_word (length b.problem.equations) ∷ (item_lines (λ k. equation_body names) 1 b.problem.equations ++ lines_from_rules names b.rules b.cert b.trace) = ap (drop 2) e in
+    let count_e = (count_section equations_word 256 (omega arith) equations_without).one (length a.problem.equations) (length b.problem.equations) _ _ _ _ (f_equations, refl) (g_equations, refl) from_count in
+    let same_e = (equations_section sig i (length b.problem.equations) (omega arith)).one a.problem.equations b.problem.equations _ _ _ _ (f.problem.each, count_e.0, refl) (g.problem.each, refl, refl) (ap (drop 1) from_count) in
+    let from_rules : lines_from_rules names a.rules a.cert a.trace ≡ lines_from_rules names b.rules b.cert b.trace = same_lines_back _ _ _ _ same_e.1 (ap (drop 1) from_count) in
+    let count_r = (count_section rules_word 4096 (omega arith) rules_without).one (length a.rules) (length b.rules) _ _ _ _ (f_rules, refl) (g_rules, refl) from_rules in
+    let same_r = (rules_section sig i (length b.rules) (omega arith)).one a.rules b.rules _ _ _ _ (f.rules, count_r.0, refl) (g.rules, refl, refl) (ap (drop 1) from_rules) in
+    let from_order : order_body names a.cert ∷ lines_from_trace names a.trace ≡ order_body names b.cert ∷ lines_from_trace names b.trace = same_lines_back _ _ _ _ same_r.1 (ap (drop 1) from_rules) in
+    let same_c = (order_section sig i).one a.cert b.cert _ _ _ _ (f.cert, refl) (g.cert, refl) from_order in
+    let from_trace : lines_from_trace names a.trace ≡ lines_from_trace names b.trace = ap (drop 1) from_order in
+    let count_t = (count_section trace_word 4096 (omega arith) trace_without).one (length a.trace) (length b.trace) _ _ _ _ (f_steps, refl) (g_steps, refl) from_trace in
+    let same_t = (steps_section sig i (length b.trace) (omega arith)).one a.trace b.trace _ _ _ _ (f.trace.steps, count_t.0, refl) (g.trace.steps, refl, refl) (ap (drop 1) from_trace) in
+    record { equations = same_e.0; rules = same_r.0; cert = same_c.0; trace = same_t.0 }
+  where
+    behind : (xs ys zs : Lines) → xs ++ ys ≡ xs ++ zs → ys ≡ zs
+    behind [] ys zs e = e
+    behind (x ∷ xs) ys zs e = let t : xs ++ ys ≡ xs ++ zs = cc in behind xs ys zs t
+
+    same_lines_back : (xs ys zs ws : Lines) → xs ≡ ys → xs ++ zs ≡ ys ++ ws → zs ≡ ws
+    same_lines_back xs ys zs ws s e = behind xs zs ws (e ∙ ap (λ (l : Lines). l ++ ws) (sym s))
+
+pub one_answer : (a b : Answer) → IsSystem a → IsSystem b → system_lines a ≡ system_lines b → a ≡ b
+one_answer a b s t e =
+    let sa = a.problem.signature in
+    let sb = b.problem.signature in
+    let sigs : sa ≡ sb = one_symbols sa sb (record { names = s.signature; few = s.form.problem.symbols; arities = s.form.problem.arities }) (record { names = t.signature; few = t.form.problem.symbols; arities = t.form.problem.arities }) (ap (λ (ls : Lines). get_or ls 1 []) e) in
+    let r = over_one sa s.signature a b s.form (subst (λ (x : Signature). IsAnswer (answer_over x b)) (sym sigs) t.form) (e ∙ ap (λ (x : Signature). system_lines (answer_over x b)) (sym sigs)) in
+    let es = r.equations in
+    let rs = r.rules in
+    let c = r.cert in
+    let u = r.trace in
+    λ i. record { problem = record { signature = sigs i; equations = es i }; rules = rs i; cert = c i; trace = u i }
+
+pub one_spelled : (bytes : List ℕ) (a b : Answer) → AnswerSpelled bytes a → AnswerSpelled bytes b → a ≡ b
+one_spelled bytes a b s t =
+    one_answer a b s.form t.form (same_lines (system_lines a) (system_lines b) (without_of a s.form) (without_of b t.form) (sym (text_is a) ∙ sym s.spelling ∙ t.spelling ∙ text_is b))
+
+-- ---- the first bad line of a text of a system
+
+to_text : (text : List ℕ) → IsText IsSystemLines text → IsSystemText text
+to_text text (lines, (a, s, e), t) = (a, record { form = s; spelling = t ∙ ap text_of e ∙ sym (text_is a) })
+
+from_text : (text : List ℕ) → IsSystemText text → IsText IsSystemLines text
+from_text text (a, s) = (system_lines a, (a, s.form, refl), s.spelling ∙ text_is a)
+
+pub bad_system_line : (text : List ℕ) (n : ℕ) → IsBadLine (IsText IsSystemLines) text n → IsBadLine IsSystemText text n
+bad_system_line text n b = record {
+  from_one = b.from_one;
+  before = to b.before;
+  with_it = λ k. b.with_it (back k);
+  not_whole = λ s. b.not_whole (from_text text s);
+}
+  where
+    to : {m : ℕ} → Begins (IsText IsSystemLines) text m → Begins IsSystemText text m
+    to (whole, front, form, e, d) = (whole, front, to_text whole form, e, d)
+
+    back : Begins IsSystemText text n → Begins (IsText IsSystemLines) text n
+    back (whole, front, form, e, d) = (whole, front, from_text whole form, e, d)
