@@ -1,5 +1,5 @@
 -- What was read of the text of a system, section by section.
-use Rattle.std.proofs.Common.{append-nil, append_assoc, ◌≡◌, refl, ap, ap₂, sym, ◌∙◌, subst, ℕ, ◌+◌, ◌<◌, List, [], ◌∷◌, ◌++◌, length, drop, Result, Ok, Err}
+use Rattle.std.proofs.Common.{append-nil, append_assoc, ◌≡◌, refl, ap, ap₂, sym, ◌∙◌, subst, arith, ℕ, ◌+◌, ◌<◌, List, [], ◌∷◌, ◌++◌, length, drop, Result, Ok, Err}
 use Rattle.std.specs.Prelude.{IfErr, ⊤}
 use Rattle.std.specs.Result.{IsErr, IsErrAnd}
 use Rattle.std.proofs.lemmas.Bool.{false≢true}
@@ -9,16 +9,14 @@ use Rattle.kb_text.specs.declared.fault.TextFault.TheVariants.{BadText, Memory}
 use Rattle.kb_report.specs.Answers.{IsSystemText}
 use Rattle.kb_report.specs.Sections.{Lines, text_of, Section, BeginsWith, IsSectionFault}
 use Rattle.kb_report.proofs.LinesOfTexts.{text_of-append}
-use Rattle.kb_report.proofs.Fronts.{IsSection, Then, Goes, IsReadTo, read_nothing, read_more, section_bad, behind_bad}
+use Rattle.kb_report.proofs.Fronts.{IsSection, Then, Goes, IsReadTo, read_more, section_bad, behind_bad}
 use Rattle.kb_report.proofs.SystemForm.{IsSystemLines, FromHead, AtEnd, in_order, from_order, lines_without, bad_system_line}
 
 abbrev pub Reads : List ℕ → List ℕ → ℕ → (Lines → Type 0) → Type 0
 Reads = IsReadTo IsSystemLines
 
 pub at_start : (text : List ℕ) → Reads text text 1 FromHead
-at_start text =
-    let r = read_nothing IsSystemLines text in
-    record { lines = []; number_is = r.number_is; without = tt; parts = r.parts; left = in_order; right = from_order }
+at_start text = record { lines = []; number_is = omega arith; without = tt; parts = refl; left = in_order; right = from_order }
 
 pub next : {X : Type 0} (S : Section X) (Next : X → Lines → Type 0) (text rest back : List ℕ) (number new : ℕ) (x : X) (count size : ℕ) → IsSection S → Reads text rest number (Then S Next) → BeginsWith S rest x count (drop size rest) → back ≡ drop size rest → new ≡ number + count → Reads text back new (Next x)
 next S Next text rest back number new x count size i r b e n =

@@ -1,5 +1,5 @@
 -- The text of a system is that of its sections, one behind the other.
-use Rattle.std.proofs.Common.{append-nil, append_assoc, ◌≡◌, refl, ap, ap₂, sym, ◌∙◌, subst, arith, ℕ, zero, suc, ◌+◌, ◌<◌, ◌≤◌, ◌^◌, List, [], ◌∷◌, ◌++◌, length, drop, get_or, All}
+use Rattle.std.proofs.Common.{append-nil, append_assoc, ◌≡◌, refl, ap, ap₂, sym, ◌∙◌, subst, arith, ℕ, zero, suc, ◌+◌, ◌-◌, ◌<◌, ◌≤◌, ◌^◌, List, [], ◌∷◌, ◌++◌, length, drop, get_or, All}
 use Rattle.std.specs.Prelude.{codes, decimal, flat_map, replicate, IsTrue, ⊤}
 use Rattle.std.proofs.lemmas.Fmt.{decimal_injective}
 use Rattle.std.proofs.lemmas.List.{length-replicate}
@@ -244,8 +244,7 @@ from_order lines (u, xs, ys, s, (sig, ps, bs, y, (n, cs, ds, k, (es, fs, gs, q, 
     let equations = joined ds fs gs (item_lines (λ k. equation_body names) 1 es) rest g q.2 r.lines_are in
     let counted = joined bs cs ds (counted_line equations_word n ∷ []) (item_lines (λ k. equation_body names) 1 es ++ rest) h k.1 equations in
     let symbols = joined ys ps bs (symbols_body sig ∷ []) (counted_line equations_word n ∷ (item_lines (λ k. equation_body names) 1 es ++ rest)) m y.1 counted in
-    let whole = joined lines xs ys (head_word ∷ []) (symbols_body sig ∷ counted_line equations_word n ∷ (item_lines (λ k. equation_body names) 1 es ++ rest)) e s.1 symbols in
-    (
+    let whole = joined lines xs ys (head_word ∷ []) (symbols_body sig ∷ counted_line equations_word n ∷ (item_lines (λ k. equation_body names) 1 es ++ rest)) e s.1 symbols in (
       record { problem = record { signature = sig; equations = es }; rules = r.rules; cert = r.cert; trace = r.trace },
       record {
         signature = y.0.names;
@@ -343,11 +342,20 @@ without_of a s =
     let count_r = f.count in
     let items_r = items_without (IsRuleForm sig) (λ k. rule_body names) 1 a.rules (λ k r l q. rule_without sig i r q) f.rules (omega arith) in
     let items_e = items_without (IsEquationWithinLimits sig) (λ k. equation_body names) 1 a.problem.equations (λ k e l q. equation_without sig i e q) f.problem.each (omega arith) in
-    let symbols = symbols_without sig (record { names = i; few = f.problem.symbols; arities = f.problem.arities }) in
-    (head_without, (symbols, (counted_without equations_word (length a.problem.equations) equations_without (omega arith),
-      are_without-append 10 (item_lines (λ k. equation_body names) 1 a.problem.equations) (lines_from_rules names a.rules a.cert a.trace) items_e
-      (counted_without rules_word (length a.rules) rules_without f.count, are_without-append 10 (item_lines (λ k. rule_body names) 1 a.rules) (order_body names a.cert ∷ lines_from_trace names a.trace) items_r
-        (order_without sig i a.cert f.cert, (counted_without trace_word (length a.trace) trace_without f.trace.count, are_without-append 10 (item_lines (step_body names) 1 a.trace) (end_word ∷ []) items_t (end_without, tt)))))))
+    let symbols = symbols_without sig (record { names = i; few = f.problem.symbols; arities = f.problem.arities }) in (
+      head_without,
+      (
+        symbols,
+        (
+          counted_without equations_word (length a.problem.equations) equations_without (omega arith),
+          are_without-append 10 (item_lines (λ k. equation_body names) 1 a.problem.equations) (lines_from_rules names a.rules a.cert a.trace) items_e (
+            counted_without rules_word (length a.rules) rules_without f.count,
+            are_without-append 10 (item_lines (λ k. rule_body names) 1 a.rules) (order_body names a.cert ∷ lines_from_trace names a.trace) items_r
+                (order_without sig i a.cert f.cert, (counted_without trace_word (length a.trace) trace_without f.trace.count, are_without-append 10 (item_lines (step_body names) 1 a.trace) (end_word ∷ []) items_t (end_without, tt))),
+          ),
+        ),
+      ),
+    )
 
 pub lines_without : (lines : Lines) → IsSystemLines lines → AreWithout 10 lines
 lines_without lines (a, s, e) = subst (AreWithout 10) (sym e) (without_of a s)
@@ -373,7 +381,7 @@ over_one sig i a b f g e =
     let g_rules = g.count in
     let g_steps = g.trace.count in
     let from_count : counted_line equations_word (length a.problem.equations) ∷ (item_lines (λ k. equation_body names) 1 a.problem.equations ++ lines_from_rules names a.rules a.cert a.trace)
-        ≡ counted_line equations_word (length b.problem.equations) ∷ (item_lines (λ k. equation_body names) 1 b.problem.equations ++ lines_from_rules names b.rules b.cert b.trace) = ap (drop 2) e in
+    ≡ counted_line equations_word (length b.problem.equations) ∷ (item_lines (λ k. equation_body names) 1 b.problem.equations ++ lines_from_rules names b.rules b.cert b.trace) = ap (drop 2) e in
     let count_e = (count_section equations_word 256 (omega arith) equations_without).one (length a.problem.equations) (length b.problem.equations) _ _ _ _ (f_equations, refl) (g_equations, refl) from_count in
     let same_e = (equations_section sig i (length b.problem.equations) (omega arith)).one a.problem.equations b.problem.equations _ _ _ _ (f.problem.each, count_e.0, refl) (g.problem.each, refl, refl) (ap (drop 1) from_count) in
     let from_rules : lines_from_rules names a.rules a.cert a.trace ≡ lines_from_rules names b.rules b.cert b.trace = same_lines_back _ _ _ _ same_e.1 (ap (drop 1) from_count) in
@@ -420,13 +428,13 @@ from_text text (a, s) = (system_lines a, (a, s.form, refl), s.spelling ∙ text_
 pub bad_system_line : (text : List ℕ) (n : ℕ) → IsBadLine (IsText IsSystemLines) text n → IsBadLine IsSystemText text n
 bad_system_line text n b = record {
   from_one = b.from_one;
-  before = to b.before;
+  before = to (n - 1) b.before;
   with_it = λ k. b.with_it (back k);
   not_whole = λ s. b.not_whole (from_text text s);
 }
   where
-    to : {m : ℕ} → Begins (IsText IsSystemLines) text m → Begins IsSystemText text m
-    to (whole, front, form, e, d) = (whole, front, to_text whole form, e, d)
+    to : (m : ℕ) → Begins (IsText IsSystemLines) text m → Begins IsSystemText text m
+    to m (whole, front, form, e, d) = (whole, front, to_text whole form, e, d)
 
     back : Begins IsSystemText text n → Begins (IsText IsSystemLines) text n
     back (whole, front, form, e, d) = (whole, front, from_text whole form, e, d)

@@ -247,3 +247,77 @@ returns-then-end-from_end-clause-fault c =
     let r9 = next (Steps sig k) (λ z. FromEnd) bytes t8 t9 (4 + n + 1 + m + 2) (4 + n + 1 + m + 2 + k) c.in_ok-trace.trace k c.in_ok-trace.size (steps_section sig names k (omega arith)) r8 c.in_ok-trace.ensures.read c.split_at-9.ensures.back (omega arith) in
     let r10 = next {X = ⊤} (Word end_word) (λ u. AtEnd) bytes t9 (drop c.in_ok-end.end t9) (4 + n + 1 + m + 2 + k) (4 + n + 1 + m + 2 + k + 1) tt 1 c.in_ok-end.end (word_section end_word end_without) r9 c.in_ok-end.ensures.read refl (omega arith) in
     behind_fault bytes (drop c.in_ok-end.end t9) (4 + n + 1 + m + 2 + k + 1) r10 (omega (arith, length-drop c.in_ok-end.end t9))
+
+pub returns-clause-read : goal.returns-clause-read
+returns-clause-read c =
+    let bytes = c.args.bytes.now in
+    let sig = c.in_ok-sig.sig in
+    let names = names_of sig in
+    let n = c.in_ok-count.count in
+    let es = equations_of_list c.in_ok-equations.equations.items in
+    let m = c.in_ok-rule_count.rule_count in
+    let rs = c.in_ok-rules.rules.items in
+    let cert = c.in_ok-cert.cert in
+    let k = c.in_ok-step_count.step_count in
+    let ts = c.in_ok-trace.trace in
+    let b1 = c.in_ok-head.ensures.read in
+    let b2 = c.in_ok-sig.ensures.read in
+    let b3 = c.in_ok-count.ensures.read in
+    let b4 = c.in_ok-equations.ensures.read in
+    let b5 = c.in_ok-rule_count.ensures.read in
+    let b6 = c.in_ok-rules.ensures.read in
+    let b7 = c.in_ok-cert.ensures.read in
+    let b8 = c.in_ok-step_count.ensures.read in
+    let b9 = c.in_ok-trace.ensures.read in
+    let b10 = c.in_ok-end.ensures.read in
+    let few_n = b3.section.0 in
+    let few_m = b5.section.0 in
+    let few_k = b8.section.0 in
+    let long_n = b4.section.1 in
+    let long_m = b6.section.1 in
+    let long_k = b9.section.1 in
+    let t9 = c.split_at-9.result.1.now in
+    let items_t = item_lines (step_body names) 1 ts in
+    let items_r = item_lines (λ j. rule_body names) 1 rs in
+    let items_e = item_lines (λ j. equation_body names) 1 es in
+    let e10 : t9 ≡ text_of (end_word ∷ []) = joined_text t9 (drop c.in_ok-end.end t9) b10.lines (end_word ∷ []) [] b10.parts b10.section.1 (drop_all c.in_ok-end.end t9 (omega arith)) in
+    let e9 = joined_text c.split_at-8.result.1.now _ b9.lines items_t (end_word ∷ []) b9.parts b9.section.2 (sym c.split_at-9.ensures.back ∙ e10) in
+    let l8 : Lines = items_t ++ end_word ∷ [] in
+    let e8 = joined_text c.split_at-7.result.1.now _ b8.lines (counted_line trace_word k ∷ []) l8 b8.parts b8.section.1 (sym c.split_at-8.ensures.back ∙ e9) in
+    let l7 : Lines = counted_line trace_word k ∷ l8 in
+    let e7 = joined_text c.split_at-6.result.1.now _ b7.lines (order_body names cert ∷ []) l7 b7.parts b7.section.1 (sym c.split_at-7.ensures.back ∙ e8) in
+    let l6 : Lines = order_body names cert ∷ l7 in
+    let e6 = joined_text c.split_at-5.result.1.now _ b6.lines items_r l6 b6.parts b6.section.2 (sym c.split_at-6.ensures.back ∙ e7) in
+    let l5 : Lines = items_r ++ l6 in
+    let e5 = joined_text c.split_at-4.result.1.now _ b5.lines (counted_line rules_word m ∷ []) l5 b5.parts b5.section.1 (sym c.split_at-5.ensures.back ∙ e6) in
+    let l4 : Lines = counted_line rules_word m ∷ l5 in
+    let e4 = joined_text c.split_at-3.result.1.now _ b4.lines items_e l4 b4.parts b4.section.2 (sym c.split_at-4.ensures.back ∙ e5) in
+    let l3 : Lines = items_e ++ l4 in
+    let e3 = joined_text c.split_at-2.result.1.now _ b3.lines (counted_line equations_word n ∷ []) l3 b3.parts b3.section.1 (sym c.split_at-3.ensures.back ∙ e4) in
+    let l2 : Lines = counted_line equations_word n ∷ l3 in
+    let e2 = joined_text c.split_at.result.1.now _ b2.lines (symbols_body sig ∷ []) l2 b2.parts b2.section.1 (sym c.split_at-2.ensures.back ∙ e3) in
+    let l1 : Lines = symbols_body sig ∷ l2 in
+    let e1 = joined_text bytes _ b1.lines (head_word ∷ []) l1 b1.parts b1.section.1 (sym c.split_at.ensures.back ∙ e2) in
+    let a : Answer = record { problem = record { signature = sig; equations = es }; rules = rs; cert = cert; trace = ts } in
+    let counts = λ (x y z : ℕ). text_of (head_word ∷ symbols_body sig ∷ counted_line equations_word x ∷ (items_e ++ counted_line rules_word y ∷ (items_r ++ order_body names cert ∷ counted_line trace_word z ∷ (items_t ++ end_word ∷ [])))) in
+    let lengths : counts n m k ≡ counts (length es) (length rs) (length ts) = λ i. counts (sym long_n i) (sym long_m i) (sym long_k i) in
+    let spelled : bytes ≡ text_of (system_lines a) = e1 ∙ lengths in
+    let form : IsSystem a = record {
+      signature = c.names_are_identifiers.ensures;
+      form = record {
+        problem = record { symbols = b2.section.0.few; arities = b2.section.0.arities; count = omega arith; each = b4.section.0 };
+        count = omega arith;
+        rules = b6.section.0;
+        cert = b7.section.0;
+        trace = record { count = omega arith; steps = b9.section.0 };
+      };
+    } in
+    let made = c.new-2.ensures in
+    let problem_is = c.new.ensures in
+    let signatures = problem_is.signature in
+    let equations = problem_is.equations in
+    let same : c.new-2.result ≡ a = made ∙ (λ i. record { problem = record { signature = signatures i; equations = equations i }; rules = rs; cert = cert; trace = ts }) in
+    subst {A = Answer} (AnswerSpelled bytes) (sym same) (record { form = form; spelling = spelled ∙ sym (text_is a) })
+
+pub returns-clause-one : goal.returns-clause-one
+returns-clause-one c = λ b s. one_spelled c.args.bytes.now c.new-2.result b (returns-clause-read c) s
