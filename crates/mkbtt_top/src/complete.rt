@@ -131,12 +131,7 @@ fn one_rule_answer(
     let trace = input_trace(alloc, pair)?;
     let mut rules = Vec::new(alloc);
     rules.push((rule, 1))?;
-    Ok(Answer::new(
-        problem.clone()?,
-        rules,
-        Certificate::Linear(order),
-        trace,
-    ))
+    Ok(Answer::new(problem.clone()?, rules, Certificate::Linear(order), trace))
 }
 
 // The text of the answer with this ordered rule, where it doesn't overlap itself.

@@ -87,7 +87,7 @@ fn other_words_are_refused(rt: HostRuntime) -> Result<(), Fail> {
     let alloc = rt.alloc();
     let mut source = source_of(alloc, IDENTITY)?;
     let mut sink = MemorySink::new(alloc, 1000, Vec::new(alloc), 9)?;
-    let outcome = run(&rt, alloc, &["check"], &mut source, &mut sink, &OpenGate);
+    let outcome = run(&rt, alloc, &["gen"], &mut source, &mut sink, &OpenGate);
     assert_eq!(rt; status_code(&outcome.status), 7);
     assert!(rt; sink.bytes().is_empty());
     Ok(())
