@@ -19,3 +19,6 @@ pub use form::{
 pub use read::read_answer;
 pub use report::{Report, answer_text};
 pub use summary::{Summary, summary_text};
+
+#[cfg(test)]
+mod tests;
