@@ -191,13 +191,69 @@ fn an_answer_is_accepted(rt: HostRuntime) {
 #[test]
 fn altered_answers_are_rejected(rt: HostRuntime) {
     let alloc = rt.alloc();
-    assert!(rt; checks(&rt, alloc, ONE_RULE, Status::Rejected(Reject::NotJoined, 1), "REJECTED notjoined 1\n"));
-    assert!(rt; checks(&rt, alloc, AT_ROOT, Status::Rejected(Reject::BadStep, 2), "REJECTED badstep 2\n"));
-    assert!(rt; checks(&rt, alloc, OTHER_ORDER, Status::Rejected(Reject::NotOriented, 1), "REJECTED notoriented 1\n"));
-    assert!(rt; checks(&rt, alloc, OTHER_STEP, Status::Rejected(Reject::Untraced, 2), "REJECTED untraced 2\n"));
-    assert!(rt; checks(&rt, alloc, MORE_EQUATIONS, Status::Rejected(Reject::NotProved, 2), "REJECTED notproved 2\n"));
-    assert!(rt; checks(&rt, alloc, OTHER_EQUATION, Status::Rejected(Reject::BadStep, 1), "REJECTED badstep 1\n"));
-    assert!(rt; checks(&rt, alloc, SMALL_CONSTANTS, Status::Rejected(Reject::NotOriented, 1), "REJECTED notoriented 1\n"));
+    assert!(rt;
+        checks(
+            &rt,
+            alloc,
+            ONE_RULE,
+            Status::Rejected(Reject::NotJoined, 1),
+            "REJECTED notjoined 1\n"
+        )
+    );
+    assert!(rt;
+        checks(
+            &rt,
+            alloc,
+            AT_ROOT,
+            Status::Rejected(Reject::BadStep, 2),
+            "REJECTED badstep 2\n"
+        )
+    );
+    assert!(rt;
+        checks(
+            &rt,
+            alloc,
+            OTHER_ORDER,
+            Status::Rejected(Reject::NotOriented, 1),
+            "REJECTED notoriented 1\n"
+        )
+    );
+    assert!(rt;
+        checks(
+            &rt,
+            alloc,
+            OTHER_STEP,
+            Status::Rejected(Reject::Untraced, 2),
+            "REJECTED untraced 2\n"
+        )
+    );
+    assert!(rt;
+        checks(
+            &rt,
+            alloc,
+            MORE_EQUATIONS,
+            Status::Rejected(Reject::NotProved, 2),
+            "REJECTED notproved 2\n"
+        )
+    );
+    assert!(rt;
+        checks(
+            &rt,
+            alloc,
+            OTHER_EQUATION,
+            Status::Rejected(Reject::BadStep, 1),
+            "REJECTED badstep 1\n"
+        )
+    );
+    assert!(rt;
+        checks(
+            &rt,
+            alloc,
+            SMALL_CONSTANTS,
+            Status::Rejected(Reject::NotOriented, 1),
+            "REJECTED notoriented 1\n"
+        )
+    );
 }
 
 #[test]
