@@ -1,2 +1,13 @@
 mod FormLaws
 mod AnswerLaws
+mod LinesOfTexts
+mod Fronts
+mod SectionLaws
+mod SystemLines
+mod OrderLines
+mod ReadLines
+mod SidesRead
+mod NamesRead
+mod StepsRead
+mod SystemForm
+mod Reading

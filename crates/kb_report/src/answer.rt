@@ -1,16 +1,18 @@
-// The text of an answer.
-ghost use Rattle.std.specs.Prelude.{◌≡◌, ◌<◌, ◌++◌, ◌∷◌, [], OnOk, IfOk, IsTrue, map, flat_map, length, codes};
+// The text of a system.
+ghost use Rattle.std.specs.Prelude.{◌≡◌, ◌++◌, ◌∷◌, [], OnOk, IfOk, IsTrue, map, flat_map, length, codes};
 ghost use Rattle.kb_term.specs.View.{tree_of, equations_of_list};
 ghost use Rattle.kb_term.specs.Signature.{symbols_of_list};
-ghost use Rattle.kb_cert.specs.CertificateText.{cert_fields, is_certificate};
-ghost use Rattle.kb_text.specs.Lines.{line, counted};
-ghost use Rattle.kb_term.specs.declared.origin.Origin.TheVariants.{Input};
+ghost use Rattle.kb_cert.specs.CertificateText.{is_certificate};
+ghost use Rattle.kb_text.specs.Lines.{counted};
 ghost use Rattle.kb_text.specs.Terms.{names_of, infix_text};
-ghost use Rattle.kb_report.specs.Answers.{entry_text, symbols_line, equation_line, equation_lines, rule_line, step_line, system_text, one_rule_answer};
+ghost use Rattle.kb_trace.specs.TraceText.{trace_text as text_of_trace};
+ghost use Rattle.kb_report.specs.Answers.{entry_text, symbols_line, equation_line, equation_lines, rule_line, rule_lines, order_line, system_text as text_of_system};
 
 use kb_cert::{Certificate, cert_text};
-use kb_syntax::{Fields, push_number, term_text};
-use kb_term::{Memory, Pair, Problem, Rule, Signature, Term};
+use kb_checker::Answer;
+use kb_term::{Memory, Problem, Rule, Signature, Term};
+use kb_text::{Fields, push_number, term_text};
+use kb_trace::{Trace, trace_text};
 use std::alloc::Global;
 
 fn push_infix(
@@ -27,12 +29,17 @@ fn push_infix(
     line.push(term_text(alloc, signature, sides.1)?)
 }
 
-fn push_counted(alloc: Global, out: &mut Vec<u8>, word: &[u8], n: usize) -> Result<(), Memory>
+pub(crate) fn push_counted(
+    alloc: Global,
+    out: &mut Vec<u8>,
+    word: &[u8],
+    n: u64,
+) -> Result<(), Memory>
     ensures { OnOk result (out.new.items ≡ out.old.items ++ counted word.now n) }
 {
     let mut line = Fields::new(alloc);
     line.word(alloc, word)?;
-    line.number(alloc, n as u64)?;
+    line.number(alloc, n)?;
     line.line_to(out)
 }
 
@@ -99,7 +106,7 @@ fn push_each_equation(
 fn push_equations(alloc: Global, out: &mut Vec<u8>, problem: &Problem) -> Result<(), Memory>
     ensures { OnOk result (out.new.items ≡ out.old.items ++ equation_lines problem.now) }
 {
-    push_counted(alloc, out, b"EQUATIONS", problem.equations().len())?;
+    push_counted(alloc, out, b"EQUATIONS", problem.equations().len() as u64)?;
     push_each_equation(alloc, out, problem.signature(), problem.equations())
 }
 
@@ -107,22 +114,48 @@ fn push_rule(
     alloc: Global,
     out: &mut Vec<u8>,
     signature: &Signature,
-    rule: &Rule,
-    step: u64,
+    rule: &(Rule, u32),
 ) -> Result<(), Memory>
-    ensures { OnOk result (out.new.items ≡ out.old.items ++ rule_line (names_of signature.now) (rule.now, step)) }
+    ensures { OnOk result (out.new.items ≡ out.old.items ++ rule_line (names_of signature.now) rule.now) }
 {
     let mut line = Fields::new(alloc);
+    let (sides, step) = rule;
     push_infix(
         alloc,
         &mut line,
         signature,
         b"->",
-        (rule.left(), rule.right()),
+        (sides.left(), sides.right()),
     )?;
     line.word(alloc, b":")?;
-    line.number(alloc, step)?;
+    line.number(alloc, *step as u64)?;
     line.line_to(out)
+}
+
+fn push_each_rule(
+    alloc: Global,
+    out: &mut Vec<u8>,
+    signature: &Signature,
+    rules: &[(Rule, u32)],
+) -> Result<(), Memory>
+    ensures { OnOk result (out.new.items ≡ out.old.items ++ flat_map (rule_line (names_of signature.now)) rules.now) }
+{
+    for rule in rules {
+        push_rule(alloc, out, signature, rule)?;
+    }
+    Ok(())
+}
+
+fn push_rules(
+    alloc: Global,
+    out: &mut Vec<u8>,
+    signature: &Signature,
+    rules: &[(Rule, u32)],
+) -> Result<(), Memory>
+    ensures { OnOk result (out.new.items ≡ out.old.items ++ rule_lines (names_of signature.now) rules.now) }
+{
+    push_counted(alloc, out, b"RULES", rules.len() as u64)?;
+    push_each_rule(alloc, out, signature, rules)
 }
 
 // The line of the certificate.
@@ -133,7 +166,7 @@ fn push_order(
     cert: &Certificate,
 ) -> Result<(), Memory>
     requires { IsTrue (is_certificate signature.now cert.now) }
-    ensures { OnOk result (out.new.items ≡ out.old.items ++ line (codes "ORDER" ∷ cert_fields (names_of signature.now) cert.now)) }
+    ensures { OnOk result (out.new.items ≡ out.old.items ++ order_line (names_of signature.now) cert.now) }
 {
     out.extend_from_slice(b"ORDER ")?;
     out.extend_from_slice(&cert_text(alloc, cert, signature)?)?;
@@ -141,49 +174,30 @@ fn push_order(
     Ok(())
 }
 
-fn push_input(
+fn push_trace(
     alloc: Global,
     out: &mut Vec<u8>,
     signature: &Signature,
-    pair: &Pair,
+    trace: &Trace,
 ) -> Result<(), Memory>
-    ensures { OnOk result (out.new.items ≡ out.old.items ++ step_line (names_of signature.now) 1 (record { origin = Input 1; pair = pair.now })) }
+    ensures { OnOk result (out.new.items ≡ out.old.items ++ counted (codes "TRACE") (length trace.now) ++ text_of_trace signature.now trace.now) }
 {
-    let mut line = Fields::new(alloc);
-    line.number(alloc, 1)?;
-    line.word(alloc, b"input")?;
-    line.number(alloc, 1)?;
-    line.word(alloc, b":")?;
-    push_infix(
-        alloc,
-        &mut line,
-        signature,
-        b"=",
-        (pair.first(), pair.second()),
-    )?;
-    line.line_to(out)
+    push_counted(alloc, out, b"TRACE", trace.steps().len() as u64)?;
+    out.extend_from_slice(&trace_text(alloc, signature, trace)?)?;
+    Ok(())
 }
 
-/// The text of a system of one rule with its certificate, where the rule comes from the first equation.
-pub fn one_rule_text(
-    alloc: Global,
-    problem: &Problem,
-    rule: &Rule,
-    cert: &Certificate,
-    pair: &Pair,
-) -> Result<Vec<u8>, Memory>
-    requires { IsTrue (is_certificate problem.now.signature cert.now) }
-    ensures { IfOk result (λ text. text.items ≡ system_text (one_rule_answer problem.now rule.now cert.now pair.now)) }
+/// The text of a system.
+pub(crate) fn system_text(alloc: Global, a: &Answer) -> Result<Vec<u8>, Memory>
+    ensures { IfOk result (λ text. text.items ≡ text_of_system a.now) }
 {
-    let signature = problem.signature();
+    let signature = a.problem().signature();
     let mut out = Vec::from_slice(alloc, b"MKBTT 1\n")?;
     push_symbols(alloc, &mut out, signature)?;
-    push_equations(alloc, &mut out, problem)?;
-    push_counted(alloc, &mut out, b"RULES", 1)?;
-    push_rule(alloc, &mut out, signature, rule, 1)?;
-    push_order(alloc, &mut out, signature, cert)?;
-    push_counted(alloc, &mut out, b"TRACE", 1)?;
-    push_input(alloc, &mut out, signature, pair)?;
+    push_equations(alloc, &mut out, a.problem())?;
+    push_rules(alloc, &mut out, signature, a.rules())?;
+    push_order(alloc, &mut out, signature, a.cert())?;
+    push_trace(alloc, &mut out, signature, a.trace())?;
     out.extend_from_slice(b"END\n")?;
     Ok(out)
 }

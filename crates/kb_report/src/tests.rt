@@ -1,13 +1,120 @@
+// Worked texts, and their alterations.
 use super::*;
-use kb_syntax::parse_problem;
-use std::alloc::AllocError;
-use std::test::Fail;
+use kb_label::{Process, Reason, Verdict};
+use kb_text::TextFault;
+use std::alloc::Global;
+use std::process::Abort;
+
+const EMPTY: &[u8] = b"MKBTT 1\nSYMBOLS\nEQUATIONS 0\nRULES 0\nORDER LPO\nTRACE 0\nEND\n";
+
+const SQUARE: &[u8] =
+    b"MKBTT 1\nSYMBOLS f/1 a/0\nEQUATIONS 1\nf(f(x1)) = a\nRULES 2\nf(f(x1)) -> a : 1\nf(a) -> a : 2\nORDER LPO f a\nTRACE 2\n1 input 1 : f(f(x1)) = a\n2 overlap 1 dir 0 with 1 dir 0 at 1 : f(a) = a\nEND\n";
+
+const TWO: &[u8] =
+    b"MKBTT 1\nSYMBOLS f/1 a/0 b/0 c/0\nEQUATIONS 2\nf(a) = b\nf(a) = c\nRULES 2\nf(a) -> c : 2\nb -> c : 3\nORDER LPO f a b c\nTRACE 3\n1 input 1 : f(a) = b\n2 input 2 : f(a) = c\n3 rewrite 2 side 0 at e by 1 dir 0 : b = c\nEND\n";
+
+/// The text with other bytes in place of those from the place to the next line feed.
+fn altered(alloc: Global, rt: &impl Abort, number: usize, line: &[u8]) -> Vec<u8> {
+    let mut text = Vec::new(alloc);
+    let mut at = 1usize;
+    for i in 0..SQUARE.len() {
+        let b = SQUARE[i];
+        if at != number {
+            text.push(b).expect(rt, "memory");
+        }
+        if b == b'\n' {
+            if at == number {
+                text.extend_from_slice(line).expect(rt, "memory");
+            }
+            at = at.wrapping_add(1);
+        }
+    }
+    text
+}
+
+/// The number of the first bad line; 0 where the text is read.
+fn bad_line(alloc: Global, rt: &impl Abort, text: &[u8]) -> u64 {
+    match read_answer(alloc, text) {
+        Ok(_) => 0,
+        Err(TextFault::BadText(n)) => n,
+        Err(TextFault::Memory) => panic!(rt; "memory"),
+    }
+}
+
+/// The first bad line where that line stands in place of the one with the number.
+fn bad_at(alloc: Global, rt: &impl Abort, number: usize, line: &[u8]) -> u64 {
+    let text = altered(alloc, rt, number, line);
+    bad_line(alloc, rt, &text)
+}
+
+/// Whether what is read of the text is written as this text.
+fn comes_back(alloc: Global, rt: &impl Abort, text: &[u8]) -> bool {
+    let answer = read_answer(alloc, text).expect(rt, "read");
+    let written = answer_text(alloc, &Report::System(answer)).expect(rt, "memory");
+    written.as_slice() == text
+}
 
 #[test]
-fn a_problem_that_was_read_is_within_the_limits(rt: HostRuntime) -> Result<(), Fail> {
+fn worked_texts_come_back(rt: HostRuntime) {
     let alloc = rt.alloc();
-    let text = b"(VAR x y)(RULES f(y, g(x)) == x)".as_slice();
-    let problem = parse_problem(alloc, text).map_err(|_| AllocError)?;
-    assert!(rt; is_problem_within_limits(alloc, &problem).map_err(|_| AllocError)?);
-    Ok(())
+    assert!(rt; EMPTY.len() == 58);
+    assert!(rt; comes_back(alloc, &rt, EMPTY));
+    assert!(rt; comes_back(alloc, &rt, SQUARE));
+    assert!(rt; comes_back(alloc, &rt, TWO));
+}
+
+#[test]
+fn the_first_bad_line_is_named(rt: HostRuntime) {
+    let alloc = rt.alloc();
+    assert!(rt; bad_at(alloc, &rt, 1, b"MKBTT 9\n") == 1);
+    assert!(rt; bad_at(alloc, &rt, 5, b"RULES 02\n") == 5);
+    assert!(rt; bad_at(alloc, &rt, 6, b"f(f(x2)) -> a : 1\n") == 6);
+    assert!(rt; bad_at(alloc, &rt, 7, b"f(a) -> a : 0\n") == 7);
+    assert!(rt; bad_at(alloc, &rt, 8, b"ORDER LPO f f\n") == 8);
+    assert!(rt; bad_at(alloc, &rt, 8, b"ORDER LINEAR 1,4 0\n") == 8);
+    assert!(rt; bad_at(alloc, &rt, 8, b"ORDER LINEAR 1,1 0\n") == 0);
+    assert!(rt; bad_at(alloc, &rt, 10, b"1 input 1 : a = f(f(x1))\n") == 10);
+    assert!(rt; bad_at(alloc, &rt, 12, b"") == 12);
+    assert!(rt; bad_at(alloc, &rt, 12, b"END\n\n") == 13);
+    assert!(rt; bad_line(alloc, &rt, b"") == 1);
+}
+
+#[test]
+fn reports_without_a_system_have_three_lines(rt: HostRuntime) {
+    let alloc = rt.alloc();
+    let commits = Report::SpentCommits {
+        commits: 1,
+        living: 2,
+    };
+    let text = answer_text(alloc, &commits).expect(&rt, "memory");
+    assert!(rt; text.as_slice() == b"MKBTT 1\nSPENT COMMITS 1 2\nEND\n".as_slice());
+    let over = Report::SpentOver {
+        reason: Reason::Depth,
+        living: 1,
+    };
+    let text = answer_text(alloc, &over).expect(&rt, "memory");
+    assert!(rt; text.as_slice() == b"MKBTT 1\nSPENT OVER depth 1\nEND\n".as_slice());
+    let text = answer_text(alloc, &Report::AllFailed { living: 1 }).expect(&rt, "memory");
+    assert!(rt; text.as_slice() == b"MKBTT 1\nFAILED 1\nEND\n".as_slice());
+}
+
+#[test]
+fn a_summary_has_nine_lines(rt: HostRuntime) {
+    let alloc = rt.alloc();
+    let summary = Summary {
+        verdict: Some(Verdict::Complete(Process::root().child(true))),
+        commits: 4,
+        drops: 0,
+        nodes: 2,
+        dead: 0,
+        forks: 1,
+        living: 2,
+        over: 0,
+        rules: 1,
+    };
+    let text = summary_text(alloc, &summary).expect(&rt, "memory");
+    assert!(rt;
+        text.as_slice()
+            == b"verdict complete 1\ncommits 4\ndrops 0\nnodes 2\ndead 0\nforks 1\nliving 2\nover 0\nrules 1\n".as_slice()
+    );
 }

@@ -19,7 +19,9 @@ use Rattle.kb_cert.specs.declared.certificate.Certificate.TheVariants.{Lpo, Line
 use Rattle.kb_lpo.specs.Precedences.{precedences}
 use Rattle.kb_laws.specs.Complete.{IsCompleteSystem, IsLoneRule, problem_of}
 use Rattle.kb_laws.proofs.LoneRule.{pair_rule_is_system}
-use Rattle.kb_report.specs.Answers.{IsProblemForm, IsRuleForm, IsStepForm, one_rule_answer, system_text}
+use Rattle.kb_trace.specs.TraceText.{IsStepForm}
+use Rattle.kb_checker.specs.Answers.{IsAnswer, IsRuleForm}
+use Rattle.kb_report.specs.Answers.{IsProblemForm, one_rule_answer, system_text}
 use Rattle.mkbtt_top.specs.FirstRun.{IsEquationOf, IsOrderedIn, IsAnswerOf}
 use Rattle.kb_overlap.specs.Overlap.{IsOverlapList}
 
@@ -70,6 +72,19 @@ system_of problem pair direction rule order equation ordered no_overlap =
     let same : problem_of sig e ≡ problem = (λ i. record { signature = sig; equations = sym equation.one i }) in
     subst (λ (p : Problem). IsCompleteSystem p (Linear order) (rule ∷ [])) same (pair_rule_is_system sig (Linear order) rule e pair direction lone equation.of_equation ordered.rule_is)
 
+-- such parts have the forms of an answer's
+pub one_rule_form : (problem : Problem) (pair : Pair) (direction : ℕ) (rule : Rule) (order : Interpretation) → IsProblemForm problem → IsOrderedIn problem pair direction rule order → IsAnswer (one_rule_answer problem rule (Linear order) pair)
+one_rule_form problem pair direction rule order form ordered = record {
+  problem = form.within;
+  count = omega arith;
+  rules = all-one (IsRuleForm problem.signature) (rule, 1) (record { sides = ordered.sides; cited = refl });
+  cert = ordered.rows;
+  trace = record {
+    count = omega arith;
+    steps = all-one (IsStepForm problem.signature) (record { origin = Input 1; pair = pair }) (record { origin = refl; pair = ordered.pair_form });
+  };
+}
+
 -- a text that is made of such parts is an answer's
 pub answer_of : (problem : Problem) (pair : Pair) (direction : ℕ) (rule : Rule) (order : Interpretation) (text : List ℕ)
     → direction ≤ 1 → IsProblemForm problem → IsEquationOf problem pair → IsOrderedIn problem pair direction rule order → IsOverlapList rule rule true []
@@ -90,16 +105,7 @@ answer_of problem pair direction rule order text d form equation ordered no_over
     system = system_of problem pair direction rule order equation ordered no_overlap;
   };
   spelling = record {
-    form = record {
-      problem = form;
-      count = omega arith;
-      rules = all-one (IsRuleForm problem.signature) (rule, 1) (record { sides = ordered.sides; cited = refl });
-      cert = ordered.rows;
-      trace = record {
-        count = omega arith;
-        steps = all-one (IsStepForm problem.signature) (record { origin = Input 1; pair = pair }) (record { origin = refl; pair = ordered.pair_form });
-      };
-    };
+    form = record { signature = form.signature; form = one_rule_form problem pair direction rule order form ordered };
     spelling = spelled;
   };
 }

@@ -1,5 +1,5 @@
 -- What a run on one equation comes to.
-use Rattle.std.specs.Prelude.{ℕ, ◌≡◌, ◌≢◌, ◌⊎◌, ◌≤◌, List, [], ◌∷◌, Option, Some, Contains, true, IsTrue, ⊤}
+use Rattle.std.specs.Prelude.{ℕ, ◌≡◌, ◌≤◌, List, [], ◌∷◌, Option, Some, Contains, true, IsTrue}
 use Rattle.kb_io.specs.Bytes.{TakesAll, HasMoreThan, Appends, AppendsPart}
 use Rattle.kb_term.specs.Pair.{Pair, canonical_pair}
 use Rattle.kb_term.specs.Rule.{Rule, rule_of}
@@ -12,7 +12,8 @@ use Rattle.kb_overlap.specs.Trace.{IsRightTrace}
 use Rattle.kb_text.specs.Terms.{IsPairForm}
 use Rattle.kb_laws.specs.Complete.{IsCompleteSystem}
 use Rattle.kb_text.specs.Problems.{Spells}
-use Rattle.kb_report.specs.Answers.{Answer, AnswerSpelled, one_rule_answer}
+use Rattle.kb_checker.specs.Answers.{Answer}
+use Rattle.kb_report.specs.Answers.{AnswerSpelled, one_rule_answer}
 use Rattle.kb_cert.specs.CertificateText.{are_rows}
 use Rattle.kb_cert.specs.declared.certificate.Certificate.TheVariants.{Linear}
 use Rattle.kb_text.specs.Refusals.{IsRefused}
@@ -21,12 +22,6 @@ use Rattle.kb_text.specs.declared.kind.Kind.TheVariants.{Limit, NotBuilt}
 use Rattle.kb_text.specs.declared.kind.Bound.TheVariants.{Input}
 use Rattle.mkbtt_top.specs.declared.complete.Completed.{Completed}
 use Rattle.mkbtt_top.specs.declared.complete.Completed.TheVariants as completed
-use Rattle.mkbtt_words.specs.Reading.{AreRead, AreRefused}
-use Rattle.mkbtt_words.specs.declared.mode.Mode.TheVariants.{Complete}
-use Rattle.mkbtt_words.specs.declared.words.Words.{Words}
-use Rattle.mkbtt_top.specs.declared.status.Status.{Status}
-use Rattle.mkbtt_top.specs.declared.status.Status.TheVariants.{Done, Refused, ReadFault, WriteFault, Memory}
-use Rattle.mkbtt_top.specs.declared.status.Status.TheVariants as status
 
 -- the pair is the canonical pair of the one equation of the problem
 pub record IsEquationOf (problem : Problem) (pair : Pair) : Type 0 where
@@ -87,22 +82,6 @@ pub record AnswersInPart (left_old left_new written_old written_new : Option (Li
   pub answer : IsAnswerTo bytes text
   pub written : AppendsPart written_old text written_new
 
--- the command takes the words, and they ask for a completion
-pub record AskForCompletion (words : List (List ℕ)) : Type 0 where
-  pub read : Words
-  pub are_read : AreRead words read
-  pub mode : read.mode ≡ Complete
-
--- the command takes the words, and they ask for a mode that isn't built yet
-pub record AskForAnother (words : List (List ℕ)) : Type 0 where
-  pub read : Words
-  pub are_read : AreRead words read
-  pub mode : read.mode ≢ Complete
-
--- the command refuses the words, or they ask for a mode that isn't built yet
-abbrev pub AreBadWords : List (List ℕ) → Type 0
-AreBadWords words = AreRefused words ⊎ AskForAnother words
-
 -- what a completion of the bytes comes to: an answer to what they spell; a refusal of them; or they spell a problem that isn't answered yet
 abbrev pub IsCompleted : List ℕ → Completed → Type 0
 IsCompleted bytes (completed.Answer text) = IsAnswerTo bytes text.items
@@ -114,12 +93,3 @@ pub data IsRefusedFor (left_old left_new : Option (List ℕ)) : Kind → ℕ →
   by_text : {kind : Kind} {at : ℕ} (bytes : List ℕ) → TakesAll left_old bytes left_new → IsRefused bytes kind at → IsRefusedFor left_old left_new kind at
   too_long : HasMoreThan 1048576 left_old → IsRefusedFor left_old left_new (Limit Input) 1048576
   not_built : (bytes : List ℕ) (problem : Problem) → TakesAll left_old bytes left_new → Spells bytes problem → IsRefusedFor left_old left_new NotBuilt 0
-
--- unless the answer was written, whole or in part, nothing is
-abbrev pub WritesNothing : Status → Option (List ℕ) → Option (List ℕ) → Type 0
-WritesNothing Done old new = ⊤
-WritesNothing (Refused kind at) old new = new ≡ old
-WritesNothing ReadFault old new = new ≡ old
-WritesNothing WriteFault old new = ⊤
-WritesNothing Memory old new = new ≡ old
-WritesNothing status.Words old new = new ≡ old

@@ -1,2 +1,4 @@
 pub mod Statuses
 pub mod FirstRun
+pub mod Checking
+pub mod Runs

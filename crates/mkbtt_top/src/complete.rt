@@ -6,22 +6,26 @@ ghost use Rattle.kb_linear.specs.Limits.{IsMeasurable};
 ghost use Rattle.kb_linear.specs.LinearOrder.{LinearGreater};
 ghost use Rattle.kb_linear.specs.Interpretations.{interpretations};
 ghost use Rattle.kb_text.specs.Terms.{IsPairForm};
-ghost use Rattle.kb_report.specs.Answers.{IsProblemForm};
+ghost use Rattle.kb_cert.specs.declared.certificate.Certificate.TheVariants.{Linear};
+ghost use Rattle.kb_term.specs.declared.origin.Origin.TheVariants.{Input};
+ghost use Rattle.kb_report.specs.Answers.{IsProblemForm, one_rule_answer as answer_of_one};
 ghost use Rattle.mkbtt_top.specs.FirstRun.{IsEquationOf, IsOrderedIn, IsAnswerOf, IsCompleted};
 ghost use Rattle.kb_overlap.specs.Overlap.{IsOverlapList};
 
 use kb_cert::Certificate;
+use kb_checker::Answer;
 use kb_linear::{Interp, search_linear};
 use kb_overlap::overlaps;
 use kb_report::{
-    is_equation_within_limits, is_interpretation, is_problem_within_limits, is_term_within_limits,
-    one_rule_text,
+    Report, answer_text, is_equation_within_limits, is_interpretation, is_problem_within_limits,
+    is_term_within_limits,
 };
 use kb_syntax::{Refusal, SyntaxFault, parse_problem};
 use kb_term::{
-    Memory, Pair, Problem, Rule, Signature, Term, canonical, has_few_arguments,
+    Memory, Origin, Pair, Problem, Rule, Signature, Term, canonical, has_few_arguments,
     has_variables_below, is_rule_below, rule_of,
 };
+use kb_trace::{Step, Trace};
 use std::alloc::Global;
 
 // Whether both sides are within the limits.
@@ -103,6 +107,33 @@ fn is_without_overlap(alloc: Global, rule: &Rule) -> Result<bool, Memory>
     Ok(found.is_empty())
 }
 
+fn input_trace(alloc: Global, pair: &Pair) -> Result<Trace, Memory>
+    ensures { IfOk result (λ t. t ≡ record { origin = Input 1; pair = pair.now } ∷ []) }
+{
+    let mut steps = Vec::new(alloc);
+    steps.push(Step::new(Origin::Input(1), pair.clone()?))?;
+    Ok(Trace::new(steps))
+}
+
+// The answer with this one rule, from the pair of the one equation.
+fn one_rule_answer(
+    alloc: Global,
+    problem: &Problem,
+    pair: &Pair,
+    direction: u8,
+    ordered: OrderedRule,
+) -> Result<Answer, Memory>
+    requires problem { IsProblemForm problem.now }
+    requires ordered { IsOrderedIn problem.now pair.now direction ordered.rule ordered.order }
+    ensures { IfOk result (λ a. a ≡ answer_of_one problem.now ordered.rule (Linear ordered.order) pair.now) }
+{
+    let OrderedRule { rule, order } = ordered;
+    let trace = input_trace(alloc, pair)?;
+    let mut rules = Vec::new(alloc);
+    rules.push((rule, 1))?;
+    Ok(Answer::new(problem.clone()?, rules, Certificate::Linear(order), trace))
+}
+
 // The text of the answer with this ordered rule, where it doesn't overlap itself.
 fn answer_by(
     alloc: Global,
@@ -117,12 +148,11 @@ fn answer_by(
     requires ordered { IsOrderedIn problem.now pair.now direction ordered.rule ordered.order }
     ensures { IfOk result (λ found. IfSome found (λ text. IsAnswerOf problem.now text.items)) }
 {
-    let OrderedRule { rule, order } = ordered;
-    if !is_without_overlap(alloc, &rule)? {
+    if !is_without_overlap(alloc, &ordered.rule)? {
         return Ok(None);
     }
-    let cert = Certificate::Linear(order);
-    let text = one_rule_text(alloc, problem, &rule, &cert, pair)?;
+    let answer = one_rule_answer(alloc, problem, pair, direction, ordered)?;
+    let text = answer_text(alloc, &Report::System(answer))?;
     Ok(Some(text))
 }
 

@@ -1,8 +1,10 @@
 //! The top call: from words and bytes to bytes and a status.
 #![tactic(auto)]
 
+mod checking;
 mod complete;
 mod status;
+mod task;
 mod top;
 
 pub use status::{Status, status_code, status_line};

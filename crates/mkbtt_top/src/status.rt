@@ -2,6 +2,7 @@
 ghost use Rattle.std.specs.Prelude.{◌≡◌, ◌++◌, ◌∷◌, [], IfOk, OnOk, codes};
 ghost use Rattle.mkbtt_top.specs.Statuses.{bound_word as word_of_bound, kind_word as word_of_kind, line_of, code_of};
 
+use kb_checker::Reject;
 use kb_syntax::{Bound, Fields, Kind};
 use kb_term::Memory;
 use std::alloc::Global;
@@ -9,10 +10,14 @@ use std::alloc::Global;
 /// How a run ended.
 #[derive(Clone, Copy, Debug, PartialEq, Eq)]
 pub enum Status {
-    /// The answer was written.
+    /// The answer was written, or that the answer that was read is accepted.
     Done,
+    /// The answer that was read is rejected, for this reason at the item with this number in its group.
+    Rejected(Reject, u64),
     /// The bytes that were read are refused, for this reason at this place.
     Refused(Kind, u64),
+    /// The line with this number, from 1, is the first that isn't of the form of an answer's text.
+    BadText(u64),
     /// The source failed.
     ReadFault,
     /// The sink failed, after a proper front of the answer.
@@ -29,7 +34,9 @@ pub fn status_code(status: &Status) -> u8
 {
     match status {
         Status::Done => 0,
+        Status::Rejected(_, _) => 1,
         Status::Refused(_, _) => 3,
+        Status::BadText(_) => 3,
         Status::ReadFault => 4,
         Status::WriteFault => 5,
         Status::Memory => 6,
@@ -96,12 +103,16 @@ pub fn status_line(alloc: Global, status: &Status) -> Result<Vec<u8>, Memory>
     let mut line = Fields::new(alloc);
     line.word(alloc, b"mkbtt:")?;
     match status {
-        Status::Done => return Ok(text),
+        Status::Done | Status::Rejected(_, _) => return Ok(text),
         Status::Refused(kind, at) => {
             line.word(alloc, b"refused")?;
             line.push(kind_word(alloc, *kind)?)?;
             line.word(alloc, b"at")?;
             line.number(alloc, *at)?;
+        }
+        Status::BadText(n) => {
+            push_words(alloc, &mut line, b"refused", b"line")?;
+            line.number(alloc, *n)?;
         }
         Status::ReadFault => push_words(alloc, &mut line, b"read", b"fault")?,
         Status::WriteFault => push_words(alloc, &mut line, b"write", b"fault")?,

@@ -1,7 +1,9 @@
 use super::*;
+use kb_checker::Reject;
 use kb_io::{MemorySink, MemorySource, OpenGate};
 use kb_syntax::{Bound, Kind};
 use std::alloc::{AllocError, Global};
+use std::process::Abort;
 use std::sync::Wait;
 use std::test::Fail;
 use std::thread::Threads;
@@ -87,7 +89,7 @@ fn other_words_are_refused(rt: HostRuntime) -> Result<(), Fail> {
     let alloc = rt.alloc();
     let mut source = source_of(alloc, IDENTITY)?;
     let mut sink = MemorySink::new(alloc, 1000, Vec::new(alloc), 9)?;
-    let outcome = run(&rt, alloc, &["check"], &mut source, &mut sink, &OpenGate);
+    let outcome = run(&rt, alloc, &["gen"], &mut source, &mut sink, &OpenGate);
     assert_eq!(rt; status_code(&outcome.status), 7);
     assert!(rt; sink.bytes().is_empty());
     Ok(())
@@ -132,4 +134,132 @@ fn a_text_that_ends_in_a_section_is_refused_at_its_end(rt: HostRuntime) {
     let outcome = run(&rt, alloc, &["complete"], &mut source, &mut sink, &OpenGate);
     assert!(rt; outcome.status == Status::Refused(Kind::Unclosed, 13));
     assert!(rt; sink.bytes().is_empty());
+}
+
+/// An answer to f(f(x)) = a.
+const SQUARE: &str =
+    "MKBTT 1\nSYMBOLS f/1 a/0\nEQUATIONS 1\nf(f(x1)) = a\nRULES 2\nf(f(x1)) -> a : 1\nf(a) -> a : 2\nORDER LPO f a\nTRACE 2\n1 input 1 : f(f(x1)) = a\n2 overlap 1 dir 0 with 1 dir 0 at 1 : f(a) = a\nEND\n";
+
+/// Its rule 2 is left out.
+const ONE_RULE: &str =
+    "MKBTT 1\nSYMBOLS f/1 a/0\nEQUATIONS 1\nf(f(x1)) = a\nRULES 1\nf(f(x1)) -> a : 1\nORDER LPO f a\nTRACE 2\n1 input 1 : f(f(x1)) = a\n2 overlap 1 dir 0 with 1 dir 0 at 1 : f(a) = a\nEND\n";
+
+/// Its step 2 overlaps at the root.
+const AT_ROOT: &str =
+    "MKBTT 1\nSYMBOLS f/1 a/0\nEQUATIONS 1\nf(f(x1)) = a\nRULES 2\nf(f(x1)) -> a : 1\nf(a) -> a : 2\nORDER LPO f a\nTRACE 2\n1 input 1 : f(f(x1)) = a\n2 overlap 1 dir 0 with 1 dir 0 at e : f(a) = a\nEND\n";
+
+/// It has the other order.
+const OTHER_ORDER: &str =
+    "MKBTT 1\nSYMBOLS f/1 a/0\nEQUATIONS 1\nf(f(x1)) = a\nRULES 2\nf(f(x1)) -> a : 1\nf(a) -> a : 2\nORDER LPO a f\nTRACE 2\n1 input 1 : f(f(x1)) = a\n2 overlap 1 dir 0 with 1 dir 0 at 1 : f(a) = a\nEND\n";
+
+/// Its rule 2 cites step 1.
+const OTHER_STEP: &str =
+    "MKBTT 1\nSYMBOLS f/1 a/0\nEQUATIONS 1\nf(f(x1)) = a\nRULES 2\nf(f(x1)) -> a : 1\nf(a) -> a : 1\nORDER LPO f a\nTRACE 2\n1 input 1 : f(f(x1)) = a\n2 overlap 1 dir 0 with 1 dir 0 at 1 : f(a) = a\nEND\n";
+
+/// It has an equation more, which its rules don't prove.
+const MORE_EQUATIONS: &str =
+    "MKBTT 1\nSYMBOLS f/1 a/0\nEQUATIONS 2\nf(f(x1)) = a\nf(x1) = a\nRULES 2\nf(f(x1)) -> a : 1\nf(a) -> a : 2\nORDER LPO f a\nTRACE 2\n1 input 1 : f(f(x1)) = a\n2 overlap 1 dir 0 with 1 dir 0 at 1 : f(a) = a\nEND\n";
+
+/// Its step 1 cites an equation that isn't there.
+const OTHER_EQUATION: &str =
+    "MKBTT 1\nSYMBOLS f/1 a/0\nEQUATIONS 1\nf(f(x1)) = a\nRULES 2\nf(f(x1)) -> a : 1\nf(a) -> a : 2\nORDER LPO f a\nTRACE 2\n1 input 2 : f(f(x1)) = a\n2 overlap 1 dir 0 with 1 dir 0 at 1 : f(a) = a\nEND\n";
+
+/// Its order has constants that aren't great enough.
+const SMALL_CONSTANTS: &str =
+    "MKBTT 1\nSYMBOLS f/1 a/0\nEQUATIONS 1\nf(f(x1)) = a\nRULES 2\nf(f(x1)) -> a : 1\nf(a) -> a : 2\nORDER LINEAR 0,2 0\nTRACE 2\n1 input 1 : f(f(x1)) = a\n2 overlap 1 dir 0 with 1 dir 0 at 1 : f(a) = a\nEND\n";
+
+/// Whether a check of the text ends with the status and writes the line.
+fn checks<R: Threads + Wait + Sync + Abort>(
+    rt: &R,
+    alloc: Global,
+    text: &str,
+    status: Status,
+    line: &str,
+) -> bool {
+    let mut source = source_of(alloc, text).expect(rt, "memory");
+    let mut sink = MemorySink::new(alloc, 1000, Vec::new(alloc), 9).expect(rt, "memory");
+    let outcome = run(rt, alloc, &["check"], &mut source, &mut sink, &OpenGate);
+    outcome.status == status && sink.bytes() == line.as_bytes()
+}
+
+#[test]
+fn an_answer_is_accepted(rt: HostRuntime) {
+    let alloc = rt.alloc();
+    assert!(rt; checks(&rt, alloc, SQUARE, Status::Done, "ACCEPTED\n"));
+}
+
+#[test]
+fn altered_answers_are_rejected(rt: HostRuntime) {
+    let alloc = rt.alloc();
+    assert!(rt;
+        checks(
+            &rt,
+            alloc,
+            ONE_RULE,
+            Status::Rejected(Reject::NotJoined, 1),
+            "REJECTED notjoined 1\n"
+        )
+    );
+    assert!(rt;
+        checks(
+            &rt,
+            alloc,
+            AT_ROOT,
+            Status::Rejected(Reject::BadStep, 2),
+            "REJECTED badstep 2\n"
+        )
+    );
+    assert!(rt;
+        checks(
+            &rt,
+            alloc,
+            OTHER_ORDER,
+            Status::Rejected(Reject::NotOriented, 1),
+            "REJECTED notoriented 1\n"
+        )
+    );
+    assert!(rt;
+        checks(
+            &rt,
+            alloc,
+            OTHER_STEP,
+            Status::Rejected(Reject::Untraced, 2),
+            "REJECTED untraced 2\n"
+        )
+    );
+    assert!(rt;
+        checks(
+            &rt,
+            alloc,
+            MORE_EQUATIONS,
+            Status::Rejected(Reject::NotProved, 2),
+            "REJECTED notproved 2\n"
+        )
+    );
+    assert!(rt;
+        checks(
+            &rt,
+            alloc,
+            OTHER_EQUATION,
+            Status::Rejected(Reject::BadStep, 1),
+            "REJECTED badstep 1\n"
+        )
+    );
+    assert!(rt;
+        checks(
+            &rt,
+            alloc,
+            SMALL_CONSTANTS,
+            Status::Rejected(Reject::NotOriented, 1),
+            "REJECTED notoriented 1\n"
+        )
+    );
+}
+
+#[test]
+fn a_text_that_is_no_answer_is_bad_at_a_line(rt: HostRuntime) {
+    let alloc = rt.alloc();
+    assert!(rt; checks(&rt, alloc, IDENTITY, Status::BadText(1), ""));
+    let line = status_line(alloc, &Status::BadText(12)).expect(&rt, "memory");
+    assert!(rt; line.as_slice() == b"mkbtt: refused line 12\n".as_slice());
 }

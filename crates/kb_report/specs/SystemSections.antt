@@ -1,0 +1,77 @@
+-- The sections of the text of a system.
+use Rattle.std.specs.Prelude.{ℕ, ◌≡◌, ◌≤◌, List, [], ◌∷◌, ◌++◌, length, map, codes, decimal, All, IsTrue, get_or}
+use Rattle.std.specs.List.{join_with_byte}
+use Rattle.kb_term.specs.Tree.{Tree}
+use Rattle.kb_term.specs.Rule.{Rule}
+use Rattle.kb_term.specs.Signature.{SymbolEntry, Signature, IsSignature, IsEquationWithinLimits}
+use Rattle.kb_text.specs.Names.{Name}
+use Rattle.kb_text.specs.Terms.{names_of, term_text, infix_text}
+use Rattle.kb_cert.specs.CertificateText.{cert_fields, is_certificate}
+use Rattle.kb_cert.specs.declared.certificate.Certificate.{Certificate}
+use Rattle.kb_overlap.specs.Trace.{TraceStep}
+use Rattle.kb_trace.specs.TraceText.{step_fields, IsStepForm}
+use Rattle.kb_checker.specs.Answers.{IsRuleForm}
+use Rattle.kb_report.specs.Answers.{entry_text}
+use Rattle.kb_report.specs.Sections.{Section, OneLine, Items, IsLineOf}
+
+-- ---- lines without their line feeds
+
+abbrev pub symbols_body : Signature → List ℕ
+symbols_body sig = join_with_byte 32 (codes "SYMBOLS" ∷ map entry_text sig)
+
+abbrev pub equation_body : List Name → Tree × Tree → List ℕ
+equation_body names e = join_with_byte 32 (infix_text names (codes "=") e.0 e.1)
+
+abbrev pub rule_body : List Name → Rule × ℕ → List ℕ
+rule_body names r = join_with_byte 32 (infix_text names (codes "->") r.0.left r.0.right ++ codes ":" ∷ decimal r.1 ∷ [])
+
+abbrev pub order_body : List Name → Certificate → List ℕ
+order_body names c = join_with_byte 32 (codes "ORDER" ∷ cert_fields names c)
+
+abbrev pub step_body : List Name → ℕ → TraceStep → List ℕ
+step_body names k s = join_with_byte 32 (step_fields names k s)
+
+-- ---- the sections
+
+-- at most 24 symbols of at most 8 arguments, whose names are different identifiers
+pub record AreSymbols (sig : Signature) : Type 0 where
+  pub names : IsSignature sig
+  pub few : length sig ≤ 24
+  pub arities : All (λ (f : SymbolEntry). f.arity ≤ 8) sig
+
+abbrev pub Symbols : Section Signature
+Symbols = OneLine AreSymbols symbols_body
+
+abbrev pub Equations : Signature → ℕ → Section (List (Tree × Tree))
+Equations sig = Items (IsEquationWithinLimits sig) (λ k. equation_body (names_of sig))
+
+abbrev pub Rules : Signature → ℕ → Section (List (Rule × ℕ))
+Rules sig = Items (IsRuleForm sig) (λ k. rule_body (names_of sig))
+
+abbrev pub Order : Signature → Section Certificate
+Order sig = OneLine (λ c. IsTrue (is_certificate sig c)) (order_body (names_of sig))
+
+abbrev pub Steps : Signature → ℕ → Section (List TraceStep)
+Steps sig = Items (IsStepForm sig) (step_body (names_of sig))
+
+-- ---- their fields
+
+-- the first three fields are a term, the sign and a term, numbered by first occurrence
+pub record AreSidesIn (sig : Signature) (fields : List (List ℕ)) (sign : List ℕ) (e : Tree × Tree) : Type 0 where
+  pub form : IsEquationWithinLimits sig e
+  pub left : get_or fields 0 [] ≡ term_text (names_of sig) e.0
+  pub sign_is : get_or fields 1 [] ≡ sign
+  pub right : get_or fields 2 [] ≡ term_text (names_of sig) e.1
+
+-- the bytes are the line of such a value
+abbrev pub IsSymbolsLine : List ℕ → Signature → Type 0
+IsSymbolsLine = IsLineOf AreSymbols symbols_body
+
+abbrev pub IsEquationLine : Signature → List ℕ → Tree × Tree → Type 0
+IsEquationLine sig = IsLineOf (IsEquationWithinLimits sig) (equation_body (names_of sig))
+
+abbrev pub IsRuleLine : Signature → List ℕ → Rule × ℕ → Type 0
+IsRuleLine sig = IsLineOf (IsRuleForm sig) (rule_body (names_of sig))
+
+abbrev pub IsOrderLine : Signature → List ℕ → Certificate → Type 0
+IsOrderLine sig = IsLineOf (λ c. IsTrue (is_certificate sig c)) (order_body (names_of sig))

@@ -1,0 +1,55 @@
+-- What a check of an answer comes to.
+use Rattle.std.specs.Prelude.{ℕ, ◌≡◌, List, [], ◌∷◌, Option, codes, decimal}
+use Rattle.kb_io.specs.Bytes.{TakesAll, Appends, AppendsPart}
+use Rattle.kb_text.specs.Lines.{line, IsBadLine}
+use Rattle.kb_checker.specs.Answers.{Answer, IsGoodAnswer}
+use Rattle.kb_checker.specs.Verdicts.{IsVerdict}
+use Rattle.kb_checker.specs.declared.verdict.Reject.{Reject}
+use Rattle.kb_checker.specs.declared.verdict.Reject.TheVariants.{BadStep, Untraced, NotOriented, PairLarge, PairSteps, NotJoined, EquationLarge, EquationSteps, NotProved}
+use Rattle.kb_checker.specs.declared.verdict.Checked.{Checked}
+use Rattle.kb_checker.specs.declared.verdict.Checked.TheVariants.{Accepted, Rejected}
+use Rattle.kb_report.specs.Answers.{AnswerSpelled, IsSystemText}
+
+abbrev pub reject_word : Reject → List ℕ
+reject_word BadStep = codes "badstep"
+reject_word Untraced = codes "untraced"
+reject_word NotOriented = codes "notoriented"
+reject_word PairLarge = codes "pairlarge"
+reject_word PairSteps = codes "pairsteps"
+reject_word NotJoined = codes "notjoined"
+reject_word EquationLarge = codes "equationlarge"
+reject_word EquationSteps = codes "equationsteps"
+reject_word NotProved = codes "notproved"
+
+-- one line
+abbrev pub checked_text : Checked → List ℕ
+checked_text Accepted = line (codes "ACCEPTED" ∷ [])
+checked_text (Rejected reason n) = line (codes "REJECTED" ∷ reject_word reason ∷ decimal n ∷ [])
+
+-- the bytes are the text of an answer, and this is what the checker says of it; what it accepts is good
+pub record IsChecked (bytes : List ℕ) (checked : Checked) : Type 0 where
+  pub answer : Answer
+  pub spelled : AnswerSpelled bytes answer
+  pub verdict : IsVerdict answer checked
+  pub good : checked ≡ Accepted → IsGoodAnswer answer
+
+-- the source was read to its end, and the sink gained what the checker says of the answer that was read
+pub record Checks (checked : Checked) (left_old left_new written_old written_new : Option (List ℕ)) : Type 0 where
+  pub bytes : List ℕ
+  pub read : TakesAll left_old bytes left_new
+  pub is_checked : IsChecked bytes checked
+  pub written : Appends written_old (checked_text checked) written_new
+
+-- the same, but for what the sink didn't take any more
+pub record ChecksInPart (left_old left_new written_old written_new : Option (List ℕ)) : Type 0 where
+  pub checked : Checked
+  pub bytes : List ℕ
+  pub read : TakesAll left_old bytes left_new
+  pub is_checked : IsChecked bytes checked
+  pub written : AppendsPart written_old (checked_text checked) written_new
+
+-- the source was read to its end, and this line is the first that isn't of the form of an answer's text
+pub record HasBadLine (left_old left_new : Option (List ℕ)) (n : ℕ) : Type 0 where
+  pub bytes : List ℕ
+  pub read : TakesAll left_old bytes left_new
+  pub bad : IsBadLine IsSystemText bytes n
