@@ -10,7 +10,7 @@ use Rattle.kb_text.specs.Problems.{arity_in, variables_among, symbols_among, equ
 use Rattle.kb_text.specs.Refusals.{front_count, front_variables, front_names, front_uses, is_some_and, spot_of, is_new, Spot, has_other_arity, ended_alone, last_alone, back, alone_clash, closing_clash_of}
 use Rattle.kb_syntax.specs.Moves.{side_names_of, equation_names_of, open_equations}
 use Rattle.kb_syntax.specs.Looks.{Look, at_word, at_variables, at_rules, at_equation, look_of, spot_at, is_one_more, word_row}
-use Rattle.kb_text.specs.Written.{equation_of}
+use Rattle.kb_syntax.specs.Written.{equation_of}
 use Rattle.kb_syntax.specs.Reader.{Stands, place_look, count_at, spot_row, at_a_spot, own_name_row, name_row, alone_row, closing_row}
 use Rattle.kb_syntax.specs.declared.reader.Place.{Place}
 use Rattle.kb_syntax.specs.declared.notes.Notes.{Notes}

@@ -20,7 +20,7 @@ use Rattle.kb_text.specs.Machine.{best, kinds, bad_token, judged, may_end, next_
 use Rattle.kb_syntax.specs.Moves.{side_names_of}
 use Rattle.kb_syntax.specs.Looks.{Look, outside, at_word, at_variables, at_rules, at_equation, at_skipped, look_of, look_side, next_look, depth_of, spot_at}
 use Rattle.kb_syntax.specs.Sides.{token_at}
-use Rattle.kb_text.specs.Written.{equation_of}
+use Rattle.kb_syntax.specs.Written.{equation_of}
 use Rattle.kb_syntax.specs.Reader.{Stands, place_look, IsNextReader, IsShortSide, AreEmpty, IsProblemNoted, problem_from, count_at, name_notes, use_notes}
 use Rattle.kb_syntax.specs.Refused.{IsFault, IsRefusal}
 use Rattle.kb_text.specs.declared.kind.Kind.{Kind}

@@ -14,14 +14,15 @@ use Rattle.kb_text.specs.Machine.{next_front, next_section, next_equation, next_
 use Rattle.kb_syntax.specs.Moves.{names_of_token, names_at, new_names, new_variables, new_uses, open_equations, equation_names_of, side_names, side_names_of}
 use Rattle.kb_syntax.specs.Looks.{Look, look_of, at_equation, spot_at, next_look, added_variables, added_equations, ends_rules, added_uses, with_use, with_uses, with_names}
 use Rattle.kb_syntax.specs.Reader.{Stands, place_look, name_notes, use_notes, prepared, is_sign, resets, IsPassed}
-use Rattle.kb_text.specs.Written.{equation_of}
+use Rattle.kb_syntax.specs.Written.{equation_of}
 use Rattle.kb_syntax.specs.declared.reader.Place.{Place}
 use Rattle.kb_syntax.specs.declared.notes.Notes.{Notes}
 use Rattle.kb_text.proofs.Sound.{map_some}
 use Rattle.kb_syntax.proofs.Fine.{Fine, Unshown}
 use Rattle.kb_syntax.proofs.FineLists.{no-equations, among-append}
 use Rattle.kb_syntax.proofs.Known.{arity-append}
-use Rattle.kb_text.proofs.Firsts.{firsts-push, same_bytes}
+use Rattle.kb_text.proofs.Firsts.{same_bytes}
+use Rattle.kb_syntax.proofs.WrittenArguments.{with_name-firsts}
 use Rattle.kb_syntax.proofs.LookLaws.{front_look, HasDepth, next-look, variables-look, equations-look, rules-ended-look, uses-look}
 use Rattle.kb_syntax.proofs.Rows.{IsSameSpot, spot-look}
 use Rattle.kb_syntax.proofs.MoveSections.{Move, section_moves, left_next, awaits_if_name, is_whole_is, whole_stops}
@@ -29,10 +30,6 @@ use Rattle.kb_syntax.proofs.SideLaws.{no_term_token}
 use Rattle.kb_syntax.proofs.MoveTerms.{term_names}
 
 -- ---- lists
-
--- the different names with one more
-with_name-firsts : (names xs : List Name) (x : Name) → names ≡ firsts xs → with_name names x ≡ firsts (xs ++ x ∷ [])
-with_name-firsts names xs x e = ap (λ (ns : List Name). with_name ns x) e ∙ sym (firsts-push xs x)
 
 -- names that aren't there yet go to the end
 with_names-new : (names : List Name) (t : Token) → ((c : Name) → t ≡ identifier c → is_among names c ≡ false) → with_names names (names_of_token t) ≡ names ++ names_of_token t

@@ -11,7 +11,7 @@ use Rattle.kb_text.specs.Refusals.{front_variables, front_names, front_uses, has
 use Rattle.kb_syntax.specs.Moves.{open_equations, equation_names_of, side_names_of}
 use Rattle.kb_syntax.specs.Looks.{Look, outside, at_word, at_variables, at_rules, at_equation, at_skipped, look_of, spot_at, Spot, end_row, mark_row, word_row, is_one_more, with_names, with_uses, added_uses, next_look, added_variables, added_equations, ends_rules}
 use Rattle.kb_syntax.specs.Sides.{equation_front}
-use Rattle.kb_text.specs.Written.{equation_of}
+use Rattle.kb_syntax.specs.Written.{equation_of}
 use Rattle.kb_syntax.specs.declared.reader.Place.{Place}
 use Rattle.kb_syntax.specs.declared.reader.Place.TheVariants.{Outside, Word, Variables, Rules, Equation, Skipped}
 use Rattle.kb_syntax.specs.declared.notes.Notes.{Notes}
@@ -107,6 +107,11 @@ resets look t = false
 -- the token ends the equation, which is whole
 abbrev pub is_ended : EquationFront → Token → Bool
 is_ended e t = is_some (whole_equation e) && (is_some (name_in t) || is_token t right_paren)
+
+-- the place is in an equation that the token doesn't end
+abbrev pub stays : Look → Token → Bool
+stays (at_equation e) t = not (is_ended e t)
+stays look t = false
 
 -- the same notes but for the equations
 pub record HasSameNotes (old new : Notes) : Type 0 where

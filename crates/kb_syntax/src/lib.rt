@@ -13,6 +13,7 @@ mod reader;
 mod side;
 #[cfg(test)]
 mod tests;
+mod written;
 
 pub use fault::SyntaxFault;
 pub use generator::generate;

@@ -10,8 +10,9 @@ ghost use Rattle.kb_syntax.specs.Reader.{spot_row, clashes, named_notes, AreEmpt
 
 use crate::declared::Declared;
 use crate::side::Side;
+use crate::written::WrittenEquation;
 use kb_term::Memory;
-use kb_text::{Bound, Form, Kind, Mark, Names, Uses, WrittenEquation};
+use kb_text::{Bound, Form, Kind, Mark, Names, Uses};
 use std::alloc::Global;
 
 const EQUATIONS: usize = 256;
@@ -26,7 +27,7 @@ const VARIABLES: usize = 64;
 
 /// What is known of the text that was read.
 #[derive(Drop)]
-pub(crate) struct Notes {
+pub(crate) struct Notes<'a> {
     /// The declared variables.
     pub(crate) variables: Declared,
     /// The symbols, by first occurrence.
@@ -34,7 +35,7 @@ pub(crate) struct Notes {
     /// The first use that ended of each symbol.
     pub(crate) arities: Uses,
     /// The whole equations.
-    pub(crate) equations: Vec<WrittenEquation>,
+    pub(crate) equations: Vec<WrittenEquation<'a>>,
     /// Whether a section of rules is closed.
     pub(crate) has_rules: bool,
     /// The variables of the open equation, by first occurrence.
@@ -63,8 +64,8 @@ fn is_one_more(names: &Names, n: usize, name: &[u8]) -> bool
     names.len() == n && !names.contains(name)
 }
 
-impl Notes {
-    pub(crate) fn new(alloc: Global) -> Notes
+impl<'a> Notes<'a> {
+    pub(crate) fn new(alloc: Global) -> Notes<'a>
         ensures { AreEmpty result }
     {
         Notes {
@@ -145,7 +146,7 @@ impl Notes {
     }
 
     // Notes the use of a name alone that a token ends in a side.
-    fn end_alone(&mut self, alloc: Global, side: &Side, form: Form) -> Result<(), Memory>
+    fn end_alone(&mut self, alloc: Global, side: &Side<'a>, form: Form) -> Result<(), Memory>
         ensures { OnOk result (self.new ≡ record self.old { arities = with_uses self.old.variables self.old.arities (alone_ended (side_front side.now) (token_at form [])) }) }
     {
         if form == Form::Mark(Mark::LeftParen) {
@@ -158,7 +159,7 @@ impl Notes {
     }
 
     // Notes the use that a closing parenthesis ends in a side.
-    fn end_closing(&mut self, alloc: Global, side: &Side, form: Form) -> Result<(), Memory>
+    fn end_closing(&mut self, alloc: Global, side: &Side<'a>, form: Form) -> Result<(), Memory>
         ensures { OnOk result (self.new ≡ record self.old { arities = with_uses self.old.variables self.old.arities (ended_use (ends_next (side_front side.now)) (token_at form [])) }) }
     {
         if form != Form::Mark(Mark::RightParen) {
@@ -171,7 +172,7 @@ impl Notes {
     }
 
     /// Notes the uses that a token ends in a side.
-    pub(crate) fn end_uses(&mut self, alloc: Global, side: &Side, form: Form) -> Result<(), Memory>
+    pub(crate) fn end_uses(&mut self, alloc: Global, side: &Side<'a>, form: Form) -> Result<(), Memory>
         ensures { OnOk result (self.new ≡ record self.old { arities = with_uses self.old.variables self.old.arities (ended_in (side_front side.now) (token_at form [])) }) }
     {
         self.end_alone(alloc, side, form)?;
@@ -216,7 +217,7 @@ impl Notes {
     }
 
     /// Whether a name alone ends the side, of which another arity than 0 is known.
-    pub(crate) fn alone_clash(&self, side: &Side) -> Option<usize>
+    pub(crate) fn alone_clash(&self, side: &Side<'a>) -> Option<usize>
         ensures { result ≡ alone_row self.now (last_alone (side_front side.now)) }
     {
         let name = side.last_alone()?;
@@ -224,7 +225,7 @@ impl Notes {
     }
 
     // Whether the application that ends next, or a name alone before it, has another arity than is known.
-    fn closing_clashes(&self, side: &Side, name: &[u8], count: usize) -> bool
+    fn closing_clashes(&self, side: &Side<'a>, name: &[u8], count: usize) -> bool
         ensures { result ≡ has_other_arity (self.now.arities ++ ended_alone (last_alone (side_front side.now))) name.now count }
     {
         match self.arities.first(name) {
@@ -234,7 +235,7 @@ impl Notes {
     }
 
     /// How many tokens before a closing parenthesis the symbol stands of the application that it ends, where another arity is known of it.
-    pub(crate) fn closing_clash(&self, side: &Side) -> Option<usize>
+    pub(crate) fn closing_clash(&self, side: &Side<'a>) -> Option<usize>
         requires { length (term_front_tokens (side_front side.now)) < 2 ^ 64 }
         ensures { result ≡ closing_row self.now (last_alone (side_front side.now)) (ends_next (side_front side.now)) }
     {
@@ -247,7 +248,7 @@ impl Notes {
     }
 
     /// Whether a variable alone ends the side.
-    pub(crate) fn is_variable_last(&self, side: &Side) -> bool
+    pub(crate) fn is_variable_last(&self, side: &Side<'a>) -> bool
         ensures { result ≡ is_some_and (last_alone (side_front side.now)) (is_among self.now.variables) }
     {
         match side.last_alone() {

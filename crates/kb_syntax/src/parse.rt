@@ -62,9 +62,8 @@ fn parse_text(alloc: Global, text: &[u8]) -> Result<Problem, SyntaxFault>
             let problem = reader.notes.problem(alloc)?;
             return Ok(problem);
         }
-        match reader.next(alloc, found.form, name)? {
-            Some(next) => reader = next,
-            None => return Err(refusal(text, Kind::BadToken, number)),
+        if !reader.next(alloc, found.form, name)? {
+            return Err(refusal(text, Kind::BadToken, number));
         }
         number += 1;
         at = found.end;

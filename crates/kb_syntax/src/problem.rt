@@ -6,12 +6,13 @@ ghost use Rattle.kb_term.specs.View.{equations_of_list, tree_of};
 ghost use Rattle.kb_text.specs.Names.{firsts};
 ghost use Rattle.kb_text.specs.Problems.{arity_in, entry_of, equation_of as problem_equation, equation_variables, term_of, variables_among};
 ghost use Rattle.kb_syntax.specs.Reader.{problem_from, IsProblemNoted};
-ghost use Rattle.kb_text.specs.Written.{equation_of};
+ghost use Rattle.kb_syntax.specs.Written.{equation_of};
 
 use crate::declared::Declared;
 use crate::notes::Notes;
+use crate::written::WrittenEquation;
 use kb_term::{Memory, Problem, Signature, Term};
-use kb_text::{Names, Uses, WrittenEquation};
+use kb_text::{Names, Uses};
 use std::alloc::Global;
 
 // The symbols with the arities of their first uses.
@@ -27,33 +28,19 @@ fn entries(alloc: Global, names: &[Vec<u8>], uses: &Uses) -> Result<Vec<(Vec<u8>
     Ok(symbols)
 }
 
-// The variables among these names, by first occurrence.
-fn variables_in(alloc: Global, names: &[Vec<u8>], variables: &Declared) -> Result<Names, Memory>
-    ensures { IfOk result (λ found. found ≡ firsts (variables_among variables.now (map (λ n. n.items) names.now))) }
-{
-    let mut found = Names::new(alloc);
-    for name in names {
-        if variables.contains(name) {
-            found.add(alloc, name)?;
-        }
-    }
-    Ok(found)
-}
-
 fn equation(
     alloc: Global,
     variables: &Declared,
     symbols: &Names,
-    e: &WrittenEquation,
+    e: &WrittenEquation<'_>,
 ) -> Result<(Term, Term), Memory>
     requires symbols { length symbols.now ≤ 24 }
     requires variables { length (equation_variables variables.now (equation_of e.now)) ≤ 64 }
     ensures { IfOk result (λ sides. (tree_of sides.0, tree_of sides.1) ≡ problem_equation variables.now symbols.now (equation_of e.now)) }
 {
-    let mut names = Names::new(alloc);
-    e.left.push_names(alloc, &mut names)?;
-    e.right.push_names(alloc, &mut names)?;
-    let found = variables_in(alloc, names.items(), variables)?;
+    let mut found = Names::new(alloc);
+    e.left.find_variables(alloc, variables, &mut found)?;
+    e.right.find_variables(alloc, variables, &mut found)?;
     let left = e.left.term(alloc, &found, symbols)?;
     let right = e.right.term(alloc, &found, symbols)?;
     Ok((left, right))
@@ -63,7 +50,7 @@ fn equations(
     alloc: Global,
     variables: &Declared,
     symbols: &Names,
-    written: &[WrittenEquation],
+    written: &[WrittenEquation<'_>],
 ) -> Result<Vec<(Term, Term)>, Memory>
     requires symbols { length symbols.now ≤ 24 }
     requires variables { list_all (λ e. nat_le (length (equation_variables variables.now e)) 64) (map equation_of written.now) ≡ true }
@@ -76,7 +63,7 @@ fn equations(
     Ok(all)
 }
 
-impl Notes {
+impl<'a> Notes<'a> {
     /// The problem that was noted.
     pub(crate) fn problem(&self, alloc: Global) -> Result<Problem, Memory>
         requires { IsProblemNoted self.now }

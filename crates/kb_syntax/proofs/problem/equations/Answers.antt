@@ -1,7 +1,7 @@
 use Rattle.std.proofs.Common.{arith, length}
 use Rattle.std.specs.Prelude.{nat_le}
 use Rattle.kb_text.specs.Problems.{equation_variables}
-use Rattle.kb_text.specs.Written.{equation_of}
+use Rattle.kb_syntax.specs.Written.{equation_of}
 use Rattle.kb_syntax.proofs.ProblemLaws.{all_at}
 use Rattle.kb_syntax.proofs.problem.equations.Goals as goal
 

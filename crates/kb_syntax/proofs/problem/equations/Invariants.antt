@@ -2,7 +2,7 @@ use Rattle.std.proofs.Common.{◌≡◌}
 use Rattle.std.specs.Prelude.{map, take}
 use Rattle.kb_term.specs.View.{equations_of_list}
 use Rattle.kb_text.specs.Problems.{equation_of as problem_equation}
-use Rattle.kb_text.specs.Written.{equation_of}
+use Rattle.kb_syntax.specs.Written.{equation_of}
 use Rattle.kb_syntax.proofs.problem.equations.Given as goal
 
 -- the equations so far
