@@ -1,5 +1,4 @@
 -- Written terms as values of the program: what each is in the grammar.
-use Rattle.std.specs.Prelude.{List, [], ◌∷◌}
 use Rattle.kb_text.specs.Grammar.{Written, alone, applied, WrittenEquation}
 use Rattle.kb_text.specs.Written.{arguments_of, sign_of}
 use Rattle.kb_syntax.specs.declared.written.WrittenTerm.{WrittenTerm}

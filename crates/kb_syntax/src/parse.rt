@@ -62,7 +62,8 @@ fn parse_text(alloc: Global, text: &[u8]) -> Result<Problem, SyntaxFault>
             let problem = reader.notes.problem(alloc)?;
             return Ok(problem);
         }
-        if !reader.next(alloc, found.form, name)? {
+        let goes_on = reader.next(alloc, found.form, name)?;
+        if !goes_on {
             return Err(refusal(text, Kind::BadToken, number));
         }
         number += 1;

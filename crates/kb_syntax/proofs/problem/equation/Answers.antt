@@ -1,4 +1,4 @@
-use Rattle.std.proofs.Common.{◌≡◌, ◌≤◌, ◌∙◌, ap, sym, arith, List, [], length, subst}
+use Rattle.std.proofs.Common.{◌≡◌, ◌∙◌, ap, arith, List, [], length}
 use Rattle.kb_text.specs.Names.{Name}
 use Rattle.kb_text.specs.Problems.{equation_variables, names_in, term_of, variables_among}
 use Rattle.kb_syntax.specs.Looks.{with_names}

@@ -1,4 +1,4 @@
-use Rattle.std.proofs.Common.{◌≡◌, ap, ◌∙◌, subst, true}
+use Rattle.std.proofs.Common.{ap, ◌∙◌, subst}
 use Rattle.kb_syntax.specs.Looks.{spot_at}
 use Rattle.kb_syntax.specs.Sides.{token_at}
 use Rattle.kb_syntax.specs.Reader.{IsPassed, name_notes, place_look}

@@ -1,7 +1,5 @@
-use Rattle.std.proofs.Common.{ap, sym, ◌∙◌, ◌++◌, ◌∷◌, [], refl}
+use Rattle.std.proofs.Common.{ap, sym, ◌∙◌, ◌++◌}
 use Rattle.std.specs.Prelude.{take}
-use Rattle.std.proofs.lemmas.List.Elements.{filter-append}
-use Rattle.kb_text.specs.Names.{is_among}
 use Rattle.kb_text.specs.Problems.{names_in, names_in_all, variables_among}
 use Rattle.kb_syntax.specs.Looks.{with_names}
 use Rattle.kb_syntax.specs.Written.{written_of}

@@ -7,7 +7,7 @@ use Rattle.kb_syntax.specs.declared.written.WrittenTerm.{WrittenTerm}
 use Rattle.std.proofs.lemmas.List.{take_all}
 use Rattle.kb_text.proofs.Vectors.{empty_not}
 use Rattle.kb_syntax.proofs.WrittenArguments.{args}
-use Rattle.kb_syntax.proofs.WrittenArguments.{followed_count, applied_some, applied_none}
+use Rattle.kb_syntax.proofs.WrittenArguments.{followed_count, applied_some}
 use Rattle.kb_syntax.proofs.written.WrittenTerm.+tokens.Goals as goal
 
 pub loop-argument-preserved : goal.loop-argument-preserved
