@@ -78,8 +78,8 @@ spot-known n p f st x h (Some s) (Some b) e same own none some =
     sizes : length s.side ≡ cond b.0 0 n.size
     sizes = sym (size-known n.size s.begins s.side (side_names_of f.open_section) st.size same.2) ∙ ap (λ (b : Bool). cond b 0 n.size) (sym same.0)
 
-    is_variable : is_new x (variables_among (front_variables f) s.equation) 64 ≡ is_one_more (cond b.0 [] n.found) 64 x
-    is_variable = new-known (cond s.begins [] n.found) (variables_among (front_variables f) s.equation) 64 x (found-known (front_variables f) n.found s.begins s.equation (equation_names_of f.open_section) st.found same.3) ∙ ap (λ (b : Bool). is_one_more (cond b [] n.found) 64 x) (sym same.0)
+    is_variable : is_new x (variables_among (front_variables f) s.equation) 64 ≡ is_one_more (cond b.0 [] n.variables.found) 64 x
+    is_variable = new-known (cond s.begins [] n.variables.found) (variables_among (front_variables f) s.equation) 64 x (found-known (front_variables f) n.variables.found s.begins s.equation (equation_names_of f.open_section) st.found same.3) ∙ ap (λ (b : Bool). is_one_more (cond b [] n.variables.found) 64 x) (sym same.0)
 
     is_symbol : is_new x (symbols_among (front_variables f) (front_names f)) 24 ≡ is_one_more n.symbols 24 x
     is_symbol = new-known n.symbols (symbols_among (front_variables f) (front_names f)) 24 x st.symbols

@@ -41,12 +41,12 @@ or_nothing false = refl
 pub goes_on_passed : (old new : Notes) (e : EquationFront) (t : Token) → is_ended e t ≡ false → new ≡ record old { size = cond (is_sign t) 0 old.size } → IsPassed old (at_equation e) t new
 goes_on_passed old new e t h k =
     let r = not_ended e t h in record {
-      variables = ap (λ (n : Notes). n.variables) k;
+      variables = ap (λ (n : Notes). n.variables.declared) k;
       equations = ap (λ (n : Notes). map equation_of n.equations.items) k ∙ sym (ap (map equation_of old.equations.items ++◌) r.0 ∙ append-nil _);
       rules = ap (λ (n : Notes). n.has_rules) k ∙ or_nothing old.has_rules ∙ ap (old.has_rules ||◌) (sym r.1);
       symbols = ap (λ (n : Notes). n.symbols) k;
       arities = ap (λ (n : Notes). n.arities) k;
-      found = ap (λ (n : Notes). n.found) k ∙ ap (λ (b : Bool). cond b [] old.found) (sym r.1);
+      found = ap (λ (n : Notes). n.variables.found) k ∙ ap (λ (b : Bool). cond b [] old.variables.found) (sym r.1);
       size = ap (λ (n : Notes). n.size) k ∙ ap (λ (b : Bool). cond (is_sign t) 0 (cond b 0 old.size)) (sym r.1);
     }
 
@@ -58,7 +58,7 @@ same_sign End name = refl
 
 pub same_uses : (n : Notes) (look : Look) (f : Form) (name : List ℕ) → use_notes n look (token_at f []) ≡ use_notes n look (token_at f name)
 same_uses n look (MarkForm m) name = refl
-same_uses n look Identifier name = ap (λ (us : List (Name × ℕ)). record n { arities = with_uses n.variables n.arities us }) (go (look_side look))
+same_uses n look Identifier name = ap (λ (us : List (Name × ℕ)). record n { arities = with_uses n.variables.declared n.arities us }) (go (look_side look))
   where
     go : (o : Option TermFront) → ended_at o (identifier []) ≡ ended_at o (identifier name)
     go None = refl

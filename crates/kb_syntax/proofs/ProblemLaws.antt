@@ -1,15 +1,12 @@
 -- Members that pass a test of all.
-use Rattle.std.proofs.Common.{◌≡◌, refl, ap, sym, ◌∙◌, subst, arith, ℕ, zero, suc, ◌<◌, ◌≤◌, List, [], ◌∷◌, ◌++◌, Bool, true, false, ◌&&◌, length, get_or}
+use Rattle.std.proofs.Common.{◌≡◌, refl, ap, sym, ◌∙◌, subst, arith, ℕ, zero, suc, ◌<◌, ◌≤◌, List, [], ◌∷◌, Bool, true, false, ◌&&◌, length, get_or}
 use Rattle.std.specs.Prelude.{map, All, unwrap_or}
 use Rattle.std.specs.List.{list_all}
 use Rattle.std.proofs.lemmas.List.{length-map, get_or-map}
 use Rattle.std.proofs.lemmas.List.Elements.{All-get_or}
 use Rattle.kb_text.specs.Names.{Name}
-use Rattle.kb_text.specs.Grammar.{WrittenEquation}
-use Rattle.kb_text.specs.Problems.{arity_in, equation_variables, names_in, variables_among}
+use Rattle.kb_text.specs.Problems.{arity_in}
 use Rattle.kb_text.proofs.NameLists.{NameVec}
-use Rattle.kb_syntax.specs.Looks.{with_names}
-use Rattle.kb_syntax.proofs.WrittenArguments.{with_names-among, names-firsts}
 
 pub arity_fits : (names : List NameVec) (uses : List (Name × ℕ)) (i : ℕ) (v : NameVec) → All (λ x. unwrap_or (arity_in uses x) 0 ≤ 8) (map (λ (n : NameVec). n.items) names) → i < length names → v ≡ get_or names i v → unwrap_or (arity_in uses v.items) 0 ≤ 8
 arity_fits names uses i v h k e =
@@ -28,7 +25,3 @@ all_at p f (y ∷ ys) (suc i) x h k e = all_at p f ys i x (rest (p (f y)) (list_
     rest : (a b : Bool) → (a && b) ≡ true → b ≡ true
     rest true b h = h
     rest false b h = absurd (cc)
-
--- the variables that are found in both sides are those of the equation
-pub variables-found : (vars : List Name) (e : WrittenEquation) → with_names (with_names [] (variables_among vars (names_in e.left))) (variables_among vars (names_in e.right)) ≡ equation_variables vars e
-variables-found vars e = sym (with_names-among vars [] (names_in e.left) (names_in e.right)) ∙ names-firsts (variables_among vars (names_in e.left ++ names_in e.right))

@@ -270,7 +270,7 @@ symbols_identified n (Some s) (MarkForm LeftParen) name h k = h
 symbols_identified n (Some s) (MarkForm RightParen) name h k = h
 symbols_identified n (Some s) (MarkForm Comma) name h k = h
 symbols_identified n (Some s) (MarkForm Quotation) name h k = h
-symbols_identified n (Some s) Identifier name h k = go (is_among n.variables name) (is_among n.symbols name)
+symbols_identified n (Some s) Identifier name h k = go (is_among n.variables.declared name) (is_among n.symbols name)
   where
     go : (v a : Bool) → All IsIdentifier (cond v n.symbols (cond a n.symbols (n.symbols ++ name ∷ [])))
     go true a = h
@@ -423,7 +423,7 @@ finished_at bytes n p ss b u sections tokens_are st fine identified has_rules = 
     limits : MeetsLimits ss
     limits = meets_limits ss fine
 
-    variables_are : n.variables ≡ variables_of ss
+    variables_are : n.variables.declared ≡ variables_of ss
     variables_are = st.variables ∙ append-nil (variables_of ss)
 
     names_are : front_names (closed_at ss) ≡ all_names (equations_of ss)

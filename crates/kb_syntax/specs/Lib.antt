@@ -8,6 +8,7 @@ pub use Rattle.kb_text.specs.Lines
 pub use Rattle.kb_text.specs.Terms
 pub mod Generator
 pub mod Written
+pub mod Variables
 pub mod WrittenFalls
 pub mod Sides
 pub mod Moves

@@ -279,7 +279,7 @@ impl<'a> Notes<'a> {
         if form == Form::Identifier {
             Ok(Place::Equation(OpenEquation::begun(alloc, name)))
         } else {
-            self.end_rules(alloc);
+            self.end_rules();
             Ok(Place::Outside)
         }
     }
@@ -292,7 +292,7 @@ impl<'a> Notes<'a> {
         match form {
             Form::Identifier => Some(Place::Equation(OpenEquation::begun(alloc, name))),
             Form::Mark(Mark::RightParen) => {
-                self.end_rules(alloc);
+                self.end_rules();
                 Some(Place::Outside)
             }
             Form::Mark(_) => None,

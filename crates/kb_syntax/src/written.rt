@@ -6,10 +6,10 @@ ghost use Rattle.kb_text.specs.Refusals.{last_alone};
 ghost use Rattle.kb_term.specs.View.{tree_of};
 ghost use Rattle.kb_text.specs.Written.{arguments_of};
 ghost use Rattle.kb_text.specs.Problems.{names_in, term_of, variables_among};
-ghost use Rattle.kb_syntax.specs.Looks.{with_names};
+ghost use Rattle.kb_syntax.specs.Variables.{with_found};
 ghost use Rattle.kb_syntax.specs.Written.{written_of};
 
-use crate::declared::Declared;
+use crate::variables::Variables;
 use kb_term::{Memory, Symbol, Term, Terms};
 use kb_text::{Names, Sign};
 use std::alloc::Global;
@@ -111,21 +111,16 @@ impl<'a> WrittenTerm<'a> {
         }
     }
 
-    /// Adds the variables of the term that aren't found yet, from the left.
-    pub(crate) fn find_variables(
-        &self,
-        alloc: Global,
-        variables: &Declared,
-        found: &mut Names,
-    ) -> Result<(), Memory>
-        ensures { OnOk result (found.new ≡ with_names found.old (variables_among variables.now (names_in (written_of self.now)))) }
+    /// Adds the variables of the term to those of the equation, from the left.
+    pub(crate) fn find_variables(&self, variables: &mut Variables) -> Result<(), Memory>
+        ensures { OnOk result (variables.new ≡ with_found variables.old (variables_among variables.old.declared (names_in (written_of self.now)))) }
     {
         match self {
-            WrittenTerm::Alone(name) => find_variable(alloc, variables, name, found),
+            WrittenTerm::Alone(name) => find_variable(variables, name),
             WrittenTerm::Applied(name, arguments) => {
-                find_variable(alloc, variables, name, found)?;
+                find_variable(variables, name)?;
                 for argument in &arguments.items {
-                    argument.find_variables(alloc, variables, found)?;
+                    argument.find_variables(variables)?;
                 }
                 Ok(())
             }
@@ -136,17 +131,17 @@ impl<'a> WrittenTerm<'a> {
     pub(crate) fn term(
         &self,
         alloc: Global,
-        variables: &Names,
+        variables: &Variables,
         symbols: &Names,
     ) -> Result<Term, Memory>
-        requires variables { length variables.now < 2 ^ 16 }
+        requires variables { length variables.now.found < 2 ^ 16 }
         requires symbols { length symbols.now < 2 ^ 8 }
-        ensures { IfOk result (λ t. tree_of t ≡ term_of variables.now symbols.now (written_of self.now)) }
+        ensures { IfOk result (λ t. tree_of t ≡ term_of variables.now.found symbols.now (written_of self.now)) }
     {
         match self {
             WrittenTerm::Alone(name) => {
-                if variables.contains(name) {
-                    return Ok(Term::Var(variables.number_of(name) as u16));
+                if let Some(place) = variables.place(name) {
+                    return Ok(Term::Var(place as u16));
                 }
                 let none = Terms::new(Vec::new(alloc));
                 Ok(Term::App(Symbol(symbols.number_of(name) as u8), none))
@@ -163,17 +158,9 @@ impl<'a> WrittenTerm<'a> {
     }
 }
 
-fn find_variable(
-    alloc: Global,
-    variables: &Declared,
-    name: &[u8],
-    found: &mut Names,
-) -> Result<(), Memory>
-    ensures { OnOk result (found.new ≡ with_names found.old (variables_among variables.now (name.now ∷ []))) }
+fn find_variable(variables: &mut Variables, name: &[u8]) -> Result<(), Memory>
+    ensures { OnOk result (variables.new ≡ with_found variables.old (variables_among variables.old.declared (name.now ∷ []))) }
 {
-    if variables.contains(name) {
-        found.add(alloc, name)
-    } else {
-        Ok(())
-    }
+    variables.find(name)?;
+    Ok(())
 }

@@ -7,4 +7,7 @@ use Rattle.kb_syntax.proofs.problem.equations.Given as goal
 
 -- the equations so far
 abbrev pub invariant-loop-e : goal.invariant-loop-e
-invariant-loop-e l = equations_of_list l.all.items ≡ map (problem_equation l.variables l.symbols) (map equation_of (take l.e-index l.written))
+invariant-loop-e l = record {
+  declared : l.variables.declared ≡ l.fn.variables.declared;
+  made : equations_of_list l.all.items ≡ map (problem_equation l.fn.variables.declared l.symbols) (map equation_of (take l.e-index l.written));
+}

@@ -10,6 +10,6 @@ use Rattle.kb_syntax.proofs.written.WrittenTerm.+term.Given as goal
 -- the arguments so far are made
 abbrev pub invariant-loop-argument : goal.invariant-loop-argument
 invariant-loop-argument l = record {
-  made : map tree_of l.items.items ≡ map (λ u. term_of l.variables l.symbols (written_of u)) (take l.argument-index l.argument-items);
-  all : term_of l.variables l.symbols (written_of l.self) ≡ apply (number_of l.symbols l.name.now) (trees_of (map (λ u. term_of l.variables l.symbols (written_of u)) l.argument-items));
+  made : map tree_of l.items.items ≡ map (λ u. term_of l.variables.found l.symbols (written_of u)) (take l.argument-index l.argument-items);
+  all : term_of l.variables.found l.symbols (written_of l.self) ≡ apply (number_of l.symbols l.name.now) (trees_of (map (λ u. term_of l.variables.found l.symbols (written_of u)) l.argument-items));
 }
