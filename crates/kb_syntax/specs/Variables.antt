@@ -1,5 +1,5 @@
 -- The declared variables and those of an equation, by their numbers.
-use Rattle.std.specs.Prelude.{◌≡◌, ℕ, List, [], map, get_or, Bool, true}
+use Rattle.std.specs.Prelude.{◌≡◌, ℕ, List, [], map, get_or, true}
 use Rattle.std.specs.List.{list_all}
 use Rattle.kb_text.specs.Names.{Name, is_among, number_of}
 use Rattle.kb_syntax.specs.Looks.{with_names}

@@ -166,7 +166,12 @@ impl<'a> Notes<'a> {
     }
 
     /// Notes the uses that a token ends in a side.
-    pub(crate) fn end_uses(&mut self, alloc: Global, side: &Side<'a>, form: Form) -> Result<(), Memory>
+    pub(crate) fn end_uses(
+        &mut self,
+        alloc: Global,
+        side: &Side<'a>,
+        form: Form,
+    ) -> Result<(), Memory>
         ensures { OnOk result (self.new ≡ record self.old { arities = with_uses self.old.variables.declared self.old.arities (ended_in (side_front side.now) (token_at form [])) }) }
     {
         self.end_alone(alloc, side, form)?;

@@ -96,7 +96,11 @@ impl Variables {
         match self.names.get_index_of(name) {
             Some(number) => {
                 let at = place_of(&self.found, number);
-                if at < self.found.len() { Some(at) } else { None }
+                if at < self.found.len() {
+                    Some(at)
+                } else {
+                    None
+                }
             }
             None => None,
         }

@@ -1,6 +1,5 @@
-use Rattle.std.proofs.Common.{◌≡◌, ◌∙◌, ap, arith, List, length}
-use Rattle.kb_text.specs.Names.{Name}
-use Rattle.kb_text.specs.Problems.{equation_variables, term_of}
+use Rattle.std.proofs.Common.{◌∙◌, ap, arith, length}
+use Rattle.kb_text.specs.Problems.{term_of}
 use Rattle.kb_syntax.specs.Variables.{VariableNames}
 use Rattle.kb_syntax.specs.Written.{equation_of, written_of}
 use Rattle.kb_syntax.proofs.VariableLaws.{equation-found}

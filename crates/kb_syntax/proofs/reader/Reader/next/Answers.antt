@@ -12,4 +12,4 @@ returns c =
     let t = token_at c.args.form c.args.name.now in
     next_reader c.args.self.now (record { notes = c.pass.new.self; place = c.pass.new.place }) t c.in_ok-goes_on.goes_on c.in_ok-goes_on.ensures.place
     (λ e. subst (λ (n : Notes). IsPassed n look t c.pass.new.self)
-        (c.in_ok-name_at.ensures ∙ ap (λ (n : Notes). name_notes n (spot_at look) t) (c.in_ok-end_uses_at.ensures ∙ same_uses c.args.self.now.notes look c.args.form c.args.name.now)) (c.in_ok-goes_on.ensures.passed e))
+    (c.in_ok-name_at.ensures ∙ ap (λ (n : Notes). name_notes n (spot_at look) t) (c.in_ok-end_uses_at.ensures ∙ same_uses c.args.self.now.notes look c.args.form c.args.name.now)) (c.in_ok-goes_on.ensures.passed e))

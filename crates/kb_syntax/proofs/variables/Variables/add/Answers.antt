@@ -1,9 +1,9 @@
 use Rattle.std.proofs.Common.{ap, sym, ◌∙◌, ◌≡◌, refl, subst, List, [], ◌∷◌, ◌++◌, Bool, true, false, cond, Vec, Global, ℕ}
-use Rattle.std.specs.Prelude.{map, bytes_eq}
+use Rattle.std.specs.Prelude.{bytes_eq}
 use Rattle.std.specs.List.{list_any}
 use Rattle.std.proofs.lemmas.List.{map-append}
 use Rattle.kb_text.specs.Names.{Name, with_name}
-use Rattle.kb_syntax.specs.Variables.{VariableNames, AreNumbered, names_at}
+use Rattle.kb_syntax.specs.Variables.{VariableNames, AreNumbered}
 use Rattle.kb_syntax.proofs.LookLaws.{among-keys}
 use Rattle.kb_syntax.proofs.VariableLaws.{Keys, key_names, viewed, numbered-more, names-more}
 use Rattle.kb_syntax.proofs.variables.Variables.add.Goals as goal

@@ -1,7 +1,6 @@
-use Rattle.std.proofs.Common.{ap, sym, ◌∙◌, ◌≡◌, subst, arith, ℕ, List, [], ◌∷◌, ◌++◌, length}
-use Rattle.std.specs.Prelude.{map}
+use Rattle.std.proofs.Common.{ap, sym, ◌∙◌, ◌≡◌, subst, ℕ, List, [], ◌∷◌, ◌++◌, length}
 use Rattle.kb_term.specs.Pair.{place_in}
-use Rattle.kb_text.specs.Names.{Name, is_among, number_of}
+use Rattle.kb_text.specs.Names.{is_among, number_of}
 use Rattle.kb_text.proofs.Vectors.{vec_length}
 use Rattle.kb_syntax.specs.Variables.{VariableNames, AreNumbered}
 use Rattle.kb_syntax.proofs.VariableLaws.{key_names, key-number, no-key, numbered-push, note-new, note-old, note-none}

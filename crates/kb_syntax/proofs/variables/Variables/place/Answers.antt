@@ -1,4 +1,4 @@
-use Rattle.std.proofs.Common.{ap, sym, ◌∙◌, ◌≡◌, arith, ℕ, ◌<◌, List, length}
+use Rattle.std.proofs.Common.{ap, ◌∙◌, arith, ℕ, ◌<◌, List, length}
 use Rattle.kb_term.specs.Pair.{place_in}
 use Rattle.kb_text.proofs.Vectors.{vec_length}
 use Rattle.kb_syntax.proofs.VariableLaws.{key_names, key-number, no-key, place-some, place-none, place-undeclared}
