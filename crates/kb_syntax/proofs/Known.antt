@@ -10,7 +10,7 @@ use Rattle.kb_text.specs.Problems.{arity_in, variables_among, symbols_among, equ
 use Rattle.kb_text.specs.Refusals.{front_count, front_variables, front_names, front_uses, is_some_and, spot_of, is_new, Spot, has_other_arity, ended_alone, last_alone, back, alone_clash, closing_clash_of}
 use Rattle.kb_syntax.specs.Moves.{side_names_of, equation_names_of, open_equations}
 use Rattle.kb_syntax.specs.Looks.{Look, at_word, at_variables, at_rules, at_equation, look_of, spot_at, is_one_more, word_row}
-use Rattle.kb_text.specs.Written.{equation_of}
+use Rattle.kb_syntax.specs.Written.{equation_of}
 use Rattle.kb_syntax.specs.Reader.{Stands, place_look, count_at, spot_row, at_a_spot, own_name_row, name_row, alone_row, closing_row}
 use Rattle.kb_syntax.specs.declared.reader.Place.{Place}
 use Rattle.kb_syntax.specs.declared.notes.Notes.{Notes}
@@ -78,8 +78,8 @@ spot-known n p f st x h (Some s) (Some b) e same own none some =
     sizes : length s.side ≡ cond b.0 0 n.size
     sizes = sym (size-known n.size s.begins s.side (side_names_of f.open_section) st.size same.2) ∙ ap (λ (b : Bool). cond b 0 n.size) (sym same.0)
 
-    is_variable : is_new x (variables_among (front_variables f) s.equation) 64 ≡ is_one_more (cond b.0 [] n.found) 64 x
-    is_variable = new-known (cond s.begins [] n.found) (variables_among (front_variables f) s.equation) 64 x (found-known (front_variables f) n.found s.begins s.equation (equation_names_of f.open_section) st.found same.3) ∙ ap (λ (b : Bool). is_one_more (cond b [] n.found) 64 x) (sym same.0)
+    is_variable : is_new x (variables_among (front_variables f) s.equation) 64 ≡ is_one_more (cond b.0 [] n.variables.found) 64 x
+    is_variable = new-known (cond s.begins [] n.variables.found) (variables_among (front_variables f) s.equation) 64 x (found-known (front_variables f) n.variables.found s.begins s.equation (equation_names_of f.open_section) st.found same.3) ∙ ap (λ (b : Bool). is_one_more (cond b [] n.variables.found) 64 x) (sym same.0)
 
     is_symbol : is_new x (symbols_among (front_variables f) (front_names f)) 24 ≡ is_one_more n.symbols 24 x
     is_symbol = new-known n.symbols (symbols_among (front_variables f) (front_names f)) 24 x st.symbols

@@ -77,7 +77,7 @@ number_apart (z ∷ zs) x y a b e = go (bytes_eq x z) refl (bytes_eq y z) refl a
     go false p true q a b e ih = absurd (omega (arith, e))
     go false p false q a b e ih = ih a b (omega (arith, e))
 
-same_number : (fs : List Name) (x y : Name) → is_among fs x ≡ true → is_among fs y ≡ true → (number_of fs y == number_of fs x) ≡ bytes_eq y x
+pub same_number : (fs : List Name) (x y : Name) → is_among fs x ≡ true → is_among fs y ≡ true → (number_of fs y == number_of fs x) ≡ bytes_eq y x
 same_number fs x y a b = go (bytes_eq y x) refl
   where
     go : (p : Bool) → bytes_eq y x ≡ p → (number_of fs y == number_of fs x) ≡ bytes_eq y x

@@ -20,7 +20,7 @@ use Rattle.kb_text.specs.Machine.{best, kinds, bad_token, judged, may_end, next_
 use Rattle.kb_syntax.specs.Moves.{side_names_of}
 use Rattle.kb_syntax.specs.Looks.{Look, outside, at_word, at_variables, at_rules, at_equation, at_skipped, look_of, look_side, next_look, depth_of, spot_at}
 use Rattle.kb_syntax.specs.Sides.{token_at}
-use Rattle.kb_text.specs.Written.{equation_of}
+use Rattle.kb_syntax.specs.Written.{equation_of}
 use Rattle.kb_syntax.specs.Reader.{Stands, place_look, IsNextReader, IsShortSide, AreEmpty, IsProblemNoted, problem_from, count_at, name_notes, use_notes}
 use Rattle.kb_syntax.specs.Refused.{IsFault, IsRefusal}
 use Rattle.kb_text.specs.declared.kind.Kind.{Kind}
@@ -270,7 +270,7 @@ symbols_identified n (Some s) (MarkForm LeftParen) name h k = h
 symbols_identified n (Some s) (MarkForm RightParen) name h k = h
 symbols_identified n (Some s) (MarkForm Comma) name h k = h
 symbols_identified n (Some s) (MarkForm Quotation) name h k = h
-symbols_identified n (Some s) Identifier name h k = go (is_among n.variables name) (is_among n.symbols name)
+symbols_identified n (Some s) Identifier name h k = go (is_among n.variables.declared name) (is_among n.symbols name)
   where
     go : (v a : Bool) → All IsIdentifier (cond v n.symbols (cond a n.symbols (n.symbols ++ name ∷ [])))
     go true a = h
@@ -423,7 +423,7 @@ finished_at bytes n p ss b u sections tokens_are st fine identified has_rules = 
     limits : MeetsLimits ss
     limits = meets_limits ss fine
 
-    variables_are : n.variables ≡ variables_of ss
+    variables_are : n.variables.declared ≡ variables_of ss
     variables_are = st.variables ∙ append-nil (variables_of ss)
 
     names_are : front_names (closed_at ss) ≡ all_names (equations_of ss)

@@ -4,14 +4,14 @@ use Rattle.std.specs.Prelude.{map}
 use Rattle.kb_text.specs.Names.{Name}
 use Rattle.kb_text.specs.Grammar.{Written, Arguments, no_arguments, argument, term_tokens}
 use Rattle.kb_text.specs.Fronts.{TermFront, whole, opened, within, followed_tokens, term_front_tokens}
-use Rattle.kb_text.specs.Written.{written_of}
+use Rattle.kb_syntax.specs.Written.{written_of}
 use Rattle.kb_syntax.specs.Sides.{application_of, enclosed, side_front, HasTokens}
 use Rattle.kb_text.specs.Refusals.{ends_next}
-use Rattle.kb_text.specs.declared.written.WrittenTerm.{WrittenTerm}
+use Rattle.kb_syntax.specs.declared.written.WrittenTerm.{WrittenTerm}
 use Rattle.kb_syntax.specs.declared.side.Application.{Application}
 use Rattle.kb_syntax.specs.declared.side.Inner.TheVariants.{Whole, Open}
 use Rattle.kb_syntax.specs.declared.side.Side.{Side}
-use Rattle.kb_text.proofs.WrittenLists.{args}
+use Rattle.kb_syntax.proofs.WrittenArguments.{args}
 use Rattle.kb_syntax.proofs.SideLaws.{Enclosing, front_is, ends-within, ends-opened}
 
 enclosed_count : (xs : Enclosing) (u : TermFront) → length (term_front_tokens u) ≤ length (term_front_tokens (enclosed xs u))

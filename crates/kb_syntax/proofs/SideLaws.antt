@@ -2,6 +2,7 @@
 use Rattle.std.proofs.Common.{◌≡◌, refl, ap, sym, ◌∙◌, subst, arith, ℕ, suc, ◌+◌, ◌-◌, List, [], ◌∷◌, ◌++◌, Option, Some, None, length}
 use Rattle.std.specs.Prelude.{map, option_map, slice_get}
 use Rattle.std.proofs.lemmas.List.{map-append}
+use Rattle.std.proofs.lemmas.Option.{same_Some}
 use Rattle.kb_text.specs.Names.{Name}
 use Rattle.kb_text.specs.Tokens.{Token, arrow_equals, arrow, equals, bar, left_paren, right_paren, comma, quotation, identifier, end_of_input}
 use Rattle.kb_text.specs.Grammar.{Written, alone, applied, Arguments, no_arguments, argument}
@@ -9,15 +10,17 @@ use Rattle.kb_text.specs.Fronts.{TermFront, whole, opened, within}
 use Rattle.kb_text.specs.Problems.{count_of}
 use Rattle.kb_text.specs.Refusals.{awaits_term, open_parens, last_alone, ends_next, arguments_so_far}
 use Rattle.kb_text.specs.Machine.{next_term, with_last, is_whole}
-use Rattle.kb_text.specs.Written.{written_of}
+use Rattle.kb_text.specs.Written.{arguments_of}
+use Rattle.kb_syntax.specs.Written.{written_of}
 use Rattle.kb_syntax.specs.Sides.{application_of, enclosed, inner_front, side_front, AreEnd}
 use Rattle.kb_syntax.specs.declared.side.Application.{Application}
 use Rattle.kb_syntax.specs.declared.side.Inner.{Inner}
 use Rattle.kb_syntax.specs.declared.side.Inner.TheVariants.{Whole, Open}
 use Rattle.kb_syntax.specs.declared.side.Side.{Side}
-use Rattle.kb_text.specs.declared.written.WrittenTerm.{WrittenTerm}
+use Rattle.kb_syntax.specs.declared.written.WrittenTerm.{WrittenTerm}
+use Rattle.kb_syntax.specs.declared.written.WrittenTerm.TheVariants.{Alone, Applied}
 use Rattle.kb_text.proofs.RunTerms.{within_step, close_step, comma_step}
-use Rattle.kb_text.proofs.WrittenLists.{args, count_of-args}
+use Rattle.kb_syntax.proofs.WrittenArguments.{args, count_of-args}
 
 abbrev pub Enclosing : Type 0
 Enclosing = List (Name × Arguments)
@@ -91,25 +94,25 @@ so_far-around s t a e h =
 pub so_far-open : (s : Side) (a : Application) → s.inner ≡ Open a → arguments_so_far (side_front s) ≡ 0
 so_far-open s a e = ap arguments_so_far (front_is s (Open a) e) ∙ so_far-opened (map application_of s.outer.items) (application_of a).0 (application_of a).1
 
-pub ends-around : (s : Side) (t : WrittenTerm) (a : Application) → s.inner ≡ Whole t → Some a ≡ slice_get s.outer.items (length s.outer.items - 1) → AreEnd (ends_next (side_front s)) a.name.items (length a.arguments.items + 1)
+pub ends-around : (s : Side) (t : WrittenTerm) (a : Application) → s.inner ≡ Whole t → Some a ≡ slice_get s.outer.items (length s.outer.items - 1) → AreEnd (ends_next (side_front s)) a.name.now (length a.arguments.items + 1)
 ends-around s t a e h =
     let r = around s t a e h in
-    subst (λ (o : Option (Name × ℕ × ℕ)). AreEnd o a.name.items (length a.arguments.items + 1)) (sym (ap ends_next r.1 ∙ ends-within r.0 (application_of a).0 (application_of a).1 (written_of t)))
+    subst (λ (o : Option (Name × ℕ × ℕ)). AreEnd o a.name.now (length a.arguments.items + 1)) (sym (ap ends_next r.1 ∙ ends-within r.0 (application_of a).0 (application_of a).1 (written_of t)))
     (refl, ap (λ (n : ℕ). n + 1) (count_of-args a.arguments.items))
 
 ends_open : (f : Name) (ts : List WrittenTerm) → length ts ≡ 0 → AreEnd (ends_next (opened f (args ts))) f 0
 ends_open f [] e = (refl, refl)
 ends_open f (t ∷ ts) e = absurd (omega arith)
 
-pub ends-empty : (s : Side) (a : Application) → s.inner ≡ Open a → length a.arguments.items ≡ 0 → AreEnd (ends_next (side_front s)) a.name.items 0
-ends-empty s a e h = subst (λ (o : Option (Name × ℕ × ℕ)). AreEnd o a.name.items 0) (sym (ap ends_next (front_is s (Open a) e) ∙ ends-opened (map application_of s.outer.items) (application_of a).0 (application_of a).1)) (ends_open a.name.items a.arguments.items h)
+pub ends-empty : (s : Side) (a : Application) → s.inner ≡ Open a → length a.arguments.items ≡ 0 → AreEnd (ends_next (side_front s)) a.name.now 0
+ends-empty s a e h = subst (λ (o : Option (Name × ℕ × ℕ)). AreEnd o a.name.now 0) (sym (ap ends_next (front_is s (Open a) e) ∙ ends-opened (map application_of s.outer.items) (application_of a).0 (application_of a).1)) (ends_open a.name.now a.arguments.items h)
 
 ends_some : (f : Name) (ts : List WrittenTerm) → (length ts ≡ 0 → ⊥) → ends_next (opened f (args ts)) ≡ None
 ends_some f [] h = absurd (h refl)
 ends_some f (t ∷ ts) h = refl
 
 pub ends-some : (s : Side) (a : Application) → s.inner ≡ Open a → (length a.arguments.items ≡ 0 → ⊥) → ends_next (side_front s) ≡ None
-ends-some s a e h = ap ends_next (front_is s (Open a) e) ∙ ends-opened (map application_of s.outer.items) (application_of a).0 (application_of a).1 ∙ ends_some a.name.items a.arguments.items h
+ends-some s a e h = ap ends_next (front_is s (Open a) e) ∙ ends-opened (map application_of s.outer.items) (application_of a).0 (application_of a).1 ∙ ends_some a.name.now a.arguments.items h
 
 pub whole-empty : (s : Side) (t : WrittenTerm) → s.inner ≡ Whole t → length s.outer.items ≡ 0 → is_whole (side_front s) ≡ Some (written_of t)
 whole-empty s t e h = ap is_whole (front_is s (Whole t) e) ∙ go s.outer.items h
@@ -175,10 +178,10 @@ named s a c e outer h = sym (ap (λ (u : TermFront). next_term u (identifier c))
 pub not_named : (s : Side) (t : WrittenTerm) (c : Name) → s.inner ≡ Whole t → None ≡ next_term (side_front s) (identifier c)
 not_named s t c e = sym (ap (λ (u : TermFront). next_term u (identifier c)) (front_is s (Whole t) e) ∙ name-whole (map application_of s.outer.items) (written_of t) c)
 
-pub opening : (s : Side) (i : Inner) (c : Name) → s.inner ≡ i → inner_front i ≡ whole (alone c) → Some (enclosed (map application_of s.outer.items) (opened c no_arguments)) ≡ next_term (side_front s) left_paren
+opening : (s : Side) (i : Inner) (c : Name) → s.inner ≡ i → inner_front i ≡ whole (alone c) → Some (enclosed (map application_of s.outer.items) (opened c no_arguments)) ≡ next_term (side_front s) left_paren
 opening s i c e h = sym (ap (λ (u : TermFront). next_term u left_paren) (front_is s i e ∙ ap (enclosed (map application_of s.outer.items)) h) ∙ step-enclosed (map application_of s.outer.items) (whole (alone c)) (opened c no_arguments) left_paren refl)
 
-pub not_opening : (s : Side) (i : Inner) (f : Name) (ts : Arguments) → s.inner ≡ i → inner_front i ≡ whole (applied f ts) → None ≡ next_term (side_front s) left_paren
+not_opening : (s : Side) (i : Inner) (f : Name) (ts : Arguments) → s.inner ≡ i → inner_front i ≡ whole (applied f ts) → None ≡ next_term (side_front s) left_paren
 not_opening s i f ts e h = sym (ap (λ (u : TermFront). next_term u left_paren) (front_is s i e ∙ ap (enclosed (map application_of s.outer.items)) h) ∙ paren-applied (map application_of s.outer.items) f ts)
 
 none_open : (s : Side) (a : Application) (t : Token) → s.inner ≡ Open a → next_term (opened (application_of a).0 (application_of a).1) t ≡ None → None ≡ next_term (side_front s) t
@@ -192,8 +195,28 @@ opened-comma : (f : Name) (ts : Arguments) → next_term (opened f ts) comma ≡
 opened-comma f no_arguments = refl
 opened-comma f (argument a more) = refl
 
-pub not_opening_open : (s : Side) (a : Application) → s.inner ≡ Open a → None ≡ next_term (side_front s) left_paren
+not_opening_open : (s : Side) (a : Application) → s.inner ≡ Open a → None ≡ next_term (side_front s) left_paren
 not_opening_open s a e = none_open s a left_paren e (opened-paren (application_of a).0 (application_of a).1)
+
+-- what stands at the end, by the name alone that does
+alone_at : (s : Side) (i : Inner) (o : Option Name) → last_alone (side_front s) ≡ o → s.inner ≡ i → last_alone (inner_front i) ≡ o
+alone_at s i o h e = sym (ap last_alone (front_is s i e) ∙ alone-enclosed (map application_of s.outer.items) (inner_front i)) ∙ h
+
+pub opening_behind : (s : Side) (c : Name) → last_alone (side_front s) ≡ Some c → Some (enclosed (map application_of s.outer.items) (opened c no_arguments)) ≡ next_term (side_front s) left_paren
+opening_behind s c h = go s.inner refl
+  where
+    go : (i : Inner) → s.inner ≡ i → Some (enclosed (map application_of s.outer.items) (opened c no_arguments)) ≡ next_term (side_front s) left_paren
+    go (Whole (Alone d)) e = opening s (Whole (Alone d)) c e (ap (λ (x : Name). whole (alone x)) (same_Some d.now c (alone_at s (Whole (Alone d)) (Some c) h e)))
+    go (Whole (Applied f ts)) e = let none : None ≡ Some c = alone_at s (Whole (Applied f ts)) (Some c) h e in absurd (cc)
+    go (Open a) e = let none : None ≡ Some c = alone_at s (Open a) (Some c) h e in absurd (cc)
+
+pub not_opening_behind : (s : Side) → last_alone (side_front s) ≡ None → None ≡ next_term (side_front s) left_paren
+not_opening_behind s h = go s.inner refl
+  where
+    go : (i : Inner) → s.inner ≡ i → None ≡ next_term (side_front s) left_paren
+    go (Whole (Alone d)) e = let some : Some d.now ≡ None = alone_at s (Whole (Alone d)) None h e in absurd (cc)
+    go (Whole (Applied f ts)) e = not_opening s (Whole (Applied f ts)) f.now (arguments_of ts) e refl
+    go (Open a) e = not_opening_open s a e
 
 pub not_parted_open : (s : Side) (a : Application) → s.inner ≡ Open a → None ≡ next_term (side_front s) comma
 not_parted_open s a e = none_open s a comma e (opened-comma (application_of a).0 (application_of a).1)
@@ -215,26 +238,26 @@ bare_side s t e h = (sym (ap (λ (u : TermFront). next_term u comma) is ∙ (bar
 
 -- the front of a side whose end is whole, with the last application around it
 split_front : (s : Side) (t : WrittenTerm) (outer : List Application) (a : Application) → s.inner ≡ Whole t → s.outer.items ≡ outer ++ a ∷ []
-    → side_front s ≡ enclosed (map application_of outer) (within a.name.items (args a.arguments.items) (whole (written_of t)))
+    → side_front s ≡ enclosed (map application_of outer) (within a.name.now (args a.arguments.items) (whole (written_of t)))
 split_front s t outer a e h = front_is s (Whole t) e
     ∙ ap (λ (xs : Enclosing). enclosed xs (whole (written_of t))) (ap (map application_of) h ∙ map-append application_of outer (a ∷ []))
     ∙ enclosed-last (map application_of outer) (application_of a) (whole (written_of t))
 
 pub closing : (s : Side) (t : WrittenTerm) (outer : List Application) (a : Application) (f : Name) (ts : List WrittenTerm) → s.inner ≡ Whole t → s.outer.items ≡ outer ++ a ∷ []
-    → f ≡ a.name.items → ts ≡ a.arguments.items ++ t ∷ []
+    → f ≡ a.name.now → ts ≡ a.arguments.items ++ t ∷ []
     → Some (enclosed (map application_of outer) (whole (applied f (args ts)))) ≡ next_term (side_front s) right_paren
 closing s t outer a f ts e h p q =
     (λ i. Some (enclosed (map application_of outer) (whole (applied (p i) ((ap args q ∙ args-push a.arguments.items t) i)))))
     ∙ sym (ap (λ (u : TermFront). next_term u right_paren) (split_front s t outer a e h)
-    ∙ step-enclosed (map application_of outer) _ (whole (applied a.name.items (with_last (args a.arguments.items) (written_of t)))) right_paren (close_step a.name.items (args a.arguments.items) (written_of t)))
+    ∙ step-enclosed (map application_of outer) _ (whole (applied a.name.now (with_last (args a.arguments.items) (written_of t)))) right_paren (close_step a.name.now (args a.arguments.items) (written_of t)))
 
 pub parting : (s : Side) (t : WrittenTerm) (outer : List Application) (a : Application) (f : Name) (ts : List WrittenTerm) → s.inner ≡ Whole t → s.outer.items ≡ outer ++ a ∷ []
-    → f ≡ a.name.items → ts ≡ a.arguments.items ++ t ∷ []
+    → f ≡ a.name.now → ts ≡ a.arguments.items ++ t ∷ []
     → Some (enclosed (map application_of outer) (opened f (args ts))) ≡ next_term (side_front s) comma
 parting s t outer a f ts e h p q =
     (λ i. Some (enclosed (map application_of outer) (opened (p i) ((ap args q ∙ args-push a.arguments.items t) i))))
     ∙ sym (ap (λ (u : TermFront). next_term u comma) (split_front s t outer a e h)
-    ∙ step-enclosed (map application_of outer) _ (opened a.name.items (with_last (args a.arguments.items) (written_of t))) comma (comma_step a.name.items (args a.arguments.items) (written_of t)))
+    ∙ step-enclosed (map application_of outer) _ (opened a.name.now (with_last (args a.arguments.items) (written_of t))) comma (comma_step a.name.now (args a.arguments.items) (written_of t)))
 
 close_empty : (f : Name) (ts : List WrittenTerm) → length ts ≡ 0 → next_term (opened f (args ts)) right_paren ≡ Some (whole (applied f (args ts)))
 close_empty f [] h = refl
@@ -244,14 +267,14 @@ close_some : (f : Name) (ts : List WrittenTerm) → (length ts ≡ 0 → ⊥) �
 close_some f [] h = absurd (h refl)
 close_some f (t ∷ ts) h = refl
 
-pub closing_open : (s : Side) (a : Application) (f : Name) (ts : List WrittenTerm) → s.inner ≡ Open a → f ≡ a.name.items → ts ≡ a.arguments.items → length a.arguments.items ≡ 0
+pub closing_open : (s : Side) (a : Application) (f : Name) (ts : List WrittenTerm) → s.inner ≡ Open a → f ≡ a.name.now → ts ≡ a.arguments.items → length a.arguments.items ≡ 0
     → Some (enclosed (map application_of s.outer.items) (whole (applied f (args ts)))) ≡ next_term (side_front s) right_paren
 closing_open s a f ts e p q h =
     (λ i. Some (enclosed (map application_of s.outer.items) (whole (applied (p i) (args (q i))))))
-    ∙ sym (ap (λ (u : TermFront). next_term u right_paren) (front_is s (Open a) e) ∙ step-enclosed (map application_of s.outer.items) _ _ right_paren (close_empty a.name.items a.arguments.items h))
+    ∙ sym (ap (λ (u : TermFront). next_term u right_paren) (front_is s (Open a) e) ∙ step-enclosed (map application_of s.outer.items) _ _ right_paren (close_empty a.name.now a.arguments.items h))
 
 pub not_closing : (s : Side) (a : Application) → s.inner ≡ Open a → (length a.arguments.items ≡ 0 → ⊥) → None ≡ next_term (side_front s) right_paren
-not_closing s a e h = none_open s a right_paren e (close_some a.name.items a.arguments.items h)
+not_closing s a e h = none_open s a right_paren e (close_some a.name.now a.arguments.items h)
 
 -- tokens that no term has
 abbrev pub IsNoTermToken : Token → Type 0

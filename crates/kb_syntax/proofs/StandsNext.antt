@@ -14,14 +14,15 @@ use Rattle.kb_text.specs.Machine.{next_front, next_section, next_equation, next_
 use Rattle.kb_syntax.specs.Moves.{names_of_token, names_at, new_names, new_variables, new_uses, open_equations, equation_names_of, side_names, side_names_of}
 use Rattle.kb_syntax.specs.Looks.{Look, look_of, at_equation, spot_at, next_look, added_variables, added_equations, ends_rules, added_uses, with_use, with_uses, with_names}
 use Rattle.kb_syntax.specs.Reader.{Stands, place_look, name_notes, use_notes, prepared, is_sign, resets, IsPassed}
-use Rattle.kb_text.specs.Written.{equation_of}
+use Rattle.kb_syntax.specs.Written.{equation_of}
 use Rattle.kb_syntax.specs.declared.reader.Place.{Place}
 use Rattle.kb_syntax.specs.declared.notes.Notes.{Notes}
 use Rattle.kb_text.proofs.Sound.{map_some}
 use Rattle.kb_syntax.proofs.Fine.{Fine, Unshown}
 use Rattle.kb_syntax.proofs.FineLists.{no-equations, among-append}
 use Rattle.kb_syntax.proofs.Known.{arity-append}
-use Rattle.kb_text.proofs.Firsts.{firsts-push, same_bytes}
+use Rattle.kb_text.proofs.Firsts.{same_bytes}
+use Rattle.kb_syntax.proofs.WrittenArguments.{with_name-firsts}
 use Rattle.kb_syntax.proofs.LookLaws.{front_look, HasDepth, next-look, variables-look, equations-look, rules-ended-look, uses-look}
 use Rattle.kb_syntax.proofs.Rows.{IsSameSpot, spot-look}
 use Rattle.kb_syntax.proofs.MoveSections.{Move, section_moves, left_next, awaits_if_name, is_whole_is, whole_stops}
@@ -29,10 +30,6 @@ use Rattle.kb_syntax.proofs.SideLaws.{no_term_token}
 use Rattle.kb_syntax.proofs.MoveTerms.{term_names}
 
 -- ---- lists
-
--- the different names with one more
-with_name-firsts : (names xs : List Name) (x : Name) → names ≡ firsts xs → with_name names x ≡ firsts (xs ++ x ∷ [])
-with_name-firsts names xs x e = ap (λ (ns : List Name). with_name ns x) e ∙ sym (firsts-push xs x)
 
 -- names that aren't there yet go to the end
 with_names-new : (names : List Name) (t : Token) → ((c : Name) → t ≡ identifier c → is_among names c ≡ false) → with_names names (names_of_token t) ≡ names ++ names_of_token t
@@ -203,8 +200,8 @@ names_next ss (Some (in_skipped x ts)) t g k = let r = skipped_next ss x ts t (o
 -- ---- the notes with a name
 
 -- what is kept of the names, with the name that a token may be
-name_kept : (n : Notes) (a : Option Spot) (b : Option (Bool × ℕ)) (side equation : List Name) (t : Token) → IsSameSpot a b side equation → n.found ≡ firsts (variables_among n.variables equation) → n.size ≡ length side
-    → ((name_notes n b t).found ≡ firsts (variables_among n.variables (equation_after a t equation))) × ((name_notes n b t).size ≡ length (equation_after a t side))
+name_kept : (n : Notes) (a : Option Spot) (b : Option (Bool × ℕ)) (side equation : List Name) (t : Token) → IsSameSpot a b side equation → n.variables.found ≡ firsts (variables_among n.variables.declared equation) → n.size ≡ length side
+    → ((name_notes n b t).variables.found ≡ firsts (variables_among n.variables.declared (equation_after a t equation))) × ((name_notes n b t).size ≡ length (equation_after a t side))
 name_kept n None None side equation (identifier x) s f z = (f, z)
 name_kept n None None side equation t s f z = (f, z)
 name_kept n None (Some b) side equation t s f z = absurd s
@@ -212,16 +209,16 @@ name_kept n (Some a) None side equation t s f z = absurd s
 name_kept n (Some a) (Some b) side equation (identifier x) s f z =
     (go b.0 a.begins s.0, count b.0 a.begins s.0)
   where
-    filtered : (names : List Name) (found : List Name) → found ≡ firsts (variables_among n.variables names) → cond (is_among n.variables x) (with_name found x) found ≡ firsts (variables_among n.variables (names ++ x ∷ []))
-    filtered names found e = by (is_among n.variables x) ∙ ap firsts (sym (filter-append (is_among n.variables) names (x ∷ [])))
+    filtered : (names : List Name) (found : List Name) → found ≡ firsts (variables_among n.variables.declared names) → cond (is_among n.variables.declared x) (with_name found x) found ≡ firsts (variables_among n.variables.declared (names ++ x ∷ []))
+    filtered names found e = by (is_among n.variables.declared x) ∙ ap firsts (sym (filter-append (is_among n.variables.declared) names (x ∷ [])))
       where
-        by : (v : Bool) → cond v (with_name found x) found ≡ firsts (variables_among n.variables names ++ cond v (x ∷ []) [])
-        by true = with_name-firsts found (variables_among n.variables names) x e
-        by false = e ∙ ap firsts (sym (append-nil (variables_among n.variables names)))
+        by : (v : Bool) → cond v (with_name found x) found ≡ firsts (variables_among n.variables.declared names ++ cond v (x ∷ []) [])
+        by true = with_name-firsts found (variables_among n.variables.declared names) x e
+        by false = e ∙ ap firsts (sym (append-nil (variables_among n.variables.declared names)))
 
-    go : (p q : Bool) → p ≡ q → cond (is_among n.variables x) (with_name (cond p [] n.found) x) (cond p [] n.found) ≡ firsts (variables_among n.variables (cond q [] equation ++ x ∷ []))
+    go : (p q : Bool) → p ≡ q → cond (is_among n.variables.declared x) (with_name (cond p [] n.variables.found) x) (cond p [] n.variables.found) ≡ firsts (variables_among n.variables.declared (cond q [] equation ++ x ∷ []))
     go true true e = filtered [] [] refl
-    go false false e = filtered equation n.found f
+    go false false e = filtered equation n.variables.found f
     go true false e = absurd (cc)
     go false true e = absurd (cc)
 
@@ -232,21 +229,21 @@ name_kept n (Some a) (Some b) side equation (identifier x) s f z =
     count false true e = absurd (cc)
 name_kept n (Some a) (Some b) side equation t s f z = (f, z)
 
-symbols_kept : (n : Notes) (a : Option Spot) (b : Option (Bool × ℕ)) (side equation names : List Name) (t : Token) → IsSameSpot a b side equation → n.symbols ≡ firsts (symbols_among n.variables names)
-    → (name_notes n b t).symbols ≡ firsts (symbols_among n.variables (names ++ names_at a t))
-symbols_kept n None None side equation names (identifier x) s f = f ∙ ap (λ (ns : List Name). firsts (symbols_among n.variables ns)) (sym (append-nil names))
-symbols_kept n None None side equation names t s f = f ∙ ap (λ (ns : List Name). firsts (symbols_among n.variables ns)) (sym (append-nil names))
+symbols_kept : (n : Notes) (a : Option Spot) (b : Option (Bool × ℕ)) (side equation names : List Name) (t : Token) → IsSameSpot a b side equation → n.symbols ≡ firsts (symbols_among n.variables.declared names)
+    → (name_notes n b t).symbols ≡ firsts (symbols_among n.variables.declared (names ++ names_at a t))
+symbols_kept n None None side equation names (identifier x) s f = f ∙ ap (λ (ns : List Name). firsts (symbols_among n.variables.declared ns)) (sym (append-nil names))
+symbols_kept n None None side equation names t s f = f ∙ ap (λ (ns : List Name). firsts (symbols_among n.variables.declared ns)) (sym (append-nil names))
 symbols_kept n None (Some b) side equation names t s f = absurd s
 symbols_kept n (Some a) None side equation names t s f = absurd s
-symbols_kept n (Some a) (Some b) side equation names (identifier x) s f = by (is_among n.variables x) ∙ ap firsts (sym (filter-append (λ y. not (is_among n.variables y)) names (x ∷ [])))
+symbols_kept n (Some a) (Some b) side equation names (identifier x) s f = by (is_among n.variables.declared x) ∙ ap firsts (sym (filter-append (λ y. not (is_among n.variables.declared y)) names (x ∷ [])))
   where
-    by : (v : Bool) → cond v n.symbols (with_name n.symbols x) ≡ firsts (symbols_among n.variables names ++ cond (not v) (x ∷ []) [])
-    by true = f ∙ ap firsts (sym (append-nil (symbols_among n.variables names)))
-    by false = with_name-firsts n.symbols (symbols_among n.variables names) x f
-symbols_kept n (Some a) (Some b) side equation names t s f = f ∙ ap (λ (ns : List Name). firsts (symbols_among n.variables ns)) (sym (append-nil names))
+    by : (v : Bool) → cond v n.symbols (with_name n.symbols x) ≡ firsts (symbols_among n.variables.declared names ++ cond (not v) (x ∷ []) [])
+    by true = f ∙ ap firsts (sym (append-nil (symbols_among n.variables.declared names)))
+    by false = with_name-firsts n.symbols (symbols_among n.variables.declared names) x f
+symbols_kept n (Some a) (Some b) side equation names t s f = f ∙ ap (λ (ns : List Name). firsts (symbols_among n.variables.declared ns)) (sym (append-nil names))
 
 -- a name changes nothing else
-others_kept : (n : Notes) (b : Option (Bool × ℕ)) (t : Token) → ((name_notes n b t).variables ≡ n.variables) × ((name_notes n b t).arities ≡ n.arities) × ((name_notes n b t).equations ≡ n.equations) × ((name_notes n b t).has_rules ≡ n.has_rules)
+others_kept : (n : Notes) (b : Option (Bool × ℕ)) (t : Token) → ((name_notes n b t).variables.declared ≡ n.variables.declared) × ((name_notes n b t).arities ≡ n.arities) × ((name_notes n b t).equations ≡ n.equations) × ((name_notes n b t).has_rules ≡ n.has_rules)
 others_kept n None (identifier x) = (refl, refl, refl, refl)
 others_kept n None t = (refl, refl, refl, refl)
 others_kept n (Some b) (identifier x) = (refl, refl, refl, refl)
@@ -256,7 +253,7 @@ others_kept n (Some b) t = (refl, refl, refl, refl)
 
 -- the names that are kept, of a next front whose variables are these
 front_kept : (n m : Notes) (p : Place) (f g : Front) (t : Token) → Stands n p f → IsPassed (prepared n (place_look p) t) (place_look p) t m → NamesNext f.open_section t g.open_section
-    → (m.found ≡ firsts (variables_among (front_variables f) (equation_names_of g.open_section))) × (m.size ≡ length (side_names_of g.open_section))
+    → (m.variables.found ≡ firsts (variables_among (front_variables f) (equation_names_of g.open_section))) × (m.size ≡ length (side_names_of g.open_section))
 front_kept n m p f g t st passed next =
     let uses : Notes = use_notes n (place_look p) t in
     let kept = name_kept uses (spot_of f.open_section) (spot_at (place_look p)) (side_names_of f.open_section) (equation_names_of f.open_section) t
@@ -296,7 +293,7 @@ record NextBasics (n m : Notes) (q : Place) (f g : Front) (t : Token) : Type 0 w
   pub equations : map equation_of m.equations.items ≡ equations_of g.sections ++ open_equations g.open_section
   pub rules : m.has_rules ≡ list_any is_rules g.sections
   pub arities : m.arities ≡ with_uses (front_variables f) n.arities (new_uses f.open_section t)
-  pub variables : m.variables ≡ with_names (front_variables f) (new_variables f.open_section t)
+  pub variables : m.variables.declared ≡ with_names (front_variables f) (new_variables f.open_section t)
   pub symbols : m.symbols ≡ firsts (symbols_among (front_variables f) (front_names f ++ new_names f.open_section t))
 
 next_basics : (n m : Notes) (p q : Place) (f g : Front) (t : Token) → Stands n p f → HasDepth f.open_section → next_front f t ≡ Some g → IsPassed (prepared n (place_look p) t) (place_look p) t m → next_look (place_look p) t ≡ Some (place_look q) → Move f.sections f.open_section t g → NextBasics n m q f g t
@@ -325,7 +322,7 @@ stands_next n m p q f g t st depth fine unshown next passed look =
     basics : NextBasics n m q f g t
     basics = next_basics n m p q f g t st depth next passed look move
 
-    kept : (m.found ≡ firsts (variables_among (front_variables f) (equation_names_of g.open_section))) × (m.size ≡ length (side_names_of g.open_section))
+    kept : (m.variables.found ≡ firsts (variables_among (front_variables f) (equation_names_of g.open_section))) × (m.size ≡ length (side_names_of g.open_section))
     kept = front_kept n m p f g t st passed (names_next f.sections f.open_section t g next)
 
     with_same : front_variables f ≡ front_variables g → new_variables f.open_section t ≡ [] → Stands m q g

@@ -7,6 +7,9 @@ pub use Rattle.kb_text.specs.Refusals
 pub use Rattle.kb_text.specs.Lines
 pub use Rattle.kb_text.specs.Terms
 pub mod Generator
+pub mod Written
+pub mod Variables
+pub mod WrittenFalls
 pub mod Sides
 pub mod Moves
 pub mod Looks

@@ -11,7 +11,7 @@ use Rattle.kb_text.specs.Refusals.{front_variables, front_names, front_uses, has
 use Rattle.kb_syntax.specs.Moves.{open_equations, equation_names_of, side_names_of}
 use Rattle.kb_syntax.specs.Looks.{Look, outside, at_word, at_variables, at_rules, at_equation, at_skipped, look_of, spot_at, Spot, end_row, mark_row, word_row, is_one_more, with_names, with_uses, added_uses, next_look, added_variables, added_equations, ends_rules}
 use Rattle.kb_syntax.specs.Sides.{equation_front}
-use Rattle.kb_text.specs.Written.{equation_of}
+use Rattle.kb_syntax.specs.Written.{equation_of}
 use Rattle.kb_syntax.specs.declared.reader.Place.{Place}
 use Rattle.kb_syntax.specs.declared.reader.Place.TheVariants.{Outside, Word, Variables, Rules, Equation, Skipped}
 use Rattle.kb_syntax.specs.declared.notes.Notes.{Notes}
@@ -39,8 +39,8 @@ spot_row n count s x =
     cond (s.0 && nat_eq count 256) (Some (Limit Equations))
     (cond (nat_eq (cond s.0 0 n.size) 512) (Some (Limit Size))
     (cond (nat_eq s.1 64) (Some (Limit Depth))
-    (cond (is_among n.variables x)
-    (cond (is_one_more (cond s.0 [] n.found) 64 x) (Some (Limit VariablesLimit)) None)
+    (cond (is_among n.variables.declared x)
+    (cond (is_one_more (cond s.0 [] n.variables.found) 64 x) (Some (Limit VariablesLimit)) None)
     (cond (is_one_more n.symbols 24 x) (Some (Limit Symbols)) None))))
 
 abbrev pub at_a_spot : Notes → ℕ → Option Spot → Name → Option Kind
@@ -51,7 +51,7 @@ at_a_spot n count (Some s) x = spot_row n count s x
 abbrev pub own_name_row : Notes → Look → Name → Option Kind
 own_name_row n outside x = None
 own_name_row n at_word x = word_row n.has_rules x
-own_name_row n at_variables x = cond (is_among n.variables x) (Some DoubleVariable) None
+own_name_row n at_variables x = cond (is_among n.variables.declared x) (Some DoubleVariable) None
 own_name_row n at_rules x = spot_row n (count_at n at_rules) (true, 0) x
 own_name_row n (at_equation e) x = at_a_spot n (count_at n (at_equation e)) (spot_at (at_equation e)) x
 own_name_row n (at_skipped k) x = None
@@ -64,7 +64,7 @@ name_row n look x = cond (nat_lt 64 (length x)) (Some (Limit NameLimit)) (own_na
 
 -- another arity than n is known of the name, which is no variable
 abbrev pub clashes : Notes → Name → ℕ → Bool
-clashes n x k = not (is_among n.variables x) && has_other_arity n.arities x k
+clashes n x k = not (is_among n.variables.declared x) && has_other_arity n.arities x k
 
 abbrev pub alone_row : Notes → Option Name → Option ℕ
 alone_row n None = None
@@ -79,8 +79,8 @@ closing_row n alone (Some a) = cond (has_other_arity (n.arities ++ ended_alone a
 -- the notes with one more name of a term
 abbrev pub named_notes : Notes → Spot → Name → Notes
 named_notes n s x = record n {
-  symbols = cond (is_among n.variables x) n.symbols (with_name n.symbols x);
-  found = cond (is_among n.variables x) (with_name (cond s.0 [] n.found) x) (cond s.0 [] n.found);
+  symbols = cond (is_among n.variables.declared x) n.symbols (with_name n.symbols x);
+  variables = record n.variables { found = cond (is_among n.variables.declared x) (with_name (cond s.0 [] n.variables.found) x) (cond s.0 [] n.variables.found) };
   size = cond s.0 0 n.size + 1;
 }
 
@@ -89,7 +89,7 @@ name_notes n (Some s) (identifier x) = named_notes n s x
 name_notes n s t = n
 
 abbrev pub use_notes : Notes → Look → Token → Notes
-use_notes n look t = record n { arities = with_uses n.variables n.arities (added_uses look t) }
+use_notes n look t = record n { arities = with_uses n.variables.declared n.arities (added_uses look t) }
 
 -- the notes with the uses that a token ends, and the name that it may be
 abbrev pub prepared : Notes → Look → Token → Notes
@@ -108,23 +108,28 @@ resets look t = false
 abbrev pub is_ended : EquationFront → Token → Bool
 is_ended e t = is_some (whole_equation e) && (is_some (name_in t) || is_token t right_paren)
 
+-- the place is in an equation that the token doesn't end
+abbrev pub stays : Look → Token → Bool
+stays (at_equation e) t = not (is_ended e t)
+stays look t = false
+
 -- the same notes but for the equations
 pub record HasSameNotes (old new : Notes) : Type 0 where
-  pub variables : new.variables ≡ old.variables
+  pub variables : new.variables.declared ≡ old.variables.declared
   pub symbols : new.symbols ≡ old.symbols
   pub arities : new.arities ≡ old.arities
   pub rules : new.has_rules ≡ old.has_rules
-  pub found : new.found ≡ old.found
+  pub found : new.variables.found ≡ old.variables.found
   pub size : new.size ≡ old.size
 
 -- The notes before and behind a token by which a front goes on, but for the uses that it ends and the name that it may be.
 pub record IsPassed (old : Notes) (look : Look) (t : Token) (new : Notes) : Type 0 where
-  pub variables : new.variables ≡ with_names old.variables (added_variables look t)
+  pub variables : new.variables.declared ≡ with_names old.variables.declared (added_variables look t)
   pub equations : map equation_of new.equations.items ≡ map equation_of old.equations.items ++ added_equations look t
   pub rules : new.has_rules ≡ (old.has_rules || ends_rules look t)
   pub symbols : new.symbols ≡ old.symbols
   pub arities : new.arities ≡ old.arities
-  pub found : new.found ≡ cond (ends_rules look t) [] old.found
+  pub found : new.variables.found ≡ cond (ends_rules look t) [] old.variables.found
   pub size : new.size ≡ cond (resets look t) 0 (cond (ends_rules look t) 0 old.size)
 
 -- ---- clashes and rows together
@@ -135,7 +140,7 @@ clash_row n (Some u) t = or_else (cond (is_token t right_paren) (closing_row n (
 
 abbrev pub applied_row : Notes → Option TermFront → Token → Bool
 applied_row n None t = false
-applied_row n (Some u) t = is_token t left_paren && is_some_and (last_alone u) (is_among n.variables)
+applied_row n (Some u) t = is_token t left_paren && is_some_and (last_alone u) (is_among n.variables.declared)
 
 abbrev pub own_row : Notes → Look → Token → Option Kind
 own_row n look (identifier x) = name_row n look x
@@ -147,12 +152,12 @@ own_row n look t = mark_row look t
 -- The notes and the place stand for the front.
 pub record Stands (n : Notes) (p : Place) (f : Front) : Type 0 where
   pub place : place_look p ≡ look_of f.open_section
-  pub variables : n.variables ≡ front_variables f
+  pub variables : n.variables.declared ≡ front_variables f
   pub equations : map equation_of n.equations.items ≡ equations_of f.sections ++ open_equations f.open_section
   pub rules : n.has_rules ≡ list_any is_rules f.sections
   pub symbols : n.symbols ≡ firsts (symbols_among (front_variables f) (front_names f))
   pub arities : (x : Name) → is_among (front_variables f) x ≡ false → arity_in n.arities x ≡ arity_in (front_uses f) x
-  pub found : n.found ≡ firsts (variables_among (front_variables f) (equation_names_of f.open_section))
+  pub found : n.variables.found ≡ firsts (variables_among (front_variables f) (equation_names_of f.open_section))
   pub size : n.size ≡ length (side_names_of f.open_section)
 
 -- the reader behind one more token, where the grammar has it
@@ -167,19 +172,19 @@ IsShortSide (Some u) = length (term_front_tokens u) < 2 ^ 64
 
 -- nothing is noted
 pub record AreEmpty (n : Notes) : Type 0 where
-  pub variables : n.variables ≡ []
+  pub variables : n.variables.declared ≡ []
   pub symbols : n.symbols ≡ []
   pub arities : n.arities ≡ []
   pub equations : n.equations.items ≡ []
   pub rules : n.has_rules ≡ false
-  pub found : n.found ≡ []
+  pub found : n.variables.found ≡ []
   pub size : n.size ≡ 0
 
 -- the problem of the notes of a whole text
 abbrev pub problem_from : Notes → Problem
 problem_from n = record {
   signature = map (entry_of n.arities) n.symbols;
-  equations = map (problem_equation n.variables n.symbols) (map equation_of n.equations.items);
+  equations = map (problem_equation n.variables.declared n.symbols) (map equation_of n.equations.items);
 }
 
 -- its symbols make a signature, and it is within the limits that the program's types have
@@ -187,4 +192,4 @@ pub record IsProblemNoted (n : Notes) : Type 0 where
   pub signature : IsSignature (map (entry_of n.arities) n.symbols)
   pub arities : All (λ x. unwrap_or (arity_in n.arities x) 0 ≤ 8) n.symbols
   pub symbols : length n.symbols ≤ 24
-  pub variables : list_all (λ e. nat_le (length (equation_variables n.variables e)) 64) (map equation_of n.equations.items) ≡ true
+  pub variables : list_all (λ e. nat_le (length (equation_variables n.variables.declared e)) 64) (map equation_of n.equations.items) ≡ true

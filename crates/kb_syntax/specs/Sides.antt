@@ -1,11 +1,13 @@
 -- The fronts that values of the reader stand for.
-use Rattle.std.specs.Prelude.{◌≡◌, ℕ, List, [], ◌∷◌, map, Option, Some, None}
+use Rattle.std.specs.Prelude.{◌≡◌, ℕ, List, [], ◌∷◌, map, Bool, true, false, Option, Some, None, is_some}
 use Rattle.kb_text.specs.Names.{Name}
 use Rattle.kb_text.specs.Tokens.{Token, identifier, end_of_input}
 use Rattle.kb_text.specs.Starts.{mark_token}
 use Rattle.kb_text.specs.Grammar.{Arguments}
 use Rattle.kb_text.specs.Fronts.{TermFront, whole, opened, within, EquationFront, in_left, behind_sign, in_right}
-use Rattle.kb_text.specs.Written.{arguments_of, written_of, sign_of}
+use Rattle.kb_text.specs.Machine.{sign_of as sign_in}
+use Rattle.kb_text.specs.Written.{arguments_of, sign_of}
+use Rattle.kb_syntax.specs.Written.{written_of}
 use Rattle.kb_text.specs.declared.lexer.Form.{Form}
 use Rattle.kb_text.specs.declared.lexer.Form.TheVariants.{Mark as MarkForm, Identifier, End}
 use Rattle.kb_syntax.specs.declared.equation.OpenEquation.{OpenEquation}
@@ -23,7 +25,7 @@ token_at End name = end_of_input
 
 -- an open application: its symbol and its whole arguments
 abbrev pub application_of : Application → Name × Arguments
-application_of a = (a.name.items, arguments_of (map written_of a.arguments.items))
+application_of a = (a.name.now, arguments_of (map written_of a.arguments.items))
 
 -- a front with open applications around it, from the outermost
 abbrev pub enclosed : List (Name × Arguments) → TermFront → TermFront
@@ -57,3 +59,14 @@ AreEnd (Some a) f n = (a.0 ≡ f) × (a.1 ≡ n)
 abbrev pub HasTokens : Option (Name × ℕ × ℕ) → ℕ → Type 0
 HasTokens None k = Unit {0}
 HasTokens (Some a) k = a.2 ≡ k
+
+-- the token belongs to no side that has begun: it is a sign behind the left one, or stands behind the sign
+abbrev pub is_turn : EquationFront → Token → Bool
+is_turn (in_left u) t = is_some (sign_in t)
+is_turn (behind_sign w s) t = true
+is_turn (in_right w s u) t = false
+
+-- what is there where the answer is yes
+abbrev pub where_so : {X : Type 0} → Bool → X → Option X
+where_so true x = Some x
+where_so false x = None

@@ -1,7 +1,6 @@
 //! Problems read from their text, and problems that are generated.
 #![tactic(auto)]
 
-mod declared;
 mod equation;
 mod fault;
 mod generator;
@@ -13,6 +12,8 @@ mod reader;
 mod side;
 #[cfg(test)]
 mod tests;
+mod variables;
+mod written;
 
 pub use fault::SyntaxFault;
 pub use generator::generate;

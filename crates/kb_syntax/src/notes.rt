@@ -8,10 +8,11 @@ ghost use Rattle.kb_text.specs.Refusals.{ends_next, last_alone, has_other_arity,
 ghost use Rattle.kb_syntax.specs.Sides.{side_front, token_at};
 ghost use Rattle.kb_syntax.specs.Reader.{spot_row, clashes, named_notes, AreEmpty, alone_row, closing_row};
 
-use crate::declared::Declared;
 use crate::side::Side;
+use crate::variables::Variables;
+use crate::written::WrittenEquation;
 use kb_term::Memory;
-use kb_text::{Bound, Form, Kind, Mark, Names, Uses, WrittenEquation};
+use kb_text::{Bound, Form, Kind, Mark, Names, Uses};
 use std::alloc::Global;
 
 const EQUATIONS: usize = 256;
@@ -26,19 +27,17 @@ const VARIABLES: usize = 64;
 
 /// What is known of the text that was read.
 #[derive(Drop)]
-pub(crate) struct Notes {
-    /// The declared variables.
-    pub(crate) variables: Declared,
+pub(crate) struct Notes<'a> {
+    /// The declared variables, and those of the open equation.
+    pub(crate) variables: Variables,
     /// The symbols, by first occurrence.
     pub(crate) symbols: Names,
     /// The first use that ended of each symbol.
     pub(crate) arities: Uses,
     /// The whole equations.
-    pub(crate) equations: Vec<WrittenEquation>,
+    pub(crate) equations: Vec<WrittenEquation<'a>>,
     /// Whether a section of rules is closed.
     pub(crate) has_rules: bool,
-    /// The variables of the open equation, by first occurrence.
-    pub(crate) found: Names,
     /// How many names the open side has.
     pub(crate) size: usize,
 }
@@ -63,17 +62,16 @@ fn is_one_more(names: &Names, n: usize, name: &[u8]) -> bool
     names.len() == n && !names.contains(name)
 }
 
-impl Notes {
-    pub(crate) fn new(alloc: Global) -> Notes
+impl<'a> Notes<'a> {
+    pub(crate) fn new(alloc: Global) -> Notes<'a>
         ensures { AreEmpty result }
     {
         Notes {
-            variables: Declared::new(alloc),
+            variables: Variables::new(alloc),
             symbols: Names::new(alloc),
             arities: Uses::new(alloc),
             equations: Vec::new(alloc),
             has_rules: false,
-            found: Names::new(alloc),
             size: 0,
         }
     }
@@ -114,7 +112,7 @@ impl Notes {
                 None
             };
         }
-        if !spot.begins && is_one_more(&self.found, VARIABLES, name) {
+        if !spot.begins && self.variables.is_one_more(VARIABLES, name) {
             Some(Kind::Limit(Bound::Variables))
         } else {
             None
@@ -125,28 +123,25 @@ impl Notes {
     pub(crate) fn clashes(&self, name: &[u8], count: usize) -> bool
         ensures { result ≡ clashes self.now name.now count }
     {
-        if self.variables.contains(name) {
-            return false;
-        }
         match self.arities.first(name) {
-            Some(arity) => arity != count,
+            Some(arity) => arity != count && !self.variables.contains(name),
             None => false,
         }
     }
 
     /// Notes a use that ended.
     pub(crate) fn end_use(&mut self, alloc: Global, name: &[u8], count: usize) -> Result<(), Memory>
-        ensures { OnOk result (self.new ≡ record self.old { arities = with_use self.old.variables self.old.arities (name.now, count) }) }
+        ensures { OnOk result (self.new ≡ record self.old { arities = with_use self.old.variables.declared self.old.arities (name.now, count) }) }
     {
-        if self.variables.contains(name) || self.arities.first(name).is_some() {
+        if self.arities.first(name).is_some() || self.variables.contains(name) {
             return Ok(());
         }
         self.arities.push(Vec::from_slice(alloc, name)?, count)
     }
 
     // Notes the use of a name alone that a token ends in a side.
-    fn end_alone(&mut self, alloc: Global, side: &Side, form: Form) -> Result<(), Memory>
-        ensures { OnOk result (self.new ≡ record self.old { arities = with_uses self.old.variables self.old.arities (alone_ended (side_front side.now) (token_at form [])) }) }
+    fn end_alone(&mut self, alloc: Global, side: &Side<'a>, form: Form) -> Result<(), Memory>
+        ensures { OnOk result (self.new ≡ record self.old { arities = with_uses self.old.variables.declared self.old.arities (alone_ended (side_front side.now) (token_at form [])) }) }
     {
         if form == Form::Mark(Mark::LeftParen) {
             return Ok(());
@@ -158,8 +153,8 @@ impl Notes {
     }
 
     // Notes the use that a closing parenthesis ends in a side.
-    fn end_closing(&mut self, alloc: Global, side: &Side, form: Form) -> Result<(), Memory>
-        ensures { OnOk result (self.new ≡ record self.old { arities = with_uses self.old.variables self.old.arities (ended_use (ends_next (side_front side.now)) (token_at form [])) }) }
+    fn end_closing(&mut self, alloc: Global, side: &Side<'a>, form: Form) -> Result<(), Memory>
+        ensures { OnOk result (self.new ≡ record self.old { arities = with_uses self.old.variables.declared self.old.arities (ended_use (ends_next (side_front side.now)) (token_at form [])) }) }
     {
         if form != Form::Mark(Mark::RightParen) {
             return Ok(());
@@ -171,8 +166,13 @@ impl Notes {
     }
 
     /// Notes the uses that a token ends in a side.
-    pub(crate) fn end_uses(&mut self, alloc: Global, side: &Side, form: Form) -> Result<(), Memory>
-        ensures { OnOk result (self.new ≡ record self.old { arities = with_uses self.old.variables self.old.arities (ended_in (side_front side.now) (token_at form [])) }) }
+    pub(crate) fn end_uses(
+        &mut self,
+        alloc: Global,
+        side: &Side<'a>,
+        form: Form,
+    ) -> Result<(), Memory>
+        ensures { OnOk result (self.new ≡ record self.old { arities = with_uses self.old.variables.declared self.old.arities (ended_in (side_front side.now) (token_at form [])) }) }
     {
         self.end_alone(alloc, side, form)?;
         self.end_closing(alloc, side, form)
@@ -184,29 +184,28 @@ impl Notes {
         ensures { OnOk result (self.new ≡ named_notes self.old (spot.begins, spot.parens) name.now) }
     {
         if spot.begins {
-            self.found = Names::new(alloc);
+            self.variables.begin();
             self.size = 0;
         }
         self.size += 1;
-        if self.variables.contains(name) {
-            self.found.add(alloc, name)
-        } else {
-            self.symbols.add(alloc, name)
+        if self.variables.find(name)? {
+            return Ok(());
         }
+        self.symbols.add(alloc, name)
     }
 
     /// Notes that a section of rules is closed.
-    pub(crate) fn end_rules(&mut self, alloc: Global)
-        ensures { self.new ≡ record self.old { has_rules = true; found = []; size = 0 } }
+    pub(crate) fn end_rules(&mut self)
+        ensures { self.new ≡ record self.old { has_rules = true; variables = record self.old.variables { found = [] }; size = 0 } }
     {
         self.has_rules = true;
-        self.found = Names::new(alloc);
+        self.variables.begin();
         self.size = 0;
     }
 
     /// What a name shows in a section of variables.
     pub(crate) fn shown_by_variable(&self, name: &[u8]) -> Option<Kind>
-        ensures { result ≡ cond (is_among self.now.variables name.now) (Some Kind.DoubleVariable) None }
+        ensures { result ≡ cond (is_among self.now.variables.declared name.now) (Some Kind.DoubleVariable) None }
     {
         if self.variables.contains(name) {
             Some(Kind::DoubleVariable)
@@ -216,7 +215,7 @@ impl Notes {
     }
 
     /// Whether a name alone ends the side, of which another arity than 0 is known.
-    pub(crate) fn alone_clash(&self, side: &Side) -> Option<usize>
+    pub(crate) fn alone_clash(&self, side: &Side<'a>) -> Option<usize>
         ensures { result ≡ alone_row self.now (last_alone (side_front side.now)) }
     {
         let name = side.last_alone()?;
@@ -224,7 +223,7 @@ impl Notes {
     }
 
     // Whether the application that ends next, or a name alone before it, has another arity than is known.
-    fn closing_clashes(&self, side: &Side, name: &[u8], count: usize) -> bool
+    fn closing_clashes(&self, side: &Side<'a>, name: &[u8], count: usize) -> bool
         ensures { result ≡ has_other_arity (self.now.arities ++ ended_alone (last_alone (side_front side.now))) name.now count }
     {
         match self.arities.first(name) {
@@ -234,7 +233,7 @@ impl Notes {
     }
 
     /// How many tokens before a closing parenthesis the symbol stands of the application that it ends, where another arity is known of it.
-    pub(crate) fn closing_clash(&self, side: &Side) -> Option<usize>
+    pub(crate) fn closing_clash(&self, side: &Side<'a>) -> Option<usize>
         requires { length (term_front_tokens (side_front side.now)) < 2 ^ 64 }
         ensures { result ≡ closing_row self.now (last_alone (side_front side.now)) (ends_next (side_front side.now)) }
     {
@@ -247,8 +246,8 @@ impl Notes {
     }
 
     /// Whether a variable alone ends the side.
-    pub(crate) fn is_variable_last(&self, side: &Side) -> bool
-        ensures { result ≡ is_some_and (last_alone (side_front side.now)) (is_among self.now.variables) }
+    pub(crate) fn is_variable_last(&self, side: &Side<'a>) -> bool
+        ensures { result ≡ is_some_and (last_alone (side_front side.now)) (is_among self.now.variables.declared) }
     {
         match side.last_alone() {
             Some(name) => self.variables.contains(name),

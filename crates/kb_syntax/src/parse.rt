@@ -62,9 +62,9 @@ fn parse_text(alloc: Global, text: &[u8]) -> Result<Problem, SyntaxFault>
             let problem = reader.notes.problem(alloc)?;
             return Ok(problem);
         }
-        match reader.next(alloc, found.form, name)? {
-            Some(next) => reader = next,
-            None => return Err(refusal(text, Kind::BadToken, number)),
+        let goes_on = reader.next(alloc, found.form, name)?;
+        if !goes_on {
+            return Err(refusal(text, Kind::BadToken, number));
         }
         number += 1;
         at = found.end;

@@ -1,12 +1,12 @@
 // A text, as far as it was read.
-ghost use Rattle.std.specs.Prelude.{◌≡◌, ◌+◌, ◌<◌, ◌^◌, ◌∷◌, ◌++◌, [], IfOk, IfSome, OnOk, MatchOption, None, Option, Some, cond, is_some, false, length, map, option_map, option_to_list};
+ghost use Rattle.std.specs.Prelude.{◌≡◌, ◌+◌, ◌<◌, ◌^◌, ◌∷◌, ◌++◌, [], IfOk, IfSome, OnOk, MatchOption, None, Option, Some, cond, is_some, false, true, length, map, option_map, option_to_list};
 ghost use Rattle.kb_syntax.specs.Looks.{at_equation, at_skipped, look_side, spot_at, spot_in, end_row, mark_row, rules_row, next_look, added_variables, added_equations, ends_rules, word_look, at_rules, at_variables, at_word, outside, depth_of, answer};
 ghost use Rattle.kb_text.specs.Machine.{whole_equation};
-ghost use Rattle.kb_syntax.specs.Reader.{place_look, count_at, is_sign, is_ended, IsPassed, HasSameNotes, IsNextReader, IsShortSide, AreEmpty, use_notes, name_notes, name_row, own_name_row, at_a_spot, own_row, clash_row, applied_row};
+ghost use Rattle.kb_syntax.specs.Reader.{place_look, count_at, is_sign, is_ended, stays, IsPassed, HasSameNotes, IsNextReader, IsShortSide, AreEmpty, use_notes, name_notes, name_row, own_name_row, at_a_spot, own_row, clash_row, applied_row};
 ghost use Rattle.kb_text.specs.Refusals.{back};
-ghost use Rattle.kb_syntax.specs.Sides.{equation_front, side_front, token_at};
+ghost use Rattle.kb_syntax.specs.Sides.{equation_front, side_front, token_at, where_so};
 ghost use Rattle.kb_text.specs.Starts.{mark_token};
-ghost use Rattle.kb_text.specs.Written.{equation_of};
+ghost use Rattle.kb_syntax.specs.Written.{equation_of};
 
 use crate::equation::OpenEquation;
 use crate::notes::{Notes, Spot, is_word};
@@ -19,7 +19,7 @@ const ARITY: usize = 8;
 
 /// Where a text ends, as far as it was read.
 #[derive(Drop)]
-pub(crate) enum Place {
+pub(crate) enum Place<'a> {
     /// Behind whole sections.
     Outside,
     /// Behind the parenthesis of a section.
@@ -29,20 +29,20 @@ pub(crate) enum Place {
     /// In a section of rules, before its first equation.
     Rules,
     /// In an equation.
-    Equation(OpenEquation),
+    Equation(OpenEquation<'a>),
     /// In a skipped section, with so many open parentheses beside its own.
     Skipped(usize),
 }
 
 /// A text, as far as it was read.
 #[derive(Drop)]
-pub(crate) struct Reader {
-    pub(crate) notes: Notes,
-    pub(crate) place: Place,
+pub(crate) struct Reader<'a> {
+    pub(crate) notes: Notes<'a>,
+    pub(crate) place: Place<'a>,
 }
 
 // What a name in this equation is tested for, where a term may begin.
-fn spot_in(equation: &OpenEquation) -> Option<Spot>
+fn spot_in(equation: &OpenEquation<'_>) -> Option<Spot>
     ensures { option_map (λ s. (s.begins, s.parens)) result ≡ spot_in (equation_front equation.now) }
 {
     match equation {
@@ -86,7 +86,7 @@ fn shown_in_rules(mark: Mark) -> Option<Kind>
     }
 }
 
-fn shown_in_equation(equation: &OpenEquation, mark: Mark) -> Option<Kind>
+fn shown_in_equation(equation: &OpenEquation<'_>, mark: Mark) -> Option<Kind>
     ensures { result ≡ mark_row (at_equation (equation_front equation.now)) (mark_token mark) }
 {
     if mark != Mark::Comma {
@@ -100,7 +100,7 @@ fn shown_in_equation(equation: &OpenEquation, mark: Mark) -> Option<Kind>
     }
 }
 
-impl Place {
+impl<'a> Place<'a> {
     // What a name of a term is tested for, where a term may begin.
     fn spot(&self) -> Option<Spot>
         ensures { option_map (λ s. (s.begins, s.parens)) result ≡ spot_at (place_look self.now) }
@@ -151,7 +151,7 @@ impl Place {
     }
 
     /// The side to which the last token belongs.
-    fn side(&self) -> Option<&Side>
+    fn side(&self) -> Option<&Side<'a>>
         ensures { MatchOption result (look_side (place_look self.now) ≡ None) (λ side. look_side (place_look self.now) ≡ Some (side_front side.now)) }
     {
         match self {
@@ -165,7 +165,7 @@ impl Place {
     }
 
     // How many equations have begun.
-    fn count(&self, notes: &Notes) -> usize
+    fn count(&self, notes: &Notes<'a>) -> usize
         requires { length notes.now.equations.items < 2 ^ 63 }
         ensures { result ≡ count_at notes.now (place_look self.now) }
     {
@@ -181,7 +181,7 @@ impl Place {
 }
 
 // The place behind the name of a section.
-fn behind_word(name: &[u8]) -> Option<Place>
+fn behind_word<'a>(name: &[u8]) -> Option<Place<'a>>
     ensures { option_map place_look result ≡ word_look name.now }
 {
     if is_word(name, b"VAR") {
@@ -195,7 +195,7 @@ fn behind_word(name: &[u8]) -> Option<Place>
     }
 }
 
-fn next_skipped(depth: usize, form: Form) -> Option<Place>
+fn next_skipped<'a>(depth: usize, form: Form) -> Option<Place<'a>>
     requires { depth < 2 ^ 63 }
     ensures { option_map place_look result ≡ next_look (at_skipped depth) (token_at form []) }
 {
@@ -221,16 +221,16 @@ fn is_sign(form: Form) -> bool
 }
 
 // Whether the token ends the equation: it is whole, and a name or a closing parenthesis stands behind it.
-fn is_ended(equation: &OpenEquation, form: Form) -> bool
+fn is_ended(equation: &OpenEquation<'_>, form: Form) -> bool
     ensures { result ≡ is_ended (equation_front equation.now) (token_at form []) }
 {
     equation.is_whole() && (form == Form::Identifier || form == Form::Mark(Mark::RightParen))
 }
 
-impl Notes {
+impl<'a> Notes<'a> {
     // Notes a whole equation.
-    fn end_equation(&mut self, equation: OpenEquation) -> Result<(), Memory>
-        ensures equations { OnOk result (map equation_of self.new.equations.items ≡ map equation_of self.old.equations.items ++ option_to_list (whole_equation (equation_front equation))) }
+    fn end_equation(&mut self, equation: OpenEquation<'a>) -> Result<(), Memory>
+        ensures equations { OnOk result (map equation_of self.new.equations.items ≡ map equation_of self.old.equations.items ++ option_to_list (whole_equation (equation_front equation.entry))) }
         ensures others { OnOk result (HasSameNotes self.old self.new) }
     {
         if let Some(whole) = equation.whole() {
@@ -247,70 +247,56 @@ impl Notes {
         }
     }
 
-    // The equation with one more token that doesn't end it.
+    // Goes on with one more token of an equation, which doesn't end it.
     fn go_on(
         &mut self,
         alloc: Global,
-        equation: OpenEquation,
+        equation: &mut OpenEquation<'a>,
         form: Form,
-        name: &[u8],
-    ) -> Result<Option<Place>, Memory>
-        requires { is_ended (equation_front equation) (token_at form name.now) ≡ false }
-        ensures place { IfOk result (λ next. option_map place_look next ≡ next_look (at_equation (equation_front equation)) (token_at form name.now)) }
-        ensures passed { IfOk result (λ next. IfSome next (λ place. IsPassed self.old (at_equation (equation_front equation)) (token_at form name.now) self.new)) }
+        name: &'a [u8],
+    ) -> Result<bool, Memory>
+        requires { is_ended (equation_front equation.old) (token_at form name.now) ≡ false }
+        ensures place { IfOk result (λ goes_on. where_so goes_on (at_equation (equation_front equation.new)) ≡ next_look (at_equation (equation_front equation.old)) (token_at form name.now)) }
+        ensures passed { OnOk result (IsPassed self.old (at_equation (equation_front equation.old)) (token_at form name.now) self.new) }
     {
         self.pass_sign(form);
-        match equation.next(alloc, form, name)? {
-            Some(equation) => Ok(Some(Place::Equation(equation))),
-            None => Ok(None),
-        }
+        equation.next(alloc, form, name)
     }
 
-    // The place behind one more token in an equation, where the grammar has it there.
-    fn next_in_equation(
+    // The place behind a token that ends an equation.
+    fn behind_equation(
         &mut self,
         alloc: Global,
-        equation: OpenEquation,
+        equation: OpenEquation<'a>,
         form: Form,
-        name: &[u8],
-    ) -> Result<Option<Place>, Memory>
-        ensures place { IfOk result (λ next. option_map place_look next ≡ next_look (at_equation (equation_front equation)) (token_at form name.now)) }
-        ensures passed { IfOk result (λ next. IfSome next (λ place. IsPassed self.old (at_equation (equation_front equation)) (token_at form name.now) self.new)) }
+        name: &'a [u8],
+    ) -> Result<Place<'a>, Memory>
+        requires { is_ended (equation_front equation) (token_at form name.now) ≡ true }
+        ensures place { IfOk result (λ next. Some (place_look next) ≡ next_look (at_equation (equation_front equation.entry)) (token_at form name.now)) }
+        ensures passed { OnOk result (IsPassed self.old (at_equation (equation_front equation.entry)) (token_at form name.now) self.new) }
     {
-        if !is_ended(&equation, form) {
-            return self.go_on(alloc, equation, form, name);
-        }
         self.end_equation(equation)?;
         if form == Form::Identifier {
-            let name = Vec::from_slice(alloc, name)?;
-            Ok(Some(Place::Equation(OpenEquation::begun(alloc, name))))
+            Ok(Place::Equation(OpenEquation::begun(alloc, name)))
         } else {
-            self.end_rules(alloc);
-            Ok(Some(Place::Outside))
+            self.end_rules();
+            Ok(Place::Outside)
         }
     }
 
     // The place behind one more token in a section of rules, before its first equation.
-    fn next_in_rules(
-        &mut self,
-        alloc: Global,
-        form: Form,
-        name: &[u8],
-    ) -> Result<Option<Place>, Memory>
-        ensures place { IfOk result (λ next. option_map place_look next ≡ next_look at_rules (token_at form name.now)) }
-        ensures passed { IfOk result (λ next. IfSome next (λ place. IsPassed self.old at_rules (token_at form name.now) self.new)) }
+    fn next_in_rules(&mut self, alloc: Global, form: Form, name: &'a [u8]) -> Option<Place<'a>>
+        ensures place { option_map place_look result ≡ next_look at_rules (token_at form name.now) }
+        ensures passed { IfSome result (λ place. IsPassed self.old at_rules (token_at form name.now) self.new) }
     {
         match form {
-            Form::Identifier => {
-                let name = Vec::from_slice(alloc, name)?;
-                Ok(Some(Place::Equation(OpenEquation::begun(alloc, name))))
-            }
+            Form::Identifier => Some(Place::Equation(OpenEquation::begun(alloc, name))),
             Form::Mark(Mark::RightParen) => {
-                self.end_rules(alloc);
-                Ok(Some(Place::Outside))
+                self.end_rules();
+                Some(Place::Outside)
             }
-            Form::Mark(_) => Ok(None),
-            Form::End => Ok(None),
+            Form::Mark(_) => None,
+            Form::End => None,
         }
     }
 
@@ -319,8 +305,8 @@ impl Notes {
         &mut self,
         alloc: Global,
         form: Form,
-        name: &[u8],
-    ) -> Result<Option<Place>, Memory>
+        name: &'a [u8],
+    ) -> Result<Option<Place<'a>>, Memory>
         ensures place { IfOk result (λ next. option_map place_look next ≡ next_look at_variables (token_at form name.now)) }
         ensures passed { IfOk result (λ next. IfSome next (λ place. IsPassed self.old at_variables (token_at form name.now) self.new)) }
     {
@@ -336,8 +322,8 @@ impl Notes {
     }
 }
 
-impl Notes {
-    fn end_uses_at(&mut self, alloc: Global, place: &Place, form: Form) -> Result<(), Memory>
+impl<'a> Notes<'a> {
+    fn end_uses_at(&mut self, alloc: Global, place: &Place<'a>, form: Form) -> Result<(), Memory>
         ensures { OnOk result (self.new ≡ use_notes self.old (place_look place.now) (token_at form [])) }
     {
         match place.side() {
@@ -349,9 +335,9 @@ impl Notes {
     fn name_at(
         &mut self,
         alloc: Global,
-        place: &Place,
+        place: &Place<'a>,
         form: Form,
-        name: &[u8],
+        name: &'a [u8],
     ) -> Result<(), Memory>
         requires { self.old.size < 2 ^ 32 }
         ensures { OnOk result (self.new ≡ name_notes self.old (spot_at (place_look place.now)) (token_at form name.now)) }
@@ -365,30 +351,60 @@ impl Notes {
         }
     }
 
-    // The place behind one more token, where the grammar has it there.
+    // The place behind one more token in an equation that it ends, or outside of one; none where the grammar doesn't have it there.
     fn next_place(
         &mut self,
         alloc: Global,
-        place: Place,
+        place: &mut Place<'a>,
         form: Form,
-        name: &[u8],
-    ) -> Result<Option<Place>, Memory>
-        requires { depth_of (place_look place) < 2 ^ 63 }
-        ensures place { IfOk result (λ next. option_map place_look next ≡ next_look (place_look place) (token_at form name.now)) }
-        ensures passed { IfOk result (λ next. IfSome next (λ after. IsPassed self.old (place_look place) (token_at form name.now) self.new)) }
+        name: &'a [u8],
+    ) -> Result<Option<Place<'a>>, Memory>
+        requires depth { depth_of (place_look place.old) < 2 ^ 63 }
+        requires ended { stays (place_look place.old) (token_at form []) ≡ false }
+        ensures place { IfOk result (λ next. option_map place_look next ≡ next_look (place_look place.old) (token_at form name.now)) }
+        ensures passed { IfOk result (λ next. IfSome next (λ after. IsPassed self.old (place_look place.old) (token_at form name.now) self.new)) }
     {
         match place {
             Place::Outside => Ok(next_outside(form)),
             Place::Word => Ok(next_word(form, name)),
             Place::Variables => self.next_in_variables(alloc, form, name),
-            Place::Rules => self.next_in_rules(alloc, form, name),
-            Place::Equation(equation) => self.next_in_equation(alloc, equation, form, name),
-            Place::Skipped(depth) => Ok(next_skipped(depth, form)),
+            Place::Rules => Ok(self.next_in_rules(alloc, form, name)),
+            Place::Equation(equation) => {
+                let whole = equation.taken(alloc);
+                Ok(Some(self.behind_equation(alloc, whole, form, name)?))
+            }
+            Place::Skipped(depth) => Ok(next_skipped(*depth, form)),
+        }
+    }
+
+    // Goes on behind one more token, where the grammar has it there; else the place is lost.
+    fn pass(
+        &mut self,
+        alloc: Global,
+        place: &mut Place<'a>,
+        form: Form,
+        name: &'a [u8],
+    ) -> Result<bool, Memory>
+        requires { depth_of (place_look place.old) < 2 ^ 63 }
+        ensures place { IfOk result (λ goes_on. where_so goes_on (place_look place.new) ≡ next_look (place_look place.old) (token_at form name.now)) }
+        ensures passed { IfOk result (λ goes_on. goes_on ≡ true → IsPassed self.old (place_look place.old) (token_at form name.now) self.new) }
+    {
+        if let Place::Equation(equation) = place {
+            if !is_ended(equation, form) {
+                return self.go_on(alloc, equation, form, name);
+            }
+        }
+        match self.next_place(alloc, place, form, name)? {
+            Some(next) => {
+                *place = next;
+                Ok(true)
+            }
+            None => Ok(false),
         }
     }
 }
 
-fn next_outside(form: Form) -> Option<Place>
+fn next_outside<'a>(form: Form) -> Option<Place<'a>>
     ensures { option_map place_look result ≡ next_look outside (token_at form []) }
 {
     match form {
@@ -399,7 +415,7 @@ fn next_outside(form: Form) -> Option<Place>
     }
 }
 
-fn next_word(form: Form, name: &[u8]) -> Option<Place>
+fn next_word<'a>(form: Form, name: &[u8]) -> Option<Place<'a>>
     ensures { option_map place_look result ≡ next_look at_word (token_at form name.now) }
 {
     match form {
@@ -409,9 +425,9 @@ fn next_word(form: Form, name: &[u8]) -> Option<Place>
     }
 }
 
-impl Reader {
+impl<'a> Reader<'a> {
     /// The reader of the empty text.
-    pub(crate) fn new(alloc: Global) -> Reader
+    pub(crate) fn new(alloc: Global) -> Reader<'a>
         ensures notes { AreEmpty result.notes }
         ensures place { place_look result.place ≡ outside }
     {
@@ -421,24 +437,16 @@ impl Reader {
         }
     }
 
-    /// The reader with one more token, where the grammar has it there.
-    pub(crate) fn next(
-        self,
-        alloc: Global,
-        form: Form,
-        name: &[u8],
-    ) -> Result<Option<Reader>, Memory>
-        requires size { self.notes.size < 2 ^ 32 }
-        requires depth { depth_of (place_look self.place) < 2 ^ 63 }
-        ensures { IfOk result (λ next. IsNextReader self (token_at form name.now) next) }
+    /// Goes on with one more token, where the grammar has it there; else the reader is lost.
+    pub(crate) fn next(&mut self, alloc: Global, form: Form, name: &'a [u8]) -> Result<bool, Memory>
+        requires size { self.old.notes.size < 2 ^ 32 }
+        requires depth { depth_of (place_look self.old.place) < 2 ^ 63 }
+        ensures { IfOk result (λ goes_on. IsNextReader self.old (token_at form name.now) (where_so goes_on self.new)) }
     {
-        let Reader { mut notes, place } = self;
-        notes.end_uses_at(alloc, &place, form)?;
-        notes.name_at(alloc, &place, form, name)?;
-        match notes.next_place(alloc, place, form, name)? {
-            Some(place) => Ok(Some(Reader { notes, place })),
-            None => Ok(None),
-        }
+        self.notes.end_uses_at(alloc, &self.place, form)?;
+        self.notes.name_at(alloc, &self.place, form, name)?;
+        let goes_on = self.notes.pass(alloc, &mut self.place, form, name)?;
+        Ok(goes_on)
     }
 
     // What the token shows at its own place.

@@ -1,43 +1,46 @@
 // One side of an equation, as far as it was read.
-ghost use Rattle.std.specs.Prelude.{◌≡◌, ◌+◌, ◌<◌, ◌^◌, ◌∷◌, [], IfOk, IfSome, MatchOption, None, Some, bytes_eq, is_some, length, option_map};
+ghost use Rattle.std.specs.Prelude.{◌≡◌, ◌+◌, ◌<◌, ◌^◌, ◌∷◌, [], IfOk, IfSome, MatchOption, None, Some, bytes_eq, is_some, length, map, option_map};
 ghost use Rattle.kb_text.specs.Fronts.{whole, term_front_tokens};
-ghost use Rattle.kb_text.specs.Grammar.{alone};
+ghost use Rattle.kb_text.specs.Grammar.{alone, applied};
 ghost use Rattle.kb_text.specs.Machine.{next_term, is_whole as whole_term};
 ghost use Rattle.kb_text.specs.Refusals.{awaits_term, open_parens, last_alone, ends_next, arguments_so_far, is_some_and};
 ghost use Rattle.kb_text.specs.Tokens.{identifier, left_paren, right_paren, comma};
 ghost use Rattle.kb_text.specs.Starts.{mark_token};
-ghost use Rattle.kb_syntax.specs.Sides.{HasTokens, side_front, token_at, AreEnd};
-ghost use Rattle.kb_text.specs.Written.{written_of};
+ghost use Rattle.kb_syntax.specs.Sides.{HasTokens, inner_front, side_front, token_at, where_so, AreEnd};
+ghost use Rattle.kb_text.specs.Written.{arguments_of};
+ghost use Rattle.kb_syntax.specs.Written.{written_of};
 
+use crate::written::{WrittenTerm, WrittenTerms, followed_tokens};
 use kb_term::Memory;
-use kb_text::{Form, Mark, WrittenTerm, WrittenTerms, followed_tokens};
+use kb_text::{Form, Mark};
 use std::alloc::Global;
+use std::mem::replace;
 
 /// An application whose closing parenthesis hasn't come, with its whole arguments.
 #[derive(Drop)]
-pub(crate) struct Application {
-    name: Vec<u8>,
-    arguments: Vec<WrittenTerm>,
+pub(crate) struct Application<'a> {
+    name: &'a [u8],
+    arguments: Vec<WrittenTerm<'a>>,
 }
 
 /// Where a side ends: behind a whole term, or where an argument of an application may come.
 #[derive(Drop)]
-pub(crate) enum Inner {
-    Whole(WrittenTerm),
-    Open(Application),
+pub(crate) enum Inner<'a> {
+    Whole(WrittenTerm<'a>),
+    Open(Application<'a>),
 }
 
 /// One side of an equation, as far as it was read: the applications around its end, from the outermost.
 #[derive(Drop)]
-pub(crate) struct Side {
-    outer: Vec<Application>,
-    inner: Inner,
+pub(crate) struct Side<'a> {
+    outer: Vec<Application<'a>>,
+    inner: Inner<'a>,
 }
 
-impl Side {
+impl<'a> Side<'a> {
     /// The side that begins with a name.
-    pub(crate) fn begun(alloc: Global, name: Vec<u8>) -> Side
-        ensures { side_front result ≡ whole (alone name.items) }
+    pub(crate) fn begun(alloc: Global, name: &'a [u8]) -> Side<'a>
+        ensures { side_front result ≡ whole (alone name.now) }
     {
         Side {
             outer: Vec::new(alloc),
@@ -66,7 +69,7 @@ impl Side {
     }
 
     /// The name at the end that has no parentheses, where one stands there.
-    pub(crate) fn last_alone(&self) -> Option<&[u8]>
+    pub(crate) fn last_alone(&self) -> Option<&'a [u8]>
         ensures { MatchOption result (last_alone (side_front self.now) ≡ None) (λ name. last_alone (side_front self.now) ≡ Some name.now) }
     {
         match &self.inner {
@@ -76,17 +79,17 @@ impl Side {
     }
 
     /// The symbol and the number of arguments of the application that a closing parenthesis ends next.
-    pub(crate) fn ends_next(&self) -> Option<(&[u8], usize)>
+    pub(crate) fn ends_next(&self) -> Option<(&'a [u8], usize)>
         ensures { MatchOption result (ends_next (side_front self.now) ≡ None) (λ a. AreEnd (ends_next (side_front self.now)) a.0.now a.1) }
     {
         match &self.inner {
             Inner::Whole(_) => match self.outer.last() {
-                Some(around) => Some((&around.name, around.arguments.len() + 1)),
+                Some(around) => Some((around.name, around.arguments.len() + 1)),
                 None => None,
             },
             Inner::Open(application) => {
                 if application.arguments.is_empty() {
-                    Some((&application.name, 0))
+                    Some((application.name, 0))
                 } else {
                     None
                 }
@@ -144,8 +147,8 @@ impl Side {
     }
 
     /// The term that the side is, where it is a whole one.
-    pub(crate) fn whole(self) -> Option<WrittenTerm>
-        ensures { option_map written_of result ≡ whole_term (side_front self) }
+    pub(crate) fn whole(self) -> Option<WrittenTerm<'a>>
+        ensures { option_map written_of result ≡ whole_term (side_front self.entry) }
     {
         let Side { outer, inner } = self;
         match inner {
@@ -154,68 +157,60 @@ impl Side {
         }
     }
 
-    /// The side with one more token, where the grammar has it there within the side.
-    pub(crate) fn next(self, alloc: Global, form: Form, name: &[u8]) -> Result<Option<Side>, Memory>
-        ensures { IfOk result (λ next. option_map side_front next ≡ next_term (side_front self) (token_at form name.now)) }
+    /// Goes on with one more token, where the grammar has it there within the side; else the side is lost.
+    pub(crate) fn next(&mut self, alloc: Global, form: Form, name: &'a [u8]) -> Result<bool, Memory>
+        ensures { IfOk result (λ goes_on. where_so goes_on (side_front self.new) ≡ next_term (side_front self.old) (token_at form name.now)) }
     {
         match form {
-            Form::Identifier => self.with_name(alloc, name),
+            Form::Identifier => self.with_name(name),
             Form::Mark(mark) => self.with_mark(alloc, mark),
-            Form::End => Ok(None),
+            Form::End => Ok(false),
         }
     }
 
-    fn with_mark(self, alloc: Global, mark: Mark) -> Result<Option<Side>, Memory>
-        ensures { IfOk result (λ next. option_map side_front next ≡ next_term (side_front self) (mark_token mark)) }
+    fn with_mark(&mut self, alloc: Global, mark: Mark) -> Result<bool, Memory>
+        ensures { IfOk result (λ goes_on. where_so goes_on (side_front self.new) ≡ next_term (side_front self.old) (mark_token mark)) }
     {
         match mark {
             Mark::LeftParen => Ok(self.opened(alloc)),
             Mark::RightParen => self.closed(),
             Mark::Comma => self.parted(),
-            _ => Ok(None),
+            _ => Ok(false),
         }
     }
 
-    fn with_name(self, alloc: Global, name: &[u8]) -> Result<Option<Side>, Memory>
-        ensures { IfOk result (λ next. option_map side_front next ≡ next_term (side_front self) (identifier name.now)) }
+    fn with_name(&mut self, name: &'a [u8]) -> Result<bool, Memory>
+        ensures { IfOk result (λ goes_on. where_so goes_on (side_front self.new) ≡ next_term (side_front self.old) (identifier name.now)) }
     {
-        let Side { mut outer, inner } = self;
-        match inner {
-            Inner::Whole(_) => Ok(None),
+        match replace(&mut self.inner, Inner::Whole(WrittenTerm::Alone(name))) {
+            Inner::Whole(_) => Ok(false),
             Inner::Open(application) => {
-                outer.push(application)?;
-                let name = Vec::from_slice(alloc, name)?;
-                Ok(Some(Side {
-                    outer,
-                    inner: Inner::Whole(WrittenTerm::Alone(name)),
-                }))
+                self.outer.push(application)?;
+                Ok(true)
             }
         }
     }
 
-    fn opened(self, alloc: Global) -> Option<Side>
-        ensures { option_map side_front result ≡ next_term (side_front self) left_paren }
+    fn opened(&mut self, alloc: Global) -> bool
+        ensures { where_so result (side_front self.new) ≡ next_term (side_front self.old) left_paren }
     {
-        let Side { outer, inner } = self;
-        match inner {
-            Inner::Whole(WrittenTerm::Alone(name)) => Some(Side {
-                outer,
-                inner: Inner::Open(Application {
+        match self.last_alone() {
+            Some(name) => {
+                self.inner = Inner::Open(Application {
                     name,
                     arguments: Vec::new(alloc),
-                }),
-            }),
-            Inner::Whole(WrittenTerm::Applied(_name, _arguments)) => None,
-            Inner::Open(_application) => None,
+                });
+                true
+            }
+            None => false,
         }
     }
 
-    fn closed(self) -> Result<Option<Side>, Memory>
-        ensures { IfOk result (λ next. option_map side_front next ≡ next_term (side_front self) right_paren) }
+    fn closed(&mut self) -> Result<bool, Memory>
+        ensures { IfOk result (λ goes_on. where_so goes_on (side_front self.new) ≡ next_term (side_front self.old) right_paren) }
     {
-        let Side { mut outer, inner } = self;
-        let (name, arguments) = match inner {
-            Inner::Whole(term) => match outer.pop() {
+        match replace(&mut self.inner, Inner::Whole(WrittenTerm::Alone(b""))) {
+            Inner::Whole(term) => match self.outer.pop() {
                 Some(
                     Application {
                         name,
@@ -223,30 +218,26 @@ impl Side {
                     },
                 ) => {
                     arguments.push(term)?;
-                    (name, arguments)
+                    self.inner = applied(name, arguments);
+                    Ok(true)
                 }
-                None => return Ok(None),
+                None => Ok(false),
             },
             Inner::Open(Application { name, arguments }) => {
                 if !arguments.is_empty() {
-                    return Ok(None);
+                    return Ok(false);
                 }
-                (name, arguments)
+                self.inner = applied(name, arguments);
+                Ok(true)
             }
-        };
-        let term = WrittenTerm::Applied(name, WrittenTerms::new(arguments));
-        Ok(Some(Side {
-            outer,
-            inner: Inner::Whole(term),
-        }))
+        }
     }
 
-    fn parted(self) -> Result<Option<Side>, Memory>
-        ensures { IfOk result (λ next. option_map side_front next ≡ next_term (side_front self) comma) }
+    fn parted(&mut self) -> Result<bool, Memory>
+        ensures { IfOk result (λ goes_on. where_so goes_on (side_front self.new) ≡ next_term (side_front self.old) comma) }
     {
-        let Side { mut outer, inner } = self;
-        match inner {
-            Inner::Whole(term) => match outer.pop() {
+        match replace(&mut self.inner, Inner::Whole(WrittenTerm::Alone(b""))) {
+            Inner::Whole(term) => match self.outer.pop() {
                 Some(
                     Application {
                         name,
@@ -254,14 +245,18 @@ impl Side {
                     },
                 ) => {
                     arguments.push(term)?;
-                    Ok(Some(Side {
-                        outer,
-                        inner: Inner::Open(Application { name, arguments }),
-                    }))
+                    self.inner = Inner::Open(Application { name, arguments });
+                    Ok(true)
                 }
-                None => Ok(None),
+                None => Ok(false),
             },
-            Inner::Open(_) => Ok(None),
+            Inner::Open(_) => Ok(false),
         }
     }
+}
+
+fn applied<'a>(name: &'a [u8], arguments: Vec<WrittenTerm<'a>>) -> Inner<'a>
+    ensures { inner_front result ≡ whole (applied name.now (arguments_of (map written_of arguments.entry.items))) }
+{
+    Inner::Whole(WrittenTerm::Applied(name, WrittenTerms::new(arguments)))
 }

@@ -1,8 +1,9 @@
-use Rattle.std.proofs.Common.{rules, ◌≡◌, ◌∙◌, sym, subst, arith, ℕ, None}
+use Rattle.std.proofs.Common.{rules, ◌≡◌, ◌∙◌, sym, subst, arith, ℕ, None, Bool}
 use Rattle.kb_text.specs.Machine.{best, kinds}
 use Rattle.kb_text.specs.Problems.{Spells}
 use Rattle.kb_syntax.specs.Refused.{IsRefusal}
-use Rattle.kb_syntax.specs.Sides.{token_at}
+use Rattle.kb_syntax.specs.Reader.{IsNextReader}
+use Rattle.kb_syntax.specs.Sides.{token_at, where_so}
 use Rattle.kb_text.specs.declared.lexer.Form.TheVariants.{End}
 use Rattle.kb_syntax.proofs.Reached.{start_reached, short_side, small_depth, name_of, shown_fault, bad_fault, stepped, finished, is_ahead}
 use Rattle.kb_syntax.proofs.ShownLaws.{shown-known}
@@ -50,15 +51,16 @@ next-requires-clause-depth c =
     let small = small_depth c.args.text.now l.at l.number l.reader c.requires.short l.invariant in
     omega (arith, small)
 
-pub returns-in-None-clause-refused : goal.returns-in-None-clause-refused
-returns-in-None-clause-refused c =
+pub returns-then-not-goes_on-clause-refused : goal.returns-then-not-goes_on-clause-refused
+returns-then-not-goes_on-clause-refused c =
     let l = c.loop-kind in
     let text = c.args.text.now in
     let found = c.next_token-found.result in
     let h = l.invariant in
     let quiet : best None kinds h.front (token_at found.form (name_of text found)) ≡ None = sym (c.shown.ensures ∙ shown-known l.reader.notes l.reader.place h.front found.form (name_of text found) h.stands h.fine) ∙ c.in_default.is in
     let more : found.form ≡ End → ⊥ = search rules in
-    bad_fault text l.at l.number l.reader found c.requires.short c.requires.utf8 h c.next_token-found.ensures.found more quiet (rw c.in-None.is at c.in_ok-next.ensures) c.refusal-in-None.result c.refusal-in-None.ensures
+    let lost = subst (λ (b : Bool). IsNextReader l.reader (token_at found.form (name_of text found)) (where_so b c.next.new.self)) c.if-not-goes_on.true c.in_ok-goes_on.ensures in
+    bad_fault text l.at l.number l.reader found c.requires.short c.requires.utf8 h c.next_token-found.ensures.found more quiet lost c.refusal-then-not-goes_on.result c.refusal-then-not-goes_on.ensures
 
 pub loop-kind-preserved : goal.loop-kind-preserved
 loop-kind-preserved c =
@@ -68,4 +70,5 @@ loop-kind-preserved c =
     let h = l.invariant in
     let quiet : best None kinds h.front (token_at found.form (name_of text found)) ≡ None = sym (c.shown.ensures ∙ shown-known l.reader.notes l.reader.place h.front found.form (name_of text found) h.stands h.fine) ∙ c.in_default.is in
     let more : found.form ≡ End → ⊥ = search rules in
-    stepped text l.at l.number l.reader c.in-Some-2.next found c.requires.utf8 h c.next_token-found.ensures.found more c.next_token-found.ensures.within (is_ahead l.at found more c.next_token-found.ensures.ahead) (c.next_token-found.ensures.text c.requires.utf8 h.boundary) quiet (rw c.in-Some-2.is at c.in_ok-next.ensures)
+    let next = subst (λ (b : Bool). IsNextReader l.reader (token_at found.form (name_of text found)) (where_so b c.next.new.self)) c.if-not-goes_on.false c.in_ok-goes_on.ensures in
+    stepped text l.at l.number l.reader c.next.new.self found c.requires.utf8 h c.next_token-found.ensures.found more c.next_token-found.ensures.within (is_ahead l.at found more c.next_token-found.ensures.ahead) (c.next_token-found.ensures.text c.requires.utf8 h.boundary) quiet next

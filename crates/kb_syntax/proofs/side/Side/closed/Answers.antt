@@ -1,23 +1,20 @@
-use Rattle.std.proofs.Common.{sym, ◌∙◌, ap, Some, [], ◌∷◌, ◌++◌}
-use Rattle.kb_text.proofs.WrittenLists.{args}
-use Rattle.kb_syntax.specs.Sides.{application_of}
+use Rattle.std.proofs.Common.{sym, ◌∙◌, ap, refl, Some}
 use Rattle.std.specs.Prelude.{map}
-use Rattle.kb_text.specs.Fronts.{whole}
-use Rattle.kb_text.specs.Grammar.{applied}
-use Rattle.kb_syntax.specs.Sides.{enclosed}
-use Rattle.kb_text.specs.Written.{arguments_of}
+use Rattle.kb_text.specs.Fronts.{TermFront}
 use Rattle.kb_text.proofs.Vectors.{empty_not, empty_is}
+use Rattle.kb_syntax.specs.Sides.{application_of, enclosed}
 use Rattle.kb_syntax.proofs.SideLaws.{closing, closing_open, not_closing}
-use Rattle.kb_syntax.proofs.side.Side.closed.Goals.{in-Whole+in-Some+in_ok-push-in-Some, in-Open+else-not-is_empty}
 use Rattle.kb_syntax.proofs.side.Side.closed.Goals as goal
 
 pub returns-then-not-is_empty : goal.returns-then-not-is_empty
-returns-then-not-is_empty c = not_closing c.args.self c.in-Open.field-0 c.in-Open.is (empty_not c.in-Open.field-0.arguments (sym c.is_empty.ensures ∙ c.if-not-is_empty.true))
+returns-then-not-is_empty c = not_closing c.args.self.now c.in-Open.field-0 (sym c.replace.ensures.value ∙ c.in-Open.is) (empty_not c.in-Open.field-0.arguments (sym c.is_empty.ensures ∙ c.if-not-is_empty.true))
 
-pub returns : goal.returns
-returns c =
-    ap (λ ts. Some (enclosed (map application_of c.match-inner.outer.items) (whole (applied c.match-inner.name.0.items (arguments_of ts))))) c.new.ensures
-    ∙ elim c.match-inner.branch [
-      | in-Whole+in-Some+in_ok-push-in-Some w ↦ closing c.args.self w.in-Whole.term c.match-inner.outer.items w.in-Some.field-0 c.match-inner.name.0.items c.match-inner.name.1.items w.in-Whole.is (w.in-Some.ensures.items ∙ ap (λ v. v.items ++ w.in-Some.field-0 ∷ []) (sym w.outer-is)) (ap (λ p. p.0.items) w.name-is) (ap (λ p. p.1.items) w.name-is ∙ w.in_ok-push-in-Some.ensures.items)
-      | in-Open+else-not-is_empty w ↦ ap (λ v. Some (enclosed (map application_of v.items) (whole (applied c.match-inner.name.0.items (args c.match-inner.name.1.items))))) w.outer-is ∙ closing_open c.args.self w.in-Open.field-0 c.match-inner.name.0.items c.match-inner.name.1.items w.in-Open.is (ap (λ p. p.0.items) w.name-is) (ap (λ p. p.1.items) w.name-is) (empty_is w.in-Open.field-0.arguments (sym w.is_empty.ensures ∙ w.if-not-is_empty.false))
-    ]
+pub returns-in_ok-push-in-Some : goal.returns-in_ok-push-in-Some
+returns-in_ok-push-in-Some c =
+    ap (λ (u : TermFront). Some (enclosed (map application_of c.pop.new.self.items) u)) c.applied.ensures
+    ∙ closing c.args.self.now c.in-Whole.term c.pop.new.self.items c.in-Some.field-0 c.in-Some.field-0.name.now c.push.new.self.items (sym c.replace.ensures.value ∙ c.in-Whole.is) c.in-Some.ensures.items refl c.in_ok-push-in-Some.ensures.items
+
+pub returns-else-not-is_empty : goal.returns-else-not-is_empty
+returns-else-not-is_empty c =
+    ap (λ (u : TermFront). Some (enclosed (map application_of c.args.self.now.outer.items) u)) c.applied-in-Open.ensures
+    ∙ closing_open c.args.self.now c.in-Open.field-0 c.in-Open.field-0.name.now c.in-Open.field-0.arguments.items (sym c.replace.ensures.value ∙ c.in-Open.is) refl refl (empty_is c.in-Open.field-0.arguments (sym c.is_empty.ensures ∙ c.if-not-is_empty.false))

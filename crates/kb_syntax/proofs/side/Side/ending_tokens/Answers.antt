@@ -1,8 +1,8 @@
 use Rattle.std.proofs.Common.{ap, ◌∙◌, arith, length, ◌-◌, List}
 use Rattle.std.specs.Prelude.{slice_get}
 use Rattle.kb_text.specs.Fronts.{followed_tokens}
-use Rattle.kb_text.proofs.WrittenLists.{args}
-use Rattle.kb_text.specs.declared.written.WrittenTerm.{WrittenTerm}
+use Rattle.kb_syntax.proofs.WrittenArguments.{args}
+use Rattle.kb_syntax.specs.declared.written.WrittenTerm.{WrittenTerm}
 use Rattle.kb_syntax.proofs.SideLaws.{around}
 use Rattle.kb_syntax.proofs.SideCounts.{around_count, around_tokens, open_tokens}
 use Rattle.kb_syntax.proofs.side.Side.ending_tokens.Goals as goal

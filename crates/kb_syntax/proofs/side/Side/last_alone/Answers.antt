@@ -5,7 +5,7 @@ use Rattle.kb_text.specs.Names.{Name}
 use Rattle.kb_text.specs.Refusals.{last_alone}
 use Rattle.kb_syntax.specs.Sides.{application_of}
 use Rattle.kb_text.specs.Fronts.{whole}
-use Rattle.kb_text.specs.Written.{written_of}
+use Rattle.kb_syntax.specs.Written.{written_of}
 use Rattle.kb_syntax.proofs.SideLaws.{front_is, alone-enclosed}
 use Rattle.kb_syntax.proofs.side.Side.last_alone.Goals as goal
 

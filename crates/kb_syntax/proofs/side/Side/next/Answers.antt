@@ -6,4 +6,4 @@ use Rattle.kb_syntax.proofs.SideLaws.{no_term_token}
 use Rattle.kb_syntax.proofs.side.Side.next.Goals as goal
 
 pub returns-in-End : goal.returns-in-End
-returns-in-End c = no_term_token (side_front c.args.self) end_of_input tt ∙ ap (λ f. next_term (side_front c.args.self) (token_at f c.args.name.now)) (sym c.in-End.is)
+returns-in-End c = no_term_token (side_front c.args.self.now) end_of_input tt ∙ ap (λ f. next_term (side_front c.args.self.now) (token_at f c.args.name.now)) (sym c.in-End.is)

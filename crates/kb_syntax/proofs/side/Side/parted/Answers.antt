@@ -1,9 +1,9 @@
-use Rattle.std.proofs.Common.{refl}
+use Rattle.std.proofs.Common.{◌∙◌, refl, sym}
 use Rattle.kb_syntax.proofs.SideLaws.{parting, not_parted_open}
 use Rattle.kb_syntax.proofs.side.Side.parted.Goals as goal
 
-pub returns-in_ok-push-in-Some : goal.returns-in_ok-push-in-Some
-returns-in_ok-push-in-Some c = parting c.args.self c.in-Whole.term c.pop.new.self.items c.in-Some.field-0 c.in-Some.field-0.name.items c.push.new.self.items c.in-Whole.is c.in-Some.ensures.items refl c.in_ok-push-in-Some.ensures.items
+pub returns-in-Some : goal.returns-in-Some
+returns-in-Some c = parting c.args.self.now c.in-Whole.term c.pop.new.self.items c.in-Some.field-0 c.in-Some.field-0.name.now c.push.new.self.items (sym c.replace.ensures.value ∙ c.in-Whole.is) c.in-Some.ensures.items refl c.in_ok-push-in-Some.ensures.items
 
-pub returns-in-Open : goal.returns-in-Open
-returns-in-Open c = not_parted_open c.args.self c.in-Open.field-0 c.in-Open.is
+pub returns : goal.returns
+returns c = not_parted_open c.args.self.now c.in-Open.field-0 (sym c.replace.ensures.value ∙ c.in-Open.is)

@@ -1,0 +1,23 @@
+-- The declared variables and those of an equation, by their numbers.
+use Rattle.std.specs.Prelude.{◌≡◌, ℕ, List, [], map, get_or, true}
+use Rattle.std.specs.List.{list_all}
+use Rattle.kb_text.specs.Names.{Name, is_among, number_of}
+use Rattle.kb_syntax.specs.Looks.{with_names}
+
+-- the declared names, and those of them that an equation has
+pub record VariableNames : Type 0 where
+  pub declared : List Name
+  pub found : List Name
+
+-- with more names of the equation
+abbrev pub with_found : VariableNames → List Name → VariableNames
+with_found v names = record v { found = with_names v.found names }
+
+abbrev pub names_at : List Name → List ℕ → List Name
+names_at names numbers = map (λ (i : ℕ). get_or names i []) numbers
+
+-- the numbers are those of declared names
+pub record AreNumbered (declared : List Name) (numbers : List ℕ) : Type 0 where
+  pub names : List Name
+  pub declared_all : list_all (is_among declared) names ≡ true
+  pub numbered : numbers ≡ map (number_of declared) names

@@ -1,0 +1,125 @@
+// The declared variables, and those of the open equation.
+ghost use Rattle.std.specs.Prelude.{◌≡◌, [], IfOk, OnOk, MatchOption, cond, false, length, true};
+ghost use Rattle.kb_term.specs.Pair.{place_in};
+ghost use Rattle.kb_text.specs.Names.{is_among, number_of as number_in, with_name};
+ghost use Rattle.kb_syntax.specs.Looks.{is_one_more};
+
+use indexmap::IndexSet;
+use kb_term::Memory;
+use std::alloc::Global;
+use std::marker::Model;
+
+/// The names that are declared as variables, in their order, looked up by a hash; and by their numbers the variables
+/// of the open equation, by first occurrence.
+#[derive(Drop)]
+pub struct Variables {
+    names: IndexSet<Vec<u8>>,
+    found: Vec<usize>,
+}
+
+impl Model for Variables {
+    ghost use Rattle.std.specs.Prelude.{map};
+    ghost use Rattle.kb_syntax.specs.Variables.{VariableNames, AreNumbered, names_at};
+
+    ghost Value = { VariableNames };
+
+    ghost view = { λ a. record { declared = map (λ n. n.items) a.names.keys; found = names_at (map (λ n. n.items) a.names.keys) a.found.items } };
+
+    ghost invariant = { λ a. AreNumbered (map (λ n. n.items) a.names.keys) a.found.items };
+}
+
+// Where the number first stands; how many numbers there are where it isn't among them.
+fn place_of(numbers: &[usize], number: usize) -> usize
+    ensures { result ≡ place_in numbers.now number }
+{
+    for i in 0..numbers.len() {
+        if numbers[i] == number {
+            return i;
+        }
+    }
+    numbers.len()
+}
+
+impl Variables {
+    /// No variables.
+    pub fn new(alloc: Global) -> Variables
+        ensures { result ≡ record { declared = []; found = [] } }
+    {
+        Variables {
+            names: IndexSet::new(alloc),
+            found: Vec::new(alloc),
+        }
+    }
+
+    /// Whether the name is declared.
+    pub fn contains(&self, name: &[u8]) -> bool
+        ensures { result ≡ is_among self.now.declared name.now }
+    {
+        self.names.contains(name)
+    }
+
+    /// Declares a name, where it isn't yet.
+    pub fn add(&mut self, name: Vec<u8>) -> Result<(), Memory>
+        ensures { OnOk result (self.new ≡ record self.old { declared = with_name self.old.declared name.items }) }
+    {
+        self.names.insert(name)?;
+        Ok(())
+    }
+
+    /// Begins an equation, which has no variables yet.
+    pub fn begin(&mut self)
+        ensures { self.new ≡ record self.old { found = [] } }
+    {
+        self.found.clear();
+    }
+
+    /// Adds the name to those of the equation, where it is declared and isn't there yet; whether it is declared.
+    pub fn find(&mut self, name: &[u8]) -> Result<bool, Memory>
+        ensures declared { IfOk result (λ is_declared. is_declared ≡ is_among self.old.declared name.now) }
+        ensures found { OnOk result (self.new ≡ record self.old { found = cond (is_among self.old.declared name.now) (with_name self.old.found name.now) self.old.found }) }
+    {
+        match self.names.get_index_of(name) {
+            Some(number) => {
+                if place_of(&self.found, number) == self.found.len() {
+                    self.found.push(number)?;
+                }
+                Ok(true)
+            }
+            None => Ok(false),
+        }
+    }
+
+    /// Where the name stands among those of the equation; none where it isn't one of them.
+    pub fn place(&self, name: &[u8]) -> Option<usize>
+        ensures { MatchOption result (is_among self.now.found name.now ≡ false) (λ n. (is_among self.now.found name.now ≡ true) × (number_in self.now.found name.now ≡ n)) }
+    {
+        match self.names.get_index_of(name) {
+            Some(number) => {
+                let at = place_of(&self.found, number);
+                if at < self.found.len() {
+                    Some(at)
+                } else {
+                    None
+                }
+            }
+            None => None,
+        }
+    }
+
+    /// How many variables the equation has.
+    pub fn count(&self) -> usize
+        ensures { result ≡ length self.now.found }
+    {
+        self.found.len()
+    }
+
+    /// Whether the name isn't among those of the equation, which are so many.
+    pub fn is_one_more(&self, n: usize, name: &[u8]) -> bool
+        ensures { result ≡ is_one_more self.now.found n name.now }
+    {
+        if self.count() != n {
+            return false;
+        }
+        self.place(name).is_none()
+    }
+}
