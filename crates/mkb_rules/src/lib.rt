@@ -1,0 +1,9 @@
+//! The board without flight and journal, and what commits do to it.
+#![tactic(auto)]
+
+mod applied;
+mod nodes;
+mod state;
+
+pub use applied::Applied;
+pub use state::State;
