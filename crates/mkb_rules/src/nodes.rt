@@ -1,10 +1,11 @@
 // Nodes whose last changes can be taken back.
-ghost use Rattle.std.specs.Prelude.{◌≡◌, ◌<◌, [], length, OnOk, OnErr, IfOk};
-ghost use Rattle.mkb_model.specs.Effects.{with_label};
+ghost use Rattle.std.specs.Prelude.{◌≡◌, ◌<◌, ◌↔◌, [], length, OnOk, OnErr, IfOk, IsFalse, Err};
+ghost use Rattle.mkb_model.specs.Effects.{with_label, with_node, node_of, is_present, most_nodes, gains, loses, gains_equation, gains_rule};
 ghost use Rattle.mkb_rules.specs.Parts.{plain_nodes};
 
-use kb_label::ListLabels;
-use kb_node::{LabelKind, NodeId, NodeTable};
+use kb_label::{ListLabels, NameLog};
+use kb_node::{LabelKind, NodeFault, NodeId, NodeTable};
+use kb_term::{Origin, Pair, RuleRef};
 use std::alloc::{AllocError, Global};
 use std::marker::Model;
 
@@ -82,5 +83,53 @@ impl Nodes {
         let label = self.table.set_label(n, kind, label);
         self.replaced.push(Replaced { node: n, kind, label }).unwrap();
         Ok(())
+    }
+
+    pub(crate) fn roll_back(&mut self)
+        ensures now { self.new.now ≡ self.old.before }
+        ensures before { self.new.before ≡ self.old.before }
+    {
+    }
+
+    pub(crate) fn find_or_add(&mut self, _pair: Pair, _origin: Origin) -> Result<NodeId, NodeFault>
+        ensures ok { OnOk result (self.new.now ≡ with_node _pair _origin self.old.now) }
+        ensures node { IfOk result (λ n. n.0 ≡ node_of self.new.now _pair) }
+        ensures full { (result ≡ Err NodeFault.Full) ↔ (IsFalse (is_present self.old.now _pair) × (length self.old.now ≡ most_nodes)) }
+        ensures before { self.new.before ≡ self.old.before }
+        ensures err { OnErr result (self.new ≡ self.old) }
+    {
+        Err(NodeFault::Memory)
+    }
+
+    pub(crate) fn gains(&mut self, _log: &NameLog, n: NodeId, _kind: LabelKind, _names: &ListLabels) -> Result<(), AllocError>
+        requires { n.0 < length self.old.now }
+        ensures ok { OnOk result (self.new.now ≡ gains n.0 _kind _names.now self.old.now) }
+        ensures before { self.new.before ≡ self.old.before }
+    {
+        Err(AllocError)
+    }
+
+    pub(crate) fn loses(&mut self, _log: &NameLog, n: NodeId, _kind: LabelKind, _names: &ListLabels) -> Result<(), AllocError>
+        requires { n.0 < length self.old.now }
+        ensures ok { OnOk result (self.new.now ≡ loses n.0 _kind _names.now self.old.now) }
+        ensures before { self.new.before ≡ self.old.before }
+    {
+        Err(AllocError)
+    }
+
+    pub(crate) fn gains_equation(&mut self, _log: &NameLog, n: NodeId, _names: &ListLabels) -> Result<(), AllocError>
+        requires { n.0 < length self.old.now }
+        ensures ok { OnOk result (self.new.now ≡ gains_equation n.0 _names.now self.old.now) }
+        ensures before { self.new.before ≡ self.old.before }
+    {
+        Err(AllocError)
+    }
+
+    pub(crate) fn gains_rule(&mut self, _log: &NameLog, rule: RuleRef, _names: &ListLabels) -> Result<(), AllocError>
+        requires { rule.node < length self.old.now }
+        ensures ok { OnOk result (self.new.now ≡ gains_rule rule _names.now self.old.now) }
+        ensures before { self.new.before ≡ self.old.before }
+    {
+        Err(AllocError)
     }
 }
