@@ -1,10 +1,13 @@
 // Nodes whose last changes can be taken back.
-ghost use Rattle.std.specs.Prelude.{◌≡◌, ◌<◌, [], length, OnOk, OnErr, IfOk};
-ghost use Rattle.mkb_model.specs.Effects.{with_label};
+ghost use Rattle.std.specs.Prelude.{◌≡◌, ◌<◌, ◌≤◌, ◌↔◌, [], length, All, IsFalse, OnOk, OnErr, IfOk};
+ghost use Rattle.mkb_model.specs.Plain.{label_at};
+ghost use Rattle.mkb_model.specs.Effects.{with_label, with_node, node_of, is_present, most_nodes, gains as with_gain, loses as with_loss, gains_equation as with_equation, gains_rule as with_rule};
 ghost use Rattle.mkb_rules.specs.Parts.{plain_nodes};
+ghost use Rattle.mkb_rules.specs.Nodes.{put_back};
 
-use kb_label::ListLabels;
-use kb_node::{LabelKind, NodeId, NodeTable};
+use kb_label::{Labels, ListLabels, NameLog};
+use kb_node::{LabelKind, NodeFault, NodeId, NodeTable};
+use kb_term::{Origin, Pair, RuleRef};
 use std::alloc::{AllocError, Global};
 use std::marker::Model;
 
@@ -21,24 +24,23 @@ struct Replaced {
 #[derive(Drop)]
 pub(crate) struct Nodes {
     table: NodeTable<ListLabels>,
-    kept: usize,
+    kept: u32,
     replaced: Vec<Replaced>,
 }
 
 impl Model for Nodes {
-    ghost use Rattle.std.specs.Prelude.{map, take, All, length, ◌≤◌, ◌<◌};
+    ghost use Rattle.std.specs.Prelude.{take, All, length, ◌≤◌, ◌<◌};
     ghost use Rattle.std.specs.Coded.{codes};
     ghost use Rattle.kb_term.specs.Coding.{coded_pair};
-    ghost use Rattle.kb_node.specs.declared.node.NodeId.{NodeId};
-    ghost use Rattle.mkb_rules.specs.Parts.{plain_nodes};
-    ghost use Rattle.mkb_rules.specs.Nodes.{Changed, OldLabel, put_back};
     ghost use Rattle.mkb_rules.specs.declared.nodes.Replaced.{Replaced};
+    ghost use Rattle.mkb_rules.specs.Parts.{plain_nodes};
+    ghost use Rattle.mkb_rules.specs.Nodes.{Changed, put_back};
 
     ghost Value = { Changed };
 
     ghost coded = { Prim.hlevel (codes, coded_pair) };
 
-    ghost view = { λ t. record { now = plain_nodes t.table; before = take t.kept (put_back (map (λ (r : Replaced). record { node = r.node.0; kind = r.kind; names = r.label }) t.replaced.items) (plain_nodes t.table)) } };
+    ghost view = { λ t. record { now = plain_nodes t.table; before = take t.kept (put_back t.replaced.items (plain_nodes t.table)) } };
 
     ghost invariant = { λ t. (t.kept ≤ length t.table) × All (λ (r : Replaced). r.node.0 < length t.table) t.replaced.items };
 }
@@ -46,7 +48,7 @@ impl Model for Nodes {
 impl Nodes {
     /// No node. It takes no memory.
     pub(crate) fn new(alloc: Global) -> Nodes
-        ensures { result.now ≡ [] }
+        ensures { result ≡ record { now = []; before = [] } }
     {
         Nodes {
             table: NodeTable::new(alloc),
@@ -66,9 +68,19 @@ impl Nodes {
     pub(crate) fn keep(&mut self)
         ensures now { self.new.now ≡ self.old.now }
         ensures before { self.new.before ≡ self.old.now }
+        ensures few { length self.new.now ≤ most_nodes }
     {
-        self.kept = self.table.len() as usize;
+        self.kept = self.table.len();
         self.replaced.clear();
+    }
+
+    /// Takes back all changes since they were last kept. It takes no memory.
+    pub(crate) fn roll_back(&mut self)
+        ensures now { self.new.now ≡ self.old.before }
+        ensures before { self.new.before ≡ self.old.before }
+    {
+        put_all_back(&mut self.table, &mut self.replaced);
+        self.table.truncate(self.kept);
     }
 
     /// Puts a label in the place of the node's label of this kind.
@@ -82,5 +94,32 @@ impl Nodes {
         let label = self.table.set_label(n, kind, label);
         self.replaced.push(Replaced { node: n, kind, label }).unwrap();
         Ok(())
+    }
+
+    /// The node that has the pair; else one more node, of this origin and without labels.
+    ///
+    /// # Errors
+    ///
+    /// `Full` where the pair is new and there are 4,096 nodes, and want of memory.
+    pub(crate) fn find_or_add(&mut self, pair: Pair, origin: Origin) -> Result<NodeId, NodeFault>
+        ensures ok { OnOk result (self.new.now ≡ with_node pair origin self.old.now) }
+        ensures node { IfOk result (λ n. n.0 ≡ node_of self.new.now pair) }
+        ensures full { (result ≡ Err NodeFault.Full) ↔ (IsFalse (is_present self.old.now pair) × (length self.old.now ≡ most_nodes)) }
+        ensures before { self.new.before ≡ self.old.before }
+        ensures err { OnErr result (self.new ≡ self.old) }
+    {
+        self.table.find_or_add(pair, origin)
+    }
+}
+
+// Puts the replaced labels back, the last one first.
+fn put_all_back(table: &mut NodeTable<ListLabels>, replaced: &mut Vec<Replaced>)
+    requires { All (λ (r : Replaced). r.node.0 < length table.old) replaced.old.items }
+    ensures nodes { plain_nodes table.new ≡ put_back replaced.old.items (plain_nodes table.old) }
+    ensures none { replaced.new.items ≡ [] }
+{
+    while let Some(last) = replaced.pop() {
+        let Replaced { node, kind, label } = last;
+        let _changed = table.set_label(node, kind, label);
     }
 }
