@@ -1,4 +1,6 @@
 pub mod Parts
 pub mod Nodes
+pub mod Kept
+pub mod Over
 pub mod Applying
 pub mod Named

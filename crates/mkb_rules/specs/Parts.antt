@@ -1,10 +1,14 @@
 -- How the parts of a state stand for those of the plain board.
-use Rattle.std.specs.Prelude.{ℕ, List, [], ◌∷◌, map}
+use Rattle.std.specs.Prelude.{ℕ, List, [], ◌∷◌, map, ◌&&◌, ◌==◌, Option, option_map}
+use Rattle.std.specs.List.{find}
 use Rattle.kb_term.specs.Signature.{Problem}
+use Rattle.kb_term.specs.declared.origin.RuleRef.{RuleRef}
+use Rattle.kb_term.specs.declared.origin.Found.{Found}
 use Rattle.kb_label.specs.Names.{Name}
 use Rattle.kb_label.specs.declared.verdict.Reason.TheVariants.{Nodes, Processes, Size, Depth, Variables, Steps}
 use Rattle.kb_node.specs.declared.node.Node.{Node}
 use Rattle.kb_node.specs.declared.job.Fact.{Fact}
+use Rattle.mkb_model.specs.Jobs.{ref_eq}
 use Rattle.mkb_model.specs.Plain.{Plain, PlainNode, Done, GivenUp, Certified}
 
 -- a node of the table as a node of the plain board
@@ -46,3 +50,7 @@ board_of problem budget living nodes done facts closed over commits certificates
   flight = [];
   certificates = certificates;
 }
+
+-- what the first of the facts of this side of a node and this rule says
+abbrev pub known_in : List Fact → ℕ → ℕ → RuleRef → Option Found
+known_in fs n w a = option_map (λ (f : Fact). f.found) (find (λ (f : Fact). (f.node.0 == n) && ((f.side == w) && ref_eq f.rule a)) fs)

@@ -2,6 +2,8 @@
 #![tactic(auto)]
 
 mod applied;
+mod effects;
+mod labels;
 mod nodes;
 mod state;
 

@@ -1,11 +1,17 @@
 // The state: the board without flight and journal.
-ghost use Rattle.std.specs.Prelude.{◌≡◌};
+ghost use Rattle.std.specs.Prelude.{◌≡◌, ◌<◌, [], length, Some, IsSome, MatchOption};
+ghost use Rattle.kb_label.specs.Names.{has};
+ghost use Rattle.kb_node.specs.declared.node.LabelKind.TheVariants.{X};
+ghost use Rattle.mkb_model.specs.Jobs.{ref_eq};
+ghost use Rattle.mkb_model.specs.Plain.{known, done_in, done_of, label, over_reason, certificate_of};
+ghost use Rattle.mkb_rules.specs.Parts.{plain_nodes, known_in};
+ghost use Rattle.mkb_rules.specs.Kept.{plain_done, plain_certificates, IsPlace};
 
 use crate::nodes::Nodes;
 use kb_cert::Certificate;
-use kb_label::{ListLabels, NameLog, Process};
-use kb_node::Fact;
-use kb_term::{Problem, RuleRef};
+use kb_label::{Labels, ListLabels, NameLog, Process, Reason};
+use kb_node::{Fact, LabelKind, NodeId, NodeTable};
+use kb_term::{Found, Problem, RuleRef};
 use std::marker::Model;
 
 /// The processes for which two rules have been overlapped.
@@ -77,4 +83,160 @@ impl State {
     {
         self.commits
     }
+
+    /// How many commits there may be.
+    pub fn budget(&self) -> u32
+        ensures { result ≡ self.now.budget }
+    {
+        self.budget
+    }
+
+    /// The problem.
+    pub fn problem(&self) -> &Problem
+        ensures { result.now ≡ self.now.problem }
+    {
+        &self.problem
+    }
+
+    /// The processes that live.
+    pub fn log(&self) -> &NameLog
+        ensures { result.now ≡ self.now.living }
+    {
+        &self.log
+    }
+
+    /// The table of nodes.
+    pub fn nodes(&self) -> &NodeTable<ListLabels>
+        ensures { plain_nodes result.now ≡ self.now.nodes }
+    {
+        self.nodes.table()
+    }
+
+    /// What is known of one side of a node and a rule; none where no fact is known.
+    pub fn known(&self, n: NodeId, side: u8, rule: RuleRef) -> Option<Found>
+        ensures { result ≡ known self.now n.0 side rule }
+    {
+        found_in(&self.facts, n, side, rule)
+    }
+
+    /// Whether two rules have been overlapped for a process.
+    pub fn is_done(&self, p: &Process, a: RuleRef, b: RuleRef) -> bool
+        ensures { result ≡ has (done_of self.now a b) p.now }
+    {
+        match done_names(&self.done, a, b) {
+            Some(names) => names.has(&self.log, p),
+            None => false,
+        }
+    }
+
+    /// Whether a process can't orient a node.
+    pub fn is_refused(&self, p: &Process, n: NodeId) -> bool
+        requires { n.0 < length self.now.nodes }
+        ensures { result ≡ has (label self.now n.0 X) p.now }
+    {
+        self.nodes.table().label(n, LabelKind::X).has(&self.log, p)
+    }
+
+    /// Whether a process is closed.
+    pub fn is_closed(&self, p: &Process) -> bool
+        ensures { result ≡ has self.now.closed p.now }
+    {
+        self.closed.has(&self.log, p)
+    }
+
+    /// Why a process gave up; none where it did not.
+    pub fn over(&self, p: &Process) -> Option<Reason>
+        ensures { result ≡ over_reason self.now p.now }
+    {
+        self.over.reason_of(&self.log, p)
+    }
+
+    /// The order by which a process orients.
+    pub fn certificate(&self, p: &Process) -> &Certificate
+        requires { IsSome (certificate_of self.now p.now) }
+        ensures { certificate_of self.now p.now ≡ Some result.now }
+    {
+        let place = certificate_place(&self.certificates, p);
+        &self.certificates[place].certificate
+    }
+}
+
+impl GivenUp {
+    ghost use Rattle.std.specs.Prelude.{◌≡◌};
+    ghost use Rattle.mkb_model.specs.Plain.{over_in};
+    ghost use Rattle.mkb_rules.specs.Over.{lists_of};
+
+    /// The reason for which a process gave up, the first of the six.
+    pub(crate) fn reason_of(&self, log: &NameLog, p: &Process) -> Option<Reason>
+        ensures { result ≡ over_in (lists_of self.now) p.now }
+    {
+        if self.nodes.has(log, p) {
+            return Some(Reason::Nodes);
+        }
+        if self.processes.has(log, p) {
+            return Some(Reason::Processes);
+        }
+        if self.size.has(log, p) {
+            return Some(Reason::Size);
+        }
+        if self.depth.has(log, p) {
+            return Some(Reason::Depth);
+        }
+        if self.variables.has(log, p) {
+            return Some(Reason::Variables);
+        }
+        if self.steps.has(log, p) {
+            return Some(Reason::Steps);
+        }
+        None
+    }
+}
+
+/// Whether both name one rule.
+pub(crate) fn is_same(a: RuleRef, b: RuleRef) -> bool
+    ensures { result ≡ ref_eq a b }
+{
+    a.node == b.node && a.dir == b.dir
+}
+
+// What the first of the facts of the side and the rule says.
+fn found_in(facts: &[Fact], n: NodeId, side: u8, rule: RuleRef) -> Option<Found>
+    ensures { result ≡ known_in facts.now n.0 side rule }
+{
+    for i in 0..facts.len() {
+        let fact = facts[i];
+        if fact.node.0 == n.0 && fact.side == side && is_same(fact.rule, rule) {
+            return Some(fact.found);
+        }
+    }
+    None
+}
+
+/// The processes for which the two rules have been overlapped; none where no list of them is kept.
+pub(crate) fn done_names<'a>(
+    done: &'a [DonePair],
+    a: RuleRef,
+    b: RuleRef,
+) -> Option<&'a ListLabels>
+    ensures { MatchOption result (done_in (plain_done done.now) a b ≡ []) (λ names. done_in (plain_done done.now) a b ≡ names.now) }
+{
+    for i in 0..done.len() {
+        let pair = &done[i];
+        if is_same(pair.first, a) && is_same(pair.second, b) {
+            return Some(&pair.names);
+        }
+    }
+    None
+}
+
+/// The number of the first order that is kept for the process; how many there are where none is.
+pub(crate) fn certificate_place(certificates: &[Certified], p: &Process) -> usize
+    ensures { IsPlace (plain_certificates certificates.now) p.now result }
+{
+    for i in 0..certificates.len() {
+        if certificates[i].name == *p {
+            return i;
+        }
+    }
+    certificates.len()
 }

@@ -1,0 +1,2 @@
+// What commits do to the state.
+mod label;
