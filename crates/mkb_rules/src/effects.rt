@@ -1,2 +1,2 @@
 // What commits do to the state.
-mod label;
+pub(crate) mod label;

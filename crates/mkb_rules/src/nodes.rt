@@ -2,9 +2,12 @@
 ghost use Rattle.std.specs.Prelude.{◌≡◌, ◌<◌, ◌≤◌, ◌↔◌, [], length, All, IsFalse, OnOk, OnErr, IfOk};
 ghost use Rattle.mkb_model.specs.Plain.{label_at};
 ghost use Rattle.mkb_model.specs.Effects.{with_label, with_node, node_of, is_present, most_nodes, gains as with_gain, loses as with_loss, gains_equation as with_equation, gains_rule as with_rule};
+ghost use Rattle.kb_label.specs.Names.{minus};
 ghost use Rattle.mkb_rules.specs.Parts.{plain_nodes};
 ghost use Rattle.mkb_rules.specs.Nodes.{put_back};
 
+use crate::effects::label::rule_kind;
+use crate::labels::{copy_of, joined};
 use kb_label::{Labels, ListLabels, NameLog};
 use kb_node::{LabelKind, NodeFault, NodeId, NodeTable};
 use kb_term::{Origin, Pair, RuleRef};
@@ -110,6 +113,96 @@ impl Nodes {
     {
         self.table.find_or_add(pair, origin)
     }
+
+    /// A label of a node gains these names.
+    pub(crate) fn gains(
+        &mut self,
+        log: &NameLog,
+        n: NodeId,
+        kind: LabelKind,
+        names: &ListLabels,
+    ) -> Result<(), AllocError>
+        requires { n.0 < length self.old.now }
+        ensures ok { OnOk result (self.new.now ≡ with_gain n.0 kind names.now self.old.now) }
+        ensures before { self.new.before ≡ self.old.before }
+    {
+        let label = joined(self.allocator(), log, self.label(n, kind), names)?;
+        self.set(n, kind, label)
+    }
+
+    /// A label of a node loses these names.
+    pub(crate) fn loses(
+        &mut self,
+        log: &NameLog,
+        n: NodeId,
+        kind: LabelKind,
+        names: &ListLabels,
+    ) -> Result<(), AllocError>
+        requires { n.0 < length self.old.now }
+        ensures ok { OnOk result (self.new.now ≡ with_loss n.0 kind names.now self.old.now) }
+        ensures before { self.new.before ≡ self.old.before }
+    {
+        let label = left(self.allocator(), log, self.label(n, kind), names)?;
+        self.set(n, kind, label)
+    }
+
+    /// The names gain the node as an equation, but for those that have it as a rule.
+    pub(crate) fn gains_equation(
+        &mut self,
+        log: &NameLog,
+        n: NodeId,
+        names: &ListLabels,
+    ) -> Result<(), AllocError>
+        requires { n.0 < length self.old.now }
+        ensures ok { OnOk result (self.new.now ≡ with_equation n.0 names.now self.old.now) }
+        ensures before { self.new.before ≡ self.old.before }
+    {
+        let mut free = left(self.allocator(), log, names, self.label(n, LabelKind::R0))?;
+        free.minus(log, self.label(n, LabelKind::R1))?;
+        self.gains(log, n, LabelKind::E, &free)
+    }
+
+    /// The names gain the node as a rule, and lose it as an equation. Where memory is wanting, the loss may be made.
+    pub(crate) fn gains_rule(
+        &mut self,
+        log: &NameLog,
+        rule: RuleRef,
+        names: &ListLabels,
+    ) -> Result<(), AllocError>
+        requires { rule.node < length self.old.now }
+        ensures ok { OnOk result (self.new.now ≡ with_rule rule names.now self.old.now) }
+        ensures before { self.new.before ≡ self.old.before }
+    {
+        let n = NodeId(rule.node);
+        self.loses(log, n, LabelKind::E, names)?;
+        self.gains(log, n, rule_kind(rule.dir), names)
+    }
+
+    // The label of a node that has this kind.
+    fn label(&self, n: NodeId, kind: LabelKind) -> &ListLabels
+        requires { n.0 < length self.now.now }
+        ensures { result.now ≡ label_at self.now.now n.0 kind }
+    {
+        self.table.label(n, kind)
+    }
+
+    fn allocator(&self) -> Global {
+        *self.replaced.allocator()
+    }
+}
+
+// The processes of the first label alone.
+fn left(
+    alloc: Global,
+    log: &NameLog,
+    one: &ListLabels,
+    other: &ListLabels,
+) -> Result<ListLabels, AllocError>
+    ensures { IfOk result (λ l. l ≡ minus one.now other.now) }
+{
+    let mut label = copy_of(alloc, log, one)?;
+    label.minus(log, other)?;
+    Ok(label)
 }
 
 // Puts the replaced labels back, the last one first.
