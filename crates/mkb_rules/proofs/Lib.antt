@@ -1,3 +1,5 @@
+pub mod PutBack
+pub mod Finding
 pub mod Rows
 pub mod Sets
 pub mod Certified

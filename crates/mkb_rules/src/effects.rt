@@ -1,6 +1,6 @@
 // What commits do to the state.
 mod giving_up;
-mod label;
+pub(crate) mod label;
 mod limit;
 mod orienting;
 mod settling;
