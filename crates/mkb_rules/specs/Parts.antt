@@ -9,7 +9,9 @@ use Rattle.kb_label.specs.declared.verdict.Reason.TheVariants.{Nodes, Processes,
 use Rattle.kb_node.specs.declared.node.Node.{Node}
 use Rattle.kb_node.specs.declared.job.Fact.{Fact}
 use Rattle.mkb_model.specs.Jobs.{ref_eq}
-use Rattle.mkb_model.specs.Plain.{Plain, PlainNode, Done, GivenUp, Certified}
+use Rattle.kb_node.specs.declared.node.LabelKind.TheVariants.{E}
+use Rattle.mkb_model.specs.Plain.{Plain, PlainNode, Done, GivenUp, Certified, rule_kind, constraint_kind}
+use Rattle.mkb_model.specs.Effects.{gains, loses}
 
 -- a node of the table as a node of the plain board
 abbrev pub plain_node : Node (List Name) → PlainNode
@@ -54,3 +56,7 @@ board_of problem budget living nodes done facts closed over commits certificates
 -- what the first of the facts of this side of a node and this rule says
 abbrev pub known_in : List Fact → ℕ → ℕ → RuleRef → Option Found
 known_in fs n w a = option_map (λ (f : Fact). f.found) (find (λ (f : Fact). (f.node.0 == n) && ((f.side == w) && ref_eq f.rule a)) fs)
+
+-- these names turn the equation into a rule, and keep the rule as a constraint
+abbrev pub oriented_by : List Name → RuleRef → List PlainNode → List PlainNode
+oriented_by l a xs = gains a.node (constraint_kind a.dir) l (gains a.node (rule_kind a.dir) l (loses a.node E l xs))

@@ -1,2 +1,7 @@
 // What commits do to the state.
+mod deducing;
+mod giving_up;
 pub(crate) mod label;
+mod limit;
+mod orienting;
+mod settling;

@@ -1,11 +1,11 @@
 // The state: the board without flight and journal.
-ghost use Rattle.std.specs.Prelude.{◌≡◌, ◌<◌, [], length, Some, IsSome, MatchOption};
-ghost use Rattle.kb_label.specs.Names.{has};
+ghost use Rattle.std.specs.Prelude.{◌≡◌, ◌<◌, ◌&&◌, ◌==◌, [], length, Some, IsSome, MatchOption};
+ghost use Rattle.kb_label.specs.Names.{has, name_eq};
 ghost use Rattle.kb_node.specs.declared.node.LabelKind.TheVariants.{X};
 ghost use Rattle.mkb_model.specs.Jobs.{ref_eq};
 ghost use Rattle.mkb_model.specs.Plain.{known, done_in, done_of, label, over_reason, certificate_of};
 ghost use Rattle.mkb_rules.specs.Parts.{plain_nodes, known_in};
-ghost use Rattle.mkb_rules.specs.Kept.{plain_done, plain_certificates, IsPlace};
+ghost use Rattle.mkb_rules.specs.Kept.{plain_done, plain_certificates, place_in};
 
 use crate::nodes::Nodes;
 use kb_cert::Certificate;
@@ -199,13 +199,27 @@ pub(crate) fn is_same(a: RuleRef, b: RuleRef) -> bool
     a.node == b.node && a.dir == b.dir
 }
 
+// Whether the fact is of this side of the node and of the rule.
+fn is_about(fact: Fact, n: NodeId, side: u8, rule: RuleRef) -> bool
+    ensures { result ≡ ((fact.node.0 == n.0) && ((fact.side == side) && ref_eq fact.rule rule)) }
+{
+    fact.node.0 == n.0 && fact.side == side && is_same(fact.rule, rule)
+}
+
+/// Whether the list is kept for these two rules.
+pub(crate) fn is_of(pair: &DonePair, a: RuleRef, b: RuleRef) -> bool
+    ensures { result ≡ (ref_eq pair.now.first a && ref_eq pair.now.second b) }
+{
+    is_same(pair.first, a) && is_same(pair.second, b)
+}
+
 // What the first of the facts of the side and the rule says.
 fn found_in(facts: &[Fact], n: NodeId, side: u8, rule: RuleRef) -> Option<Found>
     ensures { result ≡ known_in facts.now n.0 side rule }
 {
     for i in 0..facts.len() {
         let fact = facts[i];
-        if fact.node.0 == n.0 && fact.side == side && is_same(fact.rule, rule) {
+        if is_about(fact, n, side, rule) {
             return Some(fact.found);
         }
     }
@@ -222,19 +236,26 @@ pub(crate) fn done_names<'a>(
 {
     for i in 0..done.len() {
         let pair = &done[i];
-        if is_same(pair.first, a) && is_same(pair.second, b) {
+        if is_of(pair, a, b) {
             return Some(&pair.names);
         }
     }
     None
 }
 
+// Whether the order is the process's.
+fn is_named(order: &Certified, p: &Process) -> bool
+    ensures { result ≡ name_eq order.now.name p.now }
+{
+    order.name == *p
+}
+
 /// The number of the first order that is kept for the process; how many there are where none is.
 pub(crate) fn certificate_place(certificates: &[Certified], p: &Process) -> usize
-    ensures { IsPlace (plain_certificates certificates.now) p.now result }
+    ensures { result ≡ place_in (plain_certificates certificates.now) p.now }
 {
     for i in 0..certificates.len() {
-        if certificates[i].name == *p {
+        if is_named(&certificates[i], p) {
             return i;
         }
     }

@@ -1,8 +1,8 @@
 // The processes on which a proposal acts.
-ghost use Rattle.std.specs.Prelude.{◌≡◌, ◌<◌, length, IfOk, IsTrue};
+ghost use Rattle.std.specs.Prelude.{◌≡◌, ◌<◌, ◌≤◌, length, IfOk, IsTrue};
 ghost use Rattle.kb_label.specs.Names.{has};
 ghost use Rattle.mkb_model.specs.Plain.{label_at, label, rule_kind as kind_of_rules, other as other_side};
-ghost use Rattle.mkb_model.specs.Effects.{rewrite_label, overlap_label, orient_label, if_strict};
+ghost use Rattle.mkb_model.specs.Effects.{rewrite_label, overlap_label, orient_label, if_strict, most_nodes};
 
 use crate::labels::{copy_of, joined, met, only};
 use crate::nodes::Nodes;
@@ -36,6 +36,14 @@ pub(crate) fn node_label(nodes: &Nodes, n: NodeId, kind: LabelKind) -> &ListLabe
     ensures { result.now ≡ label_at nodes.now.now n.0 kind }
 {
     nodes.table().label(n, kind)
+}
+
+/// How many nodes there are, at most 4,096.
+pub(crate) fn node_count(nodes: &Nodes) -> u32
+    ensures count { result ≡ length nodes.now.now }
+    ensures most { length nodes.now.now ≤ most_nodes }
+{
+    nodes.table().len()
 }
 
 impl State {
@@ -101,10 +109,13 @@ impl State {
         ensures { IfOk result (λ l. l ≡ overlap_label self.now a b) }
     {
         let mut names = met(alloc, &self.log, self.rule_label(a), self.rule_label(b))?;
-        if let Some(done) = done_names(&self.done, a, b) {
-            names.minus(&self.log, done)?;
+        match done_names(&self.done, a, b) {
+            Some(done) => {
+                names.minus(&self.log, done)?;
+                Ok(names)
+            }
+            None => Ok(names),
         }
-        Ok(names)
     }
 
     /// The process, where it has the node as an equation.
