@@ -1,5 +1,6 @@
 pub mod PutBack
 pub mod Finding
+pub mod SamePairs
 pub mod Rows
 pub mod Sets
 pub mod Certified

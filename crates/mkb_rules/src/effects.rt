@@ -1,4 +1,5 @@
 // What commits do to the state.
+mod deducing;
 mod giving_up;
 pub(crate) mod label;
 mod limit;
