@@ -210,16 +210,19 @@ fn fork_certificates(certificates: &mut Vec<Certified>, p: &Process) -> Result<(
     ensures { OnOk result (plain_certificates certificates.new.items ≡ forked_certificates p.now (plain_certificates certificates.old.items)) }
 {
     let place = certificate_place(certificates, p);
-    if place == certificates.len() {
+    if place >= certificates.len() {
         return Ok(());
     }
-    let certificate = certificates[place].certificate.clone()?;
-    let second = Certified {
-        name: p.child(true),
-        certificate,
-    };
-    certificates.insert(place + 1, second)?;
-    certificates[place].name = p.child(false);
+    let order = &mut certificates[place];
+    let certificate = order.certificate.clone()?;
+    order.name = p.child(false);
+    certificates.insert(
+        place + 1,
+        Certified {
+            name: p.child(true),
+            certificate,
+        },
+    )?;
     Ok(())
 }
 
@@ -248,6 +251,7 @@ fn try_fork(
     }
 }
 
+#[tactic(auto, using(crate::proofs::Relabelled::length_oriented, crate::proofs::Relabelled::length_forked))]
 fn fork_and_orient(
     alloc: Global,
     nodes: &mut Nodes,
@@ -286,6 +290,7 @@ fn fork_nodes(
 }
 
 // In each label of the node the children of the process stand in its place.
+#[tactic(auto, using(crate::proofs::Relabelled::length_with))]
 fn fork_node(
     alloc: Global,
     nodes: &mut Nodes,
@@ -319,7 +324,6 @@ fn fork_label(
     requires there { n.0 < length nodes.old.now }
     ensures ok { OnOk result (nodes.new.now ≡ with_label n.0 kind (relabel p.now (label_at nodes.old.now n.0 kind)) nodes.old.now) }
     ensures before { nodes.new.before ≡ nodes.old.before }
-    ensures count { length nodes.new.now ≡ length nodes.old.now }
 {
     let old = node_label(nodes, n, kind);
     if !old.has(log, p) {
