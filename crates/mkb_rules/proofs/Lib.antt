@@ -7,3 +7,4 @@ pub mod Certified
 pub mod Relabelled
 pub mod Answered
 pub mod Forks
+pub mod Committed
