@@ -8,3 +8,4 @@ pub mod Relabelled
 pub mod Answered
 pub mod Forks
 pub mod Committed
+pub mod FirstOrder
