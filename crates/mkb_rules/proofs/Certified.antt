@@ -1,9 +1,10 @@
 -- The orders of processes, by their places.
-use Rattle.std.proofs.Common.{ℕ, suc, ◌≡◌, ◌<◌, ◌+◌, Bool, true, false, List, [], ◌∷◌, length, get_or, map, Option, Some, None, IsSome, option_map, if◌then◌else◌, refl, ap, sym, subst, ◌∙◌, arith}
+use Rattle.std.proofs.Common.{ℕ, suc, ◌≡◌, ◌<◌, ◌≤◌, ◌+◌, Bool, true, false, List, [], ◌∷◌, length, get_or, set, map, Option, Some, None, IsSome, option_map, if◌then◌else◌, refl, ap, sym, subst, ◌∙◌, arith}
 use Rattle.std.specs.List.{find}
 use Rattle.kb_label.specs.Names.{Name, name_eq}
 use Rattle.kb_cert.specs.declared.certificate.Certificate.{Certificate}
 use Rattle.mkb_model.specs.Plain.{Certified as OrderOf}
+use Rattle.mkb_model.specs.Effects.{certify_in}
 use Rattle.mkb_rules.specs.Kept.{plain_certificates, place_in}
 use Rattle.mkb_rules.specs.declared.state.Certified.{Certified}
 
@@ -35,3 +36,29 @@ placed_order (c ∷ cs) p d h =
           ≡ Some (get_or (c ∷ cs) (if t then 0 else suc (place_in (plain_certificates cs) p)) d).certificate
     placed_by true k f = refl
     placed_by false k f = f (omega arith)
+
+-- a new order at the place
+pub certified_there : (cs : List Certified) (p : Name) (q : Certificate) (x : Certified) → place_in (plain_certificates cs) p < length cs → x ≡ get_or cs (place_in (plain_certificates cs) p) x
+    → plain_certificates (set cs (place_in (plain_certificates cs) p) (record { name = x.name; certificate = q })) ≡ certify_in p q (plain_certificates cs)
+certified_there [] p q x h e = absurd (omega arith)
+certified_there (c ∷ cs) p q x h e = placed_by (name_eq c.name p) h e (λ k f. certified_there cs p q x k f)
+  where
+    placed_by : (t : Bool) → (if t then 0 else suc (place_in (plain_certificates cs) p)) < length (c ∷ cs) → x ≡ get_or (c ∷ cs) (if t then 0 else suc (place_in (plain_certificates cs) p)) x
+        → (place_in (plain_certificates cs) p < length cs → x ≡ get_or cs (place_in (plain_certificates cs) p) x
+          → plain_certificates (set cs (place_in (plain_certificates cs) p) (record { name = x.name; certificate = q })) ≡ certify_in p q (plain_certificates cs))
+        → plain_certificates (set (c ∷ cs) (if t then 0 else suc (place_in (plain_certificates cs) p)) (record { name = x.name; certificate = q }))
+          ≡ (if t then (record { name = c.name; certificate = q } ∷ plain_certificates cs) else (record { name = c.name; certificate = c.certificate } ∷ certify_in p q (plain_certificates cs)))
+    placed_by true k e f = ap (λ (y : Certified). record { name = y.name; certificate = q } ∷ plain_certificates cs) e
+    placed_by false k e f = ap (λ (z : List OrderOf). record { name = c.name; certificate = c.certificate } ∷ z) (f (omega arith) e)
+
+-- no order of the process is there
+pub certified_nowhere : (cs : List Certified) (p : Name) (q : Certificate) → length cs ≤ place_in (plain_certificates cs) p → plain_certificates cs ≡ certify_in p q (plain_certificates cs)
+certified_nowhere [] p q h = refl
+certified_nowhere (c ∷ cs) p q h = placed_by (name_eq c.name p) h (λ k. certified_nowhere cs p q k)
+  where
+    placed_by : (t : Bool) → length (c ∷ cs) ≤ (if t then 0 else suc (place_in (plain_certificates cs) p))
+        → (length cs ≤ place_in (plain_certificates cs) p → plain_certificates cs ≡ certify_in p q (plain_certificates cs))
+        → plain_certificates (c ∷ cs)
+          ≡ (if t then (record { name = c.name; certificate = q } ∷ plain_certificates cs) else (record { name = c.name; certificate = c.certificate } ∷ certify_in p q (plain_certificates cs)))
+    placed_by true k f = absurd (omega arith)
+    placed_by false k f = ap (λ (z : List OrderOf). record { name = c.name; certificate = c.certificate } ∷ z) (f (omega arith))

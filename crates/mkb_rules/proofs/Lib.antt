@@ -6,3 +6,4 @@ pub mod Rows
 pub mod Sets
 pub mod Certified
 pub mod Relabelled
+pub mod Answered

@@ -4,6 +4,7 @@ ghost use Rattle.mkb_model.specs.Effects.{give_up as gives_up, counted, not_over
 ghost use Rattle.mkb_rules.specs.Applying.{HasBudget};
 
 use crate::applied::Applied;
+use crate::effects::label::counted_up;
 use crate::labels::copy_of;
 use crate::state::{GivenUp, State};
 use kb_label::{Labels, ListLabels, NameLog, Reason};
@@ -28,7 +29,7 @@ impl State {
     {
         let fresh = self.not_over(alloc, names)?;
         self.over.join(&self.log, reason, &fresh)?;
-        self.commits += 1;
+        self.commits = counted_up(self.commits, self.budget);
         Ok(Applied::Over(reason))
     }
 

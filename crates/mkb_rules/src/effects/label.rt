@@ -1,5 +1,5 @@
 // The processes on which a proposal acts.
-ghost use Rattle.std.specs.Prelude.{◌≡◌, ◌<◌, ◌≤◌, length, IfOk, IsTrue};
+ghost use Rattle.std.specs.Prelude.{◌≡◌, ◌<◌, ◌≤◌, ◌+◌, length, IfOk, IsTrue};
 ghost use Rattle.kb_label.specs.Names.{has};
 ghost use Rattle.mkb_model.specs.Plain.{label_at, label, rule_kind as kind_of_rules, other as other_side};
 ghost use Rattle.mkb_model.specs.Effects.{rewrite_label, overlap_label, orient_label, if_strict, most_nodes};
@@ -44,6 +44,14 @@ pub(crate) fn node_count(nodes: &Nodes) -> u32
     ensures most { length nodes.now.now ≤ most_nodes }
 {
     nodes.table().len()
+}
+
+/// The number of commits after one more.
+pub(crate) fn counted_up(commits: u32, budget: u32) -> u32
+    requires { commits < budget }
+    ensures { result ≡ commits + 1 }
+{
+    commits + 1
 }
 
 impl State {

@@ -10,7 +10,7 @@ ghost use Rattle.mkb_rules.specs.Parts.{oriented_by};
 ghost use Rattle.mkb_rules.specs.Kept.{plain_certificates};
 
 use crate::applied::Applied;
-use crate::effects::label::{node_count, rule_kind};
+use crate::effects::label::{counted_up, node_count, rule_kind};
 use crate::labels::only;
 use crate::nodes::Nodes;
 use crate::state::{Certified, State, certificate_place};
@@ -36,7 +36,7 @@ impl State {
         let _count = node_count(&self.nodes);
         let names = only(alloc, &self.log, p)?;
         try_refuse(&mut self.nodes, &self.log, n, &names)?;
-        self.commits += 1;
+        self.commits = counted_up(self.commits, self.budget);
         Ok(Applied::Done)
     }
 
@@ -65,7 +65,7 @@ impl State {
         let rule = RuleRef { node: n.0, dir };
         try_orient(&mut self.nodes, &self.log, rule, &names)?;
         certify(&mut self.certificates, p, certificate);
-        self.commits += 1;
+        self.commits = counted_up(self.commits, self.budget);
         Ok(Applied::Done)
     }
 }

@@ -5,7 +5,7 @@ ghost use Rattle.mkb_model.specs.declared.proposed.Proposed.TheVariants.{Facts, 
 ghost use Rattle.mkb_rules.specs.Applying.{HasBudget, Commits};
 
 use crate::applied::Applied;
-use crate::effects::label::node_count;
+use crate::effects::label::{counted_up, node_count};
 use crate::state::State;
 use kb_label::{Labels, Process};
 use kb_node::Fact;
@@ -25,7 +25,7 @@ impl State {
     {
         let _count = node_count(&self.nodes);
         self.facts.extend_from_slice(facts)?;
-        self.commits += 1;
+        self.commits = counted_up(self.commits, self.budget);
         Ok(Applied::Done)
     }
 
@@ -42,7 +42,7 @@ impl State {
     {
         let _count = node_count(&self.nodes);
         self.closed.add(&self.log, p)?;
-        self.commits += 1;
+        self.commits = counted_up(self.commits, self.budget);
         Ok(Applied::Done)
     }
 }
