@@ -4,3 +4,4 @@ pub mod Kept
 pub mod Over
 pub mod Applying
 pub mod Named
+pub mod Rewriting

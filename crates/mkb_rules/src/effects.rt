@@ -4,4 +4,5 @@ mod giving_up;
 pub(crate) mod label;
 mod limit;
 mod orienting;
+mod rewriting;
 mod settling;

@@ -1,7 +1,7 @@
 // Pairs of overlaps that become equations.
 ghost use Rattle.std.specs.Prelude.{◌≡◌, ◌<◌, ◌≤◌, ◌∷◌, ◌++◌, ◌&&◌, [], Err, IfOk, IsFalse, OnErr, OnOk, length, map};
 ghost use Rattle.std.specs.List.{position_or_len};
-ghost use Rattle.mkb_model.specs.Effects.{added, counted, gains_done_in, is_present, most_nodes, with_nodes};
+ghost use Rattle.mkb_model.specs.Effects.{added, gains_done_in, is_present, most_nodes, with_nodes};
 ghost use Rattle.mkb_model.specs.declared.proposed.Proposed.TheVariants.{Deduce, Unjoined};
 ghost use Rattle.kb_node.specs.declared.job.Deduced.{Deduced as Overlapped};
 ghost use Rattle.mkb_model.specs.Jobs.{ref_eq};
@@ -11,6 +11,7 @@ ghost use Rattle.mkb_rules.specs.Kept.{plain_done};
 ghost use Rattle.mkb_rules.specs.Named.{IsThere, Lives};
 
 use crate::applied::Applied;
+use crate::effects::label::counted_up;
 use crate::labels::only;
 use crate::nodes::Nodes;
 use crate::state::{DonePair, State, is_of};
@@ -46,7 +47,7 @@ impl State {
                     self.nodes.roll_back();
                     return Err(Memory);
                 }
-                self.count();
+                self.commits = counted_up(self.commits, self.budget);
                 Ok(Applied::Done)
             }
             Err(NodeFault::Full) => self.give_up(alloc, Reason::Nodes, &names),
@@ -74,23 +75,12 @@ impl State {
         let names = only(alloc, &self.log, p)?;
         match try_pairs(&mut self.nodes, &self.log, &names, pairs) {
             Ok(()) => {
-                self.count();
+                self.commits = counted_up(self.commits, self.budget);
                 Ok(Applied::Done)
             }
             Err(NodeFault::Full) => self.give_up(alloc, Reason::Nodes, &names),
             Err(NodeFault::Memory) => Err(Memory),
         }
-    }
-}
-
-impl State {
-    // Counts a commit.
-    pub(crate) fn count(&mut self)
-        requires { HasBudget self.old }
-        ensures { self.new ≡ counted self.old }
-    {
-        prove!(self.commits < self.budget);
-        self.commits += 1;
     }
 }
 
