@@ -1,11 +1,12 @@
 // Nodes that are rewritten.
 ghost use Rattle.std.specs.Prelude.{◌≡◌, ◌<◌, ◌≤◌, Err, IfOk, IsFalse, OnErr, OnOk, Some, length};
-ghost use Rattle.kb_term.specs.Pair.{canonical_pair, variables_of_pair};
+ghost use Rattle.kb_term.specs.Pair.{Pair as CanonicalPair, canonical_pair, variables_of_pair};
+ghost use Rattle.kb_term.specs.declared.origin.Origin.TheVariants.{Rewrite as ByRewrite};
 ghost use Rattle.kb_term.specs.View.{tree_of};
 ghost use Rattle.kb_overlap.specs.Trace.{other_side};
 ghost use Rattle.kb_label.specs.Names.{meet};
 ghost use Rattle.kb_node.specs.declared.node.LabelKind.TheVariants.{E};
-ghost use Rattle.mkb_model.specs.Plain.{label, rule_kind as kind_of_rules, other as side_not};
+ghost use Rattle.mkb_model.specs.Plain.{label, pair_at, rule_kind as kind_of_rules, other as side_not};
 ghost use Rattle.mkb_model.specs.Effects.{direction as leading, if_strict, is_present, most_nodes, pair_eq, with_nodes};
 ghost use Rattle.mkb_model.specs.declared.proposed.Proposed.TheVariants.{Rewrite};
 ghost use Rattle.mkb_rules.specs.Applying.{Commits, HasBudget};
@@ -65,16 +66,9 @@ impl State {
         ensures ok { IfOk result (Commits self.old (Rewrite n side position.now rule kind outcome.now) self.new) }
         ensures err { OnErr result (self.new ≡ self.old) }
     {
-        let pair = self.nodes.table().pair(n)?;
-        let origin = Origin::Rewrite {
-            node: n.0,
-            side,
-            position: position.clone()?,
-            rule,
-        };
-        let target = target_for(alloc, rest_of(&pair, side), outcome, origin)?;
+        let target = self.target_of(alloc, n, side, position, rule, outcome)?;
         let names = self.rewrite_names(alloc, n, side, rule, kind)?;
-        let sources = self.sources(alloc, n, side, kind, names)?;
+        let sources = self.sources_of(alloc, n, side, kind, names)?;
         match try_moving(&mut self.nodes, &self.log, n, side, &sources, target) {
             Ok(()) => {
                 self.commits = counted_up(self.commits, self.budget);
@@ -85,8 +79,32 @@ impl State {
         }
     }
 
+    // The pair that a rewriting leads to; none where it is trivial.
+    fn target_of(
+        &self,
+        alloc: Global,
+        n: NodeId,
+        side: u8,
+        position: &Position,
+        rule: RuleRef,
+        outcome: &Term,
+    ) -> Result<Option<Target>, Memory>
+        requires node { IsThere self.now n.0 }
+        requires few { HasFewVariables self.now n.0 side (tree_of outcome.now) }
+        ensures { (q : CanonicalPair) → pair_at self.now n.0 ≡ Some q → IfOk result (λ target. target ≡ target_of (canonical_pair (tree_of outcome.now) (other_side q side)) (ByRewrite n.0 side position.now rule) (other_side q side) (tree_of outcome.now)) }
+    {
+        let pair = self.nodes.table().pair(n)?;
+        let origin = Origin::Rewrite {
+            node: n.0,
+            side,
+            position: position.clone()?,
+            rule,
+        };
+        target_for(alloc, rest_of(&pair, side), outcome, origin)
+    }
+
     // What the sources of a rewriting lose.
-    fn sources(
+    fn sources_of(
         &self,
         alloc: Global,
         n: NodeId,
