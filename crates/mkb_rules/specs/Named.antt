@@ -1,5 +1,5 @@
 -- The nodes and processes that a proposal names are there.
-use Rattle.std.specs.Prelude.{ℕ, List, length, ◌<◌, IsTrue, ⊤, Option, Some, None}
+use Rattle.std.specs.Prelude.{ℕ, List, length, ◌<◌, IsTrue, ⊤, Option, Some, None, Bool, true, false}
 use Rattle.kb_label.specs.Names.{Name, has}
 use Rattle.kb_term.specs.declared.origin.RuleRef.{RuleRef}
 use Rattle.kb_term.specs.declared.origin.Found.{Found}
@@ -40,3 +40,8 @@ HasNamed b (Deduce a c pairs) = IsThere b a.node × IsThere b c.node
 HasNamed b (Unjoined p pairs) = Lives b p
 HasNamed b (Closed p) = Lives b p
 HasNamed b (Limit j cause) = HasNamedJob b j × HasRedexRule b cause.redex
+
+-- the proposal is of facts
+abbrev pub tells_facts : Proposed → Bool
+tells_facts (Facts fs) = true
+tells_facts x = false

@@ -1,5 +1,6 @@
 // What commits do to the state.
 mod deducing;
+mod forking;
 mod giving_up;
 pub(crate) mod label;
 mod limit;

@@ -5,6 +5,7 @@ mod applied;
 mod effects;
 mod labels;
 mod nodes;
+mod opening;
 mod state;
 
 pub use applied::Applied;

@@ -2,14 +2,16 @@
 ghost use Rattle.std.specs.Prelude.{◌≡◌, ◌<◌, ◌≤◌, ◌+◌, length, IfOk, IsTrue};
 ghost use Rattle.kb_label.specs.Names.{has};
 ghost use Rattle.mkb_model.specs.Plain.{label_at, label, rule_kind as kind_of_rules, other as other_side};
-ghost use Rattle.mkb_model.specs.Effects.{rewrite_label, overlap_label, orient_label, if_strict, most_nodes};
+ghost use Rattle.mkb_model.specs.Effects.{rewrite_label, overlap_label, orient_label, effect_label, if_strict, is_dropped, most_nodes};
+ghost use Rattle.mkb_rules.specs.Named.{HasNamed, tells_facts};
 
 use crate::labels::{copy_of, joined, met, only};
 use crate::nodes::Nodes;
 use crate::state::{State, done_names};
 use kb_label::{Labels, ListLabels, Process};
 use kb_node::{LabelKind, NodeId};
-use kb_term::{Found, RuleRef};
+use kb_term::{Found, Memory, RuleRef};
+use mkb_model::Proposed;
 use std::alloc::{AllocError, Global};
 
 /// The label of the rules of a direction.
@@ -142,5 +144,63 @@ impl State {
         } else {
             Ok(ListLabels::new(alloc))
         }
+    }
+
+    /// The processes on which a proposal acts, in their order.
+    ///
+    /// # Errors
+    ///
+    /// Want of memory.
+    pub fn effect_label(&self, alloc: Global, proposal: &Proposed) -> Result<Vec<Process>, Memory>
+        requires { HasNamed self.now proposal.now }
+        ensures { IfOk result (λ names. names.items ≡ effect_label self.now proposal.now) }
+    {
+        let names = self.effect_names(alloc, proposal)?;
+        let names = names.names(&self.log)?;
+        Ok(names)
+    }
+
+    /// Whether nothing is left for a proposal to act on.
+    ///
+    /// # Errors
+    ///
+    /// Want of memory.
+    pub fn is_dropped(&self, alloc: Global, proposal: &Proposed) -> Result<bool, Memory>
+        requires { HasNamed self.now proposal.now }
+        ensures { IfOk result (λ idle. idle ≡ is_dropped self.now proposal.now) }
+    {
+        let names = self.effect_names(alloc, proposal)?;
+        Ok(!is_facts(proposal) && names.is_empty(&self.log))
+    }
+
+    // The processes on which a proposal acts.
+    fn effect_names(&self, alloc: Global, proposal: &Proposed) -> Result<ListLabels, Memory>
+        requires { HasNamed self.now proposal.now }
+        ensures { IfOk result (λ l. l ≡ effect_label self.now proposal.now) }
+    {
+        let names = match proposal {
+            Proposed::Facts(_) => ListLabels::new(alloc),
+            Proposed::Rewrite { node, side, rule, kind, .. } => {
+                self.rewrite_names(alloc, *node, *side, *rule, *kind)?
+            }
+            Proposed::One { process, node, .. } => self.orient_names(alloc, process, *node)?,
+            Proposed::Both { process, node, .. } => self.orient_names(alloc, process, *node)?,
+            Proposed::Refuse { process, node } => self.orient_names(alloc, process, *node)?,
+            Proposed::Deduce { a, b, .. } => self.overlap_names(alloc, *a, *b)?,
+            Proposed::Unjoined { process, .. } => only(alloc, &self.log, process)?,
+            Proposed::Closed { process } => only(alloc, &self.log, process)?,
+            Proposed::Limit { job, cause } => self.stopped_names(alloc, job, cause)?,
+        };
+        Ok(names)
+    }
+}
+
+// Whether the proposal is of facts.
+fn is_facts(proposal: &Proposed) -> bool
+    ensures { result ≡ tells_facts proposal.now }
+{
+    match proposal {
+        Proposed::Facts(_) => true,
+        _ => false,
     }
 }

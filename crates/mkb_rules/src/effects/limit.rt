@@ -1,6 +1,6 @@
 // Limits that jobs come to.
 ghost use Rattle.std.specs.Prelude.{◌≡◌, IfOk, OnErr};
-ghost use Rattle.mkb_model.specs.Effects.{redex_label, limit_label};
+ghost use Rattle.mkb_model.specs.Effects.{limit_label, not_over, redex_label};
 ghost use Rattle.mkb_model.specs.declared.proposed.Proposed.TheVariants.{Limit};
 ghost use Rattle.mkb_rules.specs.Applying.{HasBudget, Commits};
 ghost use Rattle.mkb_rules.specs.Named.{HasNamedJob, HasRedexRule, IsThere};
@@ -31,13 +31,27 @@ impl State {
         ensures ok { IfOk result (Commits self.old (Limit job.now cause.now) self.new) }
         ensures err { OnErr result (self.new ≡ self.old) }
     {
-        let stopped = self.limit_names(alloc, job, cause)?;
-        let names = self.not_over(alloc, &stopped)?;
+        let names = self.stopped_names(alloc, job, cause)?;
         self.give_up(alloc, cause.reason, &names)
     }
 
-    /// The processes that a limit of the job stops.
-    pub(crate) fn limit_names(
+    /// The processes that a limit of the job stops, but for those that gave up before.
+    pub(crate) fn stopped_names(
+        &self,
+        alloc: Global,
+        job: &Job,
+        cause: &LimitCause,
+    ) -> Result<ListLabels, AllocError>
+        requires named { HasNamedJob self.now job.now }
+        requires redex { HasRedexRule self.now cause.now.redex }
+        ensures { IfOk result (λ l. l ≡ not_over self.now (limit_label self.now job.now cause.now)) }
+    {
+        let names = self.limit_names(alloc, job, cause)?;
+        self.not_over(alloc, &names)
+    }
+
+    // The processes that a limit of the job stops.
+    fn limit_names(
         &self,
         alloc: Global,
         job: &Job,

@@ -14,7 +14,7 @@ returns-clause-ok c =
     let b = c.args.self.now in
     let j = c.args.job.now in
     let cause = c.args.cause.now in
-    let names = c.in_ok-names.ensures ∙ ap (λ (l : List Name). not_over b l) c.in_ok-stopped.ensures in
+    let names = c.in_ok-names.ensures in
     ok_so c.give_up.result (λ (answer : Applied). (c.give_up.new.self ≡ counted (give_up cause.reason c.in_ok-names.names b)) × (answer ≡ Over cause.reason))
     (Commits b (Limit j cause) c.give_up.new.self)
     (λ answer h. (h.0 ∙ ap (λ (l : List Name). counted (give_up cause.reason l b)) names, h.1)) c.give_up.ensures.ok
