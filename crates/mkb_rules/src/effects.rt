@@ -7,3 +7,5 @@ mod limit;
 mod orienting;
 mod rewriting;
 mod settling;
+#[cfg(test)]
+mod tests;
