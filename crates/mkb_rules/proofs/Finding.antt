@@ -19,7 +19,7 @@ use Rattle.mkb_model.proofs.Lists.{clash, decide, or_none, false_unless}
 use Rattle.mkb_model.proofs.Pairs.{pair_eq-refl, found_node}
 use Rattle.mkb_rules.specs.Parts.{plain_node, plain_nodes}
 
-pair-plain : (xs : List (Node (List Name))) (n : ℕ) → option_map (λ (x : Node (List Name)). x.pair) (slice_get xs n) ≡ pair_in (plain_nodes xs) n
+pub pair-plain : (xs : List (Node (List Name))) (n : ℕ) → option_map (λ (x : Node (List Name)). x.pair) (slice_get xs n) ≡ pair_in (plain_nodes xs) n
 pair-plain [] n = refl
 pair-plain (x ∷ xs) zero = refl
 pair-plain (x ∷ xs) (suc n) = pair-plain xs n

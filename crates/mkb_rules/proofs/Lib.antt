@@ -1,6 +1,8 @@
 pub mod PutBack
 pub mod Finding
 pub mod SamePairs
+pub mod DoneLists
+pub mod Moving
 pub mod Rows
 pub mod Sets
 pub mod Certified

@@ -5,3 +5,4 @@ pub mod Over
 pub mod Forking
 pub mod Applying
 pub mod Named
+pub mod Rewriting

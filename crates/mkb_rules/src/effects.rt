@@ -5,4 +5,7 @@ mod giving_up;
 pub(crate) mod label;
 mod limit;
 mod orienting;
+mod rewriting;
 mod settling;
+#[cfg(test)]
+mod tests;

@@ -11,6 +11,7 @@ ghost use Rattle.mkb_rules.specs.Kept.{plain_done};
 ghost use Rattle.mkb_rules.specs.Named.{IsThere, Lives};
 
 use crate::applied::Applied;
+use crate::effects::label::counted_up;
 use crate::labels::only;
 use crate::nodes::Nodes;
 use crate::state::{DonePair, State, is_of};
@@ -46,7 +47,7 @@ impl State {
                     self.nodes.roll_back();
                     return Err(Memory);
                 }
-                self.commits += 1;
+                self.commits = counted_up(self.commits, self.budget);
                 Ok(Applied::Done)
             }
             Err(NodeFault::Full) => self.give_up(alloc, Reason::Nodes, &names),
@@ -74,7 +75,7 @@ impl State {
         let names = only(alloc, &self.log, p)?;
         match try_pairs(&mut self.nodes, &self.log, &names, pairs) {
             Ok(()) => {
-                self.commits += 1;
+                self.commits = counted_up(self.commits, self.budget);
                 Ok(Applied::Done)
             }
             Err(NodeFault::Full) => self.give_up(alloc, Reason::Nodes, &names),
