@@ -46,10 +46,10 @@ plain-new x q o p r a b c d e f = λ i. record { pair = p i; origin = r i; rule0
 
 -- what the table tells of a pair that it is asked for, in terms of the plain nodes
 module _ (old new : List (Node (List Name))) (q : Pair) (o : Origin) (r : Result NodeId NodeFault)
-  (present : (n : ℕ) → HasPair old n q → (r ≡ Ok (record { 0 = n })) × (new ≡ old))
-  (added : LacksPair old q → IfOk r (λ (n : NodeId). (n.0 ≡ length old) × AddsNode {L = List Name} {K = List Name} (λ log l. l) old new q o))
-  (full : (r ≡ Err Full) ↔ (LacksPair old q × (length old ≡ 4096)))
-  (err : OnErr r (new ≡ old)) where
+    (present : (n : ℕ) → HasPair old n q → (r ≡ Ok (record { 0 = n })) × (new ≡ old))
+    (added : LacksPair old q → IfOk r (λ (n : NodeId). (n.0 ≡ length old) × AddsNode {L = List Name} {K = List Name} (λ log l. l) old new q o))
+    (full : (r ≡ Err Full) ↔ (LacksPair old q × (length old ≡ 4096)))
+    (err : OnErr r (new ≡ old)) where
   appended : AddsNode {L = List Name} {K = List Name} (λ log l. l) old new q o → plain_nodes new ≡ plain_nodes old ++ new_node q o ∷ []
   appended a =
       ap plain_nodes a.appended ∙ map-append plain_node old (a.node ∷ [])

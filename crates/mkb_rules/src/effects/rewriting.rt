@@ -20,7 +20,9 @@ use crate::nodes::Nodes;
 use crate::state::State;
 use kb_label::{Labels, ListLabels, NameLog, Reason};
 use kb_node::{LabelKind, NodeFault, NodeId};
-use kb_term::{Found, Memory, Origin, Pair, Position, Rule, RuleRef, Term, canonical, numbered_rule};
+use kb_term::{
+    Found, Memory, Origin, Pair, Position, Rule, RuleRef, Term, canonical, numbered_rule,
+};
 use std::alloc::{AllocError, Global};
 
 /// What the sources of a rewriting lose: the names on which it acts, those of them that it takes from the rule with the
@@ -182,7 +184,11 @@ fn direction(alloc: Global, rest: &Term, outcome: &Term, pair: &Pair) -> Result<
     ensures { IfOk result (λ dir. dir ≡ leading (tree_of rest.now) (tree_of outcome.now) pair.now) }
 {
     let rule = numbered_rule(alloc, rest, outcome)?;
-    if has_sides_of(&rule, pair) { Ok(0) } else { Ok(1) }
+    if has_sides_of(&rule, pair) {
+        Ok(0)
+    } else {
+        Ok(1)
+    }
 }
 
 // Whether the rule leads from side 0 of the pair to side 1.
