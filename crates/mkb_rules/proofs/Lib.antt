@@ -8,3 +8,6 @@ pub mod Sets
 pub mod Certified
 pub mod Relabelled
 pub mod Answered
+pub mod Forks
+pub mod Committed
+pub mod FirstOrder

@@ -1,8 +1,9 @@
 -- The parts of a state after a fork.
-use Rattle.std.specs.Prelude.{ℕ, zero, suc, List, [], ◌∷◌, ◌≡◌, map}
-use Rattle.kb_label.specs.Names.{Name, relabel}
+use Rattle.std.specs.Prelude.{ℕ, zero, suc, List, [], ◌∷◌, ◌≡◌, map, true, false}
+use Rattle.kb_label.specs.Names.{Name, child, relabel}
+use Rattle.kb_cert.specs.declared.certificate.Certificate.{Certificate}
 use Rattle.mkb_model.specs.Plain.{Plain, PlainNode, Done, GivenUp as OverFor}
-use Rattle.mkb_model.specs.Effects.{forked_node, forked_certificates}
+use Rattle.mkb_model.specs.Effects.{certify_in, forked_node, forked_certificates}
 use Rattle.mkb_rules.specs.Kept.{plain_done, plain_certificates}
 use Rattle.mkb_rules.specs.Over.{lists_of}
 use Rattle.mkb_rules.specs.declared.effects.forking.Forked.{Forked}
@@ -21,10 +22,20 @@ fork_at p n [] = []
 fork_at p zero (x ∷ xs) = forked_node p x ∷ xs
 fork_at p (suc n) (x ∷ xs) = x ∷ fork_at p n xs
 
--- the parts are those of the board after a fork of p
-pub record IsForkOf (b : Plain) (p : Name) (f : Forked) : Type 0 where
+-- the parts are those of the board after a fork of p, in which each child has its order
+pub record IsForkOf (b : Plain) (p : Name) (c0 c1 : Certificate) (f : Forked) : Type 0 where
   pub living : f.log ≡ relabel p b.living
   pub done : plain_done f.done.items ≡ forked_done p b.done
   pub closed : f.closed ≡ relabel p b.closed
   pub over : lists_of f.over ≡ forked_over p b.over
-  pub certificates : plain_certificates f.certificates.items ≡ forked_certificates p b.certificates
+  pub certificates : plain_certificates f.certificates.items ≡ certify_in (child p true) c1 (certify_in (child p false) c0 (forked_certificates p b.certificates))
+
+-- the board with these parts
+abbrev pub with_parts : Forked → Plain → Plain
+with_parts f b = record b {
+  living = f.log;
+  done = plain_done f.done.items;
+  closed = f.closed;
+  over = lists_of f.over;
+  certificates = plain_certificates f.certificates.items;
+}

@@ -1,11 +1,11 @@
 // Processes that fork.
-ghost use Rattle.std.specs.Prelude.{◌≡◌, ◌+◌, ◌<◌, ◌∷◌, [], IfOk, IsTrue, OnErr, OnOk, length, map};
-ghost use Rattle.kb_label.specs.Names.{has, relabel};
+ghost use Rattle.std.specs.Prelude.{◌≡◌, ◌<◌, IfOk, IsTrue, OnErr, OnOk, false, length, map, true};
+ghost use Rattle.kb_label.specs.Names.{child, has, relabel};
 ghost use Rattle.mkb_model.specs.Plain.{label_at};
-ghost use Rattle.mkb_model.specs.Effects.{applied, counted, forked_certificates, forked_node, with_label};
+ghost use Rattle.mkb_model.specs.Effects.{certify_in, counted, forked_certificates, forked_node, oriented, with_label};
 ghost use Rattle.mkb_model.specs.declared.proposed.Proposed.TheVariants.{Both};
 ghost use Rattle.mkb_rules.specs.Applying.{Commits, HasBudget};
-ghost use Rattle.mkb_rules.specs.Forking.{forked_done, fork_at, IsForkOf};
+ghost use Rattle.mkb_rules.specs.Forking.{forked_done, fork_at, with_parts, IsForkOf};
 ghost use Rattle.mkb_rules.specs.Kept.{plain_certificates, plain_done};
 ghost use Rattle.mkb_rules.specs.Parts.{oriented_by};
 
@@ -76,15 +76,17 @@ impl State {
         ensures err { OnErr result (self.new ≡ self.old) }
     {
         let _count = node_count(&self.nodes);
-        let _few = self.log.living();
-        let mut parts = self.forked(alloc, p)?;
-        let first = p.child(false);
-        let second = p.child(true);
-        certify(&mut parts.certificates, &first, cert0.clone()?);
-        certify(&mut parts.certificates, &second, cert1.clone()?);
-        let left = only(alloc, &parts.log, &first)?;
-        let right = only(alloc, &parts.log, &second)?;
-        try_fork(alloc, &mut self.nodes, &parts.log, p, n, &left, &right)?;
+        let parts = self.forked(alloc, p, cert0, cert1)?;
+        try_fork(alloc, &mut self.nodes, &parts.log, p, n)?;
+        self.take_over(parts);
+        Ok(Applied::Done)
+    }
+
+    // The parts after a fork take the place of those before; the commit is counted.
+    fn take_over(&mut self, parts: Forked)
+        requires { HasBudget self.old }
+        ensures { self.new ≡ counted (with_parts parts self.old) }
+    {
         let Forked {
             log,
             done,
@@ -98,23 +100,27 @@ impl State {
         self.over = over;
         self.certificates = certificates;
         self.commits = counted_up(self.commits, self.budget);
-        Ok(Applied::Done)
     }
 
-    // The parts after a fork.
-    fn forked(&self, alloc: Global, p: &Process) -> Result<Forked, Memory>
+    // The parts after a fork, in which each child has its order.
+    fn forked(
+        &self,
+        alloc: Global,
+        p: &Process,
+        cert0: &Certificate,
+        cert1: &Certificate,
+    ) -> Result<Forked, Memory>
         requires lives { IsTrue (has self.now.living p.now) }
         requires room { length self.now.living < MAX_LIVING }
-        ensures { IfOk result (IsForkOf self.now p.now) }
+        ensures parts { IfOk result (IsForkOf self.now p.now cert0.now cert1.now) }
+        ensures short { length p.now < MAX_BITS }
     {
-        let _few = self.log.living();
-        let mut log = self.log.copy()?;
-        log.fork(p)?;
+        learn_short(&self.log, p);
+        let log = forked_log(&self.log, p)?;
         let done = relabelled_done(alloc, &self.log, &self.done, p)?;
         let closed = relabelled(alloc, &self.log, &self.closed, p)?;
         let over = relabelled_over(alloc, &self.log, &self.over, p)?;
-        let mut certificates = copied(alloc, &self.certificates)?;
-        fork_certificates(&mut certificates, p)?;
+        let certificates = certified_children(alloc, &self.certificates, p, cert0, cert1)?;
         Ok(Forked {
             log,
             done,
@@ -123,6 +129,44 @@ impl State {
             certificates,
         })
     }
+}
+
+// A process that lives beside fewer than 255 others has at most 254 bits.
+fn learn_short(log: &NameLog, p: &Process)
+    requires lives { IsTrue (has log.now p.now) }
+    requires room { length log.now < MAX_LIVING }
+    ensures { length p.now < MAX_BITS }
+{
+    let _few = log.living();
+}
+
+// The log after a fork.
+fn forked_log(log: &NameLog, p: &Process) -> Result<NameLog, AllocError>
+    requires lives { IsTrue (has log.now p.now) }
+    requires room { length log.now < MAX_LIVING }
+    ensures { IfOk result (λ l. l ≡ relabel p.now log.now) }
+{
+    let mut copy = log.copy()?;
+    copy.fork(p)?;
+    Ok(copy)
+}
+
+// The orders after a fork, each child with its own.
+fn certified_children(
+    alloc: Global,
+    certificates: &[Certified],
+    p: &Process,
+    cert0: &Certificate,
+    cert1: &Certificate,
+) -> Result<Vec<Certified>, Memory>
+    requires { length p.now < MAX_BITS }
+    ensures { IfOk result (λ cs. plain_certificates cs.items ≡ certify_in (child p.now true) cert1.now (certify_in (child p.now false) cert0.now (forked_certificates p.now (plain_certificates certificates.now)))) }
+{
+    let mut orders = copied(alloc, certificates)?;
+    fork_certificates(&mut orders, p)?;
+    certify(&mut orders, &p.child(false), cert0.clone()?);
+    certify(&mut orders, &p.child(true), cert1.clone()?);
+    Ok(orders)
 }
 
 // The label in which the children of the process stand in its place.
@@ -210,16 +254,19 @@ fn fork_certificates(certificates: &mut Vec<Certified>, p: &Process) -> Result<(
     ensures { OnOk result (plain_certificates certificates.new.items ≡ forked_certificates p.now (plain_certificates certificates.old.items)) }
 {
     let place = certificate_place(certificates, p);
-    if place == certificates.len() {
+    if place >= certificates.len() {
         return Ok(());
     }
-    let certificate = certificates[place].certificate.clone()?;
-    let second = Certified {
-        name: p.child(true),
-        certificate,
-    };
-    certificates.insert(place + 1, second)?;
-    certificates[place].name = p.child(false);
+    let order = &mut certificates[place];
+    let certificate = order.certificate.clone()?;
+    order.name = p.child(false);
+    certificates.insert(
+        place + 1,
+        Certified {
+            name: p.child(true),
+            certificate,
+        },
+    )?;
     Ok(())
 }
 
@@ -230,16 +277,18 @@ fn try_fork(
     log: &NameLog,
     p: &Process,
     n: NodeId,
-    left: &ListLabels,
-    right: &ListLabels,
 ) -> Result<(), AllocError>
     requires short { length p.now < MAX_BITS }
     requires there { n.0 < length nodes.old.now }
-    ensures ok { OnOk result (nodes.new.now ≡ oriented_by right.now (record { node = n.0; dir = 1 }) (oriented_by left.now (record { node = n.0; dir = 0 }) (map (forked_node p.now) nodes.old.now))) }
+    requires first { IsTrue (has log.now (child p.now false)) }
+    requires second { IsTrue (has log.now (child p.now true)) }
+    ensures ok { OnOk result (nodes.new.now ≡ oriented (child p.now true) (record { node = n.0; dir = 1 }) (oriented (child p.now false) (record { node = n.0; dir = 0 }) (map (forked_node p.now) nodes.old.now))) }
     ensures err { OnErr result (nodes.new.now ≡ nodes.old.now) }
 {
+    let left = only(alloc, log, &p.child(false))?;
+    let right = only(alloc, log, &p.child(true))?;
     nodes.keep();
-    match fork_and_orient(alloc, nodes, log, p, n, left, right) {
+    match fork_and_orient(alloc, nodes, log, p, n, &left, &right) {
         Ok(()) => Ok(()),
         Err(fault) => {
             nodes.roll_back();
@@ -248,6 +297,7 @@ fn try_fork(
     }
 }
 
+#[tactic(auto, using(crate::proofs::Relabelled::length_oriented, crate::proofs::Relabelled::length_forked))]
 fn fork_and_orient(
     alloc: Global,
     nodes: &mut Nodes,
@@ -286,6 +336,7 @@ fn fork_nodes(
 }
 
 // In each label of the node the children of the process stand in its place.
+#[tactic(auto, using(crate::proofs::Relabelled::length_with))]
 fn fork_node(
     alloc: Global,
     nodes: &mut Nodes,
@@ -319,7 +370,6 @@ fn fork_label(
     requires there { n.0 < length nodes.old.now }
     ensures ok { OnOk result (nodes.new.now ≡ with_label n.0 kind (relabel p.now (label_at nodes.old.now n.0 kind)) nodes.old.now) }
     ensures before { nodes.new.before ≡ nodes.old.before }
-    ensures count { length nodes.new.now ≡ length nodes.old.now }
 {
     let old = node_label(nodes, n, kind);
     if !old.has(log, p) {

@@ -174,24 +174,27 @@ impl State {
     }
 
     // The processes on which a proposal acts.
-    fn effect_names(&self, alloc: Global, proposal: &Proposed) -> Result<ListLabels, Memory>
+    fn effect_names(&self, alloc: Global, proposal: &Proposed) -> Result<ListLabels, AllocError>
         requires { HasNamed self.now proposal.now }
         ensures { IfOk result (λ l. l ≡ effect_label self.now proposal.now) }
     {
-        let names = match proposal {
-            Proposed::Facts(_) => ListLabels::new(alloc),
-            Proposed::Rewrite { node, side, rule, kind, .. } => {
-                self.rewrite_names(alloc, *node, *side, *rule, *kind)?
-            }
-            Proposed::One { process, node, .. } => self.orient_names(alloc, process, *node)?,
-            Proposed::Both { process, node, .. } => self.orient_names(alloc, process, *node)?,
-            Proposed::Refuse { process, node } => self.orient_names(alloc, process, *node)?,
-            Proposed::Deduce { a, b, .. } => self.overlap_names(alloc, *a, *b)?,
-            Proposed::Unjoined { process, .. } => only(alloc, &self.log, process)?,
-            Proposed::Closed { process } => only(alloc, &self.log, process)?,
-            Proposed::Limit { job, cause } => self.stopped_names(alloc, job, cause)?,
-        };
-        Ok(names)
+        match proposal {
+            Proposed::Facts(_) => Ok(ListLabels::new(alloc)),
+            Proposed::Rewrite {
+                node,
+                side,
+                rule,
+                kind,
+                ..
+            } => self.rewrite_names(alloc, *node, *side, *rule, *kind),
+            Proposed::One { process, node, .. } => self.orient_names(alloc, process, *node),
+            Proposed::Both { process, node, .. } => self.orient_names(alloc, process, *node),
+            Proposed::Refuse { process, node } => self.orient_names(alloc, process, *node),
+            Proposed::Deduce { a, b, .. } => self.overlap_names(alloc, *a, *b),
+            Proposed::Unjoined { process, .. } => only(alloc, &self.log, process),
+            Proposed::Closed { process } => only(alloc, &self.log, process),
+            Proposed::Limit { job, cause } => self.stopped_names(alloc, job, cause),
+        }
     }
 }
 
