@@ -1,7 +1,6 @@
 -- A pair that is found, or that gets a node.
-use Rattle.std.proofs.Common.{ℕ, zero, suc, ◌+◌, ◌<◌, ◌≡◌, ◌⊎◌, inl, inr, refl, sym, ap, ◌∙◌, subst, arith, List, [], ◌∷◌, ◌++◌, map, length, get_or, Option, Some, None, Result, Ok, Err, Bool, true, false, cond, ⊎_elim}
-use Rattle.std.specs.Prelude.{All, slice_get, option_map, OnOk, OnErr, IfOk, IsFalse, ◌↔◌}
-use Rattle.std.specs.List.{list_any}
+use Rattle.std.proofs.Common.{ℕ, zero, suc, ◌+◌, ◌≡◌, ◌⊎◌, inl, inr, refl, sym, ap, ◌∙◌, subst, arith, List, [], ◌∷◌, ◌++◌, map, length, Result, Ok, Err, Bool, true, false, cond}
+use Rattle.std.specs.Prelude.{slice_get, option_map, OnOk, OnErr, IfOk, IsFalse, ◌↔◌}
 use Rattle.std.proofs.lemmas.List.{map-append, length-map, append-nil}
 use Rattle.kb_label.specs.Names.{Name}
 use Rattle.kb_term.specs.Pair.{Pair}
@@ -9,7 +8,7 @@ use Rattle.kb_term.specs.declared.origin.Origin.{Origin}
 use Rattle.kb_node.specs.declared.node.Node.{Node}
 use Rattle.kb_node.specs.declared.node.NodeId.{NodeId}
 use Rattle.kb_node.specs.declared.fault.NodeFault.{NodeFault}
-use Rattle.kb_node.specs.declared.fault.NodeFault.TheVariants.{Full, Memory}
+use Rattle.kb_node.specs.declared.fault.NodeFault.TheVariants.{Full}
 use Rattle.kb_node.specs.declared.node.LabelKind.TheVariants.{R0, R1, E, C0, C1, X}
 use Rattle.kb_node.specs.Labelled.{HasPair, LacksPair, AddsNode}
 use Rattle.kb_node.proofs.Adding.{has-lacks}

@@ -1,5 +1,5 @@
 // Nodes that are rewritten.
-ghost use Rattle.std.specs.Prelude.{◌≡◌, ◌<◌, ◌≤◌, Err, IfOk, IsFalse, OnErr, OnOk, Some, length};
+ghost use Rattle.std.specs.Prelude.{◌≡◌, ◌<◌, ◌≤◌, Err, IfOk, OnErr, OnOk, Some, length};
 ghost use Rattle.kb_term.specs.Pair.{Pair as CanonicalPair, canonical_pair, variables_of_pair};
 ghost use Rattle.kb_term.specs.declared.origin.Origin.TheVariants.{Rewrite as ByRewrite};
 ghost use Rattle.kb_term.specs.View.{tree_of};
@@ -7,7 +7,7 @@ ghost use Rattle.kb_overlap.specs.Trace.{other_side};
 ghost use Rattle.kb_label.specs.Names.{meet};
 ghost use Rattle.kb_node.specs.declared.node.LabelKind.TheVariants.{E};
 ghost use Rattle.mkb_model.specs.Plain.{label, pair_at, rule_kind as kind_of_rules, other as side_not};
-ghost use Rattle.mkb_model.specs.Effects.{direction as leading, if_strict, is_present, most_nodes, pair_eq, with_nodes};
+ghost use Rattle.mkb_model.specs.Effects.{direction as leading, if_strict, most_nodes, pair_eq, with_nodes};
 ghost use Rattle.mkb_model.specs.declared.proposed.Proposed.TheVariants.{Rewrite};
 ghost use Rattle.mkb_rules.specs.Applying.{Commits, HasBudget};
 ghost use Rattle.mkb_rules.specs.Named.{IsThere};

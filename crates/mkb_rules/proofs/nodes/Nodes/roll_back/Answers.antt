@@ -1,4 +1,4 @@
-use Rattle.std.proofs.Common.{◌≡◌, ◌≤◌, ◌∙◌, [], length, take, ap, sym, arith}
+use Rattle.std.proofs.Common.{◌≤◌, ◌∙◌, length, take, ap, sym, arith}
 use Rattle.std.proofs.lemmas.List.{length-map, length-take-le, take_all, take-map}
 use Rattle.mkb_rules.specs.Parts.{plain_node, plain_nodes}
 use Rattle.mkb_rules.specs.Nodes.{put_back}

@@ -1,8 +1,7 @@
-use Rattle.std.proofs.Common.{ℕ, ◌≡◌, ◌≤◌, ◌<◌, ◌+◌, ◌∙◌, List, Err, ap, ap₂, sym, length}
+use Rattle.std.proofs.Common.{ℕ, ◌≡◌, ◌∙◌, List, Err, ap, ap₂, sym}
 use Rattle.kb_label.specs.declared.verdict.Reason.TheVariants.{Nodes}
-use Rattle.kb_term.specs.Pair.{Pair}
 use Rattle.mkb_model.specs.Plain.{Plain, PlainNode}
-use Rattle.mkb_model.specs.Effects.{counted, effect, give_up, on_nodes, rewrite_label}
+use Rattle.mkb_model.specs.Effects.{counted, give_up, on_nodes}
 use Rattle.mkb_model.specs.declared.proposed.Proposed.TheVariants.{Rewrite}
 use Rattle.mkb_rules.specs.Applying.{Commits, applied_as}
 use Rattle.mkb_rules.specs.declared.applied.Applied.{Applied}
