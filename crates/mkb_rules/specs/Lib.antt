@@ -6,3 +6,4 @@ pub mod Forking
 pub mod Applying
 pub mod Named
 pub mod Rewriting
+pub mod Applicable

@@ -1,4 +1,5 @@
 // What commits do to the state.
+mod applying;
 mod deducing;
 mod forking;
 mod giving_up;
