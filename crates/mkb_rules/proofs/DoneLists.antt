@@ -1,12 +1,11 @@
 -- The lists of processes for which rules have been overlapped.
-use Rattle.std.proofs.Common.{ℕ, zero, suc, ◌+◌, ◌<◌, ◌≤◌, ◌≡◌, refl, sym, ap, ◌∙◌, arith, List, [], ◌∷◌, ◌++◌, length, get_or, Bool, true, false, cond, not}
+use Rattle.std.proofs.Common.{ℕ, zero, suc, ◌+◌, ◌<◌, ◌≤◌, ◌≡◌, refl, ap, arith, List, [], ◌∷◌, ◌++◌, length, get_or, Bool, true, false, cond, not}
 use Rattle.std.specs.Prelude.{◌&&◌, slice_set}
 use Rattle.std.specs.List.{position_or_len}
 use Rattle.kb_label.specs.Names.{Name, join}
 use Rattle.kb_term.specs.declared.origin.RuleRef.{RuleRef}
 use Rattle.mkb_model.specs.Jobs.{ref_eq}
 use Rattle.mkb_model.specs.Effects.{gains_done_in}
-use Rattle.mkb_model.proofs.Lists.{clash}
 use Rattle.mkb_rules.specs.declared.state.DonePair.{DonePair}
 use Rattle.mkb_rules.specs.Kept.{plain_done}
 

@@ -1,7 +1,6 @@
 -- A pair that is found, or that gets a node.
-use Rattle.std.proofs.Common.{ℕ, zero, suc, ◌+◌, ◌<◌, ◌≡◌, ◌⊎◌, inl, inr, refl, sym, ap, ◌∙◌, subst, arith, List, [], ◌∷◌, ◌++◌, map, length, get_or, Option, Some, None, Result, Ok, Err, Bool, true, false, cond, ⊎_elim}
-use Rattle.std.specs.Prelude.{All, slice_get, option_map, OnOk, OnErr, IfOk, IsFalse, ◌↔◌}
-use Rattle.std.specs.List.{list_any}
+use Rattle.std.proofs.Common.{ℕ, zero, suc, ◌+◌, ◌≡◌, ◌⊎◌, inl, inr, refl, sym, ap, ◌∙◌, subst, arith, List, [], ◌∷◌, ◌++◌, map, length, Result, Ok, Err, Bool, true, false, cond}
+use Rattle.std.specs.Prelude.{slice_get, option_map, OnOk, OnErr, IfOk, IsFalse, ◌↔◌}
 use Rattle.std.proofs.lemmas.List.{map-append, length-map, append-nil}
 use Rattle.kb_label.specs.Names.{Name}
 use Rattle.kb_term.specs.Pair.{Pair}
@@ -9,7 +8,7 @@ use Rattle.kb_term.specs.declared.origin.Origin.{Origin}
 use Rattle.kb_node.specs.declared.node.Node.{Node}
 use Rattle.kb_node.specs.declared.node.NodeId.{NodeId}
 use Rattle.kb_node.specs.declared.fault.NodeFault.{NodeFault}
-use Rattle.kb_node.specs.declared.fault.NodeFault.TheVariants.{Full, Memory}
+use Rattle.kb_node.specs.declared.fault.NodeFault.TheVariants.{Full}
 use Rattle.kb_node.specs.declared.node.LabelKind.TheVariants.{R0, R1, E, C0, C1, X}
 use Rattle.kb_node.specs.Labelled.{HasPair, LacksPair, AddsNode}
 use Rattle.kb_node.proofs.Adding.{has-lacks}
@@ -46,10 +45,10 @@ plain-new x q o p r a b c d e f = λ i. record { pair = p i; origin = r i; rule0
 
 -- what the table tells of a pair that it is asked for, in terms of the plain nodes
 module _ (old new : List (Node (List Name))) (q : Pair) (o : Origin) (r : Result NodeId NodeFault)
-  (present : (n : ℕ) → HasPair old n q → (r ≡ Ok (record { 0 = n })) × (new ≡ old))
-  (added : LacksPair old q → IfOk r (λ (n : NodeId). (n.0 ≡ length old) × AddsNode {L = List Name} {K = List Name} (λ log l. l) old new q o))
-  (full : (r ≡ Err Full) ↔ (LacksPair old q × (length old ≡ 4096)))
-  (err : OnErr r (new ≡ old)) where
+    (present : (n : ℕ) → HasPair old n q → (r ≡ Ok (record { 0 = n })) × (new ≡ old))
+    (added : LacksPair old q → IfOk r (λ (n : NodeId). (n.0 ≡ length old) × AddsNode {L = List Name} {K = List Name} (λ log l. l) old new q o))
+    (full : (r ≡ Err Full) ↔ (LacksPair old q × (length old ≡ 4096)))
+    (err : OnErr r (new ≡ old)) where
   appended : AddsNode {L = List Name} {K = List Name} (λ log l. l) old new q o → plain_nodes new ≡ plain_nodes old ++ new_node q o ∷ []
   appended a =
       ap plain_nodes a.appended ∙ map-append plain_node old (a.node ∷ [])

@@ -1,6 +1,6 @@
 -- Names that a rewriting moves from its sources to its target.
-use Rattle.std.proofs.Common.{ℕ, zero, suc, ◌<◌, ◌≤◌, ◌≡◌, refl, sym, ap, ◌∙◌, subst, arith, List, [], ◌∷◌, length, Option, Some, None, Bool, true, false, cond}
-use Rattle.std.specs.Prelude.{nat_lt, option_map, option_and_then, option_to_list}
+use Rattle.std.proofs.Common.{ℕ, zero, suc, ◌<◌, ◌≤◌, ◌≡◌, refl, sym, ap, ◌∙◌, subst, arith, List, [], ◌∷◌, length, Option, Some, None}
+use Rattle.std.specs.Prelude.{nat_lt, option_and_then, option_to_list}
 use Rattle.std.specs.Option.{option_map_or}
 use Rattle.kb_label.specs.Names.{Name, meet, minus, join}
 use Rattle.kb_label.specs.declared.verdict.Reason.TheVariants.{Nodes}
@@ -17,8 +17,7 @@ use Rattle.kb_node.specs.declared.node.NodeId.{NodeId}
 use Rattle.kb_node.specs.declared.node.LabelKind.{LabelKind}
 use Rattle.kb_node.specs.declared.node.LabelKind.TheVariants.{E}
 use Rattle.mkb_model.specs.Plain.{Plain, PlainNode, label, label_at, pair_at, pair_in, rule_kind, other}
-use Rattle.mkb_model.specs.Effects.{applied, counted, effect, effect_label, first_some, some_if, gains_rule, gains_equation, give_up, if_strict, is_present, limit_of, loses, most_nodes, moved_to, on_nodes, rewrite_label, rewritten, wanted, with_label, with_node, with_nodes}
-use Rattle.mkb_model.specs.declared.proposed.Proposed.{Proposed}
+use Rattle.mkb_model.specs.Effects.{applied, counted, effect, effect_label, first_some, some_if, gains_rule, give_up, if_strict, limit_of, loses, most_nodes, moved_to, on_nodes, rewrite_label, rewritten, wanted, with_label, with_nodes}
 use Rattle.mkb_model.specs.declared.proposed.Proposed.TheVariants.{Rewrite}
 use Rattle.mkb_model.proofs.Roles.{length-put}
 use Rattle.mkb_rules.specs.Rewriting.{target_of, wanted_by, lost, gained}

@@ -1,11 +1,10 @@
 -- Nodes of the same pairs get nodes for the same new pairs.
-use Rattle.std.proofs.Common.{ℕ, zero, suc, ◌+◌, ◌<◌, ◌≤◌, ◌≡◌, refl, sym, ap, ap₂, ◌∙◌, subst, arith, List, [], ◌∷◌, ◌++◌, map, length, Option, Some, None, Bool, true, false, cond, ◌⊎◌, ⊎_elim}
+use Rattle.std.proofs.Common.{ℕ, zero, suc, ◌+◌, ◌<◌, ◌≤◌, ◌≡◌, refl, sym, ap, ◌∙◌, subst, arith, List, [], ◌∷◌, ◌++◌, map, length, Some, None, Bool, true, false, cond, ◌⊎◌, ⊎_elim}
 use Rattle.std.specs.Prelude.{◌||◌, nat_lt}
 use Rattle.std.specs.List.{list_any}
 use Rattle.std.proofs.lemmas.List.{map-append, length-map, length-append}
 use Rattle.std.proofs.lemmas.Bool.Decides.{nat_tests}
 use Rattle.kb_label.specs.Names.{Name, join, minus}
-use Rattle.kb_label.specs.declared.verdict.Reason.{Reason}
 use Rattle.kb_label.specs.declared.verdict.Reason.TheVariants.{Nodes}
 use Rattle.kb_term.specs.Pair.{Pair}
 use Rattle.kb_term.specs.declared.origin.Origin.{Origin}

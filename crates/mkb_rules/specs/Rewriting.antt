@@ -1,6 +1,5 @@
 -- The parts of a rewriting: what its sources lose, and the pair that gains it.
 use Rattle.std.specs.Prelude.{ℕ, ◌≡◌, ◌≤◌, List, length, Option, Some, None, option_map, option_to_list}
-use Rattle.kb_label.specs.Names.{Name}
 use Rattle.kb_term.specs.Tree.{Tree}
 use Rattle.kb_term.specs.Pair.{Pair, variables_of_pair}
 use Rattle.kb_term.specs.declared.origin.Origin.{Origin}

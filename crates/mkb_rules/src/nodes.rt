@@ -87,7 +87,12 @@ impl Nodes {
     }
 
     /// Puts a label in the place of the node's label of this kind.
-    pub(crate) fn set(&mut self, n: NodeId, kind: LabelKind, label: ListLabels) -> Result<(), AllocError>
+    pub(crate) fn set(
+        &mut self,
+        n: NodeId,
+        kind: LabelKind,
+        label: ListLabels,
+    ) -> Result<(), AllocError>
         requires { n.0 < length self.old.now }
         ensures ok { OnOk result (self.new.now ≡ with_label n.0 kind label self.old.now) }
         ensures before { self.new.before ≡ self.old.before }
@@ -95,7 +100,13 @@ impl Nodes {
     {
         self.replaced.reserve(1)?;
         let label = self.table.set_label(n, kind, label);
-        self.replaced.push(Replaced { node: n, kind, label }).unwrap();
+        self.replaced
+            .push(Replaced {
+                node: n,
+                kind,
+                label,
+            })
+            .unwrap();
         Ok(())
     }
 

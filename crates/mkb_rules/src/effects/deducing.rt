@@ -1,5 +1,5 @@
 // Pairs of overlaps that become equations.
-ghost use Rattle.std.specs.Prelude.{◌≡◌, ◌<◌, ◌≤◌, ◌∷◌, ◌++◌, ◌&&◌, [], Err, IfOk, IsFalse, OnErr, OnOk, length, map};
+ghost use Rattle.std.specs.Prelude.{◌≡◌, ◌<◌, ◌≤◌, ◌∷◌, ◌&&◌, [], Err, IfOk, IsFalse, OnErr, OnOk, length, map};
 ghost use Rattle.std.specs.List.{position_or_len};
 ghost use Rattle.mkb_model.specs.Effects.{added, gains_done_in, is_present, most_nodes, with_nodes};
 ghost use Rattle.mkb_model.specs.declared.proposed.Proposed.TheVariants.{Deduce, Unjoined};

@@ -1,5 +1,5 @@
 // Nodes that are rewritten.
-ghost use Rattle.std.specs.Prelude.{◌≡◌, ◌<◌, ◌≤◌, Err, IfOk, IsFalse, OnErr, OnOk, Some, length};
+ghost use Rattle.std.specs.Prelude.{◌≡◌, ◌<◌, ◌≤◌, Err, IfOk, OnErr, OnOk, Some, length};
 ghost use Rattle.kb_term.specs.Pair.{Pair as CanonicalPair, canonical_pair, variables_of_pair};
 ghost use Rattle.kb_term.specs.declared.origin.Origin.TheVariants.{Rewrite as ByRewrite};
 ghost use Rattle.kb_term.specs.View.{tree_of};
@@ -7,7 +7,7 @@ ghost use Rattle.kb_overlap.specs.Trace.{other_side};
 ghost use Rattle.kb_label.specs.Names.{meet};
 ghost use Rattle.kb_node.specs.declared.node.LabelKind.TheVariants.{E};
 ghost use Rattle.mkb_model.specs.Plain.{label, pair_at, rule_kind as kind_of_rules, other as side_not};
-ghost use Rattle.mkb_model.specs.Effects.{direction as leading, if_strict, is_present, most_nodes, pair_eq, with_nodes};
+ghost use Rattle.mkb_model.specs.Effects.{direction as leading, if_strict, most_nodes, pair_eq, with_nodes};
 ghost use Rattle.mkb_model.specs.declared.proposed.Proposed.TheVariants.{Rewrite};
 ghost use Rattle.mkb_rules.specs.Applying.{Commits, HasBudget};
 ghost use Rattle.mkb_rules.specs.Named.{IsThere};
@@ -20,7 +20,9 @@ use crate::nodes::Nodes;
 use crate::state::State;
 use kb_label::{Labels, ListLabels, NameLog, Reason};
 use kb_node::{LabelKind, NodeFault, NodeId};
-use kb_term::{Found, Memory, Origin, Pair, Position, Rule, RuleRef, Term, canonical, numbered_rule};
+use kb_term::{
+    Found, Memory, Origin, Pair, Position, Rule, RuleRef, Term, canonical, numbered_rule,
+};
 use std::alloc::{AllocError, Global};
 
 /// What the sources of a rewriting lose: the names on which it acts, those of them that it takes from the rule with the
@@ -182,7 +184,11 @@ fn direction(alloc: Global, rest: &Term, outcome: &Term, pair: &Pair) -> Result<
     ensures { IfOk result (λ dir. dir ≡ leading (tree_of rest.now) (tree_of outcome.now) pair.now) }
 {
     let rule = numbered_rule(alloc, rest, outcome)?;
-    if has_sides_of(&rule, pair) { Ok(0) } else { Ok(1) }
+    if has_sides_of(&rule, pair) {
+        Ok(0)
+    } else {
+        Ok(1)
+    }
 }
 
 // Whether the rule leads from side 0 of the pair to side 1.

@@ -37,7 +37,13 @@ fn two_nodes(alloc: Global) -> Result<Nodes, NodeFault> {
 }
 
 // Gives the node to the first process.
-fn give(alloc: Global, nodes: &mut Nodes, log: &NameLog, n: u16, kind: LabelKind) -> Result<(), Memory> {
+fn give(
+    alloc: Global,
+    nodes: &mut Nodes,
+    log: &NameLog,
+    n: u16,
+    kind: LabelKind,
+) -> Result<(), Memory> {
     let root = Process::root();
     if log.is_living(&root) && u32::from(n) < nodes.table().len() {
         let names = only(alloc, log, &root)?;
@@ -97,7 +103,10 @@ fn rewritten(alloc: Global, state: &mut State) -> Result<Applied, Memory> {
 // Whether the first process has the node so.
 fn has(state: &State, n: u16, kind: LabelKind) -> bool {
     u32::from(n) < state.nodes().len()
-        && state.nodes().label(NodeId(n), kind).has(state.log(), &Process::root())
+        && state
+            .nodes()
+            .label(NodeId(n), kind)
+            .has(state.log(), &Process::root())
 }
 
 #[test]
@@ -150,7 +159,13 @@ fn a_pair_of_an_overlap_becomes_an_equation(rt: HostRuntime) {
     assert_eq!(rt; state.nodes().len(), 3);
     assert!(rt; has(&state, 2, LabelKind::E));
     let root = Process::root();
-    assert!(rt; state.is_done(&root, RuleRef { node: 0, dir: 0 }, RuleRef { node: 1, dir: 1 }));
+    assert!(rt;
+        state.is_done(
+            &root,
+            RuleRef { node: 0, dir: 0 },
+            RuleRef { node: 1, dir: 1 }
+        )
+    );
 }
 
 // Adds nodes of pairs of constants until there are as many as there may be.

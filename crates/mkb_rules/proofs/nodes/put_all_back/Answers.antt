@@ -1,4 +1,4 @@
-use Rattle.std.proofs.Common.{◌<◌, ◌∙◌, ℕ, ap, sym, subst, length, get_or}
+use Rattle.std.proofs.Common.{◌<◌, ◌∙◌, length}
 use Rattle.std.specs.Prelude.{All}
 use Rattle.std.proofs.lemmas.List.Elements.{All-take}
 use Rattle.mkb_rules.specs.declared.nodes.Replaced.{Replaced}

@@ -1,4 +1,3 @@
-use Rattle.std.proofs.Common.{◌≡◌, ◌<◌, ◌≤◌, length}
 use Rattle.mkb_rules.proofs.SamePairs.{node-there, room-add_one}
 use Rattle.mkb_rules.proofs.effects.deducing.add_pair.Goals as goal
 

@@ -1,4 +1,3 @@
-use Rattle.std.proofs.Common.{◌<◌, length}
 use Rattle.mkb_rules.proofs.SamePairs.{node-there}
 use Rattle.mkb_rules.proofs.Moving.{there-put, there-rule}
 use Rattle.mkb_rules.proofs.effects.rewriting.gain.Goals as goal

@@ -1,4 +1,3 @@
-use Rattle.std.proofs.Common.{◌<◌, length}
 use Rattle.mkb_rules.proofs.Moving.{there-put}
 use Rattle.mkb_rules.proofs.effects.rewriting.lose.Goals as goal
 

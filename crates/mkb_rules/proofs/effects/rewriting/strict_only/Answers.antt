@@ -6,6 +6,6 @@ use Rattle.mkb_rules.proofs.effects.rewriting.strict_only.Goals as goal
 pub returns-in-No : goal.returns-in-No
 returns-in-No c =
     elim c.in-No.is [
-        inl e ↦ c.new.ensures [] ∙ sym (ap (λ (f : Found). if_strict f c.args.names) e)
+      | inl e ↦ c.new.ensures [] ∙ sym (ap (λ (f : Found). if_strict f c.args.names) e)
       | inr e ↦ c.new.ensures [] ∙ sym (ap (λ (f : Found). if_strict f c.args.names) e)
     ]

@@ -1,11 +1,8 @@
-use Rattle.std.proofs.Common.{◌≡◌, ◌∙◌, ◌++◌, ℕ, ◌<◌, ◌≤◌, List, length, take, ap, sym, subst}
+use Rattle.std.proofs.Common.{◌∙◌, ℕ, ◌<◌, length, take, ap, sym, subst}
 use Rattle.std.specs.Prelude.{All}
 use Rattle.std.proofs.lemmas.List.{map-append, length-map}
-use Rattle.kb_label.specs.Names.{Name}
-use Rattle.kb_node.specs.declared.node.Node.{Node}
-use Rattle.mkb_model.specs.Effects.{with_node, is_present, most_nodes}
 use Rattle.mkb_rules.specs.Parts.{plain_node, plain_nodes}
-use Rattle.mkb_rules.specs.Nodes.{Changed, put_back}
+use Rattle.mkb_rules.specs.Nodes.{put_back}
 use Rattle.mkb_rules.specs.declared.nodes.Replaced.{Replaced}
 use Rattle.mkb_rules.proofs.PutBack.{before-longer}
 use Rattle.mkb_rules.proofs.Finding.{found-ok, found-node, found-full, found-longer}

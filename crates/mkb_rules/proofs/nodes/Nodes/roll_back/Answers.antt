@@ -1,4 +1,4 @@
-use Rattle.std.proofs.Common.{◌≡◌, ◌≤◌, ◌∙◌, [], length, take, ap, sym, arith}
+use Rattle.std.proofs.Common.{◌≤◌, ◌∙◌, length, take, ap, sym, arith}
 use Rattle.std.proofs.lemmas.List.{length-map, length-take-le, take_all, take-map}
 use Rattle.mkb_rules.specs.Parts.{plain_node, plain_nodes}
 use Rattle.mkb_rules.specs.Nodes.{put_back}
@@ -11,7 +11,7 @@ truncate-requires c = few-put_back c.self.inside.kept c.self.inside.table c.put_
 pub invariant_of-self : goal.invariant_of-self
 invariant_of-self c = (
   (let few : c.self.inside.kept ≤ length c.put_all_back.new.table = few-put_back c.self.inside.kept c.self.inside.table c.put_all_back.new.table c.self.inside.replaced.items c.self.invariant.0 c.put_all_back.ensures.nodes in
-  omega (arith, ap length c.truncate.ensures, length-take-le c.self.inside.kept c.put_all_back.new.table few)),
+      omega (arith, ap length c.truncate.ensures, length-take-le c.self.inside.kept c.put_all_back.new.table few)),
   λ k d h. absurd (omega (arith, h, ap length c.put_all_back.ensures.none)),
 )
 

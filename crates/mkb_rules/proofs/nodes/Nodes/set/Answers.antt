@@ -1,7 +1,6 @@
-use Rattle.std.proofs.Common.{◌≡◌, ◌∙◌, ◌++◌, ◌∷◌, [], take, ap, sym}
-use Rattle.mkb_model.specs.Effects.{with_label}
+use Rattle.std.proofs.Common.{◌∙◌, ◌++◌, ◌∷◌, [], take, ap}
 use Rattle.mkb_rules.specs.Parts.{plain_nodes}
-use Rattle.mkb_rules.specs.Nodes.{Changed, put_back}
+use Rattle.mkb_rules.specs.Nodes.{put_back}
 use Rattle.mkb_rules.specs.declared.nodes.Replaced.{Replaced}
 use Rattle.mkb_rules.proofs.PutBack.{plain-with_label, plain-label, put_back-put}
 use Rattle.mkb_rules.proofs.nodes.Nodes.set.Goals as goal

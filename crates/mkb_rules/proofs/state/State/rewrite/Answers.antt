@@ -1,8 +1,7 @@
-use Rattle.std.proofs.Common.{ℕ, ◌≡◌, ◌≤◌, ◌<◌, ◌+◌, ◌∙◌, List, Err, ap, ap₂, sym, length}
+use Rattle.std.proofs.Common.{ℕ, ◌≡◌, ◌∙◌, List, Err, ap, ap₂, sym}
 use Rattle.kb_label.specs.declared.verdict.Reason.TheVariants.{Nodes}
-use Rattle.kb_term.specs.Pair.{Pair}
 use Rattle.mkb_model.specs.Plain.{Plain, PlainNode}
-use Rattle.mkb_model.specs.Effects.{counted, effect, give_up, on_nodes, rewrite_label}
+use Rattle.mkb_model.specs.Effects.{counted, give_up, on_nodes}
 use Rattle.mkb_model.specs.declared.proposed.Proposed.TheVariants.{Rewrite}
 use Rattle.mkb_rules.specs.Applying.{Commits, applied_as}
 use Rattle.mkb_rules.specs.declared.applied.Applied.{Applied}
@@ -25,13 +24,14 @@ returns-in-Ok-clause-ok c =
     let before = c.self.inside in
     let node = pair_there b.nodes n.0 c.requires.node in
     let all = sources-all b n w c.args.position.now c.args.rule c.args.kind c.args.outcome.now node.0 node.1 c.in_ok-names.names s c.in_ok-names.ensures
-        c.in_ok-sources.ensures.names c.in_ok-sources.ensures.strict c.in_ok-sources.ensures.equation c.in_ok-sources.ensures.right c.in_ok-sources.ensures.left in
+    c.in_ok-sources.ensures.names c.in_ok-sources.ensures.strict c.in_ok-sources.ensures.equation c.in_ok-sources.ensures.right c.in_ok-sources.ensures.left in
     let done = rewrite-done b n w c.args.position.now c.args.rule c.args.kind c.args.outcome.now node.0 node.1 o s (c.in_ok-target.ensures node.0 node.1) all
-        (rw (← c.self.view_is) c.in-Ok.ensures.room) in
-    (ap₂ (λ (xs : List PlainNode) (m : ℕ). board_of before.problem before.budget before.log xs (plain_done before.done.items) before.facts.items before.closed (lists_of before.over) m (plain_certificates before.certificates.items)) c.in-Ok.ensures.ok c.counted_up-self-inside.ensures
-    ∙ ap (λ (z : Plain). counted (on_nodes (λ xs. gained o s (lost n.0 w s xs)) z)) c.self.view_is
-    ∙ done.0,
-    ap applied_as (sym done.1))
+    (rw (← c.self.view_is) c.in-Ok.ensures.room) in (
+      ap₂ (λ (xs : List PlainNode) (m : ℕ). board_of before.problem before.budget before.log xs (plain_done before.done.items) before.facts.items before.closed (lists_of before.over) m (plain_certificates before.certificates.items)) c.in-Ok.ensures.ok c.counted_up-self-inside.ensures
+          ∙ ap (λ (z : Plain). counted (on_nodes (λ xs. gained o s (lost n.0 w s xs)) z)) c.self.view_is
+          ∙ done.0,
+      ap applied_as (sym done.1),
+    )
 
 pub returns-in-Err-Full-clause-ok : goal.returns-in-Err-Full-clause-ok
 returns-in-Err-Full-clause-ok c =
@@ -44,9 +44,9 @@ returns-in-Err-Full-clause-ok c =
     let with_nodes_now = λ (xs : List PlainNode). board_of before.problem before.budget before.log xs (plain_done before.done.items) before.facts.items before.closed (lists_of before.over) before.commits (plain_certificates before.certificates.items) in
     let node = pair_there b.nodes n.0 c.requires.node in
     let all = sources-all b n w c.args.position.now c.args.rule c.args.kind c.args.outcome.now node.0 node.1 c.in_ok-names.names s c.in_ok-names.ensures
-        c.in_ok-sources.ensures.names c.in_ok-sources.ensures.strict c.in_ok-sources.ensures.equation c.in_ok-sources.ensures.right c.in_ok-sources.ensures.left in
+    c.in_ok-sources.ensures.names c.in_ok-sources.ensures.strict c.in_ok-sources.ensures.equation c.in_ok-sources.ensures.right c.in_ok-sources.ensures.left in
     let over = rewrite-given_up b n w c.args.position.now c.args.rule c.args.kind c.args.outcome.now node.0 node.1 o s (c.in_ok-target.ensures node.0 node.1) all
-        (rw (← c.self.view_is) (c.in-Err-Full.ensures.full (ap Err c.in-Err-Full.field-0-is))) in
+    (rw (← c.self.view_is) (c.in-Err-Full.ensures.full (ap Err c.in-Err-Full.field-0-is))) in
     ok_so c.give_up.result (λ (answer : Applied). (c.give_up.new.self ≡ counted (give_up Nodes s.names (with_nodes_now c.try_moving.new.nodes.now))) × (answer ≡ Over Nodes))
     (Commits b (Rewrite n w c.args.position.now c.args.rule c.args.kind c.args.outcome.now) c.give_up.new.self)
     (λ answer h. (h.0 ∙ ap (λ (xs : List PlainNode). counted (give_up Nodes s.names (with_nodes_now xs))) c.in-Err-Full.ensures.err ∙ ap (λ (z : Plain). counted (give_up Nodes s.names z)) c.self.view_is ∙ over.0, h.1 ∙ ap applied_as (sym over.1)))
