@@ -33,7 +33,7 @@ placed_order (c ∷ cs) p d h =
     placed_by : (t : Bool) → (if t then 0 else suc (place_in (plain_certificates cs) p)) < length (c ∷ cs)
         → (place_in (plain_certificates cs) p < length cs → order_in (plain_certificates cs) p ≡ Some (get_or cs (place_in (plain_certificates cs) p) d).certificate)
         → option_map (λ (e : OrderOf). e.certificate) (if t then (Some (record { name = c.name; certificate = c.certificate })) else (find (λ (e : OrderOf). name_eq e.name p) (plain_certificates cs)))
-          ≡ Some (get_or (c ∷ cs) (if t then 0 else suc (place_in (plain_certificates cs) p)) d).certificate
+        ≡ Some (get_or (c ∷ cs) (if t then 0 else suc (place_in (plain_certificates cs) p)) d).certificate
     placed_by true k f = refl
     placed_by false k f = f (omega arith)
 
@@ -45,9 +45,9 @@ certified_there (c ∷ cs) p q x h e = placed_by (name_eq c.name p) h e (λ k f.
   where
     placed_by : (t : Bool) → (if t then 0 else suc (place_in (plain_certificates cs) p)) < length (c ∷ cs) → x ≡ get_or (c ∷ cs) (if t then 0 else suc (place_in (plain_certificates cs) p)) x
         → (place_in (plain_certificates cs) p < length cs → x ≡ get_or cs (place_in (plain_certificates cs) p) x
-          → plain_certificates (set cs (place_in (plain_certificates cs) p) (record { name = x.name; certificate = q })) ≡ certify_in p q (plain_certificates cs))
+        → plain_certificates (set cs (place_in (plain_certificates cs) p) (record { name = x.name; certificate = q })) ≡ certify_in p q (plain_certificates cs))
         → plain_certificates (set (c ∷ cs) (if t then 0 else suc (place_in (plain_certificates cs) p)) (record { name = x.name; certificate = q }))
-          ≡ (if t then (record { name = c.name; certificate = q } ∷ plain_certificates cs) else (record { name = c.name; certificate = c.certificate } ∷ certify_in p q (plain_certificates cs)))
+        ≡ (if t then (record { name = c.name; certificate = q } ∷ plain_certificates cs) else (record { name = c.name; certificate = c.certificate } ∷ certify_in p q (plain_certificates cs)))
     placed_by true k e f = ap (λ (y : Certified). record { name = y.name; certificate = q } ∷ plain_certificates cs) e
     placed_by false k e f = ap (λ (z : List OrderOf). record { name = c.name; certificate = c.certificate } ∷ z) (f (omega arith) e)
 
@@ -59,7 +59,7 @@ certified_nowhere (c ∷ cs) p q h = placed_by (name_eq c.name p) h (λ k. certi
     placed_by : (t : Bool) → length (c ∷ cs) ≤ (if t then 0 else suc (place_in (plain_certificates cs) p))
         → (length cs ≤ place_in (plain_certificates cs) p → plain_certificates cs ≡ certify_in p q (plain_certificates cs))
         → plain_certificates (c ∷ cs)
-          ≡ (if t then (record { name = c.name; certificate = q } ∷ plain_certificates cs) else (record { name = c.name; certificate = c.certificate } ∷ certify_in p q (plain_certificates cs)))
+        ≡ (if t then (record { name = c.name; certificate = q } ∷ plain_certificates cs) else (record { name = c.name; certificate = c.certificate } ∷ certify_in p q (plain_certificates cs)))
     placed_by true k f = absurd (omega arith)
     placed_by false k f = ap (λ (z : List OrderOf). record { name = c.name; certificate = c.certificate } ∷ z) (f (omega arith))
 
@@ -71,9 +71,9 @@ forked_there (c ∷ cs) p x h e = placed_by (name_eq c.name p) h e (λ k f. fork
   where
     placed_by : (t : Bool) → (if t then 0 else suc (place_in (plain_certificates cs) p)) < length (c ∷ cs) → x ≡ get_or (c ∷ cs) (if t then 0 else suc (place_in (plain_certificates cs) p)) x
         → (place_in (plain_certificates cs) p < length cs → x ≡ get_or cs (place_in (plain_certificates cs) p) x
-          → plain_certificates (insert (set cs (place_in (plain_certificates cs) p) (record { name = child p false; certificate = x.certificate })) (suc (place_in (plain_certificates cs) p)) (record { name = child p true; certificate = x.certificate })) ≡ forked_certificates p (plain_certificates cs))
+        → plain_certificates (insert (set cs (place_in (plain_certificates cs) p) (record { name = child p false; certificate = x.certificate })) (suc (place_in (plain_certificates cs) p)) (record { name = child p true; certificate = x.certificate })) ≡ forked_certificates p (plain_certificates cs))
         → plain_certificates (insert (set (c ∷ cs) (if t then 0 else suc (place_in (plain_certificates cs) p)) (record { name = child p false; certificate = x.certificate })) (suc (if t then 0 else suc (place_in (plain_certificates cs) p))) (record { name = child p true; certificate = x.certificate }))
-          ≡ (if t then (record { name = child p false; certificate = c.certificate } ∷ record { name = child p true; certificate = c.certificate } ∷ plain_certificates cs) else (record { name = c.name; certificate = c.certificate } ∷ forked_certificates p (plain_certificates cs)))
+        ≡ (if t then (record { name = child p false; certificate = c.certificate } ∷ record { name = child p true; certificate = c.certificate } ∷ plain_certificates cs) else (record { name = c.name; certificate = c.certificate } ∷ forked_certificates p (plain_certificates cs)))
     placed_by true k e f = ap (λ (y : Certified). record { name = child p false; certificate = y.certificate } ∷ record { name = child p true; certificate = y.certificate } ∷ plain_certificates cs) e
     placed_by false k e f = ap (λ (z : List OrderOf). record { name = c.name; certificate = c.certificate } ∷ z) (f (omega arith) e)
 
@@ -85,7 +85,7 @@ forked_nowhere (c ∷ cs) p h = placed_by (name_eq c.name p) h (λ k. forked_now
     placed_by : (t : Bool) → length (c ∷ cs) ≤ (if t then 0 else suc (place_in (plain_certificates cs) p))
         → (length cs ≤ place_in (plain_certificates cs) p → plain_certificates cs ≡ forked_certificates p (plain_certificates cs))
         → plain_certificates (c ∷ cs)
-          ≡ (if t then (record { name = child p false; certificate = c.certificate } ∷ record { name = child p true; certificate = c.certificate } ∷ plain_certificates cs) else (record { name = c.name; certificate = c.certificate } ∷ forked_certificates p (plain_certificates cs)))
+        ≡ (if t then (record { name = child p false; certificate = c.certificate } ∷ record { name = child p true; certificate = c.certificate } ∷ plain_certificates cs) else (record { name = c.name; certificate = c.certificate } ∷ forked_certificates p (plain_certificates cs)))
     placed_by true k f = absurd (omega arith)
     placed_by false k f = ap (λ (z : List OrderOf). record { name = c.name; certificate = c.certificate } ∷ z) (f (omega arith))
 

@@ -21,7 +21,7 @@ out_of_rest t m (p ∷ l) = at_test (out_of_rest t m l) (t p) (has m p) refl
   where
     at_test : minus (filter (λ q. not (t q)) l) m ≡ filter (λ q. not (t q || has m q)) l → (a b : Bool) → has m p ≡ b
         → minus (if not a then (p ∷ filter (λ q. not (t q)) l) else (filter (λ q. not (t q)) l)) m
-          ≡ (if not (a || b) then (p ∷ filter (λ q. not (t q || has m q)) l) else (filter (λ q. not (t q || has m q)) l))
+        ≡ (if not (a || b) then (p ∷ filter (λ q. not (t q || has m q)) l) else (filter (λ q. not (t q || has m q)) l))
     at_test h true b e = h
     at_test h false true e = ap (λ x. if not x then (p ∷ minus (filter (λ q. not (t q)) l) m) else (minus (filter (λ q. not (t q)) l) m)) e ∙ h
     at_test h false false e = ap (λ x. if not x then (p ∷ minus (filter (λ q. not (t q)) l) m) else (minus (filter (λ q. not (t q)) l) m)) e ∙ ap (λ z. p ∷ z) h

@@ -227,11 +227,7 @@ fn found_in(facts: &[Fact], n: NodeId, side: u8, rule: RuleRef) -> Option<Found>
 }
 
 /// The processes for which the two rules have been overlapped; none where no list of them is kept.
-pub(crate) fn done_names<'a>(
-    done: &'a [DonePair],
-    a: RuleRef,
-    b: RuleRef,
-) -> Option<&'a ListLabels>
+pub(crate) fn done_names<'a>(done: &'a [DonePair], a: RuleRef, b: RuleRef) -> Option<&'a ListLabels>
     ensures { MatchOption result (done_in (plain_done done.now) a b ≡ []) (λ names. done_in (plain_done done.now) a b ≡ names.now) }
 {
     for i in 0..done.len() {

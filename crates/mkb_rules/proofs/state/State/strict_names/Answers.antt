@@ -8,6 +8,6 @@ pub returns-in-No : goal.returns-in-No
 returns-in-No c =
     let l = label c.args.self.now c.args.n.0 (rule_kind c.args.side) in
     elim c.in-No.is [
-        inl e ↦ c.new.ensures c.self.inside.log ∙ sym (ap (λ (f : Found). if_strict f l) e)
+      | inl e ↦ c.new.ensures c.self.inside.log ∙ sym (ap (λ (f : Found). if_strict f l) e)
       | inr e ↦ c.new.ensures c.self.inside.log ∙ sym (ap (λ (f : Found). if_strict f l) e)
     ]
