@@ -1,0 +1,13 @@
+pub mod PutBack
+pub mod Finding
+pub mod SamePairs
+pub mod DoneLists
+pub mod Moving
+pub mod Rows
+pub mod Sets
+pub mod Certified
+pub mod Relabelled
+pub mod Answered
+pub mod Forks
+pub mod Committed
+pub mod FirstOrder

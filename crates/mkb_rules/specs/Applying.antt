@@ -1,0 +1,21 @@
+-- What a call that applies an effect answers.
+use Rattle.std.specs.Prelude.{ℕ, List, ◌≡◌, ◌<◌, Option, Some, None}
+use Rattle.kb_label.specs.declared.verdict.Reason.{Reason}
+use Rattle.mkb_model.specs.Plain.{Plain}
+use Rattle.mkb_model.specs.Effects.{effect, limit_of}
+use Rattle.mkb_model.specs.declared.proposed.Proposed.{Proposed}
+use Rattle.mkb_rules.specs.declared.applied.Applied.{Applied}
+use Rattle.mkb_rules.specs.declared.applied.Applied.TheVariants.{Done, Over}
+
+-- the effect was made, or processes gave up for this reason
+abbrev pub applied_as : Option Reason → Applied
+applied_as None = Done
+applied_as (Some r) = Over r
+
+-- there is budget for one commit more
+abbrev pub HasBudget : Plain → Type 0
+HasBudget b = b.commits < b.budget
+
+-- the new board is that after the commit of the proposal, and the answer tells the limit that it met
+abbrev pub Commits : Plain → Proposed → Plain → Applied → Type 0
+Commits b x c answer = (c ≡ effect b x) × (answer ≡ applied_as (limit_of b x))

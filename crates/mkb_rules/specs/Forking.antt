@@ -1,0 +1,41 @@
+-- The parts of a state after a fork.
+use Rattle.std.specs.Prelude.{ℕ, zero, suc, List, [], ◌∷◌, ◌≡◌, map, true, false}
+use Rattle.kb_label.specs.Names.{Name, child, relabel}
+use Rattle.kb_cert.specs.declared.certificate.Certificate.{Certificate}
+use Rattle.mkb_model.specs.Plain.{Plain, PlainNode, Done, GivenUp as OverFor}
+use Rattle.mkb_model.specs.Effects.{certify_in, forked_node, forked_certificates}
+use Rattle.mkb_rules.specs.Kept.{plain_done, plain_certificates}
+use Rattle.mkb_rules.specs.Over.{lists_of}
+use Rattle.mkb_rules.specs.declared.effects.forking.Forked.{Forked}
+
+-- the pairs of overlapped rules after a fork of p
+abbrev pub forked_done : Name → List Done → List Done
+forked_done p ds = map (λ (d : Done). record d { names = relabel p d.names }) ds
+
+-- those that gave up, after a fork of p
+abbrev pub forked_over : Name → List OverFor → List OverFor
+forked_over p gs = map (λ (g : OverFor). record g { names = relabel p g.names }) gs
+
+-- the node at a number after a fork of p
+abbrev pub fork_at : Name → ℕ → List PlainNode → List PlainNode
+fork_at p n [] = []
+fork_at p zero (x ∷ xs) = forked_node p x ∷ xs
+fork_at p (suc n) (x ∷ xs) = x ∷ fork_at p n xs
+
+-- the parts are those of the board after a fork of p, in which each child has its order
+pub record IsForkOf (b : Plain) (p : Name) (c0 c1 : Certificate) (f : Forked) : Type 0 where
+  pub living : f.log ≡ relabel p b.living
+  pub done : plain_done f.done.items ≡ forked_done p b.done
+  pub closed : f.closed ≡ relabel p b.closed
+  pub over : lists_of f.over ≡ forked_over p b.over
+  pub certificates : plain_certificates f.certificates.items ≡ certify_in (child p true) c1 (certify_in (child p false) c0 (forked_certificates p b.certificates))
+
+-- the board with these parts
+abbrev pub with_parts : Forked → Plain → Plain
+with_parts f b = record b {
+  living = f.log;
+  done = plain_done f.done.items;
+  closed = f.closed;
+  over = lists_of f.over;
+  certificates = plain_certificates f.certificates.items;
+}

@@ -1,0 +1,34 @@
+-- The parts of a rewriting: what its sources lose, and the pair that gains it.
+use Rattle.std.specs.Prelude.{ℕ, ◌≡◌, ◌≤◌, List, length, Option, Some, None, option_map, option_to_list}
+use Rattle.kb_term.specs.Tree.{Tree}
+use Rattle.kb_term.specs.Pair.{Pair, variables_of_pair}
+use Rattle.kb_term.specs.declared.origin.Origin.{Origin}
+use Rattle.kb_overlap.specs.Trace.{other_side}
+use Rattle.kb_node.specs.declared.node.LabelKind.TheVariants.{E}
+use Rattle.mkb_model.specs.Plain.{Plain, PlainNode, pair_at, rule_kind, other}
+use Rattle.mkb_model.specs.Effects.{direction, gains_equation, gains_rule, loses, node_of, with_node}
+use Rattle.mkb_rules.specs.declared.effects.rewriting.Sources.{Sources}
+use Rattle.mkb_rules.specs.declared.effects.rewriting.Target.{Target}
+
+-- the term and the other side of the node have at most 64 variables together
+abbrev pub HasFewVariables : Plain → ℕ → ℕ → Tree → Type 0
+HasFewVariables b n w t = (q : Pair) → pair_at b n ≡ Some q → length (variables_of_pair t (other_side q w)) ≤ 64
+
+-- the pair of a rewriting of the other side's term to the result, if there is one
+abbrev pub target_of : Option Pair → Origin → Tree → Tree → Option Target
+target_of o origin rest outcome = option_map (λ q. record { pair = q; origin = origin; dir = direction rest outcome q }) o
+
+-- the pairs for which a rewriting wants nodes
+abbrev pub wanted_by : Option Target → List Pair
+wanted_by o = option_to_list (option_map (λ (t : Target). t.pair) o)
+
+-- the sources lose the names: the rule with the side on the left only where the redex is strict
+abbrev pub lost : ℕ → ℕ → Sources → List PlainNode → List PlainNode
+lost n w s xs = loses n E s.names (loses n (rule_kind (other w)) s.names (loses n (rule_kind w) s.strict xs))
+
+-- the pair, if there is one, gains what the sources lost
+abbrev pub gained : Option Target → Sources → List PlainNode → List PlainNode
+gained None s xs = xs
+gained (Some t) s xs =
+    let n : ℕ = node_of (with_node t.pair t.origin xs) t.pair in
+    gains_equation n s.left (gains_equation n s.equation (gains_rule (record { node = n; dir = t.dir }) s.right (with_node t.pair t.origin xs)))

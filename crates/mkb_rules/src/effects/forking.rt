@@ -1,0 +1,380 @@
+// Processes that fork.
+ghost use Rattle.std.specs.Prelude.{◌≡◌, ◌<◌, IfOk, IsTrue, OnErr, OnOk, false, length, map, true};
+ghost use Rattle.kb_label.specs.Names.{child, has, relabel};
+ghost use Rattle.mkb_model.specs.Plain.{label_at};
+ghost use Rattle.mkb_model.specs.Effects.{certify_in, counted, forked_certificates, forked_node, oriented, with_label};
+ghost use Rattle.mkb_model.specs.declared.proposed.Proposed.TheVariants.{Both};
+ghost use Rattle.mkb_rules.specs.Applying.{Commits, HasBudget};
+ghost use Rattle.mkb_rules.specs.Forking.{forked_done, fork_at, with_parts, IsForkOf};
+ghost use Rattle.mkb_rules.specs.Kept.{plain_certificates, plain_done};
+ghost use Rattle.mkb_rules.specs.Parts.{oriented_by};
+
+use crate::applied::Applied;
+use crate::effects::label::{counted_up, node_count, node_label};
+use crate::effects::orienting::{certify, orient_nodes};
+use crate::labels::{copy_of, only};
+use crate::nodes::Nodes;
+use crate::state::{Certified, DonePair, GivenUp, State, certificate_place};
+use kb_cert::Certificate;
+use kb_label::{Labels, ListLabels, Living, MAX_BITS, MAX_LIVING, NameLog, Process, Reason};
+use kb_node::{LabelKind, NodeId};
+use kb_term::{Memory, RuleRef};
+use std::alloc::{AllocError, Global};
+
+/// Parts of a state after a fork.
+#[derive(Drop)]
+pub(crate) struct Forked {
+    log: NameLog,
+    done: Vec<DonePair>,
+    closed: ListLabels,
+    over: GivenUp,
+    certificates: Vec<Certified>,
+}
+
+impl State {
+    /// The process forks: one child has the rule in direction 0, the other the rule in direction 1, each with its order.
+    /// Where as many processes live as may, it gives up.
+    ///
+    /// # Errors
+    ///
+    /// Want of memory; the state is then as before.
+    pub fn orient_both(
+        &mut self,
+        alloc: Global,
+        p: &Process,
+        n: NodeId,
+        cert0: &Certificate,
+        cert1: &Certificate,
+    ) -> Result<Applied, Memory>
+        requires budget { HasBudget self.old }
+        requires lives { IsTrue (has self.old.living p.now) }
+        requires there { n.0 < length self.old.nodes }
+        ensures ok { IfOk result (Commits self.old (Both p.now n cert0.now cert1.now) self.new) }
+        ensures err { OnErr result (self.new ≡ self.old) }
+    {
+        if self.log.living() == MAX_LIVING {
+            let names = self.orient_names(alloc, p, n)?;
+            return self.give_up(alloc, Reason::Processes, &names);
+        }
+        self.fork(alloc, p, n, cert0, cert1)
+    }
+
+    // The process forks, where there is room.
+    fn fork(
+        &mut self,
+        alloc: Global,
+        p: &Process,
+        n: NodeId,
+        cert0: &Certificate,
+        cert1: &Certificate,
+    ) -> Result<Applied, Memory>
+        requires budget { HasBudget self.old }
+        requires lives { IsTrue (has self.old.living p.now) }
+        requires there { n.0 < length self.old.nodes }
+        requires room { length self.old.living < MAX_LIVING }
+        ensures ok { IfOk result (Commits self.old (Both p.now n cert0.now cert1.now) self.new) }
+        ensures err { OnErr result (self.new ≡ self.old) }
+    {
+        let _count = node_count(&self.nodes);
+        let parts = self.forked(alloc, p, cert0, cert1)?;
+        try_fork(alloc, &mut self.nodes, &parts.log, p, n)?;
+        self.take_over(parts);
+        Ok(Applied::Done)
+    }
+
+    // The parts after a fork take the place of those before; the commit is counted.
+    fn take_over(&mut self, parts: Forked)
+        requires { HasBudget self.old }
+        ensures { self.new ≡ counted (with_parts parts self.old) }
+    {
+        let Forked {
+            log,
+            done,
+            closed,
+            over,
+            certificates,
+        } = parts;
+        self.log = log;
+        self.done = done;
+        self.closed = closed;
+        self.over = over;
+        self.certificates = certificates;
+        self.commits = counted_up(self.commits, self.budget);
+    }
+
+    // The parts after a fork, in which each child has its order.
+    fn forked(
+        &self,
+        alloc: Global,
+        p: &Process,
+        cert0: &Certificate,
+        cert1: &Certificate,
+    ) -> Result<Forked, Memory>
+        requires lives { IsTrue (has self.now.living p.now) }
+        requires room { length self.now.living < MAX_LIVING }
+        ensures parts { IfOk result (IsForkOf self.now p.now cert0.now cert1.now) }
+        ensures short { length p.now < MAX_BITS }
+    {
+        learn_short(&self.log, p);
+        let log = forked_log(&self.log, p)?;
+        let done = relabelled_done(alloc, &self.log, &self.done, p)?;
+        let closed = relabelled(alloc, &self.log, &self.closed, p)?;
+        let over = relabelled_over(alloc, &self.log, &self.over, p)?;
+        let certificates = certified_children(alloc, &self.certificates, p, cert0, cert1)?;
+        Ok(Forked {
+            log,
+            done,
+            closed,
+            over,
+            certificates,
+        })
+    }
+}
+
+// A process that lives beside fewer than 255 others has at most 254 bits.
+fn learn_short(log: &NameLog, p: &Process)
+    requires lives { IsTrue (has log.now p.now) }
+    requires room { length log.now < MAX_LIVING }
+    ensures { length p.now < MAX_BITS }
+{
+    let _few = log.living();
+}
+
+// The log after a fork.
+fn forked_log(log: &NameLog, p: &Process) -> Result<NameLog, AllocError>
+    requires lives { IsTrue (has log.now p.now) }
+    requires room { length log.now < MAX_LIVING }
+    ensures { IfOk result (λ l. l ≡ relabel p.now log.now) }
+{
+    let mut copy = log.copy()?;
+    copy.fork(p)?;
+    Ok(copy)
+}
+
+// The orders after a fork, each child with its own.
+fn certified_children(
+    alloc: Global,
+    certificates: &[Certified],
+    p: &Process,
+    cert0: &Certificate,
+    cert1: &Certificate,
+) -> Result<Vec<Certified>, Memory>
+    requires { length p.now < MAX_BITS }
+    ensures { IfOk result (λ cs. plain_certificates cs.items ≡ certify_in (child p.now true) cert1.now (certify_in (child p.now false) cert0.now (forked_certificates p.now (plain_certificates certificates.now)))) }
+{
+    let mut orders = copied(alloc, certificates)?;
+    fork_certificates(&mut orders, p)?;
+    certify(&mut orders, &p.child(false), cert0.clone()?);
+    certify(&mut orders, &p.child(true), cert1.clone()?);
+    Ok(orders)
+}
+
+// The label in which the children of the process stand in its place.
+fn relabelled(
+    alloc: Global,
+    log: &NameLog,
+    label: &ListLabels,
+    p: &Process,
+) -> Result<ListLabels, AllocError>
+    requires { length p.now < MAX_BITS }
+    ensures { IfOk result (λ l. l ≡ relabel p.now label.now) }
+{
+    let mut copy = copy_of(alloc, log, label)?;
+    copy.relabel(p)?;
+    Ok(copy)
+}
+
+fn relabelled_over(
+    alloc: Global,
+    log: &NameLog,
+    over: &GivenUp,
+    p: &Process,
+) -> Result<GivenUp, AllocError>
+    requires { length p.now < MAX_BITS }
+    ensures { IfOk result (λ g. g ≡ record { nodes = relabel p.now over.now.nodes; processes = relabel p.now over.now.processes; size = relabel p.now over.now.size; depth = relabel p.now over.now.depth; variables = relabel p.now over.now.variables; steps = relabel p.now over.now.steps }) }
+{
+    let nodes = relabelled(alloc, log, &over.nodes, p)?;
+    let processes = relabelled(alloc, log, &over.processes, p)?;
+    let size = relabelled(alloc, log, &over.size, p)?;
+    let depth = relabelled(alloc, log, &over.depth, p)?;
+    let variables = relabelled(alloc, log, &over.variables, p)?;
+    let steps = relabelled(alloc, log, &over.steps, p)?;
+    Ok(GivenUp {
+        nodes,
+        processes,
+        size,
+        depth,
+        variables,
+        steps,
+    })
+}
+
+// The lists of overlapped rules, in which the children of the process stand in its place.
+fn relabelled_done(
+    alloc: Global,
+    log: &NameLog,
+    done: &[DonePair],
+    p: &Process,
+) -> Result<Vec<DonePair>, Memory>
+    requires { length p.now < MAX_BITS }
+    ensures { IfOk result (λ ds. plain_done ds.items ≡ forked_done p.now (plain_done done.now)) }
+{
+    let mut forked = Vec::new(alloc);
+    for i in 0..done.len() {
+        let pair = &done[i];
+        let names = relabelled(alloc, log, &pair.names, p)?;
+        forked.push(DonePair {
+            first: pair.first,
+            second: pair.second,
+            names,
+        })?;
+    }
+    Ok(forked)
+}
+
+// The same orders again.
+fn copied(alloc: Global, certificates: &[Certified]) -> Result<Vec<Certified>, Memory>
+    ensures { IfOk result (λ cs. cs.items ≡ certificates.now) }
+{
+    let mut copy = Vec::new(alloc);
+    for i in 0..certificates.len() {
+        let order = &certificates[i];
+        let certificate = order.certificate.clone()?;
+        copy.push(Certified {
+            name: order.name,
+            certificate,
+        })?;
+    }
+    Ok(copy)
+}
+
+// Both children of the process have its order.
+fn fork_certificates(certificates: &mut Vec<Certified>, p: &Process) -> Result<(), Memory>
+    requires { length p.now < MAX_BITS }
+    ensures { OnOk result (plain_certificates certificates.new.items ≡ forked_certificates p.now (plain_certificates certificates.old.items)) }
+{
+    let place = certificate_place(certificates, p);
+    if place >= certificates.len() {
+        return Ok(());
+    }
+    let order = &mut certificates[place];
+    let certificate = order.certificate.clone()?;
+    order.name = p.child(false);
+    certificates.insert(
+        place + 1,
+        Certified {
+            name: p.child(true),
+            certificate,
+        },
+    )?;
+    Ok(())
+}
+
+// The process forks at the node; after want of memory the nodes are as before.
+fn try_fork(
+    alloc: Global,
+    nodes: &mut Nodes,
+    log: &NameLog,
+    p: &Process,
+    n: NodeId,
+) -> Result<(), AllocError>
+    requires short { length p.now < MAX_BITS }
+    requires there { n.0 < length nodes.old.now }
+    requires first { IsTrue (has log.now (child p.now false)) }
+    requires second { IsTrue (has log.now (child p.now true)) }
+    ensures ok { OnOk result (nodes.new.now ≡ oriented (child p.now true) (record { node = n.0; dir = 1 }) (oriented (child p.now false) (record { node = n.0; dir = 0 }) (map (forked_node p.now) nodes.old.now))) }
+    ensures err { OnErr result (nodes.new.now ≡ nodes.old.now) }
+{
+    let left = only(alloc, log, &p.child(false))?;
+    let right = only(alloc, log, &p.child(true))?;
+    nodes.keep();
+    match fork_and_orient(alloc, nodes, log, p, n, &left, &right) {
+        Ok(()) => Ok(()),
+        Err(fault) => {
+            nodes.roll_back();
+            Err(fault)
+        }
+    }
+}
+
+#[tactic(auto, using(crate::proofs::Relabelled::length_oriented, crate::proofs::Relabelled::length_forked))]
+fn fork_and_orient(
+    alloc: Global,
+    nodes: &mut Nodes,
+    log: &NameLog,
+    p: &Process,
+    n: NodeId,
+    left: &ListLabels,
+    right: &ListLabels,
+) -> Result<(), AllocError>
+    requires short { length p.now < MAX_BITS }
+    requires there { n.0 < length nodes.old.now }
+    ensures ok { OnOk result (nodes.new.now ≡ oriented_by right.now (record { node = n.0; dir = 1 }) (oriented_by left.now (record { node = n.0; dir = 0 }) (map (forked_node p.now) nodes.old.now))) }
+    ensures before { nodes.new.before ≡ nodes.old.before }
+{
+    fork_nodes(alloc, nodes, log, p)?;
+    orient_nodes(nodes, log, RuleRef { node: n.0, dir: 0 }, left)?;
+    orient_nodes(nodes, log, RuleRef { node: n.0, dir: 1 }, right)
+}
+
+// In each label the children of the process stand in its place.
+fn fork_nodes(
+    alloc: Global,
+    nodes: &mut Nodes,
+    log: &NameLog,
+    p: &Process,
+) -> Result<(), AllocError>
+    requires { length p.now < MAX_BITS }
+    ensures ok { OnOk result (nodes.new.now ≡ map (forked_node p.now) nodes.old.now) }
+    ensures before { nodes.new.before ≡ nodes.old.before }
+{
+    let count = node_count(nodes);
+    for i in 0..count {
+        fork_node(alloc, nodes, log, p, NodeId(i as u16))?;
+    }
+    Ok(())
+}
+
+// In each label of the node the children of the process stand in its place.
+#[tactic(auto, using(crate::proofs::Relabelled::length_with))]
+fn fork_node(
+    alloc: Global,
+    nodes: &mut Nodes,
+    log: &NameLog,
+    p: &Process,
+    n: NodeId,
+) -> Result<(), AllocError>
+    requires short { length p.now < MAX_BITS }
+    requires there { n.0 < length nodes.old.now }
+    ensures ok { OnOk result (nodes.new.now ≡ fork_at p.now n.0 nodes.old.now) }
+    ensures before { nodes.new.before ≡ nodes.old.before }
+{
+    fork_label(alloc, nodes, log, p, n, LabelKind::R0)?;
+    fork_label(alloc, nodes, log, p, n, LabelKind::R1)?;
+    fork_label(alloc, nodes, log, p, n, LabelKind::E)?;
+    fork_label(alloc, nodes, log, p, n, LabelKind::C0)?;
+    fork_label(alloc, nodes, log, p, n, LabelKind::C1)?;
+    fork_label(alloc, nodes, log, p, n, LabelKind::X)
+}
+
+// In one label of the node the children of the process stand in its place.
+fn fork_label(
+    alloc: Global,
+    nodes: &mut Nodes,
+    log: &NameLog,
+    p: &Process,
+    n: NodeId,
+    kind: LabelKind,
+) -> Result<(), AllocError>
+    requires short { length p.now < MAX_BITS }
+    requires there { n.0 < length nodes.old.now }
+    ensures ok { OnOk result (nodes.new.now ≡ with_label n.0 kind (relabel p.now (label_at nodes.old.now n.0 kind)) nodes.old.now) }
+    ensures before { nodes.new.before ≡ nodes.old.before }
+{
+    let old = node_label(nodes, n, kind);
+    if !old.has(log, p) {
+        return Ok(());
+    }
+    let label = relabelled(alloc, log, old, p)?;
+    nodes.set(n, kind, label)
+}

@@ -1,0 +1,14 @@
+//! The board without flight and journal, and what commits do to it.
+#![tactic(auto)]
+
+mod applied;
+mod effects;
+mod labels;
+mod nodes;
+mod opening;
+mod state;
+#[cfg(test)]
+mod tests;
+
+pub use applied::Applied;
+pub use state::State;

@@ -1,0 +1,229 @@
+// Nodes whose last changes can be taken back.
+ghost use Rattle.std.specs.Prelude.{◌≡◌, ◌<◌, ◌≤◌, ◌↔◌, [], length, All, IsFalse, OnOk, OnErr, IfOk};
+ghost use Rattle.mkb_model.specs.Plain.{label_at};
+ghost use Rattle.mkb_model.specs.Effects.{with_label, with_node, node_of, is_present, most_nodes, gains as with_gain, loses as with_loss, gains_equation as with_equation, gains_rule as with_rule};
+ghost use Rattle.kb_label.specs.Names.{minus};
+ghost use Rattle.mkb_rules.specs.Parts.{plain_nodes};
+ghost use Rattle.mkb_rules.specs.Nodes.{put_back};
+
+use crate::effects::label::rule_kind;
+use crate::labels::{copy_of, joined};
+use kb_label::{Labels, ListLabels, NameLog};
+use kb_node::{LabelKind, NodeFault, NodeId, NodeTable};
+use kb_term::{Origin, Pair, RuleRef};
+use std::alloc::{AllocError, Global};
+use std::marker::Model;
+
+/// A label that another one took the place of.
+#[derive(Drop)]
+struct Replaced {
+    node: NodeId,
+    kind: LabelKind,
+    label: ListLabels,
+}
+
+/// The table of nodes, with what was replaced in it since changes were last kept. Contracts see the nodes as they are
+/// and as they were then.
+#[derive(Drop)]
+pub(crate) struct Nodes {
+    table: NodeTable<ListLabels>,
+    kept: u32,
+    replaced: Vec<Replaced>,
+}
+
+impl Model for Nodes {
+    ghost use Rattle.std.specs.Prelude.{take, All, length, ◌≤◌, ◌<◌};
+    ghost use Rattle.std.specs.Coded.{codes};
+    ghost use Rattle.kb_term.specs.Coding.{coded_pair};
+    ghost use Rattle.mkb_rules.specs.declared.nodes.Replaced.{Replaced};
+    ghost use Rattle.mkb_rules.specs.Parts.{plain_nodes};
+    ghost use Rattle.mkb_rules.specs.Nodes.{Changed, put_back};
+
+    ghost Value = { Changed };
+
+    ghost coded = { Prim.hlevel (codes, coded_pair) };
+
+    ghost view = { λ t. record { now = plain_nodes t.table; before = take t.kept (put_back t.replaced.items (plain_nodes t.table)) } };
+
+    ghost invariant = { λ t. (t.kept ≤ length t.table) × All (λ (r : Replaced). r.node.0 < length t.table) t.replaced.items };
+}
+
+impl Nodes {
+    /// No node. It takes no memory.
+    pub(crate) fn new(alloc: Global) -> Nodes
+        ensures { result ≡ record { now = []; before = [] } }
+    {
+        Nodes {
+            table: NodeTable::new(alloc),
+            kept: 0,
+            replaced: Vec::new(alloc),
+        }
+    }
+
+    /// The table of nodes.
+    pub(crate) fn table(&self) -> &NodeTable<ListLabels>
+        ensures { plain_nodes result.now ≡ self.now.now }
+    {
+        &self.table
+    }
+
+    /// Keeps all changes: from here on they can't be taken back.
+    pub(crate) fn keep(&mut self)
+        ensures now { self.new.now ≡ self.old.now }
+        ensures before { self.new.before ≡ self.old.now }
+        ensures few { length self.new.now ≤ most_nodes }
+    {
+        self.kept = self.table.len();
+        self.replaced.clear();
+    }
+
+    /// Takes back all changes since they were last kept. It takes no memory.
+    pub(crate) fn roll_back(&mut self)
+        ensures now { self.new.now ≡ self.old.before }
+        ensures before { self.new.before ≡ self.old.before }
+    {
+        put_all_back(&mut self.table, &mut self.replaced);
+        self.table.truncate(self.kept);
+    }
+
+    /// Puts a label in the place of the node's label of this kind.
+    pub(crate) fn set(
+        &mut self,
+        n: NodeId,
+        kind: LabelKind,
+        label: ListLabels,
+    ) -> Result<(), AllocError>
+        requires { n.0 < length self.old.now }
+        ensures ok { OnOk result (self.new.now ≡ with_label n.0 kind label self.old.now) }
+        ensures before { self.new.before ≡ self.old.before }
+        ensures err { OnErr result (self.new ≡ self.old) }
+    {
+        self.replaced.reserve(1)?;
+        let label = self.table.set_label(n, kind, label);
+        self.replaced
+            .push(Replaced {
+                node: n,
+                kind,
+                label,
+            })
+            .unwrap();
+        Ok(())
+    }
+
+    /// The node that has the pair; else one more node, of this origin and without labels.
+    ///
+    /// # Errors
+    ///
+    /// `Full` where the pair is new and there are 4,096 nodes, and want of memory.
+    pub(crate) fn find_or_add(&mut self, pair: Pair, origin: Origin) -> Result<NodeId, NodeFault>
+        ensures ok { OnOk result (self.new.now ≡ with_node pair origin self.old.now) }
+        ensures node { IfOk result (λ n. n.0 ≡ node_of self.new.now pair) }
+        ensures full { (result ≡ Err NodeFault.Full) ↔ (IsFalse (is_present self.old.now pair) × (length self.old.now ≡ most_nodes)) }
+        ensures before { self.new.before ≡ self.old.before }
+        ensures err { OnErr result (self.new ≡ self.old) }
+    {
+        self.table.find_or_add(pair, origin)
+    }
+
+    /// A label of a node gains these names.
+    pub(crate) fn gains(
+        &mut self,
+        log: &NameLog,
+        n: NodeId,
+        kind: LabelKind,
+        names: &ListLabels,
+    ) -> Result<(), AllocError>
+        requires { n.0 < length self.old.now }
+        ensures ok { OnOk result (self.new.now ≡ with_gain n.0 kind names.now self.old.now) }
+        ensures before { self.new.before ≡ self.old.before }
+    {
+        let label = joined(self.allocator(), log, self.label(n, kind), names)?;
+        self.set(n, kind, label)
+    }
+
+    /// A label of a node loses these names.
+    pub(crate) fn loses(
+        &mut self,
+        log: &NameLog,
+        n: NodeId,
+        kind: LabelKind,
+        names: &ListLabels,
+    ) -> Result<(), AllocError>
+        requires { n.0 < length self.old.now }
+        ensures ok { OnOk result (self.new.now ≡ with_loss n.0 kind names.now self.old.now) }
+        ensures before { self.new.before ≡ self.old.before }
+    {
+        let label = left(self.allocator(), log, self.label(n, kind), names)?;
+        self.set(n, kind, label)
+    }
+
+    /// The names gain the node as an equation, but for those that have it as a rule.
+    pub(crate) fn gains_equation(
+        &mut self,
+        log: &NameLog,
+        n: NodeId,
+        names: &ListLabels,
+    ) -> Result<(), AllocError>
+        requires { n.0 < length self.old.now }
+        ensures ok { OnOk result (self.new.now ≡ with_equation n.0 names.now self.old.now) }
+        ensures before { self.new.before ≡ self.old.before }
+    {
+        let mut free = left(self.allocator(), log, names, self.label(n, LabelKind::R0))?;
+        free.minus(log, self.label(n, LabelKind::R1))?;
+        self.gains(log, n, LabelKind::E, &free)
+    }
+
+    /// The names gain the node as a rule, and lose it as an equation. Where memory is wanting, the loss may be made.
+    pub(crate) fn gains_rule(
+        &mut self,
+        log: &NameLog,
+        rule: RuleRef,
+        names: &ListLabels,
+    ) -> Result<(), AllocError>
+        requires { rule.node < length self.old.now }
+        ensures ok { OnOk result (self.new.now ≡ with_rule rule names.now self.old.now) }
+        ensures before { self.new.before ≡ self.old.before }
+    {
+        let n = NodeId(rule.node);
+        self.loses(log, n, LabelKind::E, names)?;
+        self.gains(log, n, rule_kind(rule.dir), names)
+    }
+
+    // The label of a node that has this kind.
+    fn label(&self, n: NodeId, kind: LabelKind) -> &ListLabels
+        requires { n.0 < length self.now.now }
+        ensures { result.now ≡ label_at self.now.now n.0 kind }
+    {
+        self.table.label(n, kind)
+    }
+
+    fn allocator(&self) -> Global {
+        *self.replaced.allocator()
+    }
+}
+
+// The processes of the first label alone.
+fn left(
+    alloc: Global,
+    log: &NameLog,
+    one: &ListLabels,
+    other: &ListLabels,
+) -> Result<ListLabels, AllocError>
+    ensures { IfOk result (λ l. l ≡ minus one.now other.now) }
+{
+    let mut label = copy_of(alloc, log, one)?;
+    label.minus(log, other)?;
+    Ok(label)
+}
+
+// Puts the replaced labels back, the last one first.
+fn put_all_back(table: &mut NodeTable<ListLabels>, replaced: &mut Vec<Replaced>)
+    requires { All (λ (r : Replaced). r.node.0 < length table.old) replaced.old.items }
+    ensures nodes { plain_nodes table.new ≡ put_back replaced.old.items (plain_nodes table.old) }
+    ensures none { replaced.new.items ≡ [] }
+{
+    while let Some(last) = replaced.pop() {
+        let Replaced { node, kind, label } = last;
+        let _changed = table.set_label(node, kind, label);
+    }
+}

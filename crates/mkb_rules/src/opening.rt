@@ -1,0 +1,126 @@
+// The state before any commit.
+ghost use Rattle.std.specs.Prelude.{◌≡◌, ◌+◌, ◌<◌, ◌≤◌, ◌∷◌, [], All, IfOk, OnOk, length, map, take};
+ghost use Rattle.kb_term.specs.Pair.{canonical_pair, variables_of_pair};
+ghost use Rattle.kb_term.specs.Signature.{IsWithinLimits};
+ghost use Rattle.kb_term.specs.View.{equations_of_list, tree_of};
+ghost use Rattle.kb_label.specs.Names.{root};
+ghost use Rattle.kb_cert.specs.Family.{family};
+ghost use Rattle.kb_cert.specs.declared.certificate.Certificate.{Certificate as OrderOf};
+ghost use Rattle.mkb_model.specs.Plain.{nobody_over};
+ghost use Rattle.mkb_model.specs.Journals.{opening, with_input, with_inputs};
+ghost use Rattle.mkb_rules.specs.Kept.{plain_certificates};
+ghost use Rattle.mkb_rules.specs.Over.{lists_of};
+
+use crate::labels::only;
+use crate::nodes::Nodes;
+use crate::state::{Certified, GivenUp, State};
+use kb_cert::search;
+use kb_label::{Labels, ListLabels, Living, NameLog, Process};
+use kb_node::NodeFault;
+use kb_term::{Memory, Origin, Problem, Signature, Term, canonical};
+use std::alloc::Global;
+
+impl State {
+    /// The state before any commit: the first process has the problem's equations that are not trivial, and orients by the
+    /// first order of the family.
+    ///
+    /// # Errors
+    ///
+    /// Want of memory.
+    pub fn start(alloc: Global, problem: Problem, budget: u32) -> Result<State, Memory>
+        requires { IsWithinLimits problem }
+        ensures { IfOk result (λ state. state ≡ opening problem budget) }
+    {
+        let log = NameLog::start(alloc)?;
+        let nodes = input_nodes(alloc, &log, problem.equations())?;
+        let certificates = first_certificates(alloc, problem.signature())?;
+        Ok(State {
+            problem,
+            budget,
+            log,
+            nodes,
+            done: Vec::new(alloc),
+            facts: Vec::new(alloc),
+            closed: ListLabels::new(alloc),
+            over: nobody(alloc),
+            commits: 0,
+            certificates,
+        })
+    }
+}
+
+// Nobody gave up.
+fn nobody(alloc: Global) -> GivenUp
+    ensures { lists_of result ≡ nobody_over }
+{
+    GivenUp {
+        nodes: ListLabels::new(alloc),
+        processes: ListLabels::new(alloc),
+        size: ListLabels::new(alloc),
+        depth: ListLabels::new(alloc),
+        variables: ListLabels::new(alloc),
+        steps: ListLabels::new(alloc),
+    }
+}
+
+// The order of the first process: the first one of the family, if there is one.
+fn first_certificates(alloc: Global, signature: &Signature) -> Result<Vec<Certified>, Memory>
+    requires { length signature.now ≤ 24 }
+    ensures { IfOk result (λ orders. plain_certificates orders.items ≡ map (λ (c : OrderOf). record { name = root; certificate = c }) (take 1 (family signature.now))) }
+{
+    let mut certificates = Vec::new(alloc);
+    match search(alloc, signature, &[])? {
+        None => Ok(certificates),
+        Some(certificate) => {
+            certificates.push(Certified {
+                name: Process::root(),
+                certificate,
+            })?;
+            Ok(certificates)
+        }
+    }
+}
+
+// The nodes of the input equations that are not trivial, which the first process has as equations.
+fn input_nodes(alloc: Global, log: &NameLog, equations: &[(Term, Term)]) -> Result<Nodes, Memory>
+    requires first { log.now ≡ root ∷ [] }
+    requires few { length equations.now ≤ 256 }
+    requires variables { All (λ e. length (variables_of_pair e.0 e.1) ≤ 64) (equations_of_list equations.now) }
+    ensures { IfOk result (λ nodes. nodes.now ≡ with_inputs 1 (equations_of_list equations.now) []) }
+{
+    let mut nodes = Nodes::new(alloc);
+    let names = only(alloc, log, &Process::root())?;
+    for i in 0..equations.len() {
+        let number = i as u16 + 1;
+        add_input(alloc, &mut nodes, log, &names, number, &equations[i])?;
+    }
+    Ok(nodes)
+}
+
+// Adds the node of an input equation, unless it is trivial.
+fn add_input(
+    alloc: Global,
+    nodes: &mut Nodes,
+    log: &NameLog,
+    names: &ListLabels,
+    number: u16,
+    equation: &(Term, Term),
+) -> Result<(), Memory>
+    requires names { names.now ≡ root ∷ [] }
+    requires room { length nodes.old.now < 4096 }
+    requires variables { length (variables_of_pair (tree_of equation.now.0) (tree_of equation.now.1)) ≤ 64 }
+    ensures ok { OnOk result (nodes.new.now ≡ with_input (canonical_pair (tree_of equation.now.0) (tree_of equation.now.1)) number nodes.old.now) }
+    ensures few { OnOk result (length nodes.new.now ≤ length nodes.old.now + 1) }
+{
+    match canonical(alloc, &equation.0, &equation.1)? {
+        None => Ok(()),
+        Some(pair) => match nodes.find_or_add(pair, Origin::Input(number)) {
+            Ok(n) => {
+                nodes.gains_equation(log, n, names)?;
+                Ok(())
+            }
+            Err(NodeFault::Full) => unreachable!(),
+            Err(NodeFault::Memory) => Err(Memory),
+        },
+    }
+}

@@ -1,0 +1,259 @@
+// The state: the board without flight and journal.
+ghost use Rattle.std.specs.Prelude.{◌≡◌, ◌<◌, ◌&&◌, ◌==◌, [], length, Some, IsSome, MatchOption};
+ghost use Rattle.kb_label.specs.Names.{has, name_eq};
+ghost use Rattle.kb_node.specs.declared.node.LabelKind.TheVariants.{X};
+ghost use Rattle.mkb_model.specs.Jobs.{ref_eq};
+ghost use Rattle.mkb_model.specs.Plain.{known, done_in, done_of, label, over_reason, certificate_of};
+ghost use Rattle.mkb_rules.specs.Parts.{plain_nodes, known_in};
+ghost use Rattle.mkb_rules.specs.Kept.{plain_done, plain_certificates, place_in};
+
+use crate::nodes::Nodes;
+use kb_cert::Certificate;
+use kb_label::{Labels, ListLabels, NameLog, Process, Reason};
+use kb_node::{Fact, LabelKind, NodeId, NodeTable};
+use kb_term::{Found, Problem, RuleRef};
+use std::marker::Model;
+
+/// The processes for which two rules have been overlapped.
+#[derive(Drop)]
+pub(crate) struct DonePair {
+    pub(crate) first: RuleRef,
+    pub(crate) second: RuleRef,
+    pub(crate) names: ListLabels,
+}
+
+/// For each reason the processes that gave up.
+#[derive(Drop)]
+pub(crate) struct GivenUp {
+    pub(crate) nodes: ListLabels,
+    pub(crate) processes: ListLabels,
+    pub(crate) size: ListLabels,
+    pub(crate) depth: ListLabels,
+    pub(crate) variables: ListLabels,
+    pub(crate) steps: ListLabels,
+}
+
+/// The order by which a process orients.
+#[derive(Drop)]
+pub(crate) struct Certified {
+    pub(crate) name: Process,
+    pub(crate) certificate: Certificate,
+}
+
+/// The board without flight and journal. Contracts see it as the plain board with no ticket in flight.
+#[derive(Drop)]
+pub struct State {
+    pub(crate) problem: Problem,
+    pub(crate) budget: u32,
+    pub(crate) log: NameLog,
+    pub(crate) nodes: Nodes,
+    pub(crate) done: Vec<DonePair>,
+    pub(crate) facts: Vec<Fact>,
+    pub(crate) closed: ListLabels,
+    pub(crate) over: GivenUp,
+    pub(crate) commits: u32,
+    pub(crate) certificates: Vec<Certified>,
+}
+
+impl Model for State {
+    ghost use Rattle.std.specs.Prelude.{map};
+    ghost use Rattle.std.specs.Coded.{codes};
+    ghost use Rattle.kb_term.specs.Coding.{coded_pair, coded_problem, coded_tree};
+    ghost use Rattle.mkb_model.specs.Plain.{Plain};
+    ghost use Rattle.mkb_rules.specs.Parts.{board_of, given_up};
+    ghost use Rattle.mkb_rules.specs.declared.state.DonePair.{DonePair};
+    ghost use Rattle.mkb_rules.specs.declared.state.Certified.{Certified};
+
+    ghost Value = { Plain };
+
+    ghost coded = { Prim.hlevel (codes, coded_pair, coded_problem, coded_tree) };
+
+    ghost view = { λ s. board_of s.problem s.budget s.log s.nodes.now
+        (map (λ (d : DonePair). record { first = d.first; second = d.second; names = d.names }) s.done.items)
+        s.facts.items s.closed
+        (given_up s.over.nodes s.over.processes s.over.size s.over.depth s.over.variables s.over.steps)
+        s.commits
+        (map (λ (c : Certified). record { name = c.name; certificate = c.certificate }) s.certificates.items) };
+}
+
+impl State {
+    /// How many commits were made.
+    pub fn commits(&self) -> u32
+        ensures { result ≡ self.now.commits }
+    {
+        self.commits
+    }
+
+    /// How many commits there may be.
+    pub fn budget(&self) -> u32
+        ensures { result ≡ self.now.budget }
+    {
+        self.budget
+    }
+
+    /// The problem.
+    pub fn problem(&self) -> &Problem
+        ensures { result.now ≡ self.now.problem }
+    {
+        &self.problem
+    }
+
+    /// The processes that live.
+    pub fn log(&self) -> &NameLog
+        ensures { result.now ≡ self.now.living }
+    {
+        &self.log
+    }
+
+    /// The table of nodes.
+    pub fn nodes(&self) -> &NodeTable<ListLabels>
+        ensures { plain_nodes result.now ≡ self.now.nodes }
+    {
+        self.nodes.table()
+    }
+
+    /// What is known of one side of a node and a rule; none where no fact is known.
+    pub fn known(&self, n: NodeId, side: u8, rule: RuleRef) -> Option<Found>
+        ensures { result ≡ known self.now n.0 side rule }
+    {
+        found_in(&self.facts, n, side, rule)
+    }
+
+    /// Whether two rules have been overlapped for a process.
+    pub fn is_done(&self, p: &Process, a: RuleRef, b: RuleRef) -> bool
+        ensures { result ≡ has (done_of self.now a b) p.now }
+    {
+        match done_names(&self.done, a, b) {
+            Some(names) => names.has(&self.log, p),
+            None => false,
+        }
+    }
+
+    /// Whether a process can't orient a node.
+    pub fn is_refused(&self, p: &Process, n: NodeId) -> bool
+        requires { n.0 < length self.now.nodes }
+        ensures { result ≡ has (label self.now n.0 X) p.now }
+    {
+        self.nodes.table().label(n, LabelKind::X).has(&self.log, p)
+    }
+
+    /// Whether a process is closed.
+    pub fn is_closed(&self, p: &Process) -> bool
+        ensures { result ≡ has self.now.closed p.now }
+    {
+        self.closed.has(&self.log, p)
+    }
+
+    /// Why a process gave up; none where it did not.
+    pub fn over(&self, p: &Process) -> Option<Reason>
+        ensures { result ≡ over_reason self.now p.now }
+    {
+        self.over.reason_of(&self.log, p)
+    }
+
+    /// The order by which a process orients.
+    pub fn certificate(&self, p: &Process) -> &Certificate
+        requires { IsSome (certificate_of self.now p.now) }
+        ensures { certificate_of self.now p.now ≡ Some result.now }
+    {
+        let place = certificate_place(&self.certificates, p);
+        &self.certificates[place].certificate
+    }
+}
+
+impl GivenUp {
+    ghost use Rattle.std.specs.Prelude.{◌≡◌};
+    ghost use Rattle.mkb_model.specs.Plain.{over_in};
+    ghost use Rattle.mkb_rules.specs.Over.{lists_of};
+
+    /// The reason for which a process gave up, the first of the six.
+    pub(crate) fn reason_of(&self, log: &NameLog, p: &Process) -> Option<Reason>
+        ensures { result ≡ over_in (lists_of self.now) p.now }
+    {
+        if self.nodes.has(log, p) {
+            return Some(Reason::Nodes);
+        }
+        if self.processes.has(log, p) {
+            return Some(Reason::Processes);
+        }
+        if self.size.has(log, p) {
+            return Some(Reason::Size);
+        }
+        if self.depth.has(log, p) {
+            return Some(Reason::Depth);
+        }
+        if self.variables.has(log, p) {
+            return Some(Reason::Variables);
+        }
+        if self.steps.has(log, p) {
+            return Some(Reason::Steps);
+        }
+        None
+    }
+}
+
+/// Whether both name one rule.
+pub(crate) fn is_same(a: RuleRef, b: RuleRef) -> bool
+    ensures { result ≡ ref_eq a b }
+{
+    a.node == b.node && a.dir == b.dir
+}
+
+// Whether the fact is of this side of the node and of the rule.
+fn is_about(fact: Fact, n: NodeId, side: u8, rule: RuleRef) -> bool
+    ensures { result ≡ ((fact.node.0 == n.0) && ((fact.side == side) && ref_eq fact.rule rule)) }
+{
+    fact.node.0 == n.0 && fact.side == side && is_same(fact.rule, rule)
+}
+
+/// Whether the list is kept for these two rules.
+pub(crate) fn is_of(pair: &DonePair, a: RuleRef, b: RuleRef) -> bool
+    ensures { result ≡ (ref_eq pair.now.first a && ref_eq pair.now.second b) }
+{
+    is_same(pair.first, a) && is_same(pair.second, b)
+}
+
+// What the first of the facts of the side and the rule says.
+fn found_in(facts: &[Fact], n: NodeId, side: u8, rule: RuleRef) -> Option<Found>
+    ensures { result ≡ known_in facts.now n.0 side rule }
+{
+    for i in 0..facts.len() {
+        let fact = facts[i];
+        if is_about(fact, n, side, rule) {
+            return Some(fact.found);
+        }
+    }
+    None
+}
+
+/// The processes for which the two rules have been overlapped; none where no list of them is kept.
+pub(crate) fn done_names<'a>(done: &'a [DonePair], a: RuleRef, b: RuleRef) -> Option<&'a ListLabels>
+    ensures { MatchOption result (done_in (plain_done done.now) a b ≡ []) (λ names. done_in (plain_done done.now) a b ≡ names.now) }
+{
+    for i in 0..done.len() {
+        let pair = &done[i];
+        if is_of(pair, a, b) {
+            return Some(&pair.names);
+        }
+    }
+    None
+}
+
+// Whether the order is the process's.
+fn is_named(order: &Certified, p: &Process) -> bool
+    ensures { result ≡ name_eq order.now.name p.now }
+{
+    order.name == *p
+}
+
+/// The number of the first order that is kept for the process; how many there are where none is.
+pub(crate) fn certificate_place(certificates: &[Certified], p: &Process) -> usize
+    ensures { result ≡ place_in (plain_certificates certificates.now) p.now }
+{
+    for i in 0..certificates.len() {
+        if is_named(&certificates[i], p) {
+            return i;
+        }
+    }
+    certificates.len()
+}
