@@ -1,13 +1,13 @@
 -- Sections one behind the other, and the first bad line of a text of them.
-use Rattle.std.proofs.Common.{append-nil, append_assoc, ◌≡◌, refl, ap, ap₂, sym, ◌∙◌, subst, arith, ℕ, zero, suc, ◌+◌, ◌-◌, ◌<◌, ◌≤◌, ◌==◌, Bool, true, false, cond, List, [], ◌∷◌, ◌++◌, length, length-append, Option, Some, None}
+use Rattle.std.proofs.Common.{append-nil, append_assoc, ◌≡◌, refl, ap, ap₂, sym, ◌∙◌, subst, arith, ℕ, zero, suc, ◌+◌, ◌-◌, ◌<◌, ◌==◌, Bool, true, false, cond, List, [], ◌∷◌, ◌++◌, length, length-append, Option, Some, None}
 use Rattle.std.specs.Prelude.{option_map}
 use Rattle.std.proofs.lemmas.Bool.{eqb-true}
 use Rattle.kb_text.specs.Fields.{IsWithout}
 use Rattle.kb_text.specs.Lines.{first_lines, Begins, IsBadLine}
-use Rattle.kb_text.proofs.Cuts.{AreWithout, are_without-append, one_line}
-use Rattle.kb_text.proofs.LineFronts.{first_lines-none, first_lines-line, behind_front}
+use Rattle.kb_text.proofs.Cuts.{AreWithout, are_without-append}
+use Rattle.kb_text.proofs.LineFronts.{first_lines-none, first_lines-line}
 use Rattle.kb_report.specs.Sections.{Lines, text_of, Section, BeginsWith, IsBadFrom}
-use Rattle.kb_report.proofs.LinesOfTexts.{text_of-append, behind_first, are_without-front, are_without-back, front_of_text, same_lines, first_of_lines, HasLine, IsMapped, mapped}
+use Rattle.kb_report.proofs.LinesOfTexts.{text_of-append, behind_first, are_without-front, are_without-back, front_of_text, same_lines, first_of_lines, HasLine, mapped}
 
 -- the lines of a section hold no line feed, and tell its value and where they end
 pub record IsSection {X : Type 0} (S : Section X) : Type 0 where

@@ -1,5 +1,5 @@
 -- Lines, and the text that they make.
-use Rattle.std.proofs.Common.{append-nil, append_assoc, ◌≡◌, refl, ap, ap₂, sym, ◌∙◌, subst, arith, ℕ, zero, suc, ◌+◌, ◌<◌, ◌≤◌, List, [], ◌∷◌, ◌++◌, length, length-append, Option, Some, None}
+use Rattle.std.proofs.Common.{append_assoc, ◌≡◌, refl, ap, ap₂, sym, ◌∙◌, arith, ℕ, suc, ◌<◌, List, [], ◌∷◌, ◌++◌, length, length-append, Option, Some, None}
 use Rattle.std.specs.Prelude.{option_map}
 use Rattle.kb_text.specs.Fields.{IsWithout}
 use Rattle.kb_text.specs.Lines.{first_lines}

@@ -1,6 +1,6 @@
 -- Names and symbols, byte by byte.
-use Rattle.std.proofs.Common.{◌≡◌, refl, ap, ap₂, sym, ◌∙◌, subst, ⊎_elim, arith, ℕ, zero, suc, ◌+◌, ◌-◌, ◌<◌, ◌≤◌, ◌==◌, List, [], ◌∷◌, ◌++◌, Bool, true, false, not, ◌&&◌, length, length-append, get_or, take, drop, take-append-drop, All, Vec, Global}
-use Rattle.std.specs.Prelude.{codes, decimal, map}
+use Rattle.std.proofs.Common.{◌≡◌, refl, ap, ap₂, sym, ◌∙◌, subst, ⊎_elim, arith, ℕ, zero, suc, ◌+◌, ◌-◌, ◌<◌, ◌≤◌, ◌==◌, List, [], ◌∷◌, ◌++◌, Bool, true, false, not, ◌&&◌, length, length-append, get_or, take, drop, take-append-drop, All}
+use Rattle.std.specs.Prelude.{codes, map}
 use Rattle.std.specs.List.{slice_split}
 use Rattle.std.proofs.lemmas.Bool.{cases_lt}
 use Rattle.std.proofs.lemmas.List.{at_drop_more, get_or-map, length-map, length-drop, take_more}
@@ -9,9 +9,8 @@ use Rattle.kb_term.specs.Identifier.{begins_otherwise, is_unbroken, IsIdentifier
 use Rattle.kb_term.specs.Signature.{Signature, SymbolEntry, IsSignature, symbols_of_list}
 use Rattle.kb_text.proofs.IdentifierLaws.{Entry}
 use Rattle.kb_report.specs.Answers.{entry_text}
-use Rattle.kb_report.specs.Sections.{IsLineOf}
-use Rattle.kb_report.specs.SystemSections.{AreSymbols, symbols_body, IsSymbolsLine}
-use Rattle.kb_report.proofs.SystemLines.{IsNamed, IsSmall, entry_parts, symbols_cut, tail_of, field}
+use Rattle.kb_report.specs.SystemSections.{AreSymbols, IsSymbolsLine}
+use Rattle.kb_report.proofs.SystemLines.{IsNamed, IsSmall, entry_parts, symbols_cut, field}
 
 -- ---- identifiers
 

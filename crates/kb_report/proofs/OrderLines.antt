@@ -1,7 +1,7 @@
 -- The line of a certificate: it holds no line feed, and tells the certificate.
-use Rattle.std.proofs.Common.{append-nil, append_assoc, ◌≡◌, refl, ap, ap₂, sym, ◌∙◌, subst, arith, ⊎_elim, ℕ, zero, suc, ◌+◌, ◌-◌, ◌<◌, ◌≤◌, ◌==◌, ◌^◌, List, [], ◌∷◌, ◌++◌, Bool, true, false, ◌&&◌, length, length-append, get_or, drop, All}
-use Rattle.std.specs.Prelude.{codes, decimal, map, nat_le, nat_eq, IsTrue, replicate}
-use Rattle.std.specs.List.{join_with_byte, slice_split, list_all}
+use Rattle.std.proofs.Common.{◌≡◌, refl, ap, ap₂, sym, ◌∙◌, arith, ⊎_elim, ℕ, zero, suc, ◌<◌, ◌≤◌, ◌==◌, List, [], ◌∷◌, true, ◌&&◌, length, get_or, All}
+use Rattle.std.specs.Prelude.{codes, decimal, map, nat_eq, IsTrue, replicate}
+use Rattle.std.specs.List.{slice_split, list_all}
 use Rattle.std.proofs.lemmas.Bool.{cases_lt, eq-eqb}
 use Rattle.std.proofs.lemmas.Fmt.{decimal_injective}
 use Rattle.std.proofs.lemmas.List.{length-replicate}
@@ -9,9 +9,9 @@ use Rattle.std.proofs.lemmas.List.Elements.{All-head, All-tail}
 use Rattle.kb_term.specs.Signature.{Signature, SymbolEntry, IsSignature}
 use Rattle.kb_linear.specs.Limits.{IsSmallRow}
 use Rattle.kb_text.specs.Fields.{IsWithout}
-use Rattle.kb_text.proofs.Cuts.{AreWithout, are_without-append, without-append, fields_cut}
+use Rattle.kb_text.proofs.Cuts.{AreWithout, fields_cut}
 use Rattle.kb_text.proofs.PlainTexts.{IsBlank, space_blank, feed_blank, high_byte, word_without, decimal_without, join_without}
-use Rattle.kb_cert.specs.CertificateText.{names_of, name_at, interp_text, cert_fields, is_between, is_row, are_rows, is_certificate}
+use Rattle.kb_cert.specs.CertificateText.{names_of, name_at, interp_text, cert_fields, is_between, are_rows, is_certificate}
 use Rattle.kb_cert.specs.declared.certificate.Certificate.{Certificate}
 use Rattle.kb_cert.specs.declared.certificate.Certificate.TheVariants.{Lpo, Linear}
 use Rattle.kb_cert.proofs.Different.{precedence_from}

@@ -1,5 +1,5 @@
 -- What a line that was cut off says of the text.
-use Rattle.std.proofs.Common.{◌≡◌, ap, sym, ◌∙◌, subst, arith, ℕ, ◌<◌, ◌≤◌, List, [], ◌∷◌, ◌++◌, length, take, Bool, true, false}
+use Rattle.std.proofs.Common.{◌≡◌, ap, sym, ◌∙◌, subst, arith, ℕ, ◌<◌, ◌≤◌, List, [], ◌∷◌, ◌++◌, length, take, false}
 use Rattle.std.specs.Prelude.{decimal, nat_eq}
 use Rattle.std.specs.Cmp.Lexicographic.{other_text}
 use lib.Pointwise.{pointwise}

@@ -1,6 +1,6 @@
 -- What was read of the text of a system, section by section.
-use Rattle.std.proofs.Common.{append-nil, append_assoc, ◌≡◌, refl, ap, ap₂, sym, ◌∙◌, subst, arith, ℕ, ◌+◌, ◌<◌, List, [], ◌∷◌, ◌++◌, length, drop, Result, Ok, Err}
-use Rattle.std.specs.Prelude.{IfErr, ⊤}
+use Rattle.std.proofs.Common.{◌≡◌, refl, ap₂, sym, ◌∙◌, subst, arith, ℕ, ◌+◌, ◌<◌, List, [], ◌++◌, length, drop, Result, Ok, Err}
+use Rattle.std.specs.Prelude.{IfErr}
 use Rattle.std.specs.Result.{IsErr, IsErrAnd}
 use Rattle.std.proofs.lemmas.Bool.{false≢true}
 use Rattle.kb_text.specs.Fields.{IsTextFault}

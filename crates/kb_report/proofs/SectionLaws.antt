@@ -1,10 +1,10 @@
 -- Sections of one line, and of a line for each item.
-use Rattle.std.proofs.Common.{append-nil, append_assoc, ◌≡◌, refl, ap, ap₂, sym, ◌∙◌, subst, arith, ℕ, zero, suc, ◌+◌, ◌-◌, ◌<◌, ◌≤◌, List, [], ◌∷◌, ◌++◌, length, length-append, drop, All}
+use Rattle.std.proofs.Common.{append_assoc, ◌≡◌, refl, ap, ap₂, sym, ◌∙◌, subst, arith, ℕ, suc, ◌+◌, ◌-◌, ◌<◌, ◌≤◌, List, [], ◌∷◌, ◌++◌, length, length-append, drop, All}
 use Rattle.std.specs.Prelude.{replicate}
 use Rattle.std.proofs.lemmas.List.{drop-drop, length-drop, length-replicate}
 use Rattle.std.proofs.lemmas.List.Elements.{All-append, All-head, All-nil, All-push, All-replicate, All-tail}
 use Rattle.kb_text.specs.Fields.{IsWithout}
-use Rattle.kb_text.proofs.Cuts.{AreWithout, one_line}
+use Rattle.kb_text.proofs.Cuts.{AreWithout}
 use Rattle.kb_report.specs.Sections.{Lines, text_of, OneLine, item_lines, Items, BeginsWithLine, BeginsWith, IsBadFrom}
 use Rattle.kb_report.proofs.LinesOfTexts.{text_of-append}
 use Rattle.kb_report.proofs.Fronts.{IsSection}

@@ -1,12 +1,12 @@
 -- Equations and rules, field by field.
-use Rattle.std.proofs.Common.{◌≡◌, refl, ap, ap₂, sym, ◌∙◌, subst, arith, ℕ, ◌<◌, ◌≤◌, ◌==◌, List, [], ◌∷◌, ◌++◌, length, get_or, Result, true}
-use Rattle.std.specs.Prelude.{Option, codes, decimal, nat_le, IfOk, MatchOption, IsTrue, ⊤}
+use Rattle.std.proofs.Common.{◌≡◌, refl, ap, sym, ◌∙◌, subst, arith, ℕ, ◌≤◌, ◌==◌, List, [], ◌∷◌, ◌++◌, length, get_or, Result}
+use Rattle.std.specs.Prelude.{Option, codes, decimal, IfOk, MatchOption}
 use Rattle.std.specs.List.{join_with_byte, slice_split}
 use Rattle.std.proofs.lemmas.List.Splits.{join_with_byte-slice_split}
 use Rattle.std.proofs.lemmas.Fmt.{decimal_injective}
 use Rattle.kb_term.specs.Rule.{Rule}
 use Rattle.kb_term.specs.Signature.{Signature, IsSignature, IsEquationWithinLimits}
-use Rattle.kb_term.specs.Tree.{Tree, variable, apply}
+use Rattle.kb_term.specs.Tree.{Tree, variable}
 use Rattle.kb_term.specs.View.{tree_of}
 use Rattle.kb_term.specs.declared.term.Term.{Term}
 use Rattle.kb_text.specs.Fields.{IsWithout}
@@ -17,8 +17,7 @@ use Rattle.kb_text.proofs.TermParts.{one_spelled}
 use Rattle.kb_trace.proofs.FieldsRead.{said}
 use Rattle.kb_trace.proofs.StepForms.{up_to, is_up_to-true}
 use Rattle.kb_checker.specs.Answers.{IsRuleForm}
-use Rattle.kb_report.specs.Sections.{IsLineOf}
-use Rattle.kb_report.specs.SystemSections.{equation_body, rule_body, AreSidesIn, IsEquationLine, IsRuleLine}
+use Rattle.kb_report.specs.SystemSections.{rule_body, AreSidesIn, IsEquationLine, IsRuleLine}
 use Rattle.kb_report.proofs.SystemLines.{field, again, sides_spelled, sides_without, one_sides, equation_cut}
 
 -- ---- sides

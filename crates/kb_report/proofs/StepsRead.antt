@@ -1,8 +1,8 @@
 -- The lines of a trace, and the first that isn't a step's.
-use Rattle.std.proofs.Common.{append-nil, append_assoc, take-append-drop, ◌≡◌, refl, ap, ap₂, sym, ◌∙◌, subst, ⊎_elim, ◌⊎◌, arith, ℕ, zero, suc, ◌+◌, ◌-◌, ◌<◌, ◌≤◌, ◌==◌, List, [], ◌∷◌, ◌++◌, length, length-append, take, drop, All, Some, true}
+use Rattle.std.proofs.Common.{append-nil, append_assoc, take-append-drop, ◌≡◌, refl, ap, ap₂, sym, ◌∙◌, subst, ⊎_elim, ◌⊎◌, arith, ℕ, zero, suc, ◌+◌, ◌-◌, ◌<◌, ◌≤◌, ◌==◌, List, [], ◌∷◌, ◌++◌, length, length-append, take, drop, All}
 use Rattle.std.specs.List.{slice_split}
 use Rattle.std.proofs.lemmas.List.{drop-drop, length-drop}
-use Rattle.std.proofs.lemmas.List.Elements.{All-append, All-head, All-nil, All-push, All-tail}
+use Rattle.std.proofs.lemmas.List.Elements.{All-head, All-nil, All-push, All-tail}
 use Rattle.kb_term.specs.Signature.{Signature, IsSignature}
 use Rattle.kb_term.specs.Tree.{variable}
 use Rattle.kb_term.specs.declared.origin.Origin.TheVariants.{Input}
@@ -11,15 +11,15 @@ use Rattle.kb_text.specs.Fields.{IsWithout, IsFirstLine}
 use Rattle.kb_text.specs.Lines.{first_lines, Begins, IsBadLine}
 use Rattle.kb_text.specs.Names.{Name}
 use Rattle.kb_text.specs.Terms.{names_of}
-use Rattle.kb_text.proofs.Cuts.{AreWithout, are_without-append, one_line}
-use Rattle.kb_trace.specs.TraceText.{step_fields, step_line, step_lines, trace_text, IsStepForm, IsTraceForm, IsTraceText}
+use Rattle.kb_text.proofs.Cuts.{AreWithout, one_line}
+use Rattle.kb_trace.specs.TraceText.{step_lines, trace_text, IsStepForm, IsTraceForm, IsTraceText}
 use Rattle.kb_trace.proofs.OneStep.{one_step}
-use Rattle.kb_trace.proofs.TraceLines.{body, body_without, body_fields}
-use Rattle.kb_report.specs.Sections.{Lines, text_of, item_lines, Items, BeginsWithLine, BeginsWith, IsBadFrom, AreFirstLines}
+use Rattle.kb_trace.proofs.TraceLines.{body_without, body_fields}
+use Rattle.kb_report.specs.Sections.{Lines, text_of, item_lines, BeginsWith, IsBadFrom, AreFirstLines}
 use Rattle.kb_report.specs.SystemSections.{step_body, Steps}
 use Rattle.kb_report.proofs.LinesOfTexts.{text_of-append, are_without-front, same_lines, first_of_lines}
-use Rattle.kb_report.proofs.Fronts.{HasFirst, front_of_lines}
-use Rattle.kb_report.proofs.SectionLaws.{AreReadItems, items_whole, items_bad_at, items_without, lines-length, lines-more}
+use Rattle.kb_report.proofs.Fronts.{front_of_lines}
+use Rattle.kb_report.proofs.SectionLaws.{items_whole, items_bad_at, items_without, lines-length, lines-more}
 use Rattle.kb_report.proofs.ReadLines.{no_line_of}
 
 -- ---- the first lines of a text

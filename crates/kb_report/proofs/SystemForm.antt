@@ -1,5 +1,5 @@
 -- The text of a system is that of its sections, one behind the other.
-use Rattle.std.proofs.Common.{append-nil, append_assoc, ◌≡◌, refl, ap, ap₂, sym, ◌∙◌, subst, arith, ℕ, zero, suc, ◌+◌, ◌-◌, ◌<◌, ◌≤◌, ◌^◌, List, [], ◌∷◌, ◌++◌, length, drop, get_or, All}
+use Rattle.std.proofs.Common.{append_assoc, ◌≡◌, refl, ap, ap₂, sym, ◌∙◌, subst, arith, ℕ, ◌+◌, ◌-◌, ◌≤◌, List, [], ◌∷◌, ◌++◌, length, drop, get_or, All}
 use Rattle.std.specs.Prelude.{codes, decimal, flat_map, replicate, IsTrue, ⊤}
 use Rattle.std.proofs.lemmas.Fmt.{decimal_injective}
 use Rattle.std.proofs.lemmas.List.{length-replicate}
@@ -12,14 +12,14 @@ use Rattle.kb_text.specs.Lines.{counted, IsBadLine, Begins}
 use Rattle.kb_text.specs.Names.{Name}
 use Rattle.kb_text.specs.Terms.{names_of}
 use Rattle.kb_text.proofs.Cuts.{AreWithout, are_without-append, without-append}
-use Rattle.kb_text.proofs.PlainTexts.{word_without, decimal_without}
+use Rattle.kb_text.proofs.PlainTexts.{decimal_without}
 use Rattle.kb_cert.specs.CertificateText.{is_certificate}
 use Rattle.kb_cert.specs.declared.certificate.Certificate.{Certificate}
 use Rattle.kb_overlap.specs.Trace.{TraceStep}
 use Rattle.kb_trace.specs.TraceText.{trace_text, IsStepForm}
 use Rattle.kb_checker.specs.Answers.{Answer, IsAnswer, IsRuleForm}
 use Rattle.kb_report.specs.Answers.{head_line, end_line, symbols_line, equation_line, equation_lines, rule_line, rule_lines, order_line, system_text, IsSystem, AnswerSpelled, IsSystemText}
-use Rattle.kb_report.specs.Sections.{Lines, text_of, Section, OneLine, item_lines, Items, counted_line, Count, Word}
+use Rattle.kb_report.specs.Sections.{Lines, text_of, item_lines, Items, counted_line, Count, Word}
 use Rattle.kb_report.specs.SystemSections.{symbols_body, equation_body, rule_body, order_body, step_body, AreSymbols, Symbols, Equations, Rules, Order, Steps}
 use Rattle.kb_report.proofs.LinesOfTexts.{text_of-append, same_lines}
 use Rattle.kb_report.proofs.Fronts.{IsSection, Then, Goes, then_goes, IsText}

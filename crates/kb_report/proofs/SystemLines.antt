@@ -1,24 +1,22 @@
 -- The lines of a system: they hold no line feed, and each tells its value.
-use Rattle.std.proofs.Common.{append-nil, append_assoc, ◌≡◌, refl, ap, ap₂, sym, ◌∙◌, subst, arith, ℕ, zero, suc, ◌+◌, ◌-◌, ◌<◌, ◌≤◌, ◌==◌, ◌^◌, List, [], ◌∷◌, ◌++◌, Bool, true, false, not, ◌&&◌, ◌||◌, length, length-append, get_or, drop, All, Contains}
-use Rattle.std.specs.Prelude.{codes, decimal, map, nat_le, IsTrue, ⊤}
-use Rattle.std.specs.List.{join_with_byte, list_any, starts_with, slice_split, list_all}
+use Rattle.std.proofs.Common.{append_assoc, ◌≡◌, refl, ap, ap₂, sym, ◌∙◌, subst, arith, ℕ, ◌+◌, ◌<◌, ◌≤◌, ◌==◌, List, [], ◌∷◌, ◌++◌, Bool, true, false, not, ◌||◌, length, length-append, get_or, All}
+use Rattle.std.specs.Prelude.{codes, decimal, map}
+use Rattle.std.specs.List.{list_any, starts_with, slice_split}
 use Rattle.std.proofs.lemmas.Bool.{false≢true, ne_eqb}
-use Rattle.std.proofs.lemmas.Fmt.{decimal_digit, decimal_injective}
+use Rattle.std.proofs.lemmas.Fmt.{decimal_digit}
 use Rattle.std.proofs.lemmas.List.Elements.{All-head, All-tail, Contains-get_or}
-use Rattle.kb_term.specs.Identifier.{is_white_space, marks, begins_otherwise, is_unbroken, IsIdentifier}
-use Rattle.kb_term.specs.Pair.{variables_of_pair, numbered}
-use Rattle.kb_term.specs.Signature.{Signature, SymbolEntry, IsSignature, IsEquationWithinLimits, IsTermWithinLimits}
+use Rattle.kb_term.specs.Identifier.{marks, begins_otherwise, is_unbroken, IsIdentifier}
+use Rattle.kb_term.specs.Signature.{Signature, SymbolEntry, IsSignature, IsEquationWithinLimits}
 use Rattle.kb_term.specs.Tree.{Tree, variables_of, HasVariablesBelow}
 use Rattle.kb_term.proofs.RuleBelow.{numbered-below}
 use Rattle.kb_text.specs.Fields.{IsWithout}
-use Rattle.kb_text.specs.Names.{Name}
 use Rattle.kb_text.specs.Terms.{TermSpelled, names_of, term_text, infix_text}
-use Rattle.kb_text.proofs.Cuts.{AreWithout, are_without-append, without-append, fields_cut}
+use Rattle.kb_text.proofs.Cuts.{AreWithout, without-append, fields_cut}
 use Rattle.kb_text.proofs.Identifiers.{and_true, not_true}
 use Rattle.kb_text.proofs.PlainTexts.{IsBlank, space_blank, feed_blank, high_byte, word_without, decimal_without, join_without, text_without}
 use Rattle.kb_text.proofs.TermParts.{spelled_bounded, one_spelled}
 use Rattle.kb_report.specs.Answers.{entry_text}
-use Rattle.kb_report.specs.SystemSections.{symbols_body, equation_body, order_body, AreSymbols}
+use Rattle.kb_report.specs.SystemSections.{symbols_body, equation_body, AreSymbols}
 
 abbrev pub head_of : List (List ℕ) → List ℕ
 head_of [] = []

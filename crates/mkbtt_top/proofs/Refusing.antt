@@ -2,7 +2,6 @@
 use Rattle.std.proofs.Common.{ℕ, ◌≡◌, List, Option, subst}
 use Rattle.kb_text.specs.declared.kind.Kind.{Kind}
 use Rattle.mkbtt_top.specs.FirstRun.{IsRefusedFor}
-use Rattle.mkbtt_top.specs.declared.status.Status.{Status}
 use Rattle.mkbtt_top.specs.declared.status.Status.TheVariants.{Refused}
 
 same_kind : (k l : Kind) (m n : ℕ) → Refused k m ≡ Refused l n → k ≡ l

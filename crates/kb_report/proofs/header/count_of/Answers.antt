@@ -1,4 +1,4 @@
-use Rattle.std.proofs.Common.{arith, ◌≡◌, ◌++◌, ap, sym, ◌∙◌}
+use Rattle.std.proofs.Common.{arith, ◌++◌, ap, sym, ◌∙◌}
 use Rattle.kb_cert.proofs.CertLaws.{begins}
 use Rattle.kb_report.proofs.ReadLines.{not_begun, high_count}
 use Rattle.kb_report.proofs.header.count_of.Goals as goal

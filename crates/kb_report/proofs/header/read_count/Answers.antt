@@ -1,10 +1,9 @@
-use Rattle.std.proofs.Common.{arith, ◌≡◌, ◌≤◌, ap, sym, ◌∙◌, subst, ℕ, List, drop}
+use Rattle.std.proofs.Common.{arith, ◌≤◌, ℕ, drop}
 use Rattle.std.specs.Prelude.{decimal}
-use Rattle.kb_text.specs.Fields.{IsWithout}
 use Rattle.kb_text.proofs.Cuts.{without-append}
 use Rattle.kb_text.proofs.PlainTexts.{decimal_without}
 use Rattle.kb_report.specs.Sections.{counted_line}
-use Rattle.kb_report.proofs.ReadLines.{bad_without, bad_other, line_is_read}
+use Rattle.kb_report.proofs.ReadLines.{bad_without, bad_other}
 use Rattle.kb_report.proofs.header.read_count.Goals as goal
 
 pub returns-in_default-clause-fault : goal.returns-in_default-clause-fault

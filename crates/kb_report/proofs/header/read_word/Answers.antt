@@ -1,4 +1,4 @@
-use Rattle.std.proofs.Common.{◌≡◌, ap, sym, ◌∙◌, subst, ℕ, List, drop}
+use Rattle.std.proofs.Common.{sym, ◌∙◌, drop}
 use Rattle.std.specs.Prelude.{⊤}
 use Rattle.std.proofs.lemmas.Bool.{false≢true}
 use Rattle.kb_report.proofs.ReadLines.{bad_without, bad_other, line_is_read}

@@ -1,4 +1,4 @@
-use Rattle.std.proofs.Common.{arith, append-nil, ◌≡◌, refl, ap, ap₂, sym, ◌∙◌, subst, ℕ, ◌+◌, ◌≤◌, List, [], ◌∷◌, ◌++◌, length, drop}
+use Rattle.std.proofs.Common.{arith, ◌≡◌, refl, sym, ◌∙◌, subst, ℕ, ◌+◌, [], ◌∷◌, ◌++◌, length, drop}
 use Rattle.std.specs.Prelude.{⊤}
 use Rattle.std.proofs.lemmas.List.{drop_all, length-drop}
 use Rattle.kb_term.specs.Signature.{IsSignature}
@@ -9,8 +9,7 @@ use Rattle.kb_checker.specs.Answers.{Answer}
 use Rattle.kb_report.specs.Answers.{IsSystemText, IsSystem, AnswerSpelled}
 use Rattle.kb_report.specs.Sections.{Lines, text_of, item_lines, counted_line, Word, Count}
 use Rattle.kb_report.specs.SystemSections.{Symbols, Equations, Rules, Order, Steps, symbols_body, equation_body, rule_body, order_body, step_body}
-use Rattle.kb_report.proofs.Fronts.{Then}
-use Rattle.kb_report.proofs.SystemForm.{word_section, count_section, symbols_section, equations_section, rules_section, order_section, steps_section, head_word, end_word, equations_word, rules_word, trace_word, head_without, end_without, equations_without, rules_without, trace_without, AtEnd, FromEnd, FromSteps, FromTrace, FromOrder, FromEachRule, FromRules, FromEachEquation, FromEquations, FromSymbols, goes_end, goes_steps, goes_trace, goes_order, goes_rules, goes_rule_count, goes_equations, goes_equation_count, goes_symbols, lines_from_trace, lines_from_rules, system_lines, text_is, one_spelled}
+use Rattle.kb_report.proofs.SystemForm.{word_section, count_section, symbols_section, equations_section, rules_section, order_section, steps_section, head_word, end_word, equations_word, rules_word, trace_word, head_without, end_without, equations_without, rules_without, trace_without, AtEnd, FromEnd, FromSteps, FromTrace, FromOrder, FromEachRule, FromRules, FromEachEquation, FromEquations, FromSymbols, goes_end, goes_steps, goes_trace, goes_order, goes_rules, goes_rule_count, goes_equations, goes_equation_count, goes_symbols, system_lines, text_is, one_spelled}
 use Rattle.kb_report.proofs.Reading.{at_start, next, section_fault, behind_fault, handed_on, joined_text}
 use Rattle.kb_report.proofs.read.read_answer.Goals as goal
 

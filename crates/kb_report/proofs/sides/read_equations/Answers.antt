@@ -1,4 +1,4 @@
-use Rattle.std.proofs.Common.{arith, ◌≡◌, ◌+◌, ◌++◌, ◌∷◌, [], List, ℕ, length, ap, sym, ◌∙◌, subst}
+use Rattle.std.proofs.Common.{arith, ◌≡◌, ◌+◌, ◌++◌, ◌∷◌, [], List, length, ap, sym, ◌∙◌, subst}
 use Rattle.std.proofs.lemmas.List.{length_push, map-append}
 use Rattle.kb_term.specs.Tree.{Tree, variable}
 use Rattle.kb_term.specs.View.{tree_of, equations_of_list}

@@ -1,7 +1,7 @@
 use Rattle.std.proofs.Common.{arith, ◌≡◌, ◌+◌, ◌++◌, ◌∷◌, [], List, ℕ, length, ap, sym, ◌∙◌, subst}
 use Rattle.std.proofs.lemmas.List.{length_push}
 use Rattle.kb_term.specs.Rule.{Rule}
-use Rattle.kb_term.specs.Tree.{Tree, variable}
+use Rattle.kb_term.specs.Tree.{variable}
 use Rattle.kb_checker.specs.Answers.{IsRuleForm}
 use Rattle.kb_text.specs.Terms.{names_of}
 use Rattle.kb_report.specs.SystemSections.{rule_body}

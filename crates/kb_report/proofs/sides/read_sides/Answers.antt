@@ -1,4 +1,4 @@
-use Rattle.std.proofs.Common.{◌≡◌, sym, ◌∙◌}
+use Rattle.std.proofs.Common.{sym, ◌∙◌}
 use Rattle.std.proofs.lemmas.Bool.{false≢true}
 use Rattle.kb_term.specs.View.{tree_of}
 use Rattle.kb_report.proofs.SidesRead.{no_left, no_right, not_numbered}

@@ -1,4 +1,4 @@
-use Rattle.std.proofs.Common.{arith, ◌≡◌, ap, sym, ◌∙◌, subst, length}
+use Rattle.std.proofs.Common.{arith, ap, sym, ◌∙◌, subst, length}
 use Rattle.std.proofs.lemmas.Bool.{false≢true}
 use Rattle.kb_term.specs.Rule.{Rule}
 use Rattle.kb_term.specs.View.{tree_of}

@@ -1,4 +1,4 @@
-use Rattle.std.proofs.Common.{arith, ◌≡◌, refl, inl, inr, subst, List, ℕ, drop}
+use Rattle.std.proofs.Common.{arith, refl, inl, inr, subst}
 use Rattle.kb_text.specs.Fields.{IsWithout}
 use Rattle.kb_report.proofs.StepsRead.{no_front, front_more}
 use Rattle.kb_report.proofs.steps.front_of.Goals as goal

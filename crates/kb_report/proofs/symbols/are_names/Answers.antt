@@ -1,4 +1,4 @@
-use Rattle.std.proofs.Common.{arith, ◌≡◌, refl, ap, sym, ◌∙◌, subst, List, ℕ}
+use Rattle.std.proofs.Common.{arith, refl, sym, ◌∙◌, subst}
 use Rattle.std.proofs.lemmas.Bool.{false≢true}
 use Rattle.kb_text.proofs.IdentifierLaws.{tested_signature}
 use Rattle.kb_report.proofs.NamesRead.{named_at, differ_at, IsName, name_at, named_more, differ_more}

@@ -1,4 +1,4 @@
-use Rattle.std.proofs.Common.{arith, ◌≡◌, ◌-◌, sym, ap, ◌∙◌, length}
+use Rattle.std.proofs.Common.{arith, sym, ap, ◌∙◌, length}
 use Rattle.std.proofs.lemmas.List.{length-drop}
 use Rattle.kb_report.proofs.NamesRead.{unbroken_more, broken_here}
 use Rattle.kb_report.proofs.symbols.is_unbroken.Goals as goal

@@ -1,8 +1,8 @@
-use Rattle.std.proofs.Common.{arith, ◌≡◌, ◌+◌, ◌++◌, ◌∷◌, [], List, ℕ, ap, ap₂, sym, ◌∙◌, subst, All, take, drop}
+use Rattle.std.proofs.Common.{arith, ◌≡◌, ◌++◌, ◌∷◌, [], List, ℕ, ap, ap₂, sym, ◌∙◌, subst, All}
 use Rattle.std.specs.Prelude.{map}
 use Rattle.std.proofs.lemmas.List.{map-append}
 use Rattle.std.proofs.lemmas.List.Elements.{All-push}
-use Rattle.kb_term.specs.Signature.{Signature, SymbolEntry, symbols_of_list}
+use Rattle.kb_term.specs.Signature.{SymbolEntry, symbols_of_list}
 use Rattle.kb_text.proofs.IdentifierLaws.{Entry}
 use Rattle.kb_report.specs.Answers.{entry_text}
 use Rattle.kb_report.proofs.SystemLines.{IsSmall}

@@ -1,4 +1,4 @@
-use Rattle.std.proofs.Common.{arith, ◌≡◌, ap, ◌∙◌, sym, ℕ, List, get_or, ◌+◌, ◌-◌, ◌≤◌}
+use Rattle.std.proofs.Common.{arith, ap, ◌∙◌, ℕ, List, get_or, ◌-◌, ◌≤◌}
 use Rattle.kb_report.proofs.NamesRead.{entry_long, entry_tail, entry_made}
 use Rattle.kb_report.proofs.symbols.read_entry.Goals as goal
 

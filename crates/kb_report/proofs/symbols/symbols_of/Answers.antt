@@ -1,10 +1,9 @@
 use Rattle.std.proofs.Common.{arith, ◌≡◌, ◌∷◌, ◌≤◌, List, ℕ, length, ap, ap₂, sym, ◌∙◌, subst, drop}
-use Rattle.std.specs.Prelude.{map}
 use Rattle.std.specs.List.{join_with_byte}
 use Rattle.std.proofs.lemmas.Bool.{false≢true}
 use Rattle.std.proofs.lemmas.List.{length-drop, length-map}
 use Rattle.std.proofs.lemmas.List.Splits.{join_with_byte-slice_split}
-use Rattle.kb_term.specs.Signature.{Signature, SymbolEntry, IsSignature, symbols_of_list}
+use Rattle.kb_term.specs.Signature.{Signature, IsSignature, symbols_of_list}
 use Rattle.kb_text.proofs.IdentifierLaws.{Entry}
 use Rattle.kb_report.specs.Answers.{entry_text}
 use Rattle.kb_report.specs.SystemSections.{IsSymbolsLine}

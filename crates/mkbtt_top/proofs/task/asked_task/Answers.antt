@@ -1,5 +1,4 @@
-use Rattle.std.proofs.Common.{◌≡◌, Option, None, Some, inr}
-use Rattle.mkbtt_top.specs.Runs.{AskFor, AreBadWords}
+use Rattle.std.proofs.Common.{◌≡◌, None, Some, inr}
 use Rattle.mkbtt_top.proofs.task.asked_task.Goals as goal
 
 pub returns-in-Ok-clause-asked : goal.returns-in-Ok-clause-asked

@@ -1,4 +1,3 @@
-use Rattle.std.proofs.Common.{◌≡◌, Some, Ok}
 use Rattle.mkbtt_top.specs.declared.task.Task.TheVariants.{Complete, Check}
 use Rattle.mkbtt_top.proofs.top.run.Goals as goal
 
