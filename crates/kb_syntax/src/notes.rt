@@ -1,5 +1,5 @@
 // What a reader keeps beside the place where it stands.
-ghost use Rattle.std.specs.Prelude.{◌≡◌, ◌+◌, ◌<◌, ◌^◌, ◌∷◌, ◌++◌, [], IfOk, OnOk, MatchOption, None, Option, Some, bytes_eq, cond, length, true};
+ghost use Rattle.std.specs.Prelude.{◌≡◌, ◌+◌, ◌<◌, ◌^◌, ◌∷◌, ◌++◌, [], IfOk, OnOk, MatchOption, None, Option, Some, bytes_eq, cond, is_some, length, true};
 ghost use Rattle.kb_text.specs.Fronts.{term_front_tokens};
 ghost use Rattle.kb_text.specs.Names.{is_among};
 ghost use Rattle.kb_syntax.specs.Looks.{word_row, is_one_more, with_use, with_uses};
@@ -7,6 +7,7 @@ ghost use Rattle.kb_syntax.specs.Moves.{ended_use, ended_in, alone_ended};
 ghost use Rattle.kb_text.specs.Refusals.{ends_next, last_alone, has_other_arity, ended_alone, is_some_and};
 ghost use Rattle.kb_syntax.specs.Sides.{side_front, token_at};
 ghost use Rattle.kb_syntax.specs.Reader.{spot_row, clashes, named_notes, AreEmpty, alone_row, closing_row};
+ghost use Rattle.kb_syntax.specs.Variables.{variable_number};
 
 use crate::side::Side;
 use crate::variables::Variables;
@@ -62,6 +63,16 @@ fn is_one_more(names: &Names, n: usize, name: &[u8]) -> bool
     names.len() == n && !names.contains(name)
 }
 
+/// What a name with this number shows in a section of variables.
+pub(crate) fn shown_by_variable(number: Option<usize>) -> Option<Kind>
+    ensures { result ≡ cond (is_some number) (Some Kind.DoubleVariable) None }
+{
+    match number {
+        Some(_) => Some(Kind::DoubleVariable),
+        None => None,
+    }
+}
+
 impl<'a> Notes<'a> {
     pub(crate) fn new(alloc: Global) -> Notes<'a>
         ensures { AreEmpty result }
@@ -92,7 +103,14 @@ impl<'a> Notes<'a> {
     }
 
     /// What a name of a term shows, where so many equations have begun.
-    pub(crate) fn shown_at(&self, count: usize, spot: Spot, name: &[u8]) -> Option<Kind>
+    pub(crate) fn shown_at(
+        &self,
+        count: usize,
+        spot: Spot,
+        name: &[u8],
+        number: Option<usize>,
+    ) -> Option<Kind>
+        requires { number ≡ variable_number self.now.variables.declared name.now }
         ensures { result ≡ spot_row self.now count (spot.begins, spot.parens) name.now }
     {
         if spot.begins && count == EQUATIONS {
@@ -105,17 +123,21 @@ impl<'a> Notes<'a> {
         if spot.parens == DEPTH {
             return Some(Kind::Limit(Bound::Depth));
         }
-        if !self.variables.contains(name) {
-            return if is_one_more(&self.symbols, SYMBOLS, name) {
-                Some(Kind::Limit(Bound::Symbols))
-            } else {
-                None
-            };
-        }
-        if !spot.begins && self.variables.is_one_more(VARIABLES, name) {
-            Some(Kind::Limit(Bound::Variables))
-        } else {
-            None
+        match number {
+            Some(number) => {
+                if !spot.begins && self.variables.is_one_more(VARIABLES, number) {
+                    Some(Kind::Limit(Bound::Variables))
+                } else {
+                    None
+                }
+            }
+            None => {
+                if is_one_more(&self.symbols, SYMBOLS, name) {
+                    Some(Kind::Limit(Bound::Symbols))
+                } else {
+                    None
+                }
+            }
         }
     }
 
@@ -179,8 +201,15 @@ impl<'a> Notes<'a> {
     }
 
     /// Notes a name of a term.
-    pub(crate) fn add_name(&mut self, alloc: Global, spot: Spot, name: &[u8]) -> Result<(), Memory>
-        requires { self.old.size < 2 ^ 32 }
+    pub(crate) fn add_name(
+        &mut self,
+        alloc: Global,
+        spot: Spot,
+        name: &[u8],
+        number: Option<usize>,
+    ) -> Result<(), Memory>
+        requires size { self.old.size < 2 ^ 32 }
+        requires number { number ≡ variable_number self.old.variables.declared name.now }
         ensures { OnOk result (self.new ≡ named_notes self.old (spot.begins, spot.parens) name.now) }
     {
         if spot.begins {
@@ -188,10 +217,10 @@ impl<'a> Notes<'a> {
             self.size = 0;
         }
         self.size += 1;
-        if self.variables.find(name)? {
-            return Ok(());
+        match number {
+            Some(number) => self.variables.note(number),
+            None => self.symbols.add(alloc, name),
         }
-        self.symbols.add(alloc, name)
     }
 
     /// Notes that a section of rules is closed.
@@ -201,17 +230,6 @@ impl<'a> Notes<'a> {
         self.has_rules = true;
         self.variables.begin();
         self.size = 0;
-    }
-
-    /// What a name shows in a section of variables.
-    pub(crate) fn shown_by_variable(&self, name: &[u8]) -> Option<Kind>
-        ensures { result ≡ cond (is_among self.now.variables.declared name.now) (Some Kind.DoubleVariable) None }
-    {
-        if self.variables.contains(name) {
-            Some(Kind::DoubleVariable)
-        } else {
-            None
-        }
     }
 
     /// Whether a name alone ends the side, of which another arity than 0 is known.

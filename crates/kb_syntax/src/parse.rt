@@ -55,14 +55,15 @@ fn parse_text(alloc: Global, text: &[u8]) -> Result<Problem, SyntaxFault>
     loop {
         let found = next_token(text, at);
         let name = &text[found.at..found.end];
-        if let Some((kind, back)) = reader.shown(found.form, name) {
+        let variable = reader.number(found.form, name);
+        if let Some((kind, back)) = reader.shown(found.form, name, variable) {
             return Err(refusal(text, kind, number.saturating_sub(back)));
         }
         if found.form == Form::End {
             let problem = reader.notes.problem(alloc)?;
             return Ok(problem);
         }
-        let goes_on = reader.next(alloc, found.form, name)?;
+        let goes_on = reader.next(alloc, found.form, name, variable)?;
         if !goes_on {
             return Err(refusal(text, Kind::BadToken, number));
         }
