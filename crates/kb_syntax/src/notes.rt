@@ -4,9 +4,9 @@ ghost use Rattle.kb_text.specs.Fronts.{term_front_tokens};
 ghost use Rattle.kb_text.specs.Names.{is_among};
 ghost use Rattle.kb_syntax.specs.Looks.{word_row, is_one_more, with_use, with_uses};
 ghost use Rattle.kb_syntax.specs.Moves.{ended_use, ended_in, alone_ended};
-ghost use Rattle.kb_text.specs.Refusals.{ends_next, last_alone, has_other_arity, ended_alone, is_some_and};
+ghost use Rattle.kb_text.specs.Refusals.{ends_next, last_alone, has_other_arity, ended_alone};
 ghost use Rattle.kb_syntax.specs.Sides.{side_front, token_at};
-ghost use Rattle.kb_syntax.specs.Reader.{spot_row, clashes, named_notes, AreEmpty, alone_row, closing_row};
+ghost use Rattle.kb_syntax.specs.Reader.{TellsLast, spot_row, clashes, named_notes, AreEmpty, alone_row, closing_row};
 ghost use Rattle.kb_syntax.specs.Variables.{variable_number};
 
 use crate::side::Side;
@@ -162,10 +162,17 @@ impl<'a> Notes<'a> {
     }
 
     // Notes the use of a name alone that a token ends in a side.
-    fn end_alone(&mut self, alloc: Global, side: &Side<'a>, form: Form) -> Result<(), Memory>
+    fn end_alone(
+        &mut self,
+        alloc: Global,
+        side: &Side<'a>,
+        form: Form,
+        is_variable: bool,
+    ) -> Result<(), Memory>
+        requires { TellsLast self.old.variables.declared (Some (side_front side.now)) is_variable }
         ensures { OnOk result (self.new ≡ record self.old { arities = with_uses self.old.variables.declared self.old.arities (alone_ended (side_front side.now) (token_at form [])) }) }
     {
-        if form == Form::Mark(Mark::LeftParen) {
+        if is_variable || form == Form::Mark(Mark::LeftParen) {
             return Ok(());
         }
         match side.last_alone() {
@@ -187,16 +194,18 @@ impl<'a> Notes<'a> {
         }
     }
 
-    /// Notes the uses that a token ends in a side.
+    /// Notes the uses that a token ends in a side; whether a name alone at its end is a variable is told.
     pub(crate) fn end_uses(
         &mut self,
         alloc: Global,
         side: &Side<'a>,
         form: Form,
+        is_variable: bool,
     ) -> Result<(), Memory>
+        requires { TellsLast self.old.variables.declared (Some (side_front side.now)) is_variable }
         ensures { OnOk result (self.new ≡ record self.old { arities = with_uses self.old.variables.declared self.old.arities (ended_in (side_front side.now) (token_at form [])) }) }
     {
-        self.end_alone(alloc, side, form)?;
+        self.end_alone(alloc, side, form, is_variable)?;
         self.end_closing(alloc, side, form)
     }
 
@@ -233,9 +242,13 @@ impl<'a> Notes<'a> {
     }
 
     /// Whether a name alone ends the side, of which another arity than 0 is known.
-    pub(crate) fn alone_clash(&self, side: &Side<'a>) -> Option<usize>
+    pub(crate) fn alone_clash(&self, side: &Side<'a>, is_variable: bool) -> Option<usize>
+        requires { TellsLast self.now.variables.declared (Some (side_front side.now)) is_variable }
         ensures { result ≡ alone_row self.now (last_alone (side_front side.now)) }
     {
+        if is_variable {
+            return None;
+        }
         let name = side.last_alone()?;
         if self.clashes(name, 0) { Some(1) } else { None }
     }
@@ -260,16 +273,6 @@ impl<'a> Notes<'a> {
             Some(side.ending_tokens())
         } else {
             None
-        }
-    }
-
-    /// Whether a variable alone ends the side.
-    pub(crate) fn is_variable_last(&self, side: &Side<'a>) -> bool
-        ensures { result ≡ is_some_and (last_alone (side_front side.now)) (is_among self.now.variables.declared) }
-    {
-        match side.last_alone() {
-            Some(name) => self.variables.contains(name),
-            None => false,
         }
     }
 }

@@ -2,7 +2,7 @@
 ghost use Rattle.std.specs.Prelude.{◌≡◌, ◌+◌, ◌<◌, ◌^◌, ◌∷◌, ◌++◌, [], IfOk, IfSome, OnOk, MatchOption, None, Option, Some, cond, is_some, false, true, length, map, option_map, option_to_list};
 ghost use Rattle.kb_syntax.specs.Looks.{at_equation, at_skipped, look_side, spot_at, spot_in, end_row, mark_row, rules_row, next_look, added_variables, added_equations, ends_rules, word_look, at_rules, at_variables, at_word, outside, depth_of, answer};
 ghost use Rattle.kb_text.specs.Machine.{whole_equation};
-ghost use Rattle.kb_syntax.specs.Reader.{place_look, count_at, is_sign, is_ended, stays, IsPassed, HasSameNotes, IsNextReader, IsShortSide, AreEmpty, use_notes, name_notes, name_row, own_name_row, at_a_spot, own_row, clash_row, applied_row};
+ghost use Rattle.kb_syntax.specs.Reader.{TellsLast, place_look, count_at, is_sign, is_ended, stays, IsPassed, HasSameNotes, IsNextReader, IsShortSide, AreEmpty, use_notes, name_notes, name_row, own_name_row, at_a_spot, own_row, clash_row, applied_row};
 ghost use Rattle.kb_text.specs.Refusals.{back};
 ghost use Rattle.kb_syntax.specs.Sides.{equation_front, side_front, token_at, where_so};
 ghost use Rattle.kb_text.specs.Starts.{mark_token};
@@ -324,11 +324,18 @@ impl<'a> Notes<'a> {
 }
 
 impl<'a> Notes<'a> {
-    fn end_uses_at(&mut self, alloc: Global, place: &Place<'a>, form: Form) -> Result<(), Memory>
+    fn end_uses_at(
+        &mut self,
+        alloc: Global,
+        place: &Place<'a>,
+        form: Form,
+        is_variable: bool,
+    ) -> Result<(), Memory>
+        requires { TellsLast self.old.variables.declared (look_side (place_look place.now)) is_variable }
         ensures { OnOk result (self.new ≡ use_notes self.old (place_look place.now) (token_at form [])) }
     {
         match place.side() {
-            Some(side) => self.end_uses(alloc, side, form),
+            Some(side) => self.end_uses(alloc, side, form, is_variable),
             None => Ok(()),
         }
     }
@@ -447,13 +454,16 @@ impl<'a> Reader<'a> {
         form: Form,
         name: &'a [u8],
         number: Option<usize>,
+        last_is_variable: bool,
     ) -> Result<bool, Memory>
+        requires last { TellsLast self.old.notes.variables.declared (look_side (place_look self.old.place)) last_is_variable }
         requires number { number ≡ number_at self.old.notes.variables.declared (token_at form name.now) }
         requires size { self.old.notes.size < 2 ^ 32 }
         requires depth { depth_of (place_look self.old.place) < 2 ^ 63 }
         ensures { IfOk result (λ goes_on. IsNextReader self.old (token_at form name.now) (where_so goes_on self.new)) }
     {
-        self.notes.end_uses_at(alloc, &self.place, form)?;
+        self.notes
+            .end_uses_at(alloc, &self.place, form, last_is_variable)?;
         self.notes.name_at(alloc, &self.place, form, name, number)?;
         let goes_on = self.notes.pass(alloc, &mut self.place, form, name)?;
         Ok(goes_on)
@@ -526,8 +536,9 @@ impl<'a> Reader<'a> {
     }
 
     // How many tokens before the token the name stands whose use it ends with another arity than is known.
-    fn clash(&self, form: Form) -> Option<usize>
-        requires { IsShortSide (look_side (place_look self.now.place)) }
+    fn clash(&self, form: Form, last_is_variable: bool) -> Option<usize>
+        requires last { TellsLast self.now.notes.variables.declared (look_side (place_look self.now.place)) last_is_variable }
+        requires side { IsShortSide (look_side (place_look self.now.place)) }
         ensures { result ≡ clash_row self.now.notes (look_side (place_look self.now.place)) (token_at form []) }
     {
         let side = self.place.side()?;
@@ -539,18 +550,19 @@ impl<'a> Reader<'a> {
         if form == Form::Mark(Mark::LeftParen) {
             return None;
         }
-        self.notes.alone_clash(side)
+        self.notes.alone_clash(side, last_is_variable)
     }
 
     // Whether the token is a parenthesis behind a variable.
-    fn applies_variable(&self, form: Form) -> bool
+    fn applies_variable(&self, form: Form, last_is_variable: bool) -> bool
+        requires { TellsLast self.now.notes.variables.declared (look_side (place_look self.now.place)) last_is_variable }
         ensures { result ≡ applied_row self.now.notes (look_side (place_look self.now.place)) (token_at form []) }
     {
         if form != Form::Mark(Mark::LeftParen) {
             return false;
         }
         match self.place.side() {
-            Some(side) => self.notes.is_variable_last(side),
+            Some(side) => last_is_variable && side.ends_alone(),
             None => false,
         }
     }
@@ -561,16 +573,18 @@ impl<'a> Reader<'a> {
         form: Form,
         name: &[u8],
         number: Option<usize>,
+        last_is_variable: bool,
     ) -> Option<(Kind, usize)>
+        requires last { TellsLast self.now.notes.variables.declared (look_side (place_look self.now.place)) last_is_variable }
         requires number { number ≡ number_at self.now.notes.variables.declared (token_at form name.now) }
         requires equations { length self.now.notes.equations.items < 2 ^ 63 }
         requires side { IsShortSide (look_side (place_look self.now.place)) }
         ensures { result ≡ answer (clash_row self.now.notes (look_side (place_look self.now.place)) (token_at form [])) (back (applied_row self.now.notes (look_side (place_look self.now.place)) (token_at form [])) 1) (own_row self.now.notes (place_look self.now.place) (token_at form name.now)) }
     {
-        if let Some(back) = self.clash(form) {
+        if let Some(back) = self.clash(form, last_is_variable) {
             return Some((Kind::ArityClash, back));
         }
-        if self.applies_variable(form) {
+        if self.applies_variable(form, last_is_variable) {
             return Some((Kind::VariableApplied, 1));
         }
         match self.shown_here(form, name, number) {
