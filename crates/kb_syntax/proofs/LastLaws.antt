@@ -9,12 +9,11 @@ use Rattle.kb_text.specs.Fronts.{TermFront, whole, opened, within, EquationFront
 use Rattle.kb_text.specs.Machine.{next_term, with_last, behind_argument, next_equation, whole_equation, or_try, begin_term, is_whole, sign_of}
 use Rattle.kb_text.specs.Refusals.{last_alone, is_some_and}
 use Rattle.kb_syntax.specs.Looks.{Look, outside, at_word, at_variables, at_rules, at_equation, at_skipped, look_side, next_look, next_in_rules, word_look, added_variables, with_names, spot_at, Spot}
-use Rattle.kb_syntax.specs.Sides.{equation_side, token_at}
+use Rattle.kb_syntax.specs.Sides.{equation_side}
 use Rattle.kb_syntax.specs.Reader.{IsNextReader, TellsLast, name_notes, use_notes, prepared, place_look}
 use Rattle.kb_syntax.specs.Variables.{number_at}
 use Rattle.kb_syntax.specs.declared.notes.Notes.{Notes}
 use Rattle.kb_syntax.specs.declared.reader.Reader.{Reader}
-use Rattle.kb_text.specs.declared.lexer.Form.{Form}
 use Rattle.kb_text.proofs.Sound.{map_some}
 use Rattle.kb_syntax.proofs.VariableLaws.{number-is_some}
 
@@ -149,7 +148,7 @@ told_next r s t number k next = λ c e.
     let look = place_look r.place in
     let last : t ≡ identifier c = look_last look (place_look s.place) t next.0 c e in
     let same : s.notes.variables.declared ≡ r.notes.variables.declared =
-        next.1.variables ∙ ap (with_names (prepared r.notes look t).variables.declared) (look_declared look (place_look s.place) t c next.0 e) ∙ prepared_declared (use_notes r.notes look t) (spot_at look) t in
+    next.1.variables ∙ ap (with_names (prepared r.notes look t).variables.declared) (look_declared look (place_look s.place) t c next.0 e) ∙ prepared_declared (use_notes r.notes look t) (spot_at look) t in
     ap (λ (o : Option ℕ). is_some o) k ∙ ap (λ (u : Token). is_some (number_at r.notes.variables.declared u)) last ∙ number-is_some r.notes.variables.declared c ∙ ap (λ (vs : List Name). is_among vs c) (sym same)
 
 pub told_start : (vars : List Name) (l : Look) → l ≡ outside → TellsLast vars (look_side l) false

@@ -13,7 +13,7 @@ use Rattle.kb_text.proofs.WrittenLists.{number_of-le}
 use Rattle.kb_text.specs.Grammar.{WrittenEquation}
 use Rattle.kb_text.specs.Problems.{equation_variables, names_in, variables_among}
 use Rattle.kb_syntax.specs.Looks.{with_names, is_one_more}
-use Rattle.kb_syntax.specs.Variables.{VariableNames, AreNumbered, names_at, with_found, variable_number, IsNumber}
+use Rattle.kb_syntax.specs.Variables.{VariableNames, AreNumbered, names_at, with_found, variable_number}
 use Rattle.kb_syntax.proofs.WrittenArguments.{with_names-among, names-firsts}
 use Rattle.kb_syntax.proofs.FineLists.{and_split}
 use Rattle.kb_syntax.proofs.Numbers.{same_number}

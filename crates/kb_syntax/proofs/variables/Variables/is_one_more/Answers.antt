@@ -1,4 +1,4 @@
-use Rattle.std.proofs.Common.{ap, sym, ◌∙◌, ◌≡◌, ℕ, List, length}
+use Rattle.std.proofs.Common.{ap, sym, ◌∙◌, ℕ, List}
 use Rattle.kb_term.specs.Pair.{place_in}
 use Rattle.kb_text.proofs.Vectors.{vec_length}
 use Rattle.kb_syntax.proofs.VariableLaws.{key_names, number-inside, one-more}
