@@ -1,8 +1,9 @@
 -- Names by their numbers.
 use Rattle.std.proofs.Common.{◌≡◌, refl, ap, sym, ◌∙◌, arith, ℕ, ◌+◌, ◌<◌, ◌≤◌, List, [], ◌∷◌, ◌++◌, Some, None, Bool, true, false, cond, ◌&&◌, ◌||◌, ◌==◌, length, get_or, Vec, Global}
-use Rattle.std.specs.Prelude.{map, bytes_eq, nat_lt, not}
+use Rattle.std.specs.Prelude.{map, bytes_eq, nat_lt, nat_eq, not, Option, is_some}
 use Rattle.std.specs.List.{list_all, position, position_or_len}
 use Rattle.std.proofs.lemmas.List.{map-append, length-map}
+use Rattle.std.proofs.lemmas.Option.{same_Some}
 use Rattle.kb_term.specs.Pair.{place_in}
 use Rattle.kb_text.specs.Names.{Name, is_among, number_of, with_name}
 use Rattle.kb_text.proofs.Firsts.{bytes_eq-comm, same_bytes}
@@ -11,8 +12,8 @@ use Rattle.kb_text.proofs.RewrittenLists.{among-append}
 use Rattle.kb_text.proofs.WrittenLists.{number_of-le}
 use Rattle.kb_text.specs.Grammar.{WrittenEquation}
 use Rattle.kb_text.specs.Problems.{equation_variables, names_in, variables_among}
-use Rattle.kb_syntax.specs.Looks.{with_names}
-use Rattle.kb_syntax.specs.Variables.{VariableNames, AreNumbered, names_at, with_found}
+use Rattle.kb_syntax.specs.Looks.{with_names, is_one_more}
+use Rattle.kb_syntax.specs.Variables.{VariableNames, AreNumbered, names_at, with_found, variable_number}
 use Rattle.kb_syntax.proofs.WrittenArguments.{with_names-among, names-firsts}
 use Rattle.kb_syntax.proofs.FineLists.{and_split}
 use Rattle.kb_syntax.proofs.Numbers.{same_number}
@@ -215,6 +216,68 @@ place-none names is v x at e k n p h = ap (λ (w : VariableNames). is_among w.fo
 
 pub place-undeclared : (names : List Name) (is : List ℕ) (v : VariableNames) (x : Name) → viewed names is ≡ v → is_among names x ≡ false → AreNumbered names is → is_among v.found x ≡ false
 place-undeclared names is v x e k n = ap (λ (w : VariableNames). is_among w.found x) (sym e) ∙ not_found names is x k n
+
+-- ---- a name by its number
+
+pub number-some : (vars : List Name) (x : Name) (n : ℕ) → variable_number vars x ≡ Some n → (is_among vars x ≡ true) × (n ≡ number_of vars x)
+number-some vars x n e = go (is_among vars x) e
+  where
+    go : (b : Bool) → cond b (Some (number_of vars x)) None ≡ Some n → (b ≡ true) × (n ≡ number_of vars x)
+    go true e = (refl, sym (same_Some (number_of vars x) n e))
+    go false e = absurd (cc)
+
+pub number-none : (vars : List Name) (x : Name) → variable_number vars x ≡ None → is_among vars x ≡ false
+number-none vars x e = go (is_among vars x) e
+  where
+    go : (b : Bool) → cond b (Some (number_of vars x)) None ≡ None → b ≡ false
+    go true e = absurd (cc)
+    go false e = refl
+
+pub number-is_some : (vars : List Name) (x : Name) → is_some (variable_number vars x) ≡ is_among vars x
+number-is_some vars x = go (is_among vars x)
+  where
+    go : (b : Bool) → is_some (cond b (Some (number_of vars x)) None) ≡ b
+    go true = refl
+    go false = refl
+
+pub number-key : (ks : Keys) (x : Name) → position (λ (k : Vec ℕ Global). bytes_eq x k.items) ks ≡ variable_number (key_names ks) x
+number-key ks x = go (position (λ (k : Vec ℕ Global). bytes_eq x k.items) ks) refl
+  where
+    some : (n : ℕ) (b : Bool) → b ≡ true → n ≡ number_of (key_names ks) x → Some n ≡ cond b (Some (number_of (key_names ks) x)) None
+    some n true h e = ap (λ (m : ℕ). Some m) e
+    some n false h e = absurd (cc)
+
+    none : (b : Bool) → b ≡ false → None ≡ cond b (Some (number_of (key_names ks) x)) None
+    none true h = absurd (cc)
+    none false h = refl
+
+    go : (o : Option ℕ) → o ≡ position (λ (k : Vec ℕ Global). bytes_eq x k.items) ks → o ≡ variable_number (key_names ks) x
+    go (Some n) e = let r = key-number ks x n e in some n (is_among (key_names ks) x) r.0 r.1
+    go None e = none (is_among (key_names ks) x) (no-key ks x e)
+
+-- the numbered name that a value of variables has, in its inside
+pub number-inside : (names : List Name) (is : List ℕ) (v : VariableNames) (x : Name) (n : ℕ) → viewed names is ≡ v → variable_number v.declared x ≡ Some n → (is_among names x ≡ true) × (n ≡ number_of names x)
+number-inside names is v x n e h = number-some names x n (ap (λ (w : VariableNames). variable_number w.declared x) e ∙ h)
+
+pub noted-declared : (v w : VariableNames) (x : Name) (n : ℕ) → variable_number v.declared x ≡ Some n → w ≡ noted v x → w ≡ record v { found = with_name v.found x }
+noted-declared v w x n h e = e ∙ (λ i. record v { found = cond ((number-some v.declared x n h).0 i) (with_name v.found x) v.found })
+
+-- whether a declared name is one more
+pub one-more : (names : List Name) (is : List ℕ) (v : VariableNames) (x : Name) (at len n : ℕ) → viewed names is ≡ v → is_among names x ≡ true → AreNumbered names is → at ≡ place_in is (number_of names x) → len ≡ length is → length v.found ≡ n → nat_eq at len ≡ is_one_more v.found n x
+one-more names is v x at len n e k m p l c = same ∙ (λ i. not (sym among i)) ∙ and_true (not (is_among v.found x)) (nat_eq (length v.found) n) (grind (arith, c))
+  where
+    le : at ≤ len
+    le = omega (arith, p, l, place-found names is x k m, length-found names is m, number_of-le (names_at names is) x)
+
+    same : nat_eq at len ≡ not (nat_lt at len)
+    same = grind (arith, le)
+
+    among : is_among v.found x ≡ nat_lt at len
+    among = ap (λ (w : VariableNames). is_among w.found x) (sym e) ∙ found_at names is x (nat_lt at len) k m (λ i. nat_lt (sym p i) (sym l i))
+
+    and_true : (a b : Bool) → b ≡ true → a ≡ (a && b)
+    and_true true b h = sym h
+    and_true false b h = refl
 
 -- ---- the names of terms
 

@@ -1,5 +1,5 @@
 -- What the values of the reader stand for.
-use Rattle.std.specs.Prelude.{◌≡◌, ℕ, ◌+◌, ◌<◌, ◌≤◌, ◌^◌, [], ◌++◌, map, Bool, true, false, not, ◌&&◌, ◌||◌, cond, Option, Some, None, is_some, length, nat_eq, nat_lt, nat_le, unwrap_or, All}
+use Rattle.std.specs.Prelude.{◌≡◌, ℕ, List, option_and_then, ◌+◌, ◌<◌, ◌≤◌, ◌^◌, [], ◌++◌, map, Bool, true, false, not, ◌&&◌, ◌||◌, cond, Option, Some, None, is_some, length, nat_eq, nat_lt, nat_le, unwrap_or, All}
 use Rattle.std.specs.List.{list_any, list_all}
 use Rattle.kb_term.specs.Signature.{Problem, IsSignature}
 use Rattle.kb_text.specs.Names.{Name, is_among, firsts, with_name}
@@ -146,6 +146,10 @@ abbrev pub own_row : Notes → Look → Token → Option Kind
 own_row n look (identifier x) = name_row n look x
 own_row n look end_of_input = end_row look n.has_rules
 own_row n look t = mark_row look t
+
+-- an answer, whether the name alone at the end of the side is a variable, where one stands there
+abbrev pub TellsLast : List Name → Option TermFront → Bool → Type 0
+TellsLast declared side is_variable = (c : Name) → option_and_then last_alone side ≡ Some c → is_variable ≡ is_among declared c
 
 -- ---- the whole
 

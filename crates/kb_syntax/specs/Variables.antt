@@ -1,7 +1,8 @@
 -- The declared variables and those of an equation, by their numbers.
-use Rattle.std.specs.Prelude.{◌≡◌, ℕ, List, [], map, get_or, true}
+use Rattle.std.specs.Prelude.{◌≡◌, ℕ, List, [], map, get_or, true, cond, Option, Some, None}
 use Rattle.std.specs.List.{list_all}
 use Rattle.kb_text.specs.Names.{Name, is_among, number_of}
+use Rattle.kb_text.specs.Tokens.{Token, identifier}
 use Rattle.kb_syntax.specs.Looks.{with_names}
 
 -- the declared names, and those of them that an equation has
@@ -21,3 +22,17 @@ pub record AreNumbered (declared : List Name) (numbers : List ℕ) : Type 0 wher
   pub names : List Name
   pub declared_all : list_all (is_among declared) names ≡ true
   pub numbered : numbers ≡ map (number_of declared) names
+
+-- the number of a name among the declared ones
+abbrev pub variable_number : List Name → Name → Option ℕ
+variable_number declared x = cond (is_among declared x) (Some (number_of declared x)) None
+
+-- and of a token, which may be a name
+abbrev pub number_at : List Name → Token → Option ℕ
+number_at declared (identifier x) = variable_number declared x
+number_at declared t = None
+
+-- a declared name has this number
+pub record IsNumber (declared : List Name) (number : ℕ) : Type 0 where
+  pub name : Name
+  pub is : variable_number declared name ≡ Some number

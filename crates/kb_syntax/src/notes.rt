@@ -1,12 +1,13 @@
 // What a reader keeps beside the place where it stands.
-ghost use Rattle.std.specs.Prelude.{◌≡◌, ◌+◌, ◌<◌, ◌^◌, ◌∷◌, ◌++◌, [], IfOk, OnOk, MatchOption, None, Option, Some, bytes_eq, cond, length, true};
+ghost use Rattle.std.specs.Prelude.{◌≡◌, ◌+◌, ◌<◌, ◌^◌, ◌∷◌, ◌++◌, [], IfOk, OnOk, MatchOption, None, Option, Some, bytes_eq, cond, is_some, length, true};
 ghost use Rattle.kb_text.specs.Fronts.{term_front_tokens};
 ghost use Rattle.kb_text.specs.Names.{is_among};
 ghost use Rattle.kb_syntax.specs.Looks.{word_row, is_one_more, with_use, with_uses};
 ghost use Rattle.kb_syntax.specs.Moves.{ended_use, ended_in, alone_ended};
-ghost use Rattle.kb_text.specs.Refusals.{ends_next, last_alone, has_other_arity, ended_alone, is_some_and};
+ghost use Rattle.kb_text.specs.Refusals.{ends_next, last_alone, has_other_arity, ended_alone};
 ghost use Rattle.kb_syntax.specs.Sides.{side_front, token_at};
-ghost use Rattle.kb_syntax.specs.Reader.{spot_row, clashes, named_notes, AreEmpty, alone_row, closing_row};
+ghost use Rattle.kb_syntax.specs.Reader.{TellsLast, spot_row, clashes, named_notes, AreEmpty, alone_row, closing_row};
+ghost use Rattle.kb_syntax.specs.Variables.{variable_number};
 
 use crate::side::Side;
 use crate::variables::Variables;
@@ -62,6 +63,16 @@ fn is_one_more(names: &Names, n: usize, name: &[u8]) -> bool
     names.len() == n && !names.contains(name)
 }
 
+/// What a name with this number shows in a section of variables.
+pub(crate) fn shown_by_variable(number: Option<usize>) -> Option<Kind>
+    ensures { result ≡ cond (is_some number) (Some Kind.DoubleVariable) None }
+{
+    match number {
+        Some(_) => Some(Kind::DoubleVariable),
+        None => None,
+    }
+}
+
 impl<'a> Notes<'a> {
     pub(crate) fn new(alloc: Global) -> Notes<'a>
         ensures { AreEmpty result }
@@ -92,7 +103,14 @@ impl<'a> Notes<'a> {
     }
 
     /// What a name of a term shows, where so many equations have begun.
-    pub(crate) fn shown_at(&self, count: usize, spot: Spot, name: &[u8]) -> Option<Kind>
+    pub(crate) fn shown_at(
+        &self,
+        count: usize,
+        spot: Spot,
+        name: &[u8],
+        number: Option<usize>,
+    ) -> Option<Kind>
+        requires { number ≡ variable_number self.now.variables.declared name.now }
         ensures { result ≡ spot_row self.now count (spot.begins, spot.parens) name.now }
     {
         if spot.begins && count == EQUATIONS {
@@ -105,17 +123,21 @@ impl<'a> Notes<'a> {
         if spot.parens == DEPTH {
             return Some(Kind::Limit(Bound::Depth));
         }
-        if !self.variables.contains(name) {
-            return if is_one_more(&self.symbols, SYMBOLS, name) {
-                Some(Kind::Limit(Bound::Symbols))
-            } else {
-                None
-            };
-        }
-        if !spot.begins && self.variables.is_one_more(VARIABLES, name) {
-            Some(Kind::Limit(Bound::Variables))
-        } else {
-            None
+        match number {
+            Some(number) => {
+                if !spot.begins && self.variables.is_one_more(VARIABLES, number) {
+                    Some(Kind::Limit(Bound::Variables))
+                } else {
+                    None
+                }
+            }
+            None => {
+                if is_one_more(&self.symbols, SYMBOLS, name) {
+                    Some(Kind::Limit(Bound::Symbols))
+                } else {
+                    None
+                }
+            }
         }
     }
 
@@ -140,10 +162,17 @@ impl<'a> Notes<'a> {
     }
 
     // Notes the use of a name alone that a token ends in a side.
-    fn end_alone(&mut self, alloc: Global, side: &Side<'a>, form: Form) -> Result<(), Memory>
+    fn end_alone(
+        &mut self,
+        alloc: Global,
+        side: &Side<'a>,
+        form: Form,
+        is_variable: bool,
+    ) -> Result<(), Memory>
+        requires { TellsLast self.old.variables.declared (Some (side_front side.now)) is_variable }
         ensures { OnOk result (self.new ≡ record self.old { arities = with_uses self.old.variables.declared self.old.arities (alone_ended (side_front side.now) (token_at form [])) }) }
     {
-        if form == Form::Mark(Mark::LeftParen) {
+        if is_variable || form == Form::Mark(Mark::LeftParen) {
             return Ok(());
         }
         match side.last_alone() {
@@ -165,22 +194,31 @@ impl<'a> Notes<'a> {
         }
     }
 
-    /// Notes the uses that a token ends in a side.
+    /// Notes the uses that a token ends in a side; whether a name alone at its end is a variable is told.
     pub(crate) fn end_uses(
         &mut self,
         alloc: Global,
         side: &Side<'a>,
         form: Form,
+        is_variable: bool,
     ) -> Result<(), Memory>
+        requires { TellsLast self.old.variables.declared (Some (side_front side.now)) is_variable }
         ensures { OnOk result (self.new ≡ record self.old { arities = with_uses self.old.variables.declared self.old.arities (ended_in (side_front side.now) (token_at form [])) }) }
     {
-        self.end_alone(alloc, side, form)?;
+        self.end_alone(alloc, side, form, is_variable)?;
         self.end_closing(alloc, side, form)
     }
 
     /// Notes a name of a term.
-    pub(crate) fn add_name(&mut self, alloc: Global, spot: Spot, name: &[u8]) -> Result<(), Memory>
-        requires { self.old.size < 2 ^ 32 }
+    pub(crate) fn add_name(
+        &mut self,
+        alloc: Global,
+        spot: Spot,
+        name: &[u8],
+        number: Option<usize>,
+    ) -> Result<(), Memory>
+        requires size { self.old.size < 2 ^ 32 }
+        requires number { number ≡ variable_number self.old.variables.declared name.now }
         ensures { OnOk result (self.new ≡ named_notes self.old (spot.begins, spot.parens) name.now) }
     {
         if spot.begins {
@@ -188,10 +226,10 @@ impl<'a> Notes<'a> {
             self.size = 0;
         }
         self.size += 1;
-        if self.variables.find(name)? {
-            return Ok(());
+        match number {
+            Some(number) => self.variables.note(number),
+            None => self.symbols.add(alloc, name),
         }
-        self.symbols.add(alloc, name)
     }
 
     /// Notes that a section of rules is closed.
@@ -203,21 +241,14 @@ impl<'a> Notes<'a> {
         self.size = 0;
     }
 
-    /// What a name shows in a section of variables.
-    pub(crate) fn shown_by_variable(&self, name: &[u8]) -> Option<Kind>
-        ensures { result ≡ cond (is_among self.now.variables.declared name.now) (Some Kind.DoubleVariable) None }
-    {
-        if self.variables.contains(name) {
-            Some(Kind::DoubleVariable)
-        } else {
-            None
-        }
-    }
-
     /// Whether a name alone ends the side, of which another arity than 0 is known.
-    pub(crate) fn alone_clash(&self, side: &Side<'a>) -> Option<usize>
+    pub(crate) fn alone_clash(&self, side: &Side<'a>, is_variable: bool) -> Option<usize>
+        requires { TellsLast self.now.variables.declared (Some (side_front side.now)) is_variable }
         ensures { result ≡ alone_row self.now (last_alone (side_front side.now)) }
     {
+        if is_variable {
+            return None;
+        }
         let name = side.last_alone()?;
         if self.clashes(name, 0) { Some(1) } else { None }
     }
@@ -242,16 +273,6 @@ impl<'a> Notes<'a> {
             Some(side.ending_tokens())
         } else {
             None
-        }
-    }
-
-    /// Whether a variable alone ends the side.
-    pub(crate) fn is_variable_last(&self, side: &Side<'a>) -> bool
-        ensures { result ≡ is_some_and (last_alone (side_front side.now)) (is_among self.now.variables.declared) }
-    {
-        match side.last_alone() {
-            Some(name) => self.variables.contains(name),
-            None => false,
         }
     }
 }

@@ -52,22 +52,25 @@ fn parse_text(alloc: Global, text: &[u8]) -> Result<Problem, SyntaxFault>
     let mut reader = Reader::new(alloc);
     let mut number: usize = 0;
     let mut at = 0;
+    let mut last_is_variable = false;
     loop {
         let found = next_token(text, at);
         let name = &text[found.at..found.end];
-        if let Some((kind, back)) = reader.shown(found.form, name) {
+        let variable = reader.number(found.form, name);
+        if let Some((kind, back)) = reader.shown(found.form, name, variable, last_is_variable) {
             return Err(refusal(text, kind, number.saturating_sub(back)));
         }
         if found.form == Form::End {
             let problem = reader.notes.problem(alloc)?;
             return Ok(problem);
         }
-        let goes_on = reader.next(alloc, found.form, name)?;
+        let goes_on = reader.next(alloc, found.form, name, variable, last_is_variable)?;
         if !goes_on {
             return Err(refusal(text, Kind::BadToken, number));
         }
         number += 1;
         at = found.end;
+        last_is_variable = variable.is_some();
     }
 }
 

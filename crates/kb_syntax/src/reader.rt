@@ -2,14 +2,15 @@
 ghost use Rattle.std.specs.Prelude.{◌≡◌, ◌+◌, ◌<◌, ◌^◌, ◌∷◌, ◌++◌, [], IfOk, IfSome, OnOk, MatchOption, None, Option, Some, cond, is_some, false, true, length, map, option_map, option_to_list};
 ghost use Rattle.kb_syntax.specs.Looks.{at_equation, at_skipped, look_side, spot_at, spot_in, end_row, mark_row, rules_row, next_look, added_variables, added_equations, ends_rules, word_look, at_rules, at_variables, at_word, outside, depth_of, answer};
 ghost use Rattle.kb_text.specs.Machine.{whole_equation};
-ghost use Rattle.kb_syntax.specs.Reader.{place_look, count_at, is_sign, is_ended, stays, IsPassed, HasSameNotes, IsNextReader, IsShortSide, AreEmpty, use_notes, name_notes, name_row, own_name_row, at_a_spot, own_row, clash_row, applied_row};
+ghost use Rattle.kb_syntax.specs.Reader.{TellsLast, place_look, count_at, is_sign, is_ended, stays, IsPassed, HasSameNotes, IsNextReader, IsShortSide, AreEmpty, use_notes, name_notes, name_row, own_name_row, at_a_spot, own_row, clash_row, applied_row};
 ghost use Rattle.kb_text.specs.Refusals.{back};
 ghost use Rattle.kb_syntax.specs.Sides.{equation_front, side_front, token_at, where_so};
 ghost use Rattle.kb_text.specs.Starts.{mark_token};
+ghost use Rattle.kb_syntax.specs.Variables.{number_at, variable_number};
 ghost use Rattle.kb_syntax.specs.Written.{equation_of};
 
 use crate::equation::OpenEquation;
-use crate::notes::{Notes, Spot, is_word};
+use crate::notes::{Notes, Spot, is_word, shown_by_variable};
 use crate::side::Side;
 use kb_term::Memory;
 use kb_text::{Bound, Form, Kind, Mark, NAME_BYTES};
@@ -323,11 +324,18 @@ impl<'a> Notes<'a> {
 }
 
 impl<'a> Notes<'a> {
-    fn end_uses_at(&mut self, alloc: Global, place: &Place<'a>, form: Form) -> Result<(), Memory>
+    fn end_uses_at(
+        &mut self,
+        alloc: Global,
+        place: &Place<'a>,
+        form: Form,
+        is_variable: bool,
+    ) -> Result<(), Memory>
+        requires { TellsLast self.old.variables.declared (look_side (place_look place.now)) is_variable }
         ensures { OnOk result (self.new ≡ use_notes self.old (place_look place.now) (token_at form [])) }
     {
         match place.side() {
-            Some(side) => self.end_uses(alloc, side, form),
+            Some(side) => self.end_uses(alloc, side, form, is_variable),
             None => Ok(()),
         }
     }
@@ -338,15 +346,17 @@ impl<'a> Notes<'a> {
         place: &Place<'a>,
         form: Form,
         name: &'a [u8],
+        number: Option<usize>,
     ) -> Result<(), Memory>
-        requires { self.old.size < 2 ^ 32 }
+        requires size { self.old.size < 2 ^ 32 }
+        requires number { number ≡ number_at self.old.variables.declared (token_at form name.now) }
         ensures { OnOk result (self.new ≡ name_notes self.old (spot_at (place_look place.now)) (token_at form name.now)) }
     {
         if form != Form::Identifier {
             return Ok(());
         }
         match place.spot() {
-            Some(spot) => self.add_name(alloc, spot, name),
+            Some(spot) => self.add_name(alloc, spot, name, number),
             None => Ok(()),
         }
     }
@@ -438,31 +448,54 @@ impl<'a> Reader<'a> {
     }
 
     /// Goes on with one more token, where the grammar has it there; else the reader is lost.
-    pub(crate) fn next(&mut self, alloc: Global, form: Form, name: &'a [u8]) -> Result<bool, Memory>
+    pub(crate) fn next(
+        &mut self,
+        alloc: Global,
+        form: Form,
+        name: &'a [u8],
+        number: Option<usize>,
+        last_is_variable: bool,
+    ) -> Result<bool, Memory>
+        requires last { TellsLast self.old.notes.variables.declared (look_side (place_look self.old.place)) last_is_variable }
+        requires number { number ≡ number_at self.old.notes.variables.declared (token_at form name.now) }
         requires size { self.old.notes.size < 2 ^ 32 }
         requires depth { depth_of (place_look self.old.place) < 2 ^ 63 }
         ensures { IfOk result (λ goes_on. IsNextReader self.old (token_at form name.now) (where_so goes_on self.new)) }
     {
-        self.notes.end_uses_at(alloc, &self.place, form)?;
-        self.notes.name_at(alloc, &self.place, form, name)?;
+        self.notes
+            .end_uses_at(alloc, &self.place, form, last_is_variable)?;
+        self.notes.name_at(alloc, &self.place, form, name, number)?;
         let goes_on = self.notes.pass(alloc, &mut self.place, form, name)?;
         Ok(goes_on)
     }
 
+    /// The number among the declared variables of the name that the token is, where it is one.
+    pub(crate) fn number(&self, form: Form, name: &[u8]) -> Option<usize>
+        ensures { result ≡ number_at self.now.notes.variables.declared (token_at form name.now) }
+    {
+        match form {
+            Form::Identifier => self.notes.variables.number(name),
+            Form::Mark(_) => None,
+            Form::End => None,
+        }
+    }
+
     // What the token shows at its own place.
-    fn shown_here(&self, form: Form, name: &[u8]) -> Option<Kind>
-        requires { length self.now.notes.equations.items < 2 ^ 63 }
+    fn shown_here(&self, form: Form, name: &[u8], number: Option<usize>) -> Option<Kind>
+        requires number { number ≡ number_at self.now.notes.variables.declared (token_at form name.now) }
+        requires equations { length self.now.notes.equations.items < 2 ^ 63 }
         ensures { result ≡ own_row self.now.notes (place_look self.now.place) (token_at form name.now) }
     {
         match form {
-            Form::Identifier => self.shown_by_name(name),
+            Form::Identifier => self.shown_by_name(name, number),
             Form::Mark(mark) => self.place.shown_by_mark(mark),
             Form::End => self.place.shown_by_end(self.notes.has_rules),
         }
     }
 
-    fn shown_by_name(&self, name: &[u8]) -> Option<Kind>
-        requires { length self.now.notes.equations.items < 2 ^ 63 }
+    fn shown_by_name(&self, name: &[u8], number: Option<usize>) -> Option<Kind>
+        requires number { number ≡ variable_number self.now.notes.variables.declared name.now }
+        requires equations { length self.now.notes.equations.items < 2 ^ 63 }
         ensures { result ≡ name_row self.now.notes (place_look self.now.place) name.now }
     {
         if let Place::Skipped(_) = &self.place {
@@ -471,38 +504,41 @@ impl<'a> Reader<'a> {
         if name.len() > NAME_BYTES {
             return Some(Kind::Limit(Bound::Name));
         }
-        self.shown_by_short_name(name)
+        self.shown_by_short_name(name, number)
     }
 
-    fn shown_by_short_name(&self, name: &[u8]) -> Option<Kind>
-        requires { length self.now.notes.equations.items < 2 ^ 63 }
+    fn shown_by_short_name(&self, name: &[u8], number: Option<usize>) -> Option<Kind>
+        requires number { number ≡ variable_number self.now.notes.variables.declared name.now }
+        requires equations { length self.now.notes.equations.items < 2 ^ 63 }
         ensures { result ≡ own_name_row self.now.notes (place_look self.now.place) name.now }
     {
         match &self.place {
             Place::Outside => None,
             Place::Word => self.notes.shown_by_word(name),
-            Place::Variables => self.notes.shown_by_variable(name),
-            Place::Rules => self.shown_in_term(name),
-            Place::Equation(_) => self.shown_in_term(name),
+            Place::Variables => shown_by_variable(number),
+            Place::Rules => self.shown_in_term(name, number),
+            Place::Equation(_) => self.shown_in_term(name, number),
             Place::Skipped(_) => None,
         }
     }
 
-    fn shown_in_term(&self, name: &[u8]) -> Option<Kind>
-        requires { length self.now.notes.equations.items < 2 ^ 63 }
+    fn shown_in_term(&self, name: &[u8], number: Option<usize>) -> Option<Kind>
+        requires number { number ≡ variable_number self.now.notes.variables.declared name.now }
+        requires equations { length self.now.notes.equations.items < 2 ^ 63 }
         ensures { result ≡ at_a_spot self.now.notes (count_at self.now.notes (place_look self.now.place)) (spot_at (place_look self.now.place)) name.now }
     {
         match self.place.spot() {
             Some(spot) => self
                 .notes
-                .shown_at(self.place.count(&self.notes), spot, name),
+                .shown_at(self.place.count(&self.notes), spot, name, number),
             None => None,
         }
     }
 
     // How many tokens before the token the name stands whose use it ends with another arity than is known.
-    fn clash(&self, form: Form) -> Option<usize>
-        requires { IsShortSide (look_side (place_look self.now.place)) }
+    fn clash(&self, form: Form, last_is_variable: bool) -> Option<usize>
+        requires last { TellsLast self.now.notes.variables.declared (look_side (place_look self.now.place)) last_is_variable }
+        requires side { IsShortSide (look_side (place_look self.now.place)) }
         ensures { result ≡ clash_row self.now.notes (look_side (place_look self.now.place)) (token_at form []) }
     {
         let side = self.place.side()?;
@@ -514,35 +550,44 @@ impl<'a> Reader<'a> {
         if form == Form::Mark(Mark::LeftParen) {
             return None;
         }
-        self.notes.alone_clash(side)
+        self.notes.alone_clash(side, last_is_variable)
     }
 
     // Whether the token is a parenthesis behind a variable.
-    fn applies_variable(&self, form: Form) -> bool
+    fn applies_variable(&self, form: Form, last_is_variable: bool) -> bool
+        requires { TellsLast self.now.notes.variables.declared (look_side (place_look self.now.place)) last_is_variable }
         ensures { result ≡ applied_row self.now.notes (look_side (place_look self.now.place)) (token_at form []) }
     {
         if form != Form::Mark(Mark::LeftParen) {
             return false;
         }
         match self.place.side() {
-            Some(side) => self.notes.is_variable_last(side),
+            Some(side) => last_is_variable && side.ends_alone(),
             None => false,
         }
     }
 
     /// What the token shows that the grammar may have there, and how many tokens before it the place is.
-    pub(crate) fn shown(&self, form: Form, name: &[u8]) -> Option<(Kind, usize)>
+    pub(crate) fn shown(
+        &self,
+        form: Form,
+        name: &[u8],
+        number: Option<usize>,
+        last_is_variable: bool,
+    ) -> Option<(Kind, usize)>
+        requires last { TellsLast self.now.notes.variables.declared (look_side (place_look self.now.place)) last_is_variable }
+        requires number { number ≡ number_at self.now.notes.variables.declared (token_at form name.now) }
         requires equations { length self.now.notes.equations.items < 2 ^ 63 }
         requires side { IsShortSide (look_side (place_look self.now.place)) }
         ensures { result ≡ answer (clash_row self.now.notes (look_side (place_look self.now.place)) (token_at form [])) (back (applied_row self.now.notes (look_side (place_look self.now.place)) (token_at form [])) 1) (own_row self.now.notes (place_look self.now.place) (token_at form name.now)) }
     {
-        if let Some(back) = self.clash(form) {
+        if let Some(back) = self.clash(form, last_is_variable) {
             return Some((Kind::ArityClash, back));
         }
-        if self.applies_variable(form) {
+        if self.applies_variable(form, last_is_variable) {
             return Some((Kind::VariableApplied, 1));
         }
-        match self.shown_here(form, name) {
+        match self.shown_here(form, name, number) {
             Some(kind) => Some((kind, 0)),
             None => None,
         }

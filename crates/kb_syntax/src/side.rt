@@ -78,6 +78,16 @@ impl<'a> Side<'a> {
         }
     }
 
+    /// Whether a name alone ends the side.
+    pub(crate) fn ends_alone(&self) -> bool
+        ensures { result ≡ is_some (last_alone (side_front self.now)) }
+    {
+        match self.last_alone() {
+            Some(_) => true,
+            None => false,
+        }
+    }
+
     /// The symbol and the number of arguments of the application that a closing parenthesis ends next.
     pub(crate) fn ends_next(&self) -> Option<(&'a [u8], usize)>
         ensures { MatchOption result (ends_next (side_front self.now) ≡ None) (λ a. AreEnd (ends_next (side_front self.now)) a.0.now a.1) }

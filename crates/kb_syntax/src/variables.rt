@@ -1,8 +1,10 @@
 // The declared variables, and those of the open equation.
-ghost use Rattle.std.specs.Prelude.{◌≡◌, [], IfOk, OnOk, MatchOption, cond, false, length, true};
+ghost use Rattle.std.specs.Prelude.{◌≡◌, [], OnOk, MatchOption, Some, false, length, true};
 ghost use Rattle.kb_term.specs.Pair.{place_in};
 ghost use Rattle.kb_text.specs.Names.{is_among, number_of as number_in, with_name};
 ghost use Rattle.kb_syntax.specs.Looks.{is_one_more};
+ghost use Rattle.kb_syntax.specs.Variables.{IsNumber, variable_number};
+ghost use Rattle.kb_text.specs.Names.{Name};
 
 use indexmap::IndexSet;
 use kb_term::Memory;
@@ -51,6 +53,13 @@ impl Variables {
         }
     }
 
+    /// The number of the name among the declared ones, where it is one of them.
+    pub fn number(&self, name: &[u8]) -> Option<usize>
+        ensures { result ≡ variable_number self.now.declared name.now }
+    {
+        self.names.get_index_of(name)
+    }
+
     /// Whether the name is declared.
     pub fn contains(&self, name: &[u8]) -> bool
         ensures { result ≡ is_among self.now.declared name.now }
@@ -73,20 +82,15 @@ impl Variables {
         self.found.clear();
     }
 
-    /// Adds the name to those of the equation, where it is declared and isn't there yet; whether it is declared.
-    pub fn find(&mut self, name: &[u8]) -> Result<bool, Memory>
-        ensures declared { IfOk result (λ is_declared. is_declared ≡ is_among self.old.declared name.now) }
-        ensures found { OnOk result (self.new ≡ record self.old { found = cond (is_among self.old.declared name.now) (with_name self.old.found name.now) self.old.found }) }
+    /// Adds the declared name with this number to those of the equation, where it isn't there yet.
+    pub fn note(&mut self, number: usize) -> Result<(), Memory>
+        requires { IsNumber self.old.declared number }
+        ensures { OnOk result ((x : Name) → variable_number self.old.declared x ≡ Some number → self.new ≡ record self.old { found = with_name self.old.found x }) }
     {
-        match self.names.get_index_of(name) {
-            Some(number) => {
-                if place_of(&self.found, number) == self.found.len() {
-                    self.found.push(number)?;
-                }
-                Ok(true)
-            }
-            None => Ok(false),
+        if place_of(&self.found, number) == self.found.len() {
+            self.found.push(number)?;
         }
+        Ok(())
     }
 
     /// Where the name stands among those of the equation; none where it isn't one of them.
@@ -113,13 +117,11 @@ impl Variables {
         self.found.len()
     }
 
-    /// Whether the name isn't among those of the equation, which are so many.
-    pub fn is_one_more(&self, n: usize, name: &[u8]) -> bool
-        ensures { result ≡ is_one_more self.now.found n name.now }
+    /// Whether the declared name with this number isn't among those of the equation, which are so many.
+    pub fn is_one_more(&self, n: usize, number: usize) -> bool
+        requires { IsNumber self.now.declared number }
+        ensures { (x : Name) → variable_number self.now.declared x ≡ Some number → result ≡ is_one_more self.now.found n x }
     {
-        if self.count() != n {
-            return false;
-        }
-        self.place(name).is_none()
+        self.count() == n && place_of(&self.found, number) == self.found.len()
     }
 }

@@ -161,6 +161,8 @@ impl<'a> WrittenTerm<'a> {
 fn find_variable(variables: &mut Variables, name: &[u8]) -> Result<(), Memory>
     ensures { OnOk result (variables.new ≡ with_found variables.old (variables_among variables.old.declared (name.now ∷ []))) }
 {
-    variables.find(name)?;
+    if let Some(number) = variables.number(name) {
+        variables.note(number)?;
+    }
     Ok(())
 }
