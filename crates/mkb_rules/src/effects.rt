@@ -8,5 +8,3 @@ mod limit;
 mod orienting;
 mod rewriting;
 mod settling;
-#[cfg(test)]
-mod tests;

@@ -7,8 +7,6 @@ mod labels;
 mod nodes;
 mod opening;
 mod state;
-#[cfg(test)]
-mod tests;
 
 pub use applied::Applied;
 pub use state::State;
