@@ -32,6 +32,7 @@ pub mod StillClosed
 pub mod Certificates
 pub mod Completed
 pub mod Origins
+pub mod OriginForms
 pub mod Sound
 pub mod Drops
 pub mod Unique

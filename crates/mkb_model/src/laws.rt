@@ -5,11 +5,12 @@ ghost use Rattle.kb_label.specs.Names.{Name, root, has};
 ghost use Rattle.kb_label.specs.declared.verdict.Verdict.{Verdict};
 ghost use Rattle.kb_label.specs.declared.verdict.Verdict.TheVariants.{Complete};
 ghost use Rattle.kb_laws.specs.Completion.{KbReaches, kb_start};
-ghost use Rattle.mkb_model.specs.Plain.{Plain, state_of};
+ghost use Rattle.mkb_model.specs.Plain.{Plain, PlainNode, state_of};
 ghost use Rattle.mkb_model.specs.DueJobs.{first_job, free_jobs};
 ghost use Rattle.mkb_model.specs.Verdicts.{verdict, VerdictMeans};
 ghost use Rattle.mkb_model.specs.Journals.{Moment, Follows, IsFreeJob, IsPossibleRun, IsRun, IsLeaving, IsDropping, After, journal_of, moves_of, opening, tickets};
 ghost use Rattle.mkb_model.specs.Limits.{AreLimited};
+ghost use Rattle.mkb_model.specs.Origins.{IsOriginOfForm};
 ghost use Rattle.mkb_model.specs.Ready.{KeepsPairs, AllFine};
 ghost use Rattle.kb_node.specs.declared.job.Job.{Job};
 ghost use Rattle.kb_node.specs.declared.job.Job.TheVariants.{Close};
@@ -54,6 +55,11 @@ pub fn living_names_come_of_forks()
 pub fn pairs_stay()
     ensures differ { (problem : Problem) (budget : ℕ) (past : List Moment) (board : Plain) → IsPossibleRun problem budget past board → PairsDiffer board }
     ensures numbers { (problem : Problem) (budget : ℕ) (past : List Moment) (board : Plain) (earlier : Moment) → IsPossibleRun problem budget past board → Contains past earlier → KeepsPairs earlier.board.nodes board.nodes }
+{}
+
+/// In each possible run the sides and directions that the origin of each node names are 0 or 1.
+pub fn origins_are_of_form()
+    ensures { (problem : Problem) (budget : ℕ) (past : List Moment) (board : Plain) → IsPossibleRun problem budget past board → (x : PlainNode) → Contains board.nodes x → IsOriginOfForm x.origin }
 {}
 
 /// In each possible run of a problem within the limits the pair of each node is within the limits: both sides are terms over the
