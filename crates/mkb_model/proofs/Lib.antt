@@ -53,5 +53,6 @@ pub mod Renamings
 pub mod Alike
 pub mod OneProposal
 pub mod OneJournal
+pub mod OneWorker
 pub mod Variables
 pub mod Sizes

@@ -62,7 +62,7 @@ module _ (P : Problem) (n : ℕ) (within : IsWithinLimits P) (past : List Moment
       let k = one_end v w t f.job g.job f.proposal g.proposal f.finishing g.finishing in
       clash (ap (is_dropped b) k.proposal ∙ g.idle) f.acts
 
-  follow_one : (e d : Entry) (c a : Plain) → Follows IsFreeJob past b e c → Follows IsFreeJob past b d a → move_of e ≡ move_of d → (e ≡ d) × (c ≡ a)
+  pub follow_one : (e d : Entry) (c a : Plain) → Follows IsFreeJob past b e c → Follows IsFreeJob past b d a → move_of e ≡ move_of d → (e ≡ d) × (c ≡ a)
   follow_one (Take v s i) (Take w t j) c a f g h =
       let x : v ≡ w = cc in
       let y : s ≡ t = cc in
