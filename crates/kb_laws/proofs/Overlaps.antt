@@ -94,7 +94,7 @@ mutual
   function_position_in (more_trees t ts) n (suc k) p w e i = Contains-append_right (map (n ∷◌) (function_positions_of t)) (function_positions_in ts (suc n)) ((suc k + n) ∷ p) (subst (λ x. Contains (function_positions_in ts (suc n)) (x ∷ p)) (omega arith) (function_position_in ts (suc n) k p w e i))
 
 -- what an overlap list has for one of its positions
-at_listed : (A B : Rule) (ps : List (List ℕ)) (os : List Overlap) → ListsOverlaps A B ps os → (p : List ℕ) → Contains ps p → HasNoOverlapAt A B p ⊎ ((o : Overlap) × Contains os o × (o.position ≡ p) × IsOverlapOrLimit A B o)
+pub at_listed : (A B : Rule) (ps : List (List ℕ)) (os : List Overlap) → ListsOverlaps A B ps os → (p : List ℕ) → Contains ps p → HasNoOverlapAt A B p ⊎ ((o : Overlap) × Contains os o × (o.position ≡ p) × IsOverlapOrLimit A B o)
 at_listed A B [] os l p c = absurd (omega arith)
 at_listed A B (q ∷ ps) os (inl (none, l)) p c = ⊎_elim (λ e. inl (subst (HasNoOverlapAt A B) e none)) (λ d. at_listed A B ps os l p d) (contains_cases q ps p c)
 at_listed A B (q ∷ ps) os (inr (o, rest, e, f, h, l)) p c = ⊎_elim (λ d. inr (o, subst (λ z. Contains z o) (sym e) (contains_first o rest), f ∙ d, h)) (λ d. go (at_listed A B ps rest l p d)) (contains_cases q ps p c)
@@ -170,7 +170,7 @@ shift_renames n t = record {
   back_again = instance-instance (λ y. variable (y - n)) (λ y. variable (y + n)) t ∙ instance-agree (λ y. variable (y + n - n)) variable t (λ x o. ap variable (omega arith)) ∙ instance-variable t;
 }
 
-shifted_apart : (A B : Rule) → IsRenamedApart A B (rename_rule (λ y. y + past (variables_of_rule A)) B)
+pub shifted_apart : (A B : Rule) → IsRenamedApart A B (rename_rule (λ y. y + past (variables_of_rule A)) B)
 shifted_apart A B =
     let n : ℕ = past (variables_of_rule A) in
     record {
@@ -188,7 +188,7 @@ apart_right : (A B C : Rule) → IsRenamedApart A B C → (x : ℕ) → Occurs x
 apart_right A B C h x o c = h.apart x c (Contains-append_right (variables_of C.left) (variables_of C.right) x (occurs_to x C.right o))
 
 -- where the left sides meet, the rule renamed apart unifies
-unifies_apart : (A B C : Rule) → IsRenamedApart A B C → (p : List ℕ) (w : Tree) (m k : ℕ → Tree) → subterm_at A.left p ≡ Some w → instance m w ≡ instance k B.left → (z : ℕ → Tree) × IsUnifier z w C.left × (instance z A.left ≡ instance m A.left) × (instance z A.right ≡ instance m A.right) × (instance z C.right ≡ instance k B.right)
+pub unifies_apart : (A B C : Rule) → IsRenamedApart A B C → (p : List ℕ) (w : Tree) (m k : ℕ → Tree) → subterm_at A.left p ≡ Some w → instance m w ≡ instance k B.left → (z : ℕ → Tree) × IsUnifier z w C.left × (instance z A.left ≡ instance m A.left) × (instance z A.right ≡ instance m A.right) × (instance z C.right ≡ instance k B.right)
 unifies_apart A B C h p w m k e d =
     let r = h.variant.0 in
     let back = h.variant.1 in

@@ -49,12 +49,12 @@ named_are f (a ∷ refs) = go (f a) (named_are f refs)
     go None e = e
     go (Some r) e = ap (r ∷◌) e
 
-slice_map : {A B : Type 0} (f : A → B) (xs : List A) (i : ℕ) (y : B) → slice_get (map f xs) i ≡ Some y → (x : A) × (slice_get xs i ≡ Some x) × (f x ≡ y)
+pub slice_map : {A B : Type 0} (f : A → B) (xs : List A) (i : ℕ) (y : B) → slice_get (map f xs) i ≡ Some y → (x : A) × (slice_get xs i ≡ Some x) × (f x ≡ y)
 slice_map f [] i y h = none_some h
 slice_map f (x ∷ xs) zero y h = (x, refl, some_is h)
 slice_map f (x ∷ xs) (suc i) y h = slice_map f xs i y h
 
-slice_in : {A : Type 0} (xs : List A) (i : ℕ) (x : A) → slice_get xs i ≡ Some x → Contains xs x
+pub slice_in : {A : Type 0} (xs : List A) (i : ℕ) (x : A) → slice_get xs i ≡ Some x → Contains xs x
 slice_in [] i x h = none_some h
 slice_in {A} (y ∷ xs) zero x h = subst {A = A} (Contains (y ∷ xs)) (some_is h) (contains_first y xs)
 slice_in (y ∷ xs) (suc i) x h = contains_behind y xs x (slice_in xs i x h)
@@ -67,7 +67,7 @@ Apart {A} ref (x ∷ xs) = ((y : A) → Contains xs y → (ref_eq (ref x) (ref y
 not_equal : (n m : ℕ) → n ≢ m → (n == m) ≡ false
 not_equal n m d = false_unless (n == m) (λ e. d (eqb→eq n m (subst {A = Bool} T (sym e) tt)))
 
-ref_self : (a : RuleRef) → ref_eq a a ≡ true
+pub ref_self : (a : RuleRef) → ref_eq a a ≡ true
 ref_self a = and_both (a.node == a.node) (a.dir == a.dir) (eq-eqb a.node a.node refl) (eq-eqb a.dir a.dir refl)
 
 apart_filter : {A : Type 0} (ref : A → RuleRef) (f : A → Bool) (xs : List A) → Apart ref xs → Apart ref (filter f xs)
@@ -120,14 +120,14 @@ names_numbers (z ∷ rs) h (suc i) (suc j) x y e d = names_numbers rs h.1 i j x 
 -- ---- overlaps
 
 -- the overlaps of two of the rules are among all overlaps
-overlaps_among : (es : List (NamedRule × NamedRule)) (os : List NamedOverlap) → OverlapsOfAll es os → (e : NamedRule × NamedRule) → Contains es e → (here : List NamedOverlap) × OverlapsOf e.0 e.1 here × ((o : NamedOverlap) → Contains here o → Contains os o)
+pub overlaps_among : (es : List (NamedRule × NamedRule)) (os : List NamedOverlap) → OverlapsOfAll es os → (e : NamedRule × NamedRule) → Contains es e → (here : List NamedOverlap) × OverlapsOf e.0 e.1 here × ((o : NamedOverlap) → Contains here o → Contains os o)
 overlaps_among [] os h e i = none_in i
 overlaps_among (x ∷ es) os (here, later, this, rest, is) e i = ⊎_elim
     (λ q. (here, subst {A = NamedRule × NamedRule} (λ z. OverlapsOf z.0 z.1 here) q this, λ o k. subst {A = List NamedOverlap} (λ zs. Contains zs o) (sym is) (Contains-append_left here later o k)))
     (λ k. let r = overlaps_among es later rest e k in (r.0, r.1, λ o l. subst {A = List NamedOverlap} (λ zs. Contains zs o) (sym is) (Contains-append_right here later o (r.2 o l))))
     (contains_cases x es e i)
 
-both_in : (rs : List NamedRule) (x y : NamedRule) → Contains rs x → Contains rs y → Contains (all_ways rs) (x, y)
+pub both_in : (rs : List NamedRule) (x y : NamedRule) → Contains rs x → Contains rs y → Contains (all_ways rs) (x, y)
 both_in rs x y i k = in_flat_map (λ x. map (λ y. (x, y)) rs) rs x (x, y) i (in_map (λ z. (x, z)) rs y k)
 
 -- without equations what is joined is equal

@@ -111,7 +111,7 @@ pub record HasNamed (g : Signature) (xs : List PlainNode) (p : Name) (x : NamedR
   pub is : rule_of pair x.ref.dir ≡ x.rule
   pub over : IsRuleOver g x.rule
 
-same_sides : (o : Option TermLimit) (s t u v : Tree) → pair_or_limit o s t ≡ Ok (u, v) → (s ≡ u) × (t ≡ v)
+pub same_sides : (o : Option TermLimit) (s t u v : Tree) → pair_or_limit o s t ≡ Ok (u, v) → (s ≡ u) × (t ≡ v)
 same_sides None s t u v e = let k : (s, t) ≡ (u, v) = cc in (ap (λ (z : Tree × Tree). z.0) k, ap (λ (z : Tree × Tree). z.1) k)
 same_sides (Some l) s t u v e = absurd (cc)
 

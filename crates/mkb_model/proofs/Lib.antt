@@ -26,6 +26,14 @@ pub mod Unmoved
 pub mod Resting
 pub mod Restful
 pub mod Staying
+pub mod Endless
+pub mod OverReasons
+pub mod Findings
+pub mod Moved
+pub mod Normal
+pub mod Interreduced
+pub mod Unjoining
+pub mod Changing
 pub mod Deductions
 pub mod AllFine
 pub mod StillClosed

@@ -1,13 +1,12 @@
 -- The journal of one worker alone is one.
-use Rattle.std.proofs.Common.{ℕ, suc, ◌+◌, ◌≡◌, ◌⊎◌, inl, inr, refl, sym, ap, ap₂, ◌∙◌, subst, arith, List, [], ◌∷◌, ◌++◌, Bool, true, false, ◌&&◌, ◌==◌, Option, Some, None, ⊎_elim}
+use Rattle.std.proofs.Common.{ℕ, ◌≡◌, ◌⊎◌, inl, inr, refl, sym, ap, ap₂, ◌∙◌, subst, arith, List, [], ◌∷◌, ◌++◌, true, ◌&&◌, ◌==◌, ⊎_elim}
 use Rattle.std.specs.Prelude.{IsSome}
 use Rattle.kb_term.specs.Signature.{Problem, IsWithinLimits}
 use Rattle.kb_term.proofs.Subtrees.{some_value}
-use Rattle.kb_label.specs.declared.verdict.Verdict.{Verdict}
 use Rattle.kb_node.specs.declared.job.Job.{Job}
 use Rattle.mkb_model.specs.Plain.{Plain}
 use Rattle.mkb_model.specs.Verdicts.{verdict}
-use Rattle.mkb_model.specs.Journals.{Moment, Move, takes, ends, move_of, Follows, IsRun, IsFirstJob, IsFreeJob, IsTaking, opening, journal_of, tickets, is_end_of, takes_in_turn, Alone}
+use Rattle.mkb_model.specs.Journals.{Moment, takes, ends, move_of, Follows, IsRun, IsFirstJob, IsTaking, opening, journal_of, is_end_of, takes_in_turn, Alone}
 use Rattle.mkb_model.specs.declared.entry.Entry.{Entry}
 use Rattle.mkb_model.specs.declared.entry.Entry.TheVariants.{Take, Commit, Drop, Abandon, Halt}
 use Rattle.mkb_model.proofs.Lists.{clash, some_is, none_some, and_left, and_right}

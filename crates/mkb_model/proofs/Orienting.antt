@@ -30,7 +30,7 @@ pub record OrientRoles (xs : List PlainNode) (p : Name) (ys : List PlainNode) (q
   pub rules : (m d : ℕ) → IsOn ys q m (rule_kind d) ↔ ((IsOn xs p m (rule_kind d) × ¬ ((m ≡ a.node) × (rule_kind d ≡ rule_kind a.dir) × ⊥)) ⊎ ((m ≡ a.node) × (rule_kind d ≡ rule_kind a.dir) × ⊤))
   pub constraints : (m d : ℕ) → IsOn ys q m (constraint_kind d) ↔ ((IsOn xs p m (constraint_kind d) × ¬ ((m ≡ a.node) × (constraint_kind d ≡ constraint_kind a.dir) × ⊥)) ⊎ ((m ≡ a.node) × (constraint_kind d ≡ constraint_kind a.dir) × ⊤))
 
-self : (p : Name) → has (p ∷ []) p ≡ true
+pub self : (p : Name) → has (p ∷ []) p ≡ true
 self p = has-one p p ∙ name_eq-refl p
 
 module _ (p : Name) (a : RuleRef) (xs : List PlainNode) (there : a.node < length xs) where

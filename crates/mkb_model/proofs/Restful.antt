@@ -45,7 +45,7 @@ pub record IsResting (b : Plain) : Type 0 where
 -- ---- takes
 
 -- what is closed for a process that may be closed
-due_rests : (b : Plain) (p : Name) → is_due b (Close p) ≡ true → Rests b p × (has b.closed p ≡ false)
+pub due_rests : (b : Plain) (p : Name) → is_due b (Close p) ≡ true → Rests b p × (has b.closed p ≡ false)
 due_rests b p h =
     let w = and_left (is_working b p) (is_close_due b p) h in
     let c = and_right (is_working b p) (is_close_due b p) h in (

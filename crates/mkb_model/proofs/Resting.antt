@@ -205,20 +205,35 @@ known_fact b n w a v h = go (find (λ (f : Fact). (f.node.0 == n) && ((f.side ==
         let q = and_right (f.side == w) (ref_eq f.rule a) r in
         (f, i.0, equal f.node.0 n (and_left (f.node.0 == n) ((f.side == w) && ref_eq f.rule a) i.1), equal f.side w (and_left (f.side == w) (ref_eq f.rule a) r), equal f.rule.node a.node (and_left (f.rule.node == a.node) (f.rule.dir == a.dir) q), equal f.rule.dir a.dir (and_right (f.rule.node == a.node) (f.rule.dir == a.dir) q), some_is k)
 
--- what is known holds of the pair and the rule
-known_true : (b : Plain) (n w : ℕ) (a : RuleRef) (kind : Found) (v : Found) → FactsHold b → (r : IsRedexOn b n w a kind) → known b n w a ≡ Some v → IsFound (side r.pair w) r.rule v × (v ≢ Strict)
-known_true b n w a kind v facts r h =
+same_ref : (x a : RuleRef) → x.node ≡ a.node → x.dir ≡ a.dir → x ≡ a
+same_ref x a e d = subst {A = ℕ} (λ z. record { node = z; dir = x.dir } ≡ a) (sym e) (subst {A = ℕ} (λ z. record { node = a.node; dir = z } ≡ a) (sym d) refl)
+
+-- a rule of which something is known is there
+pub known_rule : (b : Plain) (n w : ℕ) (a : RuleRef) (v : Found) → FactsHold b → known b n w a ≡ Some v → (rule : Rule) × (rule_at b a ≡ Some rule)
+known_rule b n w a v facts h =
     let f = known_fact b n w a v h in
     let t = facts f.0 f.1 in
-    let e : f.0.rule ≡ a = same f.0.rule f.4 f.5 in
-    let p : t.0.pair ≡ r.pair = some_is (sym t.0.pair_there ∙ ap (pair_at b) f.2 ∙ r.there) in
-    let q : t.0.rule ≡ r.rule = some_is (sym t.0.rule_there ∙ ap (rule_at b) e ∙ r.rule_there) in (
-      subst {A = Found} (IsFound (side r.pair w) r.rule) f.6 (subst {A = Rule} (λ z. IsFound (side r.pair w) z f.0.found) q (subst {A = Pair} (λ z. IsFound (side z w) t.0.rule f.0.found) p (subst {A = ℕ} (λ z. IsFound (side t.0.pair z) t.0.rule f.0.found) f.3 t.0.found))),
-      λ k. t.1 (f.6 ∙ k),
+    (t.0.rule, subst {A = RuleRef} (λ z. rule_at b z ≡ Some t.0.rule) (same_ref f.0.rule a f.4 f.5) t.0.rule_there)
+
+-- what is known holds of the pair and the rule
+pub known_holds : (b : Plain) (n w : ℕ) (a : RuleRef) (v : Found) → FactsHold b → known b n w a ≡ Some v → (q : Pair) → pair_at b n ≡ Some q → (rule : Rule) → rule_at b a ≡ Some rule → IsFound (side q w) rule v × (v ≢ Strict)
+known_holds b n w a v facts h q q_there rule rule_there =
+    let f = known_fact b n w a v h in
+    let t = facts f.0 f.1 in
+    let e : f.0.rule ≡ a = same_ref f.0.rule a f.4 f.5 in
+    let i : t.0.pair ≡ q = some_is (sym t.0.pair_there ∙ ap (pair_at b) f.2 ∙ q_there) in
+    let k : t.0.rule ≡ rule = some_is (sym t.0.rule_there ∙ ap (rule_at b) e ∙ rule_there) in (
+      subst {A = Found} (IsFound (side q w) rule) f.6 (subst {A = Rule} (λ z. IsFound (side q w) z f.0.found) k (subst {A = Pair} (λ z. IsFound (side z w) t.0.rule f.0.found) i (subst {A = ℕ} (λ z. IsFound (side t.0.pair z) t.0.rule f.0.found) f.3 t.0.found))),
+      λ s. t.1 (f.6 ∙ s),
     )
-  where
-    same : (x : RuleRef) → x.node ≡ a.node → x.dir ≡ a.dir → x ≡ a
-    same x e d = subst {A = ℕ} (λ z. record { node = z; dir = x.dir } ≡ a) (sym e) (subst {A = ℕ} (λ z. record { node = a.node; dir = z } ≡ a) (sym d) refl)
+
+known_true : (b : Plain) (n w : ℕ) (a : RuleRef) (kind : Found) (v : Found) → FactsHold b → (r : IsRedexOn b n w a kind) → known b n w a ≡ Some v → IsFound (side r.pair w) r.rule v × (v ≢ Strict)
+known_true b n w a kind v facts r h = known_holds b n w a v facts h r.pair r.there r.rule r.rule_there
+
+-- a process that has the node as a rule has it
+pub node_one : (b : Plain) (p : Name) (n d : ℕ) → IsOn b.nodes p n (rule_kind d) → is_node_of b p n ≡ true
+node_one b p n zero o = or_right (is_equation b p n) (is_rule b p (record { node = n; dir = 0 }) || is_rule b p (record { node = n; dir = 1 })) (or_left (is_rule b p (record { node = n; dir = 0 })) (is_rule b p (record { node = n; dir = 1 })) o)
+node_one b p n (suc d) o = or_right (is_equation b p n) (is_rule b p (record { node = n; dir = 0 }) || is_rule b p (record { node = n; dir = 1 })) (or_right (is_rule b p (record { node = n; dir = 0 })) (is_rule b p (record { node = n; dir = 1 })) o)
 
 -- no rewriting acts on a process at rest
 rewrite_unnamed : (b : Plain) (p : Name) (n w : ℕ) (a : RuleRef) (kind : Found) → FactsHold b → Rests b p → IsRedexOn b n w a kind → has (rewrite_label b n w a kind) p ≡ false
@@ -228,10 +243,6 @@ rewrite_unnamed b p n w a kind facts rest r = false_unless (has (rewrite_label b
     strict No e = clash e refl
     strict Variant e = clash e refl
     strict Strict e = refl
-
-    node_one : (d : ℕ) → IsOn b.nodes p n (rule_kind d) → is_node_of b p n ≡ true
-    node_one zero o = or_right (is_equation b p n) (is_rule b p (record { node = n; dir = 0 }) || is_rule b p (record { node = n; dir = 1 })) (or_left (is_rule b p (record { node = n; dir = 0 })) (is_rule b p (record { node = n; dir = 1 })) o)
-    node_one (suc d) o = or_right (is_equation b p n) (is_rule b p (record { node = n; dir = 0 }) || is_rule b p (record { node = n; dir = 1 })) (or_right (is_rule b p (record { node = n; dir = 0 })) (is_rule b p (record { node = n; dir = 1 })) o)
 
     by : (v : Found) → IsFound (side r.pair w) r.rule v → v ≢ Strict → is_usable b p n w v ≡ false → (k : Found) → IsFound (side r.pair w) r.rule k → ((is_equation b p n || is_rule b p (record { node = n; dir = other w })) ≡ true) ⊎ (k ≡ Strict) → ⊥
     by No t d u k f s = t r.encompassed
@@ -247,8 +258,8 @@ rewrite_unnamed b p n w a kind facts rest r = false_unless (has (rewrite_label b
 
     go : is_rule b p a ≡ true → (s : LabelKind) → (s ≡ E) ⊎ ((s ≡ rule_kind (other w)) ⊎ ((s ≡ rule_kind w) × (is_strict kind ≡ true))) → IsOn b.nodes p n s → ⊥
     go has_rule s (inl e) o = let i = subst {A = LabelKind} (IsOn b.nodes p n) e o in at has_rule (or_left (is_equation b p n) (is_rule b p (record { node = n; dir = 0 }) || is_rule b p (record { node = n; dir = 1 })) i) (inl (or_left (is_equation b p n) (is_rule b p (record { node = n; dir = other w })) i))
-    go has_rule s (inr (inl e)) o = let i = subst {A = LabelKind} (IsOn b.nodes p n) e o in at has_rule (node_one (other w) i) (inl (or_right (is_equation b p n) (is_rule b p (record { node = n; dir = other w })) i))
-    go has_rule s (inr (inr e)) o = at has_rule (node_one w (subst {A = LabelKind} (IsOn b.nodes p n) e.0 o)) (inr (strict kind e.1))
+    go has_rule s (inr (inl e)) o = let i = subst {A = LabelKind} (IsOn b.nodes p n) e o in at has_rule (node_one b p n (other w) i) (inl (or_right (is_equation b p n) (is_rule b p (record { node = n; dir = other w })) i))
+    go has_rule s (inr (inr e)) o = at has_rule (node_one b p n w (subst {A = LabelKind} (IsOn b.nodes p n) e.0 o)) (inr (strict kind e.1))
 
 -- no overlapping acts on a process at rest
 overlap_unnamed : (b : Plain) (p : Name) (a c : RuleRef) → Rests b p → IsBit a.dir → IsBit c.dir → ref_le a c ≡ true → has (overlap_label b a c) p ≡ false

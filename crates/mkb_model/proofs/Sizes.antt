@@ -242,7 +242,7 @@ third_none None None (Some l) e = none_some (sym e)
 
 -- ---- the pairs for which a proposal wants nodes
 
-sides_limited : (g : Signature) (q : Pair) (w : ℕ) → IsLimitedPair g q → IsWellFormed g (side q w) × IsWellFormed g (other_side q w) × ArePairWithin (side q w) (other_side q w)
+pub sides_limited : (g : Signature) (q : Pair) (w : ℕ) → IsLimitedPair g q → IsWellFormed g (side q w) × IsWellFormed g (other_side q w) × ArePairWithin (side q w) (other_side q w)
 sides_limited g q zero l = (l.first, l.second, l.within)
 sides_limited g q (suc w) l = (l.second, l.first, turned q.first q.second l.within)
 

@@ -12,3 +12,4 @@ pub mod Invariants
 pub mod GoodAnswers
 pub mod Tickets
 pub mod Origins
+pub mod Changing

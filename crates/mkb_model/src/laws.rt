@@ -1,5 +1,5 @@
 // The laws. A run lists its moments, each a board and the entry made on it, the newest first.
-ghost use Rattle.std.specs.Prelude.{◌≡◌, ◌≢◌, ℕ, List, [], Contains, Some, None, IsTrue};
+ghost use Rattle.std.specs.Prelude.{◌≡◌, ◌≢◌, ◌⊎◌, ℕ, List, [], Contains, Some, None, IsTrue};
 ghost use Rattle.kb_term.specs.Signature.{Problem, IsWithinLimits};
 ghost use Rattle.kb_label.specs.Names.{Name, root, has};
 ghost use Rattle.kb_label.specs.declared.verdict.Verdict.{Verdict};
@@ -8,9 +8,11 @@ ghost use Rattle.kb_laws.specs.Completion.{KbReaches, kb_start};
 ghost use Rattle.mkb_model.specs.Plain.{Plain, PlainNode, state_of};
 ghost use Rattle.mkb_model.specs.DueJobs.{first_job, free_jobs};
 ghost use Rattle.mkb_model.specs.Verdicts.{verdict, VerdictMeans};
-ghost use Rattle.mkb_model.specs.Journals.{Alone, Moment, Follows, IsFreeJob, IsPossibleRun, IsRun, IsLeaving, IsDropping, After, journal_of, moves_of, opening, tickets};
+ghost use Rattle.mkb_model.specs.Journals.{Alone, Moment, Follows, IsFreeJob, IsPossibleRun, IsRun, IsLeaving, IsCommitting, IsDropping, After, journal_of, landed, moves_of, opening, tickets};
 ghost use Rattle.mkb_model.specs.Limits.{AreLimited};
+ghost use Rattle.mkb_model.specs.Effects.{counted};
 ghost use Rattle.mkb_model.specs.Origins.{IsOriginOfForm};
+ghost use Rattle.mkb_model.specs.Changing.{IsChanged, IsIdleLimit};
 ghost use Rattle.mkb_model.specs.Ready.{KeepsPairs, AllFine};
 ghost use Rattle.kb_node.specs.declared.job.Job.{Job};
 ghost use Rattle.kb_node.specs.declared.job.Job.TheVariants.{Close};
@@ -20,6 +22,7 @@ ghost use Rattle.mkb_model.specs.Proposals.{IsClosedOn, Proposes};
 ghost use Rattle.mkb_model.specs.Headline.{EachCompletes};
 ghost use Rattle.mkb_model.specs.Invariants.{IsSound, ClosedIsAtRest, RulesFollow, IsCertified, FactsHold, FlightIsClear, FlightIsNumbered, HasOneRole, LabelsAreLabels, LivingIsForked, PairsDiffer, IsWithinBudget};
 ghost use Rattle.mkb_model.specs.declared.entry.Entry.{Entry};
+ghost use Rattle.mkb_model.specs.declared.entry.Effect.{Effect};
 ghost use Rattle.mkb_model.specs.declared.proposed.Proposed.{Proposed};
 
 /// A legal run, in which each take is of the first job, is a possible run, in which each take is of any due job that clashes
@@ -156,4 +159,12 @@ pub fn moves_decide_runs()
 /// the limits and a budget, and one board at its end.
 pub fn one_worker_has_one_journal()
     ensures { (problem : Problem) (budget : ℕ) (journal other : List Entry) (board end : Plain) → IsWithinLimits problem → Alone problem budget journal board → Alone problem budget other end → (journal ≡ other) × (board ≡ end) }
+{}
+
+/// In each possible run of a problem within the limits each commit changes which processes some label names, what is known of some
+/// side and rule, or which processes live; but where it comes to want of room and all processes on which its proposal acts have
+/// given up before, it changes the number of commits and the flight alone.
+pub fn commits_change_the_board()
+    ensures changes { (problem : Problem) (budget : ℕ) (past : List Moment) (board : Plain) (worker ticket : ℕ) (effect : Effect) (next : Plain) → IsWithinLimits problem → IsPossibleRun problem budget past board → (commit : IsCommitting past board worker ticket effect next) → IsChanged board next ⊎ IsIdleLimit board commit.proposal }
+    ensures idle { (problem : Problem) (budget : ℕ) (past : List Moment) (board : Plain) (worker ticket : ℕ) (effect : Effect) (next : Plain) → IsPossibleRun problem budget past board → (commit : IsCommitting past board worker ticket effect next) → IsIdleLimit board commit.proposal → next ≡ landed ticket (counted board) }
 {}

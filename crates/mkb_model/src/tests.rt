@@ -1,9 +1,10 @@
 use super::{
-    boards_are_sound, certificates_order, closed_processes_rest, commits_stay_within_the_budget,
-    complete_is_good, facts_hold, flight_is_in_order, journals_decide_runs, labels_name_the_living,
-    legal_runs_are_possible, living_names_come_of_forks, moves_decide_runs,
-    one_worker_has_one_journal, opening_is_reached, origins_are_of_form, pairs_are_within_limits,
-    pairs_stay, runs_complete, tickets_are_dropped_after_commits, verdicts_stay, work_goes_on,
+    boards_are_sound, certificates_order, closed_processes_rest, commits_change_the_board,
+    commits_stay_within_the_budget, complete_is_good, facts_hold, flight_is_in_order,
+    journals_decide_runs, labels_name_the_living, legal_runs_are_possible,
+    living_names_come_of_forks, moves_decide_runs, one_worker_has_one_journal, opening_is_reached,
+    origins_are_of_form, pairs_are_within_limits, pairs_stay, runs_complete,
+    tickets_are_dropped_after_commits, verdicts_stay, work_goes_on,
 };
 
 #[test]
@@ -19,6 +20,7 @@ fn each_law_is_called(_rt: HostRuntime) {
     pairs_stay();
     pairs_are_within_limits();
     commits_stay_within_the_budget();
+    commits_change_the_board();
     verdicts_stay();
     tickets_are_dropped_after_commits();
     work_goes_on();

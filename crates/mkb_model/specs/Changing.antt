@@ -1,0 +1,29 @@
+-- Which commits change what the board says of its processes.
+use Rattle.std.specs.Prelude.{ℕ, ◌≡◌, ◌⊎◌, IsTrue}
+use Rattle.std.specs.declared.option.Option.TheVariants.{Some, None}
+use Rattle.kb_term.specs.declared.origin.RuleRef.{RuleRef}
+use Rattle.kb_label.specs.Names.{Name, has}
+use Rattle.kb_label.specs.declared.verdict.Reason.TheVariants.{Nodes, Processes}
+use Rattle.kb_node.specs.declared.node.LabelKind.{LabelKind}
+use Rattle.mkb_model.specs.Plain.{Plain, label, done_of, known, is_over}
+use Rattle.mkb_model.specs.Effects.{own_reason, limit_of, effect_label}
+use Rattle.mkb_model.specs.declared.proposed.Proposed.{Proposed}
+
+-- each label names the same processes on both boards, the same is known of each side and rule, and the same processes live
+pub record SaysTheSame (b c : Plain) : Type 0 where
+  pub nodes : (n : ℕ) (kind : LabelKind) (p : Name) → has (label c n kind) p ≡ has (label b n kind) p
+  pub overlapped : (a e : RuleRef) (p : Name) → has (done_of c a e) p ≡ has (done_of b a e) p
+  pub facts : (n w : ℕ) (a : RuleRef) → known c n w a ≡ known b n w a
+  pub closed : (p : Name) → has c.closed p ≡ has b.closed p
+  pub over : (p : Name) → is_over c p ≡ is_over b p
+  pub living : (p : Name) → has c.living p ≡ has b.living p
+
+-- some label, something known or the living names differ
+abbrev pub IsChanged : Plain → Plain → Type 0
+IsChanged b c = ¬ SaysTheSame b c
+
+-- the commit comes to want of room, which the proposal doesn't bring, and each process on which it acts has given up before
+pub record IsIdleLimit (b : Plain) (x : Proposed) : Type 0 where
+  pub not_own : own_reason x ≡ None
+  pub limit : (limit_of b x ≡ Some Nodes) ⊎ (limit_of b x ≡ Some Processes)
+  pub all_over : (p : Name) → IsTrue (has (effect_label b x) p) → IsTrue (is_over b p)
