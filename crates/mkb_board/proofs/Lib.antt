@@ -1,0 +1,13 @@
+pub mod Choices
+pub mod Ends
+pub mod Firsts
+pub mod Flying
+pub mod Growing
+pub mod Idle
+pub mod Least
+pub mod Picking
+pub mod Readable
+pub mod Ready
+pub mod Rising
+pub mod There
+pub mod Viewed

@@ -1,0 +1,4 @@
+pub mod Choosing
+pub mod Boards
+pub mod Takes
+pub mod Snapshots

@@ -1,0 +1,14 @@
+//! The board that workers share: the state, the tickets in flight and the journal.
+#![tactic(auto)]
+
+mod answers;
+mod board;
+mod choosing;
+mod due;
+mod finishing;
+mod first;
+mod snapshots;
+mod taking;
+
+pub use answers::{Finished, Taken};
+pub use board::Board;
