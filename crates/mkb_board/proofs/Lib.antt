@@ -1,4 +1,6 @@
+pub mod Better
 pub mod Choices
+pub mod Costs
 pub mod Ends
 pub mod Firsts
 pub mod Flying

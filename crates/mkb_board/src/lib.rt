@@ -4,6 +4,7 @@
 mod answers;
 mod board;
 mod choosing;
+mod cost;
 mod due;
 mod finishing;
 mod first;
