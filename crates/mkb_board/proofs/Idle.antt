@@ -1,0 +1,99 @@
+-- Where nothing is due for a process.
+use Rattle.std.proofs.Common.{◌≡◌, refl, sym, ap, ◌∙◌, List, [], ◌∷◌, ◌++◌, map, filter, flat_map, Contains, Bool, true, false, cond, not, ◌&&◌, ◌||◌, Some, ⊎_elim, subst}
+use Rattle.std.specs.List.{find, list_any}
+use Rattle.std.specs.Option.{is_some, is_none}
+use Rattle.std.proofs.lemmas.List.Elements.{Contains-append_cases}
+use Rattle.kb_term.proofs.Steps.{contains_first, contains_behind}
+use Rattle.kb_term.specs.declared.origin.RuleRef.{RuleRef}
+use Rattle.kb_label.specs.Names.{Name, has}
+use Rattle.kb_node.specs.declared.job.Job.{Job}
+use Rattle.kb_node.specs.declared.job.Job.TheVariants.{Reduce, Orient, Overlap, Close}
+use Rattle.mkb_model.specs.Plain.{Plain, GivenUp, node_numbers, rules_of, is_over, over_in, over_reason}
+use Rattle.mkb_model.specs.DueJobs.{is_due, is_working, is_work_due, is_close_due, work_of, due_jobs_of}
+use Rattle.mkb_model.specs.Verdicts.{no_members}
+use Rattle.mkb_model.proofs.Lists.{map_in, flat_map_in}
+use Rattle.mkb_board.specs.Choosing.{is_choice}
+
+-- ---- lists
+
+none_pass : {A : Type 0} (d e : A → Bool) (xs : List A) (c : A) → ((x : A) → Contains xs x → d x ≡ e x) → no_members (filter d (xs ++ c ∷ [])) ≡ (not (list_any e xs) && not (d c))
+none_pass d e [] c same = go (d c)
+  where
+    go : (b : Bool) → no_members (cond b (c ∷ []) []) ≡ (true && not b)
+    go true = refl
+    go false = refl
+none_pass d e (x ∷ xs) c same = ap (λ b. no_members (cond b (x ∷ filter d (xs ++ c ∷ [])) (filter d (xs ++ c ∷ [])))) (same x (contains_first x xs)) ∙ go (e x) (none_pass d e xs c (λ y i. same y (contains_behind x xs y i)))
+  where
+    go : (b : Bool) → no_members (filter d (xs ++ c ∷ [])) ≡ (not (list_any e xs) && not (d c)) → no_members (cond b (x ∷ filter d (xs ++ c ∷ [])) (filter d (xs ++ c ∷ []))) ≡ (not (b || list_any e xs) && not (d c))
+    go true h = refl
+    go false h = h
+
+pub none_found : {A : Type 0} (q e : A → Bool) (xs : List A) → ((x : A) → q x ≡ e x) → is_none (find q xs) ≡ not (list_any e xs)
+none_found q e [] same = refl
+none_found q e (x ∷ xs) same = ap (λ b. is_none (cond b (Some x) (find q xs))) (same x) ∙ go (e x) (none_found q e xs same)
+  where
+    go : (b : Bool) → is_none (find q xs) ≡ not (list_any e xs) → is_none (cond b (Some x) (find q xs)) ≡ not (b || list_any e xs)
+    go true h = refl
+    go false h = h
+
+-- ---- due jobs
+
+pub true_and : (x : Bool) {y : Bool} → y ≡ true → (y && x) ≡ x
+true_and x h = ap (λ z. z && x) h
+
+pub and_true : (x : Bool) → (x && true) ≡ x
+and_true true = refl
+and_true false = refl
+
+pub due_as : (b : Plain) (p : Name) → is_working b p ≡ true → (j : Job) → Contains (work_of b p) j → is_due b j ≡ is_work_due b j
+due_as b p working j i =
+    ⊎_elim reduce (λ k. ⊎_elim orient overlap (Contains-append_cases (map (λ n. Orient p (record { 0 = n })) (node_numbers b)) (flat_map (λ (a : RuleRef). map (Overlap p a) (rules_of b p)) (rules_of b p)) j k))
+    (Contains-append_cases (map (λ n. Reduce p (record { 0 = n })) (node_numbers b)) (map (λ n. Orient p (record { 0 = n })) (node_numbers b) ++ flat_map (λ (a : RuleRef). map (Overlap p a) (rules_of b p)) (rules_of b p)) j i)
+  where
+    reduce : Contains (map (λ n. Reduce p (record { 0 = n })) (node_numbers b)) j → is_due b j ≡ is_work_due b j
+    reduce k =
+        let m = map_in (λ n. Reduce p (record { 0 = n })) (node_numbers b) j k in
+        subst {A = Job} (λ z. is_due b z ≡ is_work_due b z) m.2 (true_and (is_work_due b (Reduce p (record { 0 = m.0 }))) working)
+
+    orient : Contains (map (λ n. Orient p (record { 0 = n })) (node_numbers b)) j → is_due b j ≡ is_work_due b j
+    orient k =
+        let m = map_in (λ n. Orient p (record { 0 = n })) (node_numbers b) j k in
+        subst {A = Job} (λ z. is_due b z ≡ is_work_due b z) m.2 (true_and (is_work_due b (Orient p (record { 0 = m.0 }))) working)
+
+    overlap : Contains (flat_map (λ (a : RuleRef). map (Overlap p a) (rules_of b p)) (rules_of b p)) j → is_due b j ≡ is_work_due b j
+    overlap k =
+        let q = flat_map_in (λ (a : RuleRef). map (Overlap p a) (rules_of b p)) (rules_of b p) j k in
+        let m = map_in (Overlap p q.0) (rules_of b p) j q.2 in
+        subst {A = Job} (λ z. is_due b z ≡ is_work_due b z) m.2 (true_and (is_work_due b (Overlap p q.0 m.0)) working)
+
+pub working_so : (b : Plain) (p : Name) → has b.living p ≡ true → is_over b p ≡ false → is_working b p ≡ true
+working_so b p lives going = true_and (not (is_over b p)) lives ∙ ap not going
+
+idle_or : (any closed : Bool) → (not any && not (not any && not closed)) ≡ (closed && not any)
+idle_or true true = refl
+idle_or true false = refl
+idle_or false true = refl
+idle_or false false = refl
+
+-- nothing is due for a process that is closed and has no other work
+pub nothing_due : (b : Plain) (p : Name) → has b.living p ≡ true → is_over b p ≡ false → no_members (due_jobs_of b p) ≡ (has b.closed p && is_none (find (is_choice b []) (work_of b p)))
+nothing_due b p lives going =
+    let working = working_so b p lives going in
+    none_pass (is_due b) (is_work_due b) (work_of b p) (Close p) (due_as b p working)
+    ∙ ap (λ z. not (list_any (is_work_due b) (work_of b p)) && not z) (true_and (is_close_due b p) working)
+    ∙ idle_or (list_any (is_work_due b) (work_of b p)) (has b.closed p)
+    ∙ ap (λ z. has b.closed p && z) (sym (none_found (is_choice b []) (is_work_due b) (work_of b p) (λ j. and_true (is_work_due b j))))
+
+-- ---- giving up
+
+over_some : (gs : List GivenUp) (p : Name) → is_some (over_in gs p) ≡ list_any (λ (g : GivenUp). has g.names p) gs
+over_some [] p = refl
+over_some (g ∷ gs) p = go (has g.names p) (over_some gs p)
+  where
+    go : (b : Bool) → is_some (over_in gs p) ≡ list_any (λ (g : GivenUp). has g.names p) gs → is_some (cond b (Some g.reason) (over_in gs p)) ≡ (b || list_any (λ (g : GivenUp). has g.names p) gs)
+    go true h = refl
+    go false h = h
+
+-- a process gave up where there is a reason
+pub over_reasoned : (b : Plain) (p : Name) → is_some (over_reason b p) ≡ is_over b p
+over_reasoned b p = over_some b.over p

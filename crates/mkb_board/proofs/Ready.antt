@@ -1,0 +1,68 @@
+-- Where a ticket may be finished, its proposal may be applied to the state.
+use Rattle.std.proofs.Common.{◌≡◌, List, Contains, None}
+use Rattle.std.specs.Prelude.{IsFalse}
+use Rattle.kb_node.specs.declared.job.Job.TheVariants.{Reduce, Orient, Overlap, Close}
+use Rattle.kb_node.specs.declared.job.LimitCause.{LimitCause}
+use Rattle.mkb_model.specs.Plain.{Plain}
+use Rattle.mkb_model.specs.Effects.{is_dropped}
+use Rattle.mkb_model.specs.Verdicts.{verdict}
+use Rattle.mkb_model.specs.declared.proposed.Proposed.{Proposed}
+use Rattle.mkb_model.specs.declared.proposed.Proposed.TheVariants.{Facts, Rewrite, One, Both, Refuse, Deduce, Unjoined, Closed, Limit}
+use Rattle.mkb_model.specs.declared.entry.Ticket.{Ticket}
+use Rattle.mkb_model.specs.declared.entry.Entry.{Entry}
+use Rattle.mkb_model.proofs.Selections.{legal-possible}
+use Rattle.mkb_rules.specs.Named.{HasNamed, HasRedexRule}
+use Rattle.mkb_rules.specs.Applying.{HasBudget}
+use Rattle.mkb_rules.specs.Applicable.{HasFewResults, IsApplicable}
+use Rattle.mkb_board.specs.Boards.{seen, IsLegalBoard}
+use Rattle.mkb_board.specs.Takes.{IsProposalOf}
+use Rattle.mkb_board.proofs.Ends.{finishing}
+use Rattle.mkb_board.proofs.There.{has_named, has_budget, applicable}
+
+redex_grounded : (b : Plain) (f : List Ticket) (cause : LimitCause) → HasRedexRule (record b { flight = f }) cause.redex → HasRedexRule b cause.redex
+redex_grounded b f cause h = h
+
+named_grounded : (b : Plain) (f : List Ticket) (x : Proposed) → HasNamed (record b { flight = f }) x → HasNamed b x
+named_grounded b f (Facts fs) h = h
+named_grounded b f (Rewrite n w at a found t) h = h
+named_grounded b f (One p n d c) h = h
+named_grounded b f (Both p n c0 c1) h = h
+named_grounded b f (Refuse p n) h = h
+named_grounded b f (Deduce a c pairs) h = h
+named_grounded b f (Unjoined p pairs) h = h
+named_grounded b f (Closed p) h = h
+named_grounded b f (Limit (Reduce p n) cause) h = h
+named_grounded b f (Limit (Orient p n) cause) h = h
+named_grounded b f (Limit (Overlap p a c) cause) h = h
+named_grounded b f (Limit (Close p) cause) h = h
+
+fitting_grounded : (b : Plain) (f : List Ticket) (x : Proposed) → HasFewResults (record b { flight = f }) x → HasFewResults b x
+fitting_grounded b f (Facts fs) h = h
+fitting_grounded b f (Rewrite n w at a found t) h = h
+fitting_grounded b f (One p n d c) h = h
+fitting_grounded b f (Both p n c0 c1) h = h
+fitting_grounded b f (Refuse p n) h = h
+fitting_grounded b f (Deduce a c pairs) h = h
+fitting_grounded b f (Unjoined p pairs) h = h
+fitting_grounded b f (Closed p) h = h
+fitting_grounded b f (Limit j cause) h = h
+
+module _ (state : Plain) (flight : List Ticket) (J : List Entry) (t : Ticket) (x : Proposed) (legal : IsLegalBoard (seen state flight J)) (none : verdict (record state { flight = flight }) ≡ None) (flying : Contains flight t) (proposal : IsProposalOf (seen state flight J) t x) where
+  pub state_named : HasNamed state x
+  state_named =
+      let s = seen state flight J in
+      let r = legal.after in
+      named_grounded state flight x (has_named s.plain.problem s.plain.budget r.0 s.plain (legal-possible s.plain.problem s.plain.budget r.0 s.plain r.2) t.worker t.number t.job x (finishing s t x none flying proposal r.0 r.1 r.2))
+
+  pub state_applicable : IsFalse (is_dropped (record state { flight = flight }) x) → IsApplicable state x
+  state_applicable acts =
+      let s = seen state flight J in
+      let r = legal.after in
+      let a = applicable s.plain.problem s.plain.budget r.0 s.plain (legal-possible s.plain.problem s.plain.budget r.0 s.plain r.2) t.worker t.number t.job x (finishing s t x none flying proposal r.0 r.1 r.2) legal.within acts in
+      (named_grounded state flight x a.0, fitting_grounded state flight x a.1)
+
+  pub state_budget : HasBudget state
+  state_budget =
+      let s = seen state flight J in
+      let r = legal.after in
+      has_budget s.plain.problem s.plain.budget r.0 s.plain (legal-possible s.plain.problem s.plain.budget r.0 s.plain r.2) t.worker t.number t.job x (finishing s t x none flying proposal r.0 r.1 r.2)

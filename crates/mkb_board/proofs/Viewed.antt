@@ -1,0 +1,288 @@
+-- What a process sees of the table is what it sees of the plain board.
+use Rattle.std.proofs.Common.{ℕ, zero, suc, ◌+◌, ◌<◌, ◌≤◌, ◌≡◌, refl, sym, ap, ap₂, ◌∙◌, subst, arith, List, [], ◌∷◌, ◌++◌, map, filter, flat_map, length, nat_cmp, take, get_or, Contains, All, Bool, true, false, cond, Some, None, Option, append_assoc, ⊎_elim}
+use Rattle.std.specs.Prelude.{slice_get, option_map, is_none}
+use Rattle.std.specs.List.{enumerate_from, cons_option, filter_map}
+use Rattle.std.specs.Option.{option_map_or}
+use Rattle.std.specs.Ordering.{ordering_then}
+use Rattle.std.specs.declared.cmp.Ordering.{Ordering}
+use Rattle.std.proofs.lemmas.List.{length-map, map-append, take_more, append-nil}
+use Rattle.std.proofs.lemmas.List.Elements.{filter-append, filter_map-append, All-contains, Contains-append_cases}
+use Rattle.kb_label.specs.Names.{Name, has}
+use Rattle.kb_term.proofs.Steps.{contains_behind, contains_first, contains_cases}
+use Rattle.kb_term.specs.Pair.{Pair}
+use Rattle.kb_term.specs.Rule.{Rule, rule_of}
+use Rattle.kb_term.specs.declared.origin.RuleRef.{RuleRef}
+use Rattle.kb_node.specs.declared.node.Node.{Node}
+use Rattle.kb_node.specs.declared.node.NodeId.{NodeId}
+use Rattle.kb_node.specs.declared.node.LabelKind.TheVariants.{R0, R1, E, C0, C1}
+use Rattle.kb_node.specs.Views as views
+use Rattle.kb_laws.proofs.Complete.{all_from}
+use Rattle.mkb_model.specs.Plain.{Plain, PlainNode, numbers_from, node_numbers, directions, label_or_none, is_equation, is_rule, is_constraint, equations_of, rules_of, constraints_of, pair_at, rule_at, rules_at, equations_at, sides, known}
+use Rattle.mkb_model.specs.Proposals.{NamedRule, named_rules}
+use Rattle.mkb_model.proofs.Lists.{filter_in, flat_map_in, in_map, numbers_in, none_in, none_some}
+use Rattle.mkb_model.proofs.AllFine.{pair_there}
+use Rattle.kb_jobs.specs.Rules.{named, ComesBefore, AreInOrder}
+use Rattle.kb_jobs.proofs.Preorder.{nat_less, nat_same}
+use Rattle.mkb_rules.specs.Parts.{plain_node, plain_nodes}
+use Rattle.kb_jobs.specs.Reducing.{no_name}
+use Rattle.mkb_board.specs.Snapshots.{IsRuleThere, AreWithin, with_names, unknown_on}
+
+-- the node of this number of the board is that of the list
+abbrev StandsFrom : List PlainNode → ℕ → List (Node (List Name)) → Type 0
+StandsFrom ns n xs = (k : ℕ) → k < length xs → slice_get ns (n + k) ≡ slice_get (plain_nodes xs) k
+
+from_next : (ns : List PlainNode) (n : ℕ) (x : Node (List Name)) (xs : List (Node (List Name))) → StandsFrom ns n (x ∷ xs) → StandsFrom ns (n + 1) xs
+from_next ns n x xs h k l = let e : (n + 1) + k ≡ n + suc k = omega arith in ap (slice_get ns) e ∙ h (suc k) (omega (arith, l))
+
+from_here : (ns : List PlainNode) (n : ℕ) (x : Node (List Name)) (xs : List (Node (List Name))) → StandsFrom ns n (x ∷ xs) → slice_get ns n ≡ Some (plain_node x)
+from_here ns n x xs h = let e : n ≡ n + 0 = omega arith in ap (slice_get ns) e ∙ h 0 (omega arith)
+
+two : (a c : RuleRef) (x y : Bool) (F : RuleRef → Bool) → F a ≡ x → F c ≡ y → filter F (a ∷ c ∷ []) ≡ views.when x a ++ views.when y c
+two a c x y F e f = ap₂ (λ (u v : Bool). cond u (a ∷ cond v (c ∷ []) []) (cond v (c ∷ []) [])) e f ∙ go x y
+  where
+    go : (x y : Bool) → cond x (a ∷ cond y (c ∷ []) []) (cond y (c ∷ []) []) ≡ views.when x a ++ views.when y c
+    go true y = refl
+    go false y = refl
+
+filtered : (F : RuleRef → Bool) (G : ℕ × Node (List Name) → List RuleRef) (ns : List PlainNode) (n : ℕ) (xs : List (Node (List Name)))
+    → ((m : ℕ) (x : Node (List Name)) → slice_get ns m ≡ Some (plain_node x) → G (m, x) ≡ filter F (directions m)) → StandsFrom ns n xs
+    → flat_map G (enumerate_from n xs) ≡ filter F (flat_map directions (numbers_from n (length xs)))
+filtered F G ns n [] h s = refl
+filtered F G ns n (x ∷ xs) h s =
+    ap₂ (λ (names bs : List RuleRef). names ++ bs) (h n x (from_here ns n x xs s)) (filtered F G ns (n + 1) xs h (from_next ns n x xs s))
+    ∙ sym (filter-append F (directions n) (flat_map directions (numbers_from (n + 1) (length xs))))
+
+one : (n : ℕ) (x : Bool) → map (λ (m : NodeId). m.0) (views.when x (record { 0 = n })) ≡ cond x (n ∷ []) []
+one n true = refl
+one n false = refl
+
+numbered : (F : ℕ → Bool) (G : ℕ × Node (List Name) → List NodeId) (ns : List PlainNode) (n : ℕ) (xs : List (Node (List Name)))
+    → ((m : ℕ) (x : Node (List Name)) → slice_get ns m ≡ Some (plain_node x) → map (λ (k : NodeId). k.0) (G (m, x)) ≡ filter F (m ∷ [])) → StandsFrom ns n xs
+    → map (λ (m : NodeId). m.0) (flat_map G (enumerate_from n xs)) ≡ filter F (numbers_from n (length xs))
+numbered F G ns n [] h s = refl
+numbered F G ns n (x ∷ xs) h s =
+    map-append (λ (m : NodeId). m.0) (G (n, x)) (flat_map G (enumerate_from (n + 1) xs))
+    ∙ ap₂ (λ (names bs : List ℕ). names ++ bs) (h n x (from_here ns n x xs s)) (numbered F G ns (n + 1) xs h (from_next ns n x xs s))
+    ∙ sym (filter-append F (n ∷ []) (numbers_from (n + 1) (length xs)))
+
+module _ (b : Plain) (xs : List (Node (List Name))) (log : List Name) (p : Name) (is : plain_nodes xs ≡ b.nodes) where
+  all_stand : StandsFrom b.nodes 0 xs
+  all_stand k l = let e : 0 + k ≡ k = omega arith in ap (slice_get b.nodes) e ∙ ap (λ ns. slice_get ns k) (sym is)
+
+  as_many : length xs ≡ length b.nodes
+  as_many = sym (length-map xs plain_node) ∙ ap length is
+
+  -- the rules, by number, then direction
+  pub rules_viewed : views.rules_of {K = List Name} {L = List Name} (λ log l. l) log p xs ≡ rules_of b p
+  rules_viewed =
+      filtered (is_rule b p) (views.rules_at {K = List Name} {L = List Name} (λ log l. l) log p) b.nodes 0 xs
+      (λ m x e. sym (two (record { node = m; dir = 0 }) (record { node = m; dir = 1 }) (has x.rule0 p) (has x.rule1 p) (is_rule b p) (ap (λ o. has (label_or_none o R0) p) e) (ap (λ o. has (label_or_none o R1) p) e)))
+      all_stand
+      ∙ ap (λ k. filter (is_rule b p) (flat_map directions (numbers_from 0 k))) as_many
+
+  -- the constraints, by number, then direction
+  pub constraints_viewed : views.constraints_of {K = List Name} {L = List Name} (λ log l. l) log p xs ≡ constraints_of b p
+  constraints_viewed =
+      filtered (is_constraint b p) (views.constraints_at {K = List Name} {L = List Name} (λ log l. l) log p) b.nodes 0 xs
+      (λ m x e. sym (two (record { node = m; dir = 0 }) (record { node = m; dir = 1 }) (has x.constraint0 p) (has x.constraint1 p) (is_constraint b p) (ap (λ o. has (label_or_none o C0) p) e) (ap (λ o. has (label_or_none o C1) p) e)))
+      all_stand
+      ∙ ap (λ k. filter (is_constraint b p) (flat_map directions (numbers_from 0 k))) as_many
+
+  -- the equations, by number
+  pub equations_viewed : map (λ (m : NodeId). m.0) (views.equations_of {K = List Name} {L = List Name} (λ log l. l) log p xs) ≡ equations_of b p
+  equations_viewed =
+      numbered (is_equation b p) (views.equation_at {K = List Name} {L = List Name} (λ log l. l) log p) b.nodes 0 xs
+      (λ m x e. one m (has x.equation p) ∙ ap (λ o. cond (has (label_or_none o E) p) (m ∷ []) []) (sym e))
+      all_stand
+      ∙ ap (λ k. filter (is_equation b p) (numbers_from 0 k)) as_many
+
+-- ---- rules that are there
+
+in_directions : (n : ℕ) (a : RuleRef) → Contains (directions n) a → (a.node ≡ n) × (a.dir ≤ 1)
+in_directions n a i =
+    ⊎_elim (λ e. (sym (ap (λ (z : RuleRef). z.node) e), omega (arith, ap (λ (z : RuleRef). z.dir) e)))
+    (λ k. ⊎_elim (λ e. (sym (ap (λ (z : RuleRef). z.node) e), omega (arith, ap (λ (z : RuleRef). z.dir) e))) (λ j. none_in j) (contains_cases (record { node = n; dir = 1 }) [] a k))
+    (contains_cases (record { node = n; dir = 0 }) (record { node = n; dir = 1 } ∷ []) a i)
+
+-- a rule that passes a test among those of all nodes is there
+pub passing_there : (b : Plain) (F : RuleRef → Bool) (a : RuleRef) → Contains (filter F (flat_map directions (node_numbers b))) a → IsRuleThere b a
+passing_there b F a i =
+    let m = flat_map_in directions (node_numbers b) a (filter_in F (flat_map directions (node_numbers b)) a i).0 in
+    let k = numbers_in 0 (length b.nodes) m.0 m.1 in
+    let d = in_directions m.0 a m.2 in
+    (omega (arith, k.1, d.0), d.1)
+
+pub rules_there : (b : Plain) (p : Name) → All (IsRuleThere b) (rules_of b p)
+rules_there b p = all_from (IsRuleThere b) (rules_of b p) (λ a i. passing_there b (is_rule b p) a i)
+
+pub constraints_there : (b : Plain) (p : Name) → All (IsRuleThere b) (constraints_of b p)
+constraints_there b p = all_from (IsRuleThere b) (constraints_of b p) (λ a i. passing_there b (is_constraint b p) a i)
+
+pub others_there : (b : Plain) (p : Name) (F : RuleRef → Bool) → All (IsRuleThere b) (filter F (rules_of b p))
+others_there b p F = all_from (IsRuleThere b) (filter F (rules_of b p)) (λ a i. passing_there b (is_rule b p) a (filter_in F (rules_of b p) a i).0)
+
+-- the equations of a process are there
+pub equations_there : (b : Plain) (p : Name) (ns : List NodeId) → map (λ (m : NodeId). m.0) ns ≡ equations_of b p → All (λ (m : NodeId). m.0 < length b.nodes) ns
+equations_there b p ns e =
+    all_from (λ (m : NodeId). m.0 < length b.nodes) ns
+    (λ m i.
+    let k = filter_in (is_equation b p) (node_numbers b) m.0 (subst {A = List ℕ} (λ ms. Contains ms m.0) e (in_map (λ (m : NodeId). m.0) ns m i)) in
+    let l = numbers_in 0 (length b.nodes) m.0 k.0 in omega (arith, l.1))
+
+-- ---- how many
+
+pub fewer : {X : Type 0} (F : X → Bool) (xs : List X) → length (filter F xs) ≤ length xs
+fewer F [] = omega arith
+fewer {X} F (x ∷ xs) = go (F x) (fewer F xs)
+  where
+    go : (t : Bool) → length (filter F xs) ≤ length xs → length (cond t (x ∷ filter F xs) (filter F xs)) ≤ suc (length xs)
+    go true h = omega (arith, h)
+    go false h = omega (arith, h)
+
+doubled : (n k : ℕ) → length (flat_map directions (numbers_from n k)) ≡ k + k
+doubled n zero = refl
+doubled n (suc k) = omega (arith, doubled (n + 1) k)
+
+-- a process has at most two rules for each node
+pub rules_few : (b : Plain) (p : Name) → length (rules_of b p) ≤ length b.nodes + length b.nodes
+rules_few b p = omega (arith, fewer (is_rule b p) (flat_map directions (node_numbers b)), doubled 0 (length b.nodes))
+
+-- ---- in order
+
+kept_order : (F : RuleRef → Bool) (names : List RuleRef) → AreInOrder names → AreInOrder (filter F names)
+kept_order F [] h = tt
+kept_order F (a ∷ names) h = go (F a) (kept_order F names h.1)
+  where
+    go : (t : Bool) → AreInOrder (filter F names) → AreInOrder (cond t (a ∷ filter F names) (filter F names))
+    go true ih = (λ c i. h.0 c (filter_in F names c i).0, ih)
+    go false ih = ih
+
+by_node : (a c : RuleRef) → a.node < c.node → ComesBefore a c
+by_node a c l = ap (λ (o : Ordering). ordering_then o (nat_cmp a.dir c.dir)) (nat_less a.node c.node (omega (arith, l)))
+
+by_dir : (n : ℕ) (c : RuleRef) → Contains (record { node = n; dir = 1 } ∷ []) c → ComesBefore (record { node = n; dir = 0 }) c
+by_dir n c i =
+    subst {A = RuleRef} (λ z. ComesBefore (record { node = n; dir = 0 }) z) (⊎_elim (λ e. e) (λ k. none_in k) (contains_cases (record { node = n; dir = 1 }) [] c i))
+    (ap (λ (o : Ordering). ordering_then o (nat_cmp 0 1)) (nat_same n))
+
+directions_order : (n k : ℕ) → AreInOrder (flat_map directions (numbers_from n k))
+directions_order n zero = tt
+directions_order n (suc k) = (
+  λ c i. ⊎_elim (λ e. by_dir n c (subst {A = RuleRef} (Contains (record { node = n; dir = 1 } ∷ [])) e (contains_first (record { node = n; dir = 1 }) []))) (later (record { node = n; dir = 0 }) c refl) (contains_cases (record { node = n; dir = 1 }) rest c i),
+  (λ c i. later (record { node = n; dir = 1 }) c refl i, directions_order (n + 1) k),
+)
+  where
+    rest : List RuleRef
+    rest = flat_map directions (numbers_from (n + 1) k)
+
+    later : (a c : RuleRef) → a.node ≡ n → Contains rest c → ComesBefore a c
+    later a c e i =
+        let m = flat_map_in directions (numbers_from (n + 1) k) c i in
+        let l = numbers_in (n + 1) k m.0 m.1 in
+        let d = in_directions m.0 c m.2 in
+        by_node a c (omega (arith, l.0, d.0, e))
+
+-- the rules of a process elsewhere are in order
+pub others_order : (b : Plain) (p : Name) (F : RuleRef → Bool) → AreInOrder (filter F (rules_of b p))
+others_order b p F = kept_order F (rules_of b p) (kept_order (is_rule b p) (flat_map directions (node_numbers b)) (directions_order 0 (length b.nodes)))
+
+-- ---- names with rules
+
+tail_there : {X : Type 0} (P : X → Type 0) (x : X) (xs : List X) → All P (x ∷ xs) → All P xs
+tail_there P x xs h = all_from P xs (λ y i. All-contains P (x ∷ xs) y h (contains_behind x xs y i))
+
+pub rule_there : (b : Plain) (a : RuleRef) → IsRuleThere b a → (r : Rule) × (rule_at b a ≡ Some r)
+rule_there b a h = let q = pair_there b.nodes a.node h.0 in (rule_of q.0 a.dir, ap (option_map (λ (z : Pair). rule_of z a.dir)) q.1)
+
+-- names that are there, with their rules
+pub named_there : (b : Plain) (names : List RuleRef) → All (IsRuleThere b) names → named names (rules_at b names) ≡ named_rules b names
+named_there b [] h = refl
+named_there b (a ∷ names) h =
+    let r = rule_there b a (All-contains (IsRuleThere b) (a ∷ names) a h (contains_first a names)) in
+    go (rule_at b a) r.0 r.1 (named_there b names (tail_there (IsRuleThere b) a names h))
+  where
+    go : (o : Option Rule) (r : Rule) → o ≡ Some r → named names (rules_at b names) ≡ named_rules b names → named (a ∷ names) (cons_option o (rules_at b names)) ≡ cons_option (option_map (λ (r : Rule). record { ref = a; rule = r }) o) (named_rules b names)
+    go None r e ih = none_some e
+    go (Some q) r e ih = ap (λ (l : List NamedRule). record { ref = a; rule = q } ∷ l) ih
+
+-- ---- one more
+
+-- the rules of one name more
+pub rules_behind : (b : Plain) (names : List RuleRef) (a : RuleRef) (r : Rule) → rule_at b a ≡ Some r → rules_at b (names ++ a ∷ []) ≡ rules_at b names ++ r ∷ []
+rules_behind b names a r e = filter_map-append (rule_at b) names (a ∷ []) ∙ ap (λ (o : Option Rule). rules_at b names ++ cons_option o []) e
+
+pub rules_next : (b : Plain) (names : List RuleRef) (i : ℕ) (d : RuleRef) (r : Rule) → i < length names → rule_at b (get_or names i d) ≡ Some r → rules_at b (take (i + 1) names) ≡ rules_at b (take i names) ++ r ∷ []
+rules_next b names i d r l there = ap (rules_at b) (take_more names i d l) ∙ rules_behind b (take i names) (get_or names i d) r there
+
+-- the equation of one node more
+pub equations_next : (b : Plain) (ns : List NodeId) (i : ℕ) (d : NodeId) (q : Pair) → i < length ns → pair_at b (get_or ns i d).0 ≡ Some q
+    → equations_at b (map (λ (k : NodeId). k.0) (take (i + 1) ns)) ≡ equations_at b (map (λ (k : NodeId). k.0) (take i ns)) ++ sides q ∷ []
+equations_next b ns i d q l there =
+    let front : List ℕ = map (λ (k : NodeId). k.0) (take i ns) in
+    ap (λ (ks : List NodeId). equations_at b (map (λ (k : NodeId). k.0) ks)) (take_more ns i d l)
+    ∙ ap (equations_at b) (map-append (λ (k : NodeId). k.0) (take i ns) (get_or ns i d ∷ []))
+    ∙ ap (map sides) (filter_map-append (pair_at b) front ((get_or ns i d).0 ∷ []) ∙ ap (λ (o : Option Pair). filter_map (pair_at b) front ++ cons_option o []) there)
+    ∙ map-append sides (filter_map (pair_at b) front) (q ∷ [])
+
+-- the test of one name more
+pub passing_next : (F : RuleRef → Bool) (names : List RuleRef) (i : ℕ) (d : RuleRef) → i < length names → filter F (take (i + 1) names) ≡ filter F (take i names) ++ cond (F (get_or names i d)) (get_or names i d ∷ []) []
+passing_next F names i d l = ap (filter F) (take_more names i d l) ∙ filter-append F (take i names) (get_or names i d ∷ [])
+
+-- the side with a name
+abbrev beside : ℕ → RuleRef → ℕ × RuleRef
+beside w a = (w, a)
+
+beside_one : (w : ℕ) (a : RuleRef) (t : Bool) → map (beside w) (cond t (a ∷ []) []) ≡ cond t (beside w a ∷ []) []
+beside_one w a true = refl
+beside_one w a false = refl
+
+unknown_next : (b : Plain) (n w : ℕ) (names : List RuleRef) (i : ℕ) (d : RuleRef) → i < length names
+    → unknown_on b n (take (i + 1) names) w ≡ unknown_on b n (take i names) w ++ cond (is_none (known b n w (get_or names i d))) (beside w (get_or names i d) ∷ []) []
+unknown_next b n w names i d l =
+    let F = λ (c : RuleRef). is_none (known b n w c) in
+    ap (map (beside w)) (passing_next F names i d l) ∙ map-append (beside w) (filter F (take i names)) (cond (F (get_or names i d)) (get_or names i d ∷ []) [])
+    ∙ ap (λ (z : List (ℕ × RuleRef)). map (beside w) (filter F (take i names)) ++ z) (beside_one w (get_or names i d) (F (get_or names i d)))
+
+abbrev with_name : List RuleRef → ℕ × ℕ → ℕ × RuleRef
+with_name names u = (u.0, option_map_or (λ (c : RuleRef). c) (slice_get names u.1) no_name)
+
+names_next : (names : List RuleRef) (us : List (ℕ × ℕ)) (w i : ℕ) (a : RuleRef) → slice_get names i ≡ Some a → with_names names (us ++ (w, i) ∷ []) ≡ with_names names us ++ beside w a ∷ []
+names_next names us w i a e =
+    map-append (with_name names) us ((w, i) ∷ [])
+    ∙ ap (λ (o : Option RuleRef). map (with_name names) us ++ beside w (option_map_or (λ (c : RuleRef). c) o no_name) ∷ []) e
+
+slice_at : (names : List RuleRef) (i : ℕ) (d : RuleRef) → i < length names → slice_get names i ≡ Some (get_or names i d)
+slice_at [] i d l = absurd (omega (arith, l))
+slice_at (a ∷ names) zero d l = refl
+slice_at (a ∷ names) (suc i) d l = slice_at names i d (omega (arith, l))
+
+-- a rule of which nothing is known is added
+pub unknown_more : (b : Plain) (n w : ℕ) (names : List RuleRef) (i : ℕ) (d : RuleRef) (old mid new : List (ℕ × ℕ)) → i < length names
+    → with_names names mid ≡ with_names names old ++ unknown_on b n (take i names) w → is_none (known b n w (get_or names i d)) ≡ true → new ≡ mid ++ (w, i) ∷ []
+    → with_names names new ≡ with_names names old ++ unknown_on b n (take (i + 1) names) w
+unknown_more b n w names i d old mid new l h t e =
+    let x : ℕ × RuleRef = beside w (get_or names i d) in
+    let front : List (ℕ × RuleRef) = unknown_on b n (take i names) w in
+    ap (with_names names) e ∙ names_next names mid w i (get_or names i d) (slice_at names i d l)
+    ∙ ap (λ (z : List (ℕ × RuleRef)). z ++ x ∷ []) h
+    ∙ append_assoc (with_names names old) front (x ∷ [])
+    ∙ ap (λ (z : List (ℕ × RuleRef)). with_names names old ++ z) (sym (unknown_next b n w names i d l ∙ ap (λ (u : Bool). front ++ cond u (x ∷ []) []) t))
+
+-- one of which something is known is not
+pub unknown_same : (b : Plain) (n w : ℕ) (names : List RuleRef) (i : ℕ) (d : RuleRef) (old mid new : List (ℕ × ℕ)) → i < length names
+    → with_names names mid ≡ with_names names old ++ unknown_on b n (take i names) w → is_none (known b n w (get_or names i d)) ≡ false → new ≡ mid
+    → with_names names new ≡ with_names names old ++ unknown_on b n (take (i + 1) names) w
+unknown_same b n w names i d old mid new l h t e =
+    let x : ℕ × RuleRef = beside w (get_or names i d) in
+    let front : List (ℕ × RuleRef) = unknown_on b n (take i names) w in
+    ap (with_names names) e ∙ h
+    ∙ ap (λ (z : List (ℕ × RuleRef)). with_names names old ++ z) (sym (unknown_next b n w names i d l ∙ ap (λ (u : Bool). front ++ cond u (x ∷ []) []) t ∙ append-nil front))
+
+pub within_next : (k : ℕ) (us : List (ℕ × ℕ)) (w i : ℕ) → AreWithin k us → w ≤ 1 → i < k → AreWithin k (us ++ (w, i) ∷ [])
+within_next k us w i h l m =
+    let P = λ (u : ℕ × ℕ). (u.0 ≤ 1) × (u.1 < k) in
+    all_from P (us ++ (w, i) ∷ []) (λ u c. ⊎_elim (λ e. All-contains P us u h e) (λ e. ⊎_elim (λ z. subst {A = ℕ × ℕ} P z (l, m)) (λ j. none_in j) (contains_cases (w, i) [] u e)) (Contains-append_cases us ((w, i) ∷ []) u c))
+
+-- the rules of a process elsewhere are few where the nodes are
+pub others_few : (b : Plain) (p : Name) (F : RuleRef → Bool) (rules names : List RuleRef) → names ≡ filter F rules → rules ≡ rules_of b p → length b.nodes ≤ 4096 → length names < 4294967296
+others_few b p F rules names e f l = omega (arith, ap length e, ap length f, fewer F rules, rules_few b p, l)

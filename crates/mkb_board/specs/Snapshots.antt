@@ -1,0 +1,48 @@
+-- What a job reads of a board.
+use Rattle.std.specs.Prelude.{ℕ, ◌≡◌, ◌<◌, ◌≤◌, ◌^◌, List, map, length, filter, is_none, slice_get, All, ⊤}
+use Rattle.std.specs.Option.{option_map_or}
+use Rattle.kb_term.specs.declared.origin.RuleRef.{RuleRef}
+use Rattle.kb_node.specs.declared.job.Job.{Job}
+use Rattle.kb_node.specs.declared.job.Job.TheVariants as jobs
+use Rattle.mkb_model.specs.Plain.{Plain, known}
+use Rattle.kb_jobs.specs.Rules.{AreNamed}
+use Rattle.kb_jobs.specs.Reducing.{no_name}
+use Rattle.kb_jobs.specs.declared.reducing.ReduceSnapshot.{ReduceSnapshot}
+use Rattle.kb_jobs.specs.declared.working.Snapshot.{Snapshot}
+use Rattle.kb_jobs.specs.declared.working.Snapshot.TheVariants.{Reduce, Orient, Overlap, Close}
+
+-- the rule's node is there, and the rule is of one of its two directions
+abbrev pub IsRuleThere : Plain → RuleRef → Type 0
+IsRuleThere b a = (a.node < length b.nodes) × (a.dir ≤ 1)
+
+-- the nodes that the job names are there
+abbrev pub HasJobNodes : Plain → Job → Type 0
+HasJobNodes b (jobs.Reduce p n) = n.0 < length b.nodes
+HasJobNodes b (jobs.Orient p n) = n.0 < length b.nodes
+HasJobNodes b (jobs.Overlap p a c) = IsRuleThere b a × IsRuleThere b c
+HasJobNodes b (jobs.Close p) = ⊤
+
+-- sides with the names of rules, for sides with the numbers of rules
+abbrev pub with_names : List RuleRef → List (ℕ × ℕ) → List (ℕ × RuleRef)
+with_names names us = map (λ (u : ℕ × ℕ). (u.0, option_map_or (λ a. a) (slice_get names u.1) no_name)) us
+
+-- the side with each of the rules of which nothing is known on it
+abbrev pub unknown_on : Plain → ℕ → List RuleRef → ℕ → List (ℕ × RuleRef)
+unknown_on b n names w = map (λ a. (w, a)) (filter (λ a. is_none (known b n w a)) names)
+
+-- each names a side and one of so many rules
+abbrev pub AreWithin : ℕ → List (ℕ × ℕ) → Type 0
+AreWithin k us = All (λ (u : ℕ × ℕ). (u.0 ≤ 1) × (u.1 < k)) us
+
+-- the rules have their names in order, and are fewer than 2^32; what is unknown names sides and rules that are there
+pub record IsWholeReduce (s : ReduceSnapshot) : Type 0 where
+  pub rules : AreNamed s.rules
+  pub few : length s.rules.rules.items < 2 ^ 32
+  pub unknown : AreWithin (length s.rules.rules.items) s.unknown.items
+
+-- the parts of the snapshot fit each other
+abbrev pub IsWhole : Snapshot → Type 0
+IsWhole (Reduce s) = IsWholeReduce s
+IsWhole (Orient s) = ⊤
+IsWhole (Overlap s) = ⊤
+IsWhole (Close s) = length s.rules.names.items ≡ length s.rules.rules.items

@@ -1,0 +1,172 @@
+// The verdict, and which jobs are due.
+ghost use Rattle.std.specs.Prelude.{◌≡◌, ◌<◌, ◌≤◌, ◌&&◌, ◌||◌, not, length, IsTrue, IsFalse};
+ghost use Rattle.std.specs.List.{find, list_all, list_any};
+ghost use Rattle.std.specs.Prelude.{option_and_then};
+ghost use Rattle.kb_label.specs.Names.{Name, has};
+ghost use Rattle.kb_node.specs.declared.node.LabelKind.TheVariants.{E};
+ghost use Rattle.mkb_model.specs.Plain.{is_equation, is_rule, is_over, over_reason, equations_of, rule_kind, label};
+ghost use Rattle.mkb_model.specs.DueJobs.{due_jobs_of};
+ghost use Rattle.mkb_model.specs.Verdicts.{verdict, is_complete, is_failed, first_over, no_members};
+
+use crate::due::first_work;
+use kb_label::{Labels, ListLabels, Process, Reason, Spent, Verdict};
+use kb_node::{LabelKind, NodeId};
+use kb_term::RuleRef;
+use mkb_rules::State;
+
+/// The verdict, if one stands. It takes no memory.
+pub(crate) fn verdict(state: &State) -> Option<Verdict>
+    ensures { result ≡ verdict state.now }
+{
+    if let Some(process) = first_complete(state) {
+        return Some(Verdict::Complete(process));
+    }
+    if have_all_failed(state) {
+        return Some(Verdict::AllFailed);
+    }
+    if state.commits() == state.budget() {
+        return Some(Verdict::Spent(Spent::Commits));
+    }
+    if !have_all_stopped(state) {
+        return None;
+    }
+    match first_reason(state) {
+        Some(reason) => Some(Verdict::Spent(Spent::Over(reason))),
+        None => None,
+    }
+}
+
+// The first process by name that is complete.
+fn first_complete(state: &State) -> Option<Process>
+    ensures { result ≡ find (is_complete state.now) state.now.living }
+{
+    let living = state.log().processes();
+    for i in 0..living.len() {
+        if is_complete(state, &living[i]) {
+            return Some(living[i]);
+        }
+    }
+    None
+}
+
+// Whether each process has failed.
+fn have_all_failed(state: &State) -> bool
+    ensures { result ≡ list_all (is_failed state.now) state.now.living }
+{
+    let living = state.log().processes();
+    for i in 0..living.len() {
+        if !is_failed(state, &living[i]) {
+            return false;
+        }
+    }
+    true
+}
+
+// Whether each process has failed or given up.
+fn have_all_stopped(state: &State) -> bool
+    ensures { result ≡ list_all (λ (p : Name). is_failed state.now p || is_over state.now p) state.now.living }
+{
+    let living = state.log().processes();
+    for i in 0..living.len() {
+        if !is_failed(state, &living[i]) && !is_over(state, &living[i]) {
+            return false;
+        }
+    }
+    true
+}
+
+// The reason of the first process by name that gave up.
+fn first_reason(state: &State) -> Option<Reason>
+    ensures { result ≡ option_and_then (over_reason state.now) (first_over state.now) }
+{
+    let living = state.log().processes();
+    for i in 0..living.len() {
+        if is_over(state, &living[i]) {
+            return state.over(&living[i]);
+        }
+    }
+    None
+}
+
+// Whether the process gave up.
+pub(crate) fn is_over(state: &State, p: &Process) -> bool
+    ensures { result ≡ is_over state.now p.now }
+{
+    state.over(p).is_some()
+}
+
+// Whether the process is closed and has no equation.
+fn is_complete(state: &State, p: &Process) -> bool
+    ensures { result ≡ is_complete state.now p.now }
+{
+    !has_equation(state, p) && state.is_closed(p)
+}
+
+// Whether the process has an equation.
+fn has_equation(state: &State, p: &Process) -> bool
+    ensures { result ≡ not (no_members (equations_of state.now p.now)) }
+{
+    for n in 0..node_count(state) {
+        if is_equation(state, p, NodeId(n as u16)) {
+            return true;
+        }
+    }
+    false
+}
+
+// Whether the process has the node as an equation.
+pub(crate) fn is_equation(state: &State, p: &Process, n: NodeId) -> bool
+    requires { n.0 < length state.now.nodes }
+    ensures { result ≡ is_equation state.now p.now n.0 }
+{
+    has_label(state, p, n, LabelKind::E)
+}
+
+// Whether the process has the rule.
+pub(crate) fn is_rule(state: &State, p: &Process, rule: RuleRef) -> bool
+    requires { rule.node < length state.now.nodes }
+    ensures { result ≡ is_rule state.now p.now rule }
+{
+    let kind = if rule.dir == 0 {
+        LabelKind::R0
+    } else {
+        LabelKind::R1
+    };
+    has_label(state, p, NodeId(rule.node), kind)
+}
+
+/// Whether the label of this kind has the process.
+pub(crate) fn has_label(state: &State, p: &Process, n: NodeId, kind: LabelKind) -> bool
+    requires { n.0 < length state.now.nodes }
+    ensures { result ≡ has (label state.now n.0 kind) p.now }
+{
+    state.nodes().label(n, kind).has(state.log(), p)
+}
+
+// Whether the process has not given up, has an equation and nothing is due for it.
+fn is_failed(state: &State, p: &Process) -> bool
+    requires { IsTrue (has state.now.living p.now) }
+    ensures { result ≡ is_failed state.now p.now }
+{
+    if is_over(state, p) {
+        return false;
+    }
+    has_equation(state, p) && has_no_job(state, p)
+}
+
+// Whether nothing is due for the process.
+fn has_no_job(state: &State, p: &Process) -> bool
+    requires lives { IsTrue (has state.now.living p.now) }
+    requires going { IsFalse (is_over state.now p.now) }
+    ensures { result ≡ no_members (due_jobs_of state.now p.now) }
+{
+    state.is_closed(p) && first_work(state, &[], p).is_none()
+}
+
+/// How many nodes there are.
+pub(crate) fn node_count(state: &State) -> u32
+    ensures count { result ≡ length state.now.nodes }
+    ensures most { result ≤ 4096 }
+{
+    state.nodes().len()
+}

@@ -1,0 +1,121 @@
+// Ending a ticket with what its job proposed.
+ghost use Rattle.std.specs.Prelude.{◌≡◌, ◌++◌, ◌∷◌, [], None, Contains, IsTrue, IsFalse, IfOk, IfErr, OnErr};
+ghost use Rattle.std.specs.Option.{option_map_or};
+ghost use Rattle.mkb_model.specs.Verdicts.{verdict};
+ghost use Rattle.mkb_model.specs.Effects.{is_dropped};
+ghost use Rattle.mkb_model.specs.Jobs.{process_of};
+ghost use Rattle.mkb_model.specs.declared.entry.Effect.TheVariants as effects;
+ghost use Rattle.mkb_rules.specs.Applying.{applied_as};
+ghost use Rattle.kb_label.specs.declared.verdict.Reason.{Reason};
+ghost use Rattle.std.specs.Prelude.{Option};
+ghost use Rattle.mkb_board.specs.Takes.{IsProposalOf, IsFinishedBy};
+
+use crate::answers::Finished;
+use crate::board::{Board, land};
+use crate::choosing;
+use kb_label::Process;
+use kb_node::Job;
+use mkb_model::{Effect, Entry, Proposed, Ticket};
+use mkb_rules::Applied;
+use std::alloc::Global;
+
+impl Board {
+    /// Ends a ticket with what its job proposed on the board from which it was taken. Where a verdict stands nothing is
+    /// changed; where nothing is left on which the proposal could act it is dropped; else it has its effect.
+    ///
+    /// # Errors
+    ///
+    /// Want of memory, which hands the ticket and the proposal back; the board is then as before.
+    pub fn finish(
+        &mut self,
+        alloc: Global,
+        ticket: Ticket,
+        proposal: Proposed,
+    ) -> Result<Finished, (Ticket, Proposed)>
+        requires flying { Contains self.old.plain.flight ticket }
+        requires proposed { IsProposalOf self.old ticket proposal }
+        ensures ok { IfOk result (IsFinishedBy self.old self.new ticket proposal) }
+        ensures back { IfErr result (λ e. e ≡ (ticket, proposal)) }
+        ensures err { OnErr result (self.new ≡ self.old) }
+    {
+        if let Some(verdict) = choosing::verdict(&self.state) {
+            return Ok(Finished::Ended(verdict));
+        }
+        match self.state.is_dropped(alloc, &proposal) {
+            Err(_) => Err((ticket, proposal)),
+            Ok(true) => Ok(self.drop_ticket(&ticket, &proposal)),
+            Ok(false) => self.commit(alloc, ticket, proposal),
+        }
+    }
+
+    // Ends the ticket without an effect. It takes no memory.
+    fn drop_ticket(&mut self, ticket: &Ticket, proposal: &Proposed) -> Finished
+        requires flying { Contains self.old.plain.flight ticket.now }
+        requires proposed { IsProposalOf self.old ticket.now proposal.now }
+        requires no_verdict { verdict self.old.plain ≡ None }
+        requires idle { IsTrue (is_dropped self.old.plain proposal.now) }
+        ensures { IsFinishedBy self.old self.new ticket.now proposal.now result }
+    {
+        let process = process_of(&ticket.job);
+        land(&mut self.flight, ticket.number);
+        let entry = Entry::Drop {
+            worker: ticket.worker,
+            ticket: ticket.number,
+            process,
+        };
+        self.journal.push(entry).unwrap();
+        self.dropped += 1;
+        Finished::Dropped(process)
+    }
+
+    // Ends the ticket with the effect of the proposal.
+    fn commit(
+        &mut self,
+        alloc: Global,
+        ticket: Ticket,
+        proposal: Proposed,
+    ) -> Result<Finished, (Ticket, Proposed)>
+        requires flying { Contains self.old.plain.flight ticket }
+        requires proposed { IsProposalOf self.old ticket proposal }
+        requires no_verdict { verdict self.old.plain ≡ None }
+        requires acts { IsFalse (is_dropped self.old.plain proposal) }
+        ensures ok { IfOk result (IsFinishedBy self.old self.new ticket proposal) }
+        ensures back { IfErr result (λ e. e ≡ (ticket, proposal)) }
+        ensures err { OnErr result (self.new ≡ self.old) }
+    {
+        let applied = match self.state.apply(alloc, &proposal) {
+            Ok(applied) => applied,
+            Err(_) => return Err((ticket, proposal)),
+        };
+        land(&mut self.flight, ticket.number);
+        let entry = Entry::Commit {
+            worker: ticket.worker,
+            ticket: ticket.number,
+            effect: effect_of(applied, proposal),
+        };
+        self.journal.push(entry).unwrap();
+        Ok(Finished::Committed(applied))
+    }
+}
+
+// How the journal writes what a proposal came to.
+fn effect_of(applied: Applied, proposal: Proposed) -> Effect
+    ensures { (o : Option Reason) → applied ≡ applied_as o → result ≡ option_map_or effects.Over o (effects.Made proposal) }
+{
+    match applied {
+        Applied::Done => Effect::Made(proposal),
+        Applied::Over(reason) => Effect::Over(reason),
+    }
+}
+
+// The process that the job is for.
+fn process_of(job: &Job) -> Process
+    ensures { result ≡ process_of job.now }
+{
+    match job {
+        Job::Reduce(process, _) => *process,
+        Job::Orient(process, _) => *process,
+        Job::Overlap(process, _, _) => *process,
+        Job::Close(process) => *process,
+    }
+}

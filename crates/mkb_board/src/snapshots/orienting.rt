@@ -1,0 +1,73 @@
+// What an Orient reads.
+ghost use Rattle.std.specs.Prelude.{◌≡◌, ◌<◌, ◌++◌, ◌∷◌, [], All, IfOk, length};
+ghost use Rattle.mkb_model.specs.Plain.{rules_at};
+ghost use Rattle.kb_jobs.specs.Taken.{IsTakenOrient};
+ghost use Rattle.mkb_board.specs.Snapshots.{IsRuleThere};
+
+use super::named::{rule_at, rules_at, view_of};
+use kb_jobs::OrientSnapshot;
+use kb_label::Process;
+use kb_node::NodeId;
+use kb_term::{Memory, Rule, RuleRef};
+use mkb_rules::State;
+use std::alloc::Global;
+
+/// The signature, and the constraints of the process with the rule of each direction of the node behind them.
+#[tactic(auto, using(crate::proofs::Viewed::constraints_there))]
+pub(crate) fn orient_snapshot(
+    alloc: Global,
+    state: &State,
+    process: Process,
+    node: NodeId,
+) -> Result<OrientSnapshot, Memory>
+    requires { node.0 < length state.now.nodes }
+    ensures process { IfOk result (λ s. s.process ≡ process) }
+    ensures node { IfOk result (λ s. s.node ≡ node) }
+    ensures taken { IfOk result (IsTakenOrient state.now) }
+{
+    let view = view_of(state, &process)?;
+    let constraints = view.constraints.items();
+    let signature = state.problem().signature().clone()?;
+    let forth = rules_towards(
+        alloc,
+        state,
+        constraints,
+        RuleRef {
+            node: node.0,
+            dir: 0,
+        },
+    )?;
+    let back = rules_towards(
+        alloc,
+        state,
+        constraints,
+        RuleRef {
+            node: node.0,
+            dir: 1,
+        },
+    )?;
+    Ok(OrientSnapshot {
+        process,
+        node,
+        signature,
+        forth,
+        back,
+    })
+}
+
+// The rules with the names, and one more behind them.
+#[tactic(auto, using(crate::proofs::Viewed::rules_behind))]
+fn rules_towards(
+    alloc: Global,
+    state: &State,
+    names: &[RuleRef],
+    last: RuleRef,
+) -> Result<Vec<Rule>, Memory>
+    requires names { All (IsRuleThere state.now) names.now }
+    requires last { IsRuleThere state.now last }
+    ensures { IfOk result (λ rules. rules.items ≡ rules_at state.now (names.now ++ last ∷ [])) }
+{
+    let mut rules = rules_at(alloc, state, names)?;
+    rules.push(rule_at(alloc, state, last)?)?;
+    Ok(rules)
+}

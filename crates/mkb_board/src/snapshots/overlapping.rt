@@ -1,0 +1,37 @@
+// What an Overlap reads.
+ghost use Rattle.std.specs.Prelude.{◌≡◌, IfOk};
+ghost use Rattle.kb_jobs.specs.Taken.{IsTakenOverlap};
+ghost use Rattle.mkb_board.specs.Snapshots.{IsRuleThere};
+
+use super::named::rule_at;
+use kb_jobs::OverlapSnapshot;
+use kb_label::Process;
+use kb_term::{Memory, RuleRef};
+use mkb_rules::State;
+use std::alloc::Global;
+
+/// The two rules.
+pub(crate) fn overlap_snapshot(
+    alloc: Global,
+    state: &State,
+    process: Process,
+    first: RuleRef,
+    second: RuleRef,
+) -> Result<OverlapSnapshot, Memory>
+    requires first { IsRuleThere state.now first }
+    requires second { IsRuleThere state.now second }
+    ensures process { IfOk result (λ s. s.process ≡ process) }
+    ensures first { IfOk result (λ s. s.first ≡ first) }
+    ensures second { IfOk result (λ s. s.second ≡ second) }
+    ensures taken { IfOk result (IsTakenOverlap state.now) }
+{
+    let first_rule = rule_at(alloc, state, first)?;
+    let second_rule = rule_at(alloc, state, second)?;
+    Ok(OverlapSnapshot {
+        process,
+        first,
+        first_rule,
+        second,
+        second_rule,
+    })
+}

@@ -1,0 +1,100 @@
+// Taking a job.
+ghost use Rattle.std.specs.Prelude.{◌≡◌, ◌≤◌, ◌+◌, ◌++◌, ◌∷◌, [], Some, None, IsFalse, IfOk, OnOk, OnErr, vec_len, vec_capacity};
+ghost use Rattle.mkb_model.specs.Verdicts.{verdict};
+ghost use Rattle.mkb_model.specs.DueJobs.{first_job};
+ghost use Rattle.mkb_model.specs.declared.entry.Ticket.{Ticket};
+ghost use Rattle.mkb_model.specs.declared.entry.Entry.{Entry};
+ghost use Rattle.mkb_board.specs.Boards.{has_halt};
+ghost use Rattle.mkb_board.specs.Takes.{IsTakenBy, take_entry};
+
+use crate::answers::Taken;
+use crate::board::Board;
+use crate::choosing;
+use crate::first::first_job;
+use crate::snapshots::snapshot;
+use kb_jobs::Snapshot;
+use kb_node::Job;
+use kb_term::Memory;
+use mkb_model::{Entry, Ticket};
+use std::alloc::{AllocError, Global};
+
+impl Board {
+    /// Takes the first job for a worker: the least due job that clashes with none in flight.
+    ///
+    /// Where it gives no ticket it takes no memory and changes nothing.
+    ///
+    /// # Errors
+    ///
+    /// Want of memory; the board is then as before.
+    pub fn take(&mut self, alloc: Global, worker: u8) -> Result<Taken, Memory>
+        requires least { 1 ≤ worker }
+        requires most { worker ≤ 16 }
+        ensures ok { IfOk result (IsTakenBy self.old self.new worker) }
+        ensures err { OnErr result (self.new ≡ self.old) }
+    {
+        if let Some(verdict) = choosing::verdict(&self.state) {
+            return Ok(Taken::Over(verdict));
+        }
+        if self.halted {
+            return Ok(Taken::Halted);
+        }
+        match first_job(alloc, &self.state, self.flight.as_slice())? {
+            None => Ok(Taken::Idle(self.flight.len())),
+            Some(job) => self.take_job(alloc, worker, &job),
+        }
+    }
+}
+
+impl Board {
+    // Takes this job, which is the first.
+    fn take_job(&mut self, alloc: Global, worker: u8, job: &Job) -> Result<Taken, Memory>
+        requires least { 1 ≤ worker }
+        requires most { worker ≤ 16 }
+        requires no_verdict { verdict self.old.plain ≡ None }
+        requires no_halt { IsFalse (has_halt self.old.journal) }
+        requires first { first_job self.old.plain ≡ Some job.now }
+        ensures ok { IfOk result (IsTakenBy self.old self.new worker) }
+        ensures err { OnErr result (self.new ≡ self.old) }
+    {
+        let snapshot = snapshot(alloc, &self.state, job)?;
+        reserve(&mut self.flight, &mut self.journal)?;
+        let ticket = Ticket {
+            number: self.taken + 1,
+            worker,
+            job: *job,
+        };
+        self.journal.push(entry_of(&ticket)).unwrap();
+        self.flight.push(ticket).unwrap();
+        self.taken += 1;
+        Ok(Taken::Job(ticket, snapshot))
+    }
+}
+
+// Makes room for a ticket, and for the entries of its take, of the end of each ticket and of a halt.
+fn reserve(flight: &mut Vec<Ticket>, journal: &mut Vec<Entry>) -> Result<(), AllocError>
+    ensures flight { flight.new.items ≡ flight.old.items }
+    ensures journal { journal.new.items ≡ journal.old.items }
+    ensures flight_len { vec_len flight.new ≡ vec_len flight.old }
+    ensures journal_len { vec_len journal.new ≡ vec_len journal.old }
+    ensures flight_room { OnOk result (vec_len flight.old + 1 ≤ vec_capacity flight.new) }
+    ensures journal_room { OnOk result (vec_len journal.old + vec_len flight.old + 3 ≤ vec_capacity journal.new) }
+    ensures kept { vec_capacity journal.old ≤ vec_capacity journal.new }
+{
+    flight.reserve(1)?;
+    let count = match flight.len().checked_add(3) {
+        Some(count) => count,
+        None => return Err(AllocError),
+    };
+    journal.reserve(count)
+}
+
+// The entry of the ticket's take.
+fn entry_of(ticket: &Ticket) -> Entry
+    ensures { result ≡ take_entry ticket.now }
+{
+    Entry::Take {
+        worker: ticket.worker,
+        ticket: ticket.number,
+        job: ticket.job,
+    }
+}
