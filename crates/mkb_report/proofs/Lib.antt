@@ -1,1 +1,6 @@
--- Lemmas.
+pub mod Rising
+pub mod Traces
+pub mod Forms
+pub mod Boards
+pub mod Viewed
+pub mod Counted
