@@ -1,10 +1,10 @@
 -- What is known of a board that a legal journal leads to.
-use Rattle.std.proofs.Common.{ℕ, zero, suc, ◌+◌, ◌<◌, ◌≤◌, ◌≡◌, ◌≢◌, ◌∙◌, refl, sym, ap, subst, arith, ⊎_elim, length-append, List, [], ◌∷◌, ◌++◌, map, take, filter, flat_map, length, Contains, All, Bool, true, false, cond, Option, Some, None, slice_get}
+use Rattle.std.proofs.Common.{ℕ, zero, suc, ◌+◌, ◌<◌, ◌≤◌, ◌≡◌, ◌≢◌, ◌∙◌, refl, sym, ap, subst, arith, ⊎_elim, length-append, List, [], ◌∷◌, ◌++◌, map, take, filter, flat_map, length, Contains, AllPairs, Bool, true, false, cond, Option, Some, None, slice_get}
 use Rattle.std.specs.Prelude.{IsTrue, option_map}
 use Rattle.std.proofs.lemmas.Option.{slice_get-map}
 use Rattle.std.proofs.lemmas.List.Elements.{filter-append}
 use Rattle.kb_term.specs.Tree.{Tree}
-use Rattle.kb_term.specs.Pair.{Pair, IsCanonical, IsTrivial}
+use Rattle.kb_term.specs.Pair.{Pair}
 use Rattle.kb_term.specs.Rule.{Rule}
 use Rattle.kb_term.specs.declared.origin.RuleRef.{RuleRef}
 use Rattle.kb_term.specs.declared.origin.Origin.{Origin}
@@ -18,10 +18,12 @@ use Rattle.kb_label.specs.Names.{Name}
 use Rattle.kb_label.specs.declared.verdict.Verdict.TheVariants.{Complete}
 use Rattle.mkb_model.specs.Plain.{Plain, PlainNode, numbers_from, directions, node_numbers, is_rule, rules_of, rules_at, pair_in, pair_at, certificate_of}
 use Rattle.mkb_model.specs.Verdicts.{verdict}
-use Rattle.mkb_model.specs.Journals.{Moment, IsPossibleRun, tickets}
+use Rattle.mkb_model.specs.Journals.{IsPossibleRun, IsFreeJob, tickets}
 use Rattle.mkb_model.specs.Invariants.{IsSound, PairsFollow}
 use Rattle.mkb_model.specs.Limits.{IsLimitedPair, AreLimited}
 use Rattle.mkb_model.specs.GoodAnswers.{IsGoodAnswer}
+use Rattle.mkb_model.proofs.Changes.{Fits}
+use Rattle.mkb_model.proofs.Fitting.{fits_run}
 use Rattle.mkb_model.proofs.Lists.{clash, decide, none_some, some_is}
 use Rattle.mkb_model.proofs.Selections.{legal-possible}
 use Rattle.mkb_model.proofs.Sound.{boards_sound}
@@ -76,8 +78,8 @@ module _ (b : Plain) (r : IsReached b) where
   pub limited : AreLimited b.problem.signature b.nodes
   limited = limited_run b.problem b.budget r.after.0 (record b { flight = r.flight }) r.within run
 
-  pub canonical : (x : PlainNode) → Contains b.nodes x → IsCanonical x.pair × ¬ IsTrivial x.pair
-  canonical = sound.pairs_differ.canonical
+  pub fits : Fits b.nodes
+  fits = fits_run IsFreeJob b.problem b.budget r.after.0 (record b { flight = r.flight }) run
 
   pub good : (p : Name) → verdict b ≡ Some (Complete p) → IsGoodProcess b p
   good p stands =

@@ -2,7 +2,8 @@
 use Rattle.std.proofs.Common.{ℕ, zero, suc, ◌+◌, ◌<◌, ◌≤◌, ◌≡◌, refl, sym, ap, ap₂, ◌∙◌, subst, arith, zero-add, add-one, append-nil, length-append, List, [], ◌∷◌, ◌++◌, map, filter, flat_map, length, take, get_or, Bool, true, false, cond, ◌&&◌, ◌||◌, Some, None, Option}
 use Rattle.std.specs.Prelude.{slice_get, option_map, is_some}
 use Rattle.std.specs.List.{list_any}
-use Rattle.std.proofs.lemmas.List.{take_more}
+use Rattle.std.proofs.lemmas.List.{length-map, length-take, map-append, take_more}
+use Rattle.std.proofs.lemmas.Option.{slice_get_within, get_or_from_slice_get}
 use Rattle.std.proofs.lemmas.List.Elements.{filter-append}
 use Rattle.std.proofs.lemmas.List.Concat.{flat_map-append}
 use Rattle.kb_label.specs.Names.{Name, has, is_empty}
@@ -33,8 +34,12 @@ module _ {X : Type 0} (F : X → Bool) where
       go true h = omega (arith, h)
       go false h = omega (arith, h)
 
-  pub counted_next : (xs : List X) (i : ℕ) (d : X) → i < length xs → length (filter F (take (i + 1) xs)) ≡ length (filter F (take i xs)) + cond (F (get_or xs i d)) 1 0
-  counted_next xs i d l = ap (λ ys. length (filter F ys)) (take_more xs i d l) ∙ count_next (take i xs) (get_or xs i d)
+  pub counted_next : (xs : List X) (i : ℕ) (x : X) (r : Bool) → i < length xs → x ≡ get_or xs i x → F x ≡ r → length (filter F (take (i + 1) xs)) ≡ length (filter F (take i xs)) + cond r 1 0
+  counted_next xs i x r l at e = ap (λ ys. length (filter F ys)) (take_more xs i x l) ∙ count_next (take i xs) (get_or xs i x) ∙ ap (λ b. length (filter F (take i xs)) + cond b 1 0) (ap F (sym at) ∙ e)
+
+  -- no more of the first members pass than there are
+  pub few_counted : (xs : List X) (i : ℕ) → length (filter F (take i xs)) ≤ i
+  few_counted xs i = omega (arith, few_passing (take i xs), length-take i xs)
 
 -- ---- dead nodes
 
@@ -44,6 +49,21 @@ empty_is (p ∷ l) = refl
 
 dead_is : (x : Node (List Name)) → is_dead (plain_node x) ≡ is_dead_under {L = List Name} {K = List Name} (λ log l. l) [] x
 dead_is x = ap₂ (λ (a b : Bool). a && b) (empty_is x.rule0) (ap₂ (λ (a b : Bool). a && b) (empty_is x.rule1) (empty_is x.equation))
+
+module _ (xs : List (Node (List Name))) (i : ℕ) where
+  -- one node more
+  pub dead_next : (log : List Name) (r : Bool) → option_map (is_dead_under {L = List Name} {K = List Name} (λ log l. l) log) (slice_get xs i) ≡ Some r
+      → length (filter is_dead (plain_nodes (take (i + 1) xs))) ≡ length (filter is_dead (plain_nodes (take i xs))) + cond r 1 0
+  dead_next log r e =
+      let x = mapped_is (is_dead_under {L = List Name} {K = List Name} (λ log l. l) log) (slice_get xs i) r e in
+      let at : get_or xs i x.0 ≡ x.0 = get_or_from_slice_get xs i x.0 x.0 x.1 in
+      ap (λ ys. length (filter is_dead (plain_nodes ys))) (take_more xs i x.0 (slice_get_within xs i x.0 x.1))
+      ∙ ap (λ ys. length (filter is_dead ys)) (map-append plain_node (take i xs) (get_or xs i x.0 ∷ []))
+      ∙ count_next is_dead (plain_nodes (take i xs)) (plain_node (get_or xs i x.0))
+      ∙ ap (λ (b : Bool). length (filter is_dead (plain_nodes (take i xs))) + cond b 1 0) (ap (λ y. is_dead (plain_node y)) at ∙ dead_is x.0 ∙ x.2)
+
+  pub dead_few : length (filter is_dead (plain_nodes (take i xs))) ≤ i
+  dead_few = omega (arith, few_passing is_dead (plain_nodes (take i xs)), length-map (take i xs) plain_node, length-take i xs)
 
 -- ---- processes that gave up
 

@@ -4,3 +4,4 @@ pub mod Forms
 pub mod Boards
 pub mod Viewed
 pub mod Counted
+pub mod Made
