@@ -21,11 +21,13 @@ use Rattle.mkb_model.specs.Verdicts.{verdict}
 use Rattle.mkb_model.specs.Journals.{IsPossibleRun, IsFreeJob, tickets}
 use Rattle.mkb_model.specs.Invariants.{IsSound, PairsFollow}
 use Rattle.mkb_model.specs.Limits.{IsLimitedPair, AreLimited}
+use Rattle.mkb_model.specs.Origins.{IsOriginOfForm}
 use Rattle.mkb_model.specs.GoodAnswers.{IsGoodAnswer}
 use Rattle.mkb_model.proofs.Changes.{Fits}
 use Rattle.mkb_model.proofs.Fitting.{fits_run}
 use Rattle.mkb_model.proofs.Lists.{clash, decide, none_some, some_is}
 use Rattle.mkb_model.proofs.Selections.{legal-possible}
+use Rattle.mkb_model.proofs.OriginForms.{origins_of_form}
 use Rattle.mkb_model.proofs.Sound.{boards_sound}
 use Rattle.mkb_model.proofs.Sizes.{limited_run}
 use Rattle.mkb_model.proofs.Completed.{good_answer}
@@ -80,6 +82,9 @@ module _ (b : Plain) (r : IsReached b) where
 
   pub fits : Fits b.nodes
   fits = fits_run IsFreeJob b.problem b.budget r.after.0 (record b { flight = r.flight }) run
+
+  pub formed : (x : PlainNode) → Contains b.nodes x → IsOriginOfForm x.origin
+  formed = origins_of_form b.problem b.budget r.after.0 (record b { flight = r.flight }) run
 
   pub good : (p : Name) → verdict b ≡ Some (Complete p) → IsGoodProcess b p
   good p stands =

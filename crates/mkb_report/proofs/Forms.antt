@@ -27,6 +27,7 @@ use Rattle.kb_laws.proofs.Closing.{slice_contains}
 use Rattle.kb_laws.proofs.LoneRule.{rule_same}
 use Rattle.kb_checker.specs.Answers.{IsRuleForm}
 use Rattle.mkb_model.specs.Limits.{IsLimitedPair}
+use Rattle.mkb_model.specs.Origins.{IsOriginOfForm}
 use Rattle.mkb_model.proofs.Lists.{and_both, none_in, none_some, some_is}
 use Rattle.mkb_model.proofs.Sizes.{numbered_within, turned}
 use Rattle.mkb_report.proofs.Traces.{mapped_is}
@@ -120,12 +121,6 @@ pub rule_pair : (q : Pair) (d : ℕ) → IsCanonical q → pair_of_rule (rule_of
 rule_pair q d c = sym (canonical_from_same q.first q.second (rule_of q d).left (rule_of q d).right (rule_same q d)) ∙ c
 
 -- ---- origins
-
--- sides and directions are 0 or 1
-abbrev pub IsOriginOfForm : Origin → Type 0
-IsOriginOfForm (Input i) = Unit {0}
-IsOriginOfForm (Rewrite n w p r) = (w ≤ 1) × (r.dir ≤ 1)
-IsOriginOfForm (Overlap a b p) = (a.dir ≤ 1) × (b.dir ≤ 1)
 
 item_within : {X : Type 0} (xs : List X) (i : ℕ) (x : X) → item xs i ≡ Some x → (1 ≤ i) × (i ≤ length xs)
 item_within xs zero x e = none_some e

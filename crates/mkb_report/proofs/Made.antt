@@ -3,6 +3,7 @@ use Rattle.std.proofs.Common.{ℕ, zero, suc, eqb→eq, ◌+◌, ◌<◌, ◌≤
 use Rattle.std.specs.Prelude.{T, option_map}
 use Rattle.std.specs.List.{AllZip, cons_option, position_or_len}
 use Rattle.std.specs.Option.{option_map_or}
+use Rattle.std.proofs.lemmas.List.{length-map}
 use Rattle.std.proofs.lemmas.Option.{slice_get-map, slice_get_within}
 use Rattle.std.proofs.lemmas.Slice.Zip.{AllZip-long}
 use Rattle.std.proofs.lemmas.List.Elements.{All-contains}
@@ -38,6 +39,7 @@ use Rattle.kb_report.specs.declared.report.Report.TheVariants.{System}
 use Rattle.mkb_model.specs.Plain.{Plain, PlainNode, rules_of, pair_in, pair_at, rule_at, rules_at, certificate_of}
 use Rattle.mkb_model.specs.Effects.{pair_eq}
 use Rattle.mkb_model.specs.Limits.{IsLimitedPair}
+use Rattle.mkb_model.specs.Origins.{IsOriginOfForm}
 use Rattle.mkb_model.specs.Verdicts.{verdict}
 use Rattle.mkb_model.proofs.AllFine.{pair_there}
 use Rattle.mkb_model.proofs.Lists.{in_map, map_in, none_in, none_some, same_test, some_is}
@@ -47,8 +49,8 @@ use Rattle.mkb_report.specs.Cited.{IsRuleThere, cited_by, number_with}
 use Rattle.mkb_report.specs.Reports.{IsReached, IsAnswerOf, IsReportOf, pairs_of, rule_nodes}
 use Rattle.mkb_report.proofs.Rising.{few_rising, rising_from}
 use Rattle.mkb_report.proofs.Traces.{node_pair, earlier_is, mapped_is, one_kept, one_trace, right_cites, right_trace, traced, OriginsAreRight}
-use Rattle.mkb_report.proofs.Forms.{IsOriginOfForm, origin_form, pair_form, rule_form, rule_pair}
-use Rattle.mkb_report.proofs.Boards.{IsGoodProcess, few_rules, fits, good, limited, pair_of_node, right}
+use Rattle.mkb_report.proofs.Forms.{origin_form, pair_form, rule_form, rule_pair}
+use Rattle.mkb_report.proofs.Boards.{IsGoodProcess, few_rules, fits, formed, good, limited, pair_of_node, right}
 use Rattle.mkb_report.proofs.Viewed.{parts, rule_there}
 
 -- ---- rules and the numbers that they cite
@@ -95,6 +97,30 @@ rules_zip b f (a ∷ names) (r ∷ rules) h e k = go (λ m n. rules_zip b f name
         let more : map (λ (x : Rule × ℕ). x.0) rules ≡ rules_at b names = cc in
         let numbers : map (λ (x : Rule × ℕ). x.1) rules ≡ map f (map (λ (c : RuleRef). c.node) names) = cc in
         (record { pair = q; there = at; rule = rule; number = number }, ih more numbers)
+
+-- ---- the steps of a trace
+
+node_at : (b : Plain) (n : ℕ) (x : Pair × Origin) → slice_get (pairs_of b) n ≡ Some x → (y : PlainNode) × (slice_get b.nodes n ≡ Some y) × (parts y ≡ x)
+node_at b n x e = mapped_is parts (slice_get b.nodes n) x (sym (slice_get-map parts b.nodes n) ∙ e)
+
+zip_there : (nodes : List (Pair × Origin)) (kept ns : List ℕ) (ss : List TraceStep) (n : ℕ) → AllZip (IsStepOf nodes kept) ns ss → Contains ns n → (x : Pair × Origin) × (slice_get nodes n ≡ Some x)
+zip_there nodes kept [] ss n z c = none_in c
+zip_there nodes kept (m ∷ ns) [] n z c = absurd z
+zip_there nodes kept (m ∷ ns) (s ∷ ss) n z c = ⊎_elim
+    (λ e. subst {A = ℕ} (λ k. (x : Pair × Origin) × (slice_get nodes k ≡ Some x)) e (z.0.0, z.0.1))
+    (λ d. zip_there nodes kept ns ss n z.1 d)
+    (contains_cases m ns n c)
+
+-- the kept nodes are there, and so at most as many as there are nodes
+few_kept : (b : Plain) (wanted : List ℕ) (trace : List TraceStep) → (t : IsTraceOf (pairs_of b) wanted trace) → length t.kept ≤ length b.nodes
+few_kept b wanted trace t = few_rising t.kept (length b.nodes) (rising_from t.kept t.in_order) (λ n c.
+    let s = zip_there (pairs_of b) t.kept t.kept trace n t.steps c in
+    let y = node_at b n s.0 s.1 in
+    slice_get_within b.nodes n y.0 y.1)
+
+-- so are the steps
+pub few_steps : (b : Plain) (wanted : List ℕ) (trace : List TraceStep) → IsTraceOf (pairs_of b) wanted trace → length trace ≤ length b.nodes
+few_steps b wanted trace t = omega (arith, AllZip-long (IsStepOf (pairs_of b) t.kept) t.kept trace t.steps, few_kept b wanted trace t)
 
 -- ---- what an answer is
 
@@ -150,37 +176,16 @@ module _ (b : Plain) (p : Name) (a : Answer) (r : IsReached b) (stands : verdict
 
   -- ---- its form
 
-  module _ (few : length b.nodes ≤ 4096) (formed : (x : PlainNode) → Contains b.nodes x → IsOriginOfForm x.origin) where
-    node_at : (n : ℕ) (x : Pair × Origin) → slice_get (pairs_of b) n ≡ Some x → (y : PlainNode) × (slice_get b.nodes n ≡ Some y) × (parts y ≡ x)
-    node_at n x e = mapped_is parts (slice_get b.nodes n) x (sym (slice_get-map parts b.nodes n) ∙ e)
-
-    zip_there : (ns : List ℕ) (ss : List TraceStep) (n : ℕ) → AllZip (IsStepOf (pairs_of b) h.trace.kept) ns ss → Contains ns n → (x : Pair × Origin) × (slice_get (pairs_of b) n ≡ Some x)
-    zip_there [] ss n z c = none_in c
-    zip_there (m ∷ ns) [] n z c = absurd z
-    zip_there (m ∷ ns) (s ∷ ss) n z c = ⊎_elim
-        (λ e. subst {A = ℕ} (λ k. (x : Pair × Origin) × (slice_get (pairs_of b) k ≡ Some x)) e (z.0.0, z.0.1))
-        (λ d. zip_there ns ss n z.1 d)
-        (contains_cases m ns n c)
-
-    -- a kept node is there
-    kept_there : (n : ℕ) → Contains h.trace.kept n → n < length b.nodes
-    kept_there n c =
-        let s = zip_there h.trace.kept a.trace n h.trace.steps c in
-        let y = node_at n s.0 s.1 in
-        slice_get_within b.nodes n y.0 y.1
-
-    few_kept : length h.trace.kept ≤ 4096
-    few_kept = let l = few_rising h.trace.kept (length b.nodes) (rising_from h.trace.kept h.trace.in_order) kept_there in omega (arith, l, few)
-
+  module _ (few : length b.nodes ≤ 4096) where
     numbered : (n : ℕ) → Contains h.trace.kept n → IsUpTo 4096 (number_in h.trace.kept n)
-    numbered n c = record { low = omega arith; high = omega (arith, place_below h.trace.kept n c, few_kept) }
+    numbered n c = record { low = omega arith; high = omega (arith, place_below h.trace.kept n c, few_kept b (rule_nodes b p) a.trace h.trace, few) }
 
     step_form : (n : ℕ) (s : TraceStep) → Contains h.trace.kept n → IsStepOf (pairs_of b) h.trace.kept n s → IsStepForm b.problem.signature s
     step_form n s c st = record {
       origin =
           subst {A = Origin} (λ o. is_origin o ≡ true) (sym st.3)
           (origin_form b.problem.equations g r.within.count r.within.arities (node_pair (take n nodes)) earlier (number_in h.trace.kept) x.1 x.0 (right b r n x st.1)
-          (subst {A = Pair × Origin} (λ z. IsOriginOfForm z.1) y.2 (formed y.0 there)) cited);
+          (subst {A = Pair × Origin} (λ z. IsOriginOfForm z.1) y.2 (formed b r y.0 there)) cited);
       pair =
           subst {A = Pair} (IsPairForm g) (sym st.2)
           (subst {A = Pair × Origin} (λ z. IsPairForm g z.0) y.2 (pair_form g y.0.pair (limited b r n y.0.pair at) ((fits b r).canonical n y.0.pair at) ((fits b r).nontrivial n y.0.pair at)));
@@ -196,7 +201,7 @@ module _ (b : Plain) (p : Name) (a : Answer) (r : IsReached b) (stands : verdict
         x = st.0
 
         y : (z : PlainNode) × (slice_get b.nodes n ≡ Some z) × (parts z ≡ st.0)
-        y = node_at n st.0 st.1
+        y = node_at b n st.0 st.1
 
         there : Contains b.nodes y.0
         there = slice_contains b.nodes n y.0 y.1
@@ -212,7 +217,7 @@ module _ (b : Plain) (p : Name) (a : Answer) (r : IsReached b) (stands : verdict
 
     trace_form : IsTraceForm b.problem.signature a.trace
     trace_form = record {
-      count = omega (arith, AllZip-long (IsStepOf (pairs_of b) h.trace.kept) h.trace.kept a.trace h.trace.steps, few_kept);
+      count = omega (arith, few_steps b (rule_nodes b p) a.trace h.trace, few);
       steps = all_from (IsStepForm b.problem.signature) a.trace (λ s i. let z = contains_zip (IsStepOf (pairs_of b) h.trace.kept) h.trace.kept a.trace s h.trace.steps i in step_form z.0 s z.1 z.2);
     }
 
@@ -302,3 +307,32 @@ one_report b (Complete p) one other h k = h.1 ∙ ap System (one_answer b p h.0 
 one_report b AllFailed one other h k = h ∙ sym k
 one_report b (Spent Commits) one other h k = h ∙ sym k
 one_report b (Spent (Over reason)) one other h k = h ∙ sym k
+
+-- ---- what the code reads
+
+-- each node cites earlier ones alone
+pub nodes_cite_earlier : (b : Plain) → IsReached b → CitesEarlier (pairs_of b)
+nodes_cite_earlier b r = right_cites b.problem.equations (pairs_of b) (right b r)
+
+-- the nodes of the rules are there
+pub wanted_there : (b : Plain) (p : Name) → All (λ n. n < length (pairs_of b)) (rule_nodes b p)
+wanted_there b p = all_from (λ n. n < length (pairs_of b)) (rule_nodes b p) (λ n i.
+    let a = map_in (λ (x : RuleRef). x.node) (rules_of b p) n i in
+    let l = (rule_there b p a.0 a.1).0 in
+    let long : length (pairs_of b) ≡ length b.nodes = length-map b.nodes parts in
+    omega (arith, l, a.2, long))
+
+-- the trace of what was read
+pub trace_read : (b : Plain) (p : Name) (nodes : List (Pair × Origin)) (names : List RuleRef) (wanted : List ℕ) (trace : List TraceStep) → nodes ≡ pairs_of b → names ≡ rules_of b p → wanted ≡ map (λ (x : RuleRef). x.node) names
+    → IsTraceOf nodes wanted trace → IsTraceOf (pairs_of b) (rule_nodes b p) trace
+trace_read b p nodes names wanted trace e f g h =
+    subst {A = List (Pair × Origin)} (λ ns. IsTraceOf ns (rule_nodes b p) trace) e
+    (subst {A = List ℕ} (λ ws. IsTraceOf nodes ws trace) (g ∙ ap (map (λ (x : RuleRef). x.node)) f) h)
+
+-- the answer of what was read
+pub answer_read : (b : Plain) (p : Name) (a : Answer) (nodes : List (Pair × Origin)) (names : List RuleRef) (wanted : List ℕ) (steps : List TraceStep) → IsReached b
+    → a.problem ≡ b.problem → certificate_of b p ≡ Some a.cert → nodes ≡ pairs_of b → names ≡ rules_of b p → wanted ≡ map (λ (x : RuleRef). x.node) names → IsTraceOf nodes wanted a.trace → steps ≡ a.trace
+    → map (λ (x : Rule × ℕ). x.0) a.rules ≡ rules_at b names → map (λ (x : Rule × ℕ). x.1) a.rules ≡ map (cited_by b steps) names → IsAnswerOf b p a
+answer_read b p a nodes names wanted steps r problem cert e f g t same rules cites =
+    answer_made b r p a problem (rules ∙ ap (rules_at b) f) cert (trace_read b p nodes names wanted a.trace e f g t)
+    (cites ∙ ap₂ (λ (ss : List TraceStep) (ns : List RuleRef). map (cited_by b ss) ns) same f)
