@@ -496,7 +496,7 @@ fn rules_text() -> Vec<u8> {
         out.push_str(&format!(" x{n}"));
     }
     out.push_str(")\n(RULES\n");
-    for _ in 0..240 {
+    for _ in 0..256 {
         write_term(&mut out, &full_tree(8, 0, 1, 0));
         out.push_str(" == ");
         write_term(&mut out, &full_tree(8, 0, 5, 0));

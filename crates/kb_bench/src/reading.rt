@@ -5,10 +5,10 @@ use kb_syntax::{SyntaxFault, parse_problem, problem_text};
 use kb_term::{Memory, Problem};
 use std::alloc::Global;
 
-/// 240 equations between two trees of 511 identifiers.
+/// 256 equations between two trees of 511 identifiers.
 fn rules_text(alloc: Global) -> Result<Vec<u8>, Memory> {
     let mut equations = Vec::new(alloc);
-    for _ in 0..240 {
+    for _ in 0..256 {
         let left = full_tree(alloc, 8, 0, 1, 0)?;
         let right = full_tree(alloc, 8, 0, 5, 0)?;
         equations.push((left, right))?;

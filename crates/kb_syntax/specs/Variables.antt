@@ -1,5 +1,5 @@
 -- The declared variables and those of an equation, by their numbers.
-use Rattle.std.specs.Prelude.{◌≡◌, ℕ, List, [], map, get_or, true, cond, Option, Some, None}
+use Rattle.std.specs.Prelude.{◌≡◌, ◌<◌, ◌≤◌, ℕ, List, [], map, get_or, length, true, cond, Option, Some, None}
 use Rattle.std.specs.List.{list_all}
 use Rattle.kb_text.specs.Names.{Name, is_among, number_of}
 use Rattle.kb_text.specs.Tokens.{Token, identifier}
@@ -36,3 +36,13 @@ number_at declared t = None
 pub record IsNumber (declared : List Name) (number : ℕ) : Type 0 where
   pub name : Name
   pub is : variable_number declared name ≡ Some number
+
+-- each number that was found has its place among these
+abbrev pub ArePlaced : List ℕ → List ℕ → Type 0
+ArePlaced found places = (i : ℕ) → i < length found → get_or places (get_or found i 0) 0 ≡ i
+
+-- what is kept of the declared names and of those of the equation: the numbers of these, and their places, with room for one of each declared name
+pub record IsKept (declared : List Name) (found places : List ℕ) : Type 0 where
+  pub numbered : AreNumbered declared found
+  pub placed : ArePlaced found places
+  pub all : length declared ≤ length places

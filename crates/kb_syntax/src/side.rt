@@ -227,6 +227,7 @@ impl<'a> Side<'a> {
                         mut arguments,
                     },
                 ) => {
+                    arguments.reserve_exact(1)?;
                     arguments.push(term)?;
                     self.inner = applied(name, arguments);
                     Ok(true)
@@ -254,6 +255,7 @@ impl<'a> Side<'a> {
                         mut arguments,
                     },
                 ) => {
+                    arguments.reserve_exact(2)?;
                     arguments.push(term)?;
                     self.inner = Inner::Open(Application { name, arguments });
                     Ok(true)

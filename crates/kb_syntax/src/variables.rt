@@ -1,9 +1,9 @@
 // The declared variables, and those of the open equation.
-ghost use Rattle.std.specs.Prelude.{◌≡◌, [], OnOk, MatchOption, Some, false, length, true};
+ghost use Rattle.std.specs.Prelude.{◌≡◌, ◌<◌, [], OnOk, MatchOption, Some, false, length, true};
 ghost use Rattle.kb_term.specs.Pair.{place_in};
 ghost use Rattle.kb_text.specs.Names.{is_among, number_of as number_in, with_name};
 ghost use Rattle.kb_syntax.specs.Looks.{is_one_more};
-ghost use Rattle.kb_syntax.specs.Variables.{IsNumber, variable_number};
+ghost use Rattle.kb_syntax.specs.Variables.{ArePlaced, IsNumber, variable_number};
 ghost use Rattle.kb_text.specs.Names.{Name};
 
 use indexmap::IndexSet;
@@ -12,34 +12,38 @@ use std::alloc::Global;
 use std::marker::Model;
 
 /// The names that are declared as variables, in their order, looked up by a hash; and by their numbers the variables
-/// of the open equation, by first occurrence.
+/// of the open equation, by first occurrence. Each declared name has the place at which its number stands among these, if it
+/// stands there, so a place is told in constant time (a sparse set, Briggs and Torczon 1993).
 #[derive(Drop)]
 pub struct Variables {
     names: IndexSet<Vec<u8>>,
     found: Vec<usize>,
+    places: Vec<usize>,
 }
 
 impl Model for Variables {
     ghost use Rattle.std.specs.Prelude.{map};
-    ghost use Rattle.kb_syntax.specs.Variables.{VariableNames, AreNumbered, names_at};
+    ghost use Rattle.kb_syntax.specs.Variables.{VariableNames, IsKept, names_at};
 
     ghost Value = { VariableNames };
 
     ghost view = { λ a. record { declared = map (λ n. n.items) a.names.keys; found = names_at (map (λ n. n.items) a.names.keys) a.found.items } };
 
-    ghost invariant = { λ a. AreNumbered (map (λ n. n.items) a.names.keys) a.found.items };
+    ghost invariant = { λ a. IsKept (map (λ n. n.items) a.names.keys) a.found.items a.places.items };
 }
 
-// Where the number first stands; how many numbers there are where it isn't among them.
-fn place_of(numbers: &[usize], number: usize) -> usize
-    ensures { result ≡ place_in numbers.now number }
+// Where the number stands among those that were found; how many there are where it isn't among them.
+fn place_of(found: &[usize], places: &[usize], number: usize) -> usize
+    requires placed { ArePlaced found.now places.now }
+    requires declared { number < length places.now }
+    ensures { result ≡ place_in found.now number }
 {
-    for i in 0..numbers.len() {
-        if numbers[i] == number {
-            return i;
-        }
+    let at = places[number];
+    if at < found.len() && found[at] == number {
+        at
+    } else {
+        found.len()
     }
-    numbers.len()
 }
 
 impl Variables {
@@ -50,6 +54,7 @@ impl Variables {
         Variables {
             names: IndexSet::new(alloc),
             found: Vec::new(alloc),
+            places: Vec::new(alloc),
         }
     }
 
@@ -71,6 +76,7 @@ impl Variables {
     pub fn add(&mut self, name: Vec<u8>) -> Result<(), Memory>
         ensures { OnOk result (self.new ≡ record self.old { declared = with_name self.old.declared name.items }) }
     {
+        self.places.push(0)?;
         self.names.insert(name)?;
         Ok(())
     }
@@ -87,8 +93,10 @@ impl Variables {
         requires { IsNumber self.old.declared number }
         ensures { OnOk result ((x : Name) → variable_number self.old.declared x ≡ Some number → self.new ≡ record self.old { found = with_name self.old.found x }) }
     {
-        if place_of(&self.found, number) == self.found.len() {
+        let count = self.found.len();
+        if place_of(&self.found, &self.places, number) == count {
             self.found.push(number)?;
+            self.places[number] = count;
         }
         Ok(())
     }
@@ -99,7 +107,7 @@ impl Variables {
     {
         match self.names.get_index_of(name) {
             Some(number) => {
-                let at = place_of(&self.found, number);
+                let at = place_of(&self.found, &self.places, number);
                 if at < self.found.len() {
                     Some(at)
                 } else {
@@ -122,6 +130,6 @@ impl Variables {
         requires { IsNumber self.now.declared number }
         ensures { (x : Name) → variable_number self.now.declared x ≡ Some number → result ≡ is_one_more self.now.found n x }
     {
-        self.count() == n && place_of(&self.found, number) == self.found.len()
+        self.count() == n && place_of(&self.found, &self.places, number) == self.found.len()
     }
 }

@@ -147,7 +147,7 @@ impl<'a> WrittenTerm<'a> {
                 Ok(Term::App(Symbol(symbols.number_of(name) as u8), none))
             }
             WrittenTerm::Applied(name, arguments) => {
-                let mut items = Vec::new(alloc);
+                let mut items = Vec::with_capacity(alloc, arguments.items.len())?;
                 for argument in &arguments.items {
                     items.push(argument.term(alloc, variables, symbols)?)?;
                 }

@@ -1,17 +1,12 @@
-use Rattle.std.proofs.Common.{sym, arith, get_or, length}
-use Rattle.std.specs.Prelude.{◌==◌}
-use Rattle.std.proofs.lemmas.Bool.{ne_eqb}
-use Rattle.std.proofs.lemmas.List.Sums.{position_or_len_is}
+use Rattle.std.proofs.Common.{refl, arith}
+use Rattle.kb_syntax.proofs.PlacedLaws.{place_kept, place_lost}
+use Rattle.kb_syntax.proofs.variables.place_of.Goals.{else-at-found-via-then-at-found+else-found-at, else-at-found-via-else-at-found}
 use Rattle.kb_syntax.proofs.variables.place_of.Goals as goal
 
-pub returns-then-numbers-i : goal.returns-then-numbers-i
-returns-then-numbers-i c =
-    sym (position_or_len_is (λ y. y == c.args.number) c.args.numbers.now c.loop-i.i 0 (omega arith)
-    (λ k h. ne_eqb (get_or c.args.numbers.now k 0) c.args.number (c.loop-i.invariant k h))
-    (λ h. grind (arith, c.if-numbers-i.true)))
+pub returns-then-found-at : goal.returns-then-found-at
+returns-then-found-at c = place_kept c.args.found.now c.args.places.now c.args.number _ c.requires.placed refl c.if-at-found.true c.if-found-at.true
 
-pub returns : goal.returns
-returns c =
-    sym (position_or_len_is (λ y. y == c.args.number) c.args.numbers.now (length c.args.numbers.now) 0 (omega arith)
-    (λ k h. ne_eqb (get_or c.args.numbers.now k 0) c.args.number (c.loop-i.invariant k (omega (arith, h, c.loop-i-test.false))))
-    (λ h. absurd (omega arith)))
+pub returns-else-at-found : goal.returns-else-at-found
+returns-else-at-found c =
+    place_lost c.args.found.now c.args.places.now c.args.number _ c.requires.placed refl
+    (λ inside same. elim c.else-at-found.branch [ else-at-found-via-then-at-found+else-found-at w ↦ w.if-found-at.false same | else-at-found-via-else-at-found w ↦ absurd (omega (arith, inside, w.if-at-found.false)) ])

@@ -1,9 +1,10 @@
-use Rattle.std.proofs.Common.{sym, ◌∙◌, ap, refl, Some}
+use Rattle.std.proofs.Common.{sym, ◌∙◌, ap, refl, Some, List, [], ◌∷◌, ◌++◌}
 use Rattle.std.specs.Prelude.{map}
 use Rattle.kb_text.specs.Fronts.{TermFront}
 use Rattle.kb_text.proofs.Vectors.{empty_not, empty_is}
 use Rattle.kb_syntax.specs.Sides.{application_of, enclosed}
 use Rattle.kb_syntax.proofs.SideLaws.{closing, closing_open, not_closing}
+use Rattle.kb_syntax.specs.declared.written.WrittenTerm.{WrittenTerm}
 use Rattle.kb_syntax.proofs.side.Side.closed.Goals as goal
 
 pub returns-then-not-is_empty : goal.returns-then-not-is_empty
@@ -12,7 +13,7 @@ returns-then-not-is_empty c = not_closing c.args.self.now c.in-Open.field-0 (sym
 pub returns-in_ok-push-in-Some : goal.returns-in_ok-push-in-Some
 returns-in_ok-push-in-Some c =
     ap (λ (u : TermFront). Some (enclosed (map application_of c.pop.new.self.items) u)) c.applied.ensures
-    ∙ closing c.args.self.now c.in-Whole.term c.pop.new.self.items c.in-Some.field-0 c.in-Some.field-0.name.now c.push.new.self.items (sym c.replace.ensures.value ∙ c.in-Whole.is) c.in-Some.ensures.items refl c.in_ok-push-in-Some.ensures.items
+    ∙ closing c.args.self.now c.in-Whole.term c.pop.new.self.items c.in-Some.field-0 c.in-Some.field-0.name.now c.push.new.self.items (sym c.replace.ensures.value ∙ c.in-Whole.is) c.in-Some.ensures.items refl (c.in_ok-push-in-Some.ensures.items ∙ ap (λ (ts : List WrittenTerm). ts ++ c.in-Whole.term ∷ []) c.reserve_exact.ensures.items)
 
 pub returns-else-not-is_empty : goal.returns-else-not-is_empty
 returns-else-not-is_empty c =

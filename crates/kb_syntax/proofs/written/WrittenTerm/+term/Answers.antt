@@ -18,6 +18,6 @@ overflow_cast-symbol t c = omega (arith, c.number_of-in-Applied.ensures, number_
 
 pub loop-argument-init : goal.loop-argument-init
 loop-argument-init t c = record {
-  made = ap (map tree_of) c.new-items.ensures.items;
+  made = ap (map tree_of) c.in_ok-items-in-Applied.ensures.items;
   all = rw (c.in-Applied.is, ← c.arguments.view_is, c.deref-argument-items.ensures.value) (ap (apply (number_of c.args.symbols.now c.in-Applied.name.now)) (terms-of c.args.variables.now.found c.args.symbols.now c.arguments.inside.items.items));
 }
