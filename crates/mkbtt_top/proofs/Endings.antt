@@ -1,7 +1,7 @@
 -- What a run leaves, clause by clause.
 use Rattle.std.proofs.Common.{ℕ, ◌≡◌, ◌∙◌, inl, inr, sym, subst, List}
-use Rattle.std.specs.Prelude.{Option, ⊤, ⊥}
-use Rattle.kb_io.specs.Bytes.{Rose}
+use Rattle.std.specs.Prelude.{Option}
+use Rattle.kb_io.specs.Bytes.{Rose, TakesAll}
 use Rattle.kb_text.specs.declared.kind.Kind.{Kind}
 use Rattle.kb_label.specs.declared.verdict.Verdict.{Verdict}
 use Rattle.kb_label.specs.declared.verdict.Verdict.TheVariants as verdicts
@@ -9,9 +9,9 @@ use Rattle.kb_checker.specs.declared.verdict.Checked.{Checked}
 use Rattle.kb_checker.specs.declared.verdict.Checked.TheVariants.{Accepted, Rejected}
 use Rattle.mkb_board.specs.Boards.{Seen}
 use Rattle.mkbtt_top.specs.Checking.{HasBadLine, status_of as status_of_checked}
-use Rattle.mkbtt_top.specs.Completing.{status_of}
+use Rattle.mkbtt_top.specs.Completing.{status_of, IsRefusal}
 use Rattle.mkbtt_top.specs.Replies.{status_of_stop}
-use Rattle.mkbtt_top.specs.Runs.{Answers, AnswersInPart, Ends, whole, in_part, stopped, IsAnswered, IsUnread, Makes, ReadsIfAsked, Refuses, IsRefusedBy, StopsBy, WritesNothing}
+use Rattle.mkbtt_top.specs.Runs.{Answers, AnswersInPart, Ends, whole, in_part, stopped, by_text, IsAnswered, IsUnread, Makes, ReadsIfAsked, Refuses, IsRefusedBy, StopsBy, WritesNothing}
 use Rattle.mkbtt_top.specs.Tasks.{AskFor, is_reading}
 use Rattle.mkbtt_top.specs.declared.reply.Stop.{Stop}
 use Rattle.mkbtt_top.specs.declared.reply.Stop.TheVariants as stops
@@ -104,6 +104,13 @@ stop_of_bad_text task old new before after (stops.BadText n) m h e =
 stop_of_bad_text task old new before after stops.ReadFault m h e = absurd (cc)
 stop_of_bad_text task old new before after (stops.Memory board) m h e = absurd (cc)
 
+-- what the bytes of a problem are refused for, as the refusal of what was read
+pub stop_of_refusal : (budget : ℕ) (old new : Option (List ℕ)) (before after : ℕ) (bytes : List ℕ) (stop : Stop) → TakesAll old bytes new → IsRefusal bytes stop → StopsBy (Complete budget) old new before after stop
+stop_of_refusal budget old new before after bytes (stops.Refused kind at) t h = by_text bytes t h
+stop_of_refusal budget old new before after bytes (stops.BadText n) t h = absurd h
+stop_of_refusal budget old new before after bytes stops.ReadFault t h = absurd h
+stop_of_refusal budget old new before after bytes (stops.Memory board) t h = tt
+
 -- ---- the clauses
 
 module _ (words : List (List ℕ)) (task : Task) (asked : AskFor task words) (end : Status) (board : Option Seen) (left_old left_new : Option (List ℕ)) (reads_before reads_after : ℕ) (written_old written_new : Option (List ℕ)) (writes_before writes_after : ℕ) where
@@ -147,6 +154,6 @@ module _ (words : List (List ℕ)) (task : Task) (asked : AskFor task words) (en
   nothing (in_part h) = subst {A = Status} (λ s. WritesNothing s written_old written_new) (sym h.end_is) tt
   nothing (stopped h) = writes_none end written_old written_new h.nothing
 
-  pub reads : IsUnread task left_old left_new → ReadsIfAsked words left_old left_new
-  reads (inl h) = inr (task, asked, h)
-  reads (inr h) = inl h
+pub reads : (words : List (List ℕ)) (task : Task) (old new : Option (List ℕ)) → AskFor task words → IsUnread task old new → ReadsIfAsked words old new
+reads words task old new asked (inl h) = inr (task, asked, h)
+reads words task old new asked (inr h) = inl h

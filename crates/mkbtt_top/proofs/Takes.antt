@@ -1,6 +1,7 @@
 -- The journal of one worker alone, and what it makes of the board.
-use Rattle.std.proofs.Common.{ℕ, ◌≡◌, ◌≤◌, ◌∙◌, sym, refl, ap, subst, arith, eqb→eq, List, [], ◌∷◌, Contains, Bool, true, false, ◌==◌, ◌&&◌, Some, None, ⊎_elim}
+use Rattle.std.proofs.Common.{ℕ, ◌≡◌, ◌≤◌, ◌∙◌, sym, refl, ap, subst, arith, List, [], ◌∷◌, Contains, Bool, true, false, ◌==◌, ◌&&◌, Some, None, ⊎_elim}
 use Rattle.std.specs.Prelude.{IsTrue}
+use Rattle.std.proofs.lemmas.Bool.{eqb-true}
 use Rattle.kb_term.specs.Signature.{Problem, IsWithinLimits}
 use Rattle.kb_term.proofs.Steps.{contains_cases}
 use Rattle.kb_label.specs.declared.verdict.Verdict.{Verdict}
@@ -29,7 +30,7 @@ takes_by_one (Take v s i ∷ []) h w t j c = absurd (cc)
 takes_by_one (Take v s i ∷ e ∷ J) h w t j c =
     let parts = both (v == 1) (is_end_of s e && takes_in_turn J) h in
     let rest = both (is_end_of s e) (takes_in_turn J) parts.1 in
-    let first : Take v s i ≡ Take w t j → (1 ≤ w) × (w ≤ 1) = λ q. (let k : v ≡ w = cc in let one = eqb→eq v 1 parts.0 in (omega (arith, k, one), omega (arith, k, one))) in
+    let first : Take v s i ≡ Take w t j → (1 ≤ w) × (w ≤ 1) = λ q. (let k : v ≡ w = cc in let one = eqb-true v 1 parts.0 in (omega (arith, k, one), omega (arith, k, one))) in
     let second : e ≡ Take w t j → (1 ≤ w) × (w ≤ 1) = λ q. absurd (no_end s w t j (subst {A = Entry} (λ x. is_end_of s x ≡ true) q rest.0)) in
     ⊎_elim first (λ c2. ⊎_elim second (takes_by_one J rest.1 w t j) (contains_cases e J (Take w t j) c2)) (contains_cases (Take v s i) (e ∷ J) (Take w t j) c)
   where

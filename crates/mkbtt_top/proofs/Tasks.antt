@@ -1,8 +1,11 @@
 -- The numbers of tasks.
-use Rattle.std.proofs.Common.{ℕ, ◌≡◌, ◌≤◌, subst, Some, None, List}
+use Rattle.std.proofs.Common.{ℕ, ◌≡◌, ◌≤◌, ◌∙◌, sym, subst, Some, None, List}
+use Rattle.std.specs.Prelude.{Option, IfSome}
+use Rattle.mkbtt_words.specs.Reading.{AreRead}
 use Rattle.mkbtt_words.specs.declared.mode.Mode.{Mode}
 use Rattle.mkbtt_words.specs.declared.mode.Mode.TheVariants.{Complete, Check, Summary, Journal, Replay, Gen}
-use Rattle.mkbtt_top.specs.Tasks.{task_by, AskFor, HasNumber}
+use Rattle.mkbtt_words.specs.declared.words.Words.{Words}
+use Rattle.mkbtt_top.specs.Tasks.{task_by, task_of, AskFor, AskForAnother, HasNumber}
 use Rattle.mkbtt_top.specs.declared.task.Task.{Task}
 
 -- the two are one task
@@ -20,3 +23,11 @@ number_in Replay b n task low high e = absurd (cc)
 -- the words' numbers are in their ranges
 pub number_of : (task : Task) (words : List (List ℕ)) → AskFor task words → HasNumber task
 number_of task words h = number_in h.read.mode h.read.budget h.read.number task h.are_read.number_read.low h.are_read.number_read.high h.asked
+
+-- what the words ask for, as it was found
+pub asked_of : (o : Option Task) (read : Words) (words : List (List ℕ)) → AreRead words read → o ≡ task_of read → IfSome o (λ task. AskFor task words)
+asked_of None read words h e = tt
+asked_of (Some task) read words h e = record { read = read; are_read = h; asked = sym e }
+
+pub another : (o : Option Task) (read : Words) (words : List (List ℕ)) → AreRead words read → o ≡ task_of read → o ≡ None → AskForAnother words
+another o read words h e none = record { read = read; are_read = h; asked = sym e ∙ none }

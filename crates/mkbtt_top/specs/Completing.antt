@@ -1,5 +1,5 @@
 -- What a completion of a problem comes to.
-use Rattle.std.specs.Prelude.{ℕ, ◌≡◌, List, Option, Some, ⊤, ⊥}
+use Rattle.std.specs.Prelude.{ℕ, ◌≡◌, List, Option, Some, ⊤}
 use Rattle.kb_io.specs.Bytes.{TakesAll}
 use Rattle.kb_term.specs.Signature.{Problem}
 use Rattle.kb_text.specs.Problems.{Spells}

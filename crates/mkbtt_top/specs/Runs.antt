@@ -1,5 +1,5 @@
 -- What a run comes to, by its words.
-use Rattle.std.specs.Prelude.{ℕ, ◌≡◌, ◌⊎◌, List, Option, ⊤, ⊥, IsTrue}
+use Rattle.std.specs.Prelude.{ℕ, ◌≡◌, ◌⊎◌, List, Option, ⊤, IsTrue}
 use Rattle.kb_io.specs.Bytes.{TakesAll, HasMoreThan, Appends, AppendsPart, Rose}
 use Rattle.kb_text.specs.Refusals.{IsRefused}
 use Rattle.kb_text.specs.declared.kind.Kind.{Kind}
