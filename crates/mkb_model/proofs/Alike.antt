@@ -1,5 +1,5 @@
 -- Two lists of the overlaps of named rules are alike, whichever variants and unifiers were taken, and so are what is proposed from them.
-use Rattle.std.proofs.Common.{ℕ, ◌≡◌, ◌⊎◌, ◌↔◌, inl, inr, refl, sym, ap, ap₂, ◌∙◌, subst, List, [], ◌∷◌, ◌++◌, map, flat_map, Contains, Option, Some, None, Result, Ok, Err, ⊎_elim}
+use Rattle.std.proofs.Common.{ℕ, ◌≡◌, ◌⊎◌, inl, inr, refl, sym, ap, ap₂, ◌∙◌, subst, List, [], ◌∷◌, ◌++◌, map, flat_map, Contains, Option, Some, None, Result, Ok, Err}
 use Rattle.std.specs.Prelude.{⊤, option_to_list}
 use Rattle.kb_term.specs.Tree.{Tree}
 use Rattle.kb_term.specs.Substitution.{instance}
@@ -7,17 +7,17 @@ use Rattle.kb_term.specs.Pair.{Pair, canonical_pair}
 use Rattle.kb_term.specs.Rule.{Rule}
 use Rattle.kb_term.specs.declared.limit.Limit.{Limit as TermLimit}
 use Rattle.kb_term.specs.declared.origin.RuleRef.{RuleRef}
-use Rattle.kb_overlap.specs.Overlap.{IsOverlapOrLimit, IsOverlapList, ListsOverlaps, OverlapsAt, IsCriticalPair, HasNoOverlapAt, Overlap as Listed, overlap_positions, overlap_limit, pair_or_limit, canonical_sides}
+use Rattle.kb_overlap.specs.Overlap.{IsOverlapOrLimit, ListsOverlaps, OverlapsAt, IsCriticalPair, HasNoOverlapAt, Overlap as Listed, overlap_positions, overlap_limit, pair_or_limit, canonical_sides}
 use Rattle.kb_term.proofs.Steps.{contains_cases, contains_behind, contains_first}
 use Rattle.kb_overlap.proofs.Uniqueness.{overlap_alike, transfer, first_made, second_made}
-use Rattle.kb_rewrite.specs.NormalForm.{HoldVariables, Normalised, form, long, large, NormalisesTo}
+use Rattle.kb_rewrite.specs.NormalForm.{HoldVariables, Normalised, form, long, large}
 use Rattle.kb_rewrite.proofs.Determined.{answers_once}
 use Rattle.kb_label.specs.declared.verdict.Reason.{Reason}
 use Rattle.kb_node.specs.declared.job.Deduced.{Deduced}
 use Rattle.mkb_model.specs.Jobs.{ref_eq}
-use Rattle.mkb_model.specs.Proposals.{NamedRule, as_rules, NamedOverlap, OverlapsOf, OverlapsOfAll, own_limit, FirstThat, deduced_pair, AreDeduced, HasForm, form_limit, PassesLimit, PassesFirst, HaveForms, IsJoinedBy, FormsMeet, OfSides, IsFormed, IsJoined, IsUnjoined, IsStopped, Picks}
+use Rattle.mkb_model.specs.Proposals.{NamedRule, as_rules, NamedOverlap, OverlapsOfAll, own_limit, FirstThat, deduced_pair, AreDeduced, HasForm, form_limit, PassesLimit, PassesFirst, HaveForms, IsJoinedBy, FormsMeet, OfSides, IsFormed, IsJoined, IsUnjoined, IsStopped, Picks}
 use Rattle.mkb_model.proofs.Lists.{none_in, none_some, some_is}
-use Rattle.mkb_model.proofs.Renamings.{Back, back_again, answer_instance, FormBack, normalises_instance, canonical_back}
+use Rattle.mkb_model.proofs.Renamings.{Back, back_again, answer_instance, normalises_instance, canonical_back}
 
 -- ---- lists whose members are related one by one
 

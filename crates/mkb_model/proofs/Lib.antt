@@ -32,6 +32,7 @@ pub mod StillClosed
 pub mod Certificates
 pub mod Completed
 pub mod Origins
+pub mod OriginForms
 pub mod Sound
 pub mod Drops
 pub mod Unique
@@ -52,5 +53,6 @@ pub mod Renamings
 pub mod Alike
 pub mod OneProposal
 pub mod OneJournal
+pub mod OneWorker
 pub mod Variables
 pub mod Sizes

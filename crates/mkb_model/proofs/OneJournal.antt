@@ -1,8 +1,6 @@
 -- The moves of a run decide the run.
-use Rattle.std.proofs.Common.{ℕ, suc, ◌≡◌, ◌≢◌, ◌⊎◌, inl, inr, refl, sym, ap, ap₂, ◌∙◌, subst, arith, List, [], ◌∷◌, map, Contains, Bool, true, false, ⊎_elim}
-use Rattle.std.specs.Prelude.{AllPairs}
+use Rattle.std.proofs.Common.{ℕ, ◌≡◌, refl, sym, ap, ap₂, ◌∙◌, subst, List, [], ◌∷◌}
 use Rattle.kb_term.specs.Signature.{Problem, IsWithinLimits}
-use Rattle.kb_term.proofs.Steps.{contains_cases}
 use Rattle.kb_rewrite.specs.NormalForm.{HoldVariables}
 use Rattle.kb_label.specs.Names.{Name}
 use Rattle.kb_node.specs.declared.job.Job.{Job}
@@ -10,13 +8,13 @@ use Rattle.mkb_model.specs.Jobs.{process_of}
 use Rattle.mkb_model.specs.Plain.{Plain, rules_at, rules_of}
 use Rattle.mkb_model.specs.Effects.{effect, effect_entry, is_dropped}
 use Rattle.mkb_model.specs.Proposals.{Proposes}
-use Rattle.mkb_model.specs.Journals.{Moment, Move, takes, ends, gives_back, halts, move_of, moves_of, Follows, IsPossibleRun, IsFreeJob, IsFinishing, IsCommitting, IsDropping, in_flight, landed}
+use Rattle.mkb_model.specs.Journals.{Moment, move_of, moves_of, Follows, IsPossibleRun, IsFreeJob, IsFinishing, IsCommitting, IsDropping, in_flight, landed}
 use Rattle.mkb_model.specs.declared.proposed.Proposed.{Proposed}
 use Rattle.mkb_model.specs.declared.entry.Ticket.{Ticket}
 use Rattle.mkb_model.specs.declared.entry.Effect.{Effect}
 use Rattle.mkb_model.specs.declared.entry.Entry.{Entry}
 use Rattle.mkb_model.specs.declared.entry.Entry.TheVariants.{Take, Commit, Drop, Abandon, Halt}
-use Rattle.mkb_model.proofs.Lists.{clash, none_in}
+use Rattle.mkb_model.proofs.Lists.{clash}
 use Rattle.mkb_model.proofs.Living.{flight_numbered}
 use Rattle.mkb_model.proofs.AllFine.{earlier_run, states_ordered, commits_fine}
 use Rattle.mkb_model.proofs.Unique.{taken_once, ticket_once}
@@ -64,7 +62,7 @@ module _ (P : Problem) (n : ℕ) (within : IsWithinLimits P) (past : List Moment
       let k = one_end v w t f.job g.job f.proposal g.proposal f.finishing g.finishing in
       clash (ap (is_dropped b) k.proposal ∙ g.idle) f.acts
 
-  follow_one : (e d : Entry) (c a : Plain) → Follows IsFreeJob past b e c → Follows IsFreeJob past b d a → move_of e ≡ move_of d → (e ≡ d) × (c ≡ a)
+  pub follow_one : (e d : Entry) (c a : Plain) → Follows IsFreeJob past b e c → Follows IsFreeJob past b d a → move_of e ≡ move_of d → (e ≡ d) × (c ≡ a)
   follow_one (Take v s i) (Take w t j) c a f g h =
       let x : v ≡ w = cc in
       let y : s ≡ t = cc in

@@ -1,27 +1,24 @@
 -- What a job proposes is a function of the board from which it was taken.
-use Rattle.std.proofs.Common.{ℕ, zero, suc, ◌≡◌, ◌⊎◌, inl, inr, refl, sym, ap, ap₂, ◌∙◌, subst, List, [], ◌∷◌, ◌++◌, map, not, ◌==◌, Contains, All, Bool, true, Option, Some, None, Ordering, Equal, Greater, nat_cmp, ⊎_elim}
+use Rattle.std.proofs.Common.{ℕ, ◌≡◌, ◌⊎◌, inl, inr, refl, sym, ap, ap₂, ◌∙◌, subst, List, [], ◌∷◌, ◌++◌, map, not, ◌==◌, Contains, All, Bool, Option, Some, None, Ordering, Equal, Greater, nat_cmp}
 use Rattle.std.specs.Prelude.{◌≢◌, option_map}
-use Rattle.std.specs.List.{flat_map}
 use Rattle.std.proofs.lemmas.List.Elements.{All-head, All-tail, All-contains, Contains-append_right}
-use Rattle.kb_term.specs.Tree.{Tree, variable, apply, Trees, trees_of, more_trees, no_trees, variables_of}
+use Rattle.kb_term.specs.Tree.{Tree, variable, trees_of, variables_of}
 use Rattle.kb_term.specs.View.{tree_of}
 use Rattle.kb_term.specs.Pair.{Pair, term_limit}
-use Rattle.kb_term.specs.Position.{subtree_at, replace_at}
+use Rattle.kb_term.specs.Position.{replace_at}
 use Rattle.kb_term.specs.Substitution.{instance, IsVariant}
 use Rattle.kb_term.specs.Rule.{Rule, rule_of}
 use Rattle.kb_term.specs.First.{IsFirst}
 use Rattle.kb_term.specs.Proving.{RewritesAt}
 use Rattle.kb_term.specs.declared.term.Term.{Term}
 use Rattle.kb_term.specs.declared.term.Term.TheVariants.{Var, App}
-use Rattle.kb_term.specs.declared.term.Symbol.{Symbol}
-use Rattle.kb_term.specs.declared.limit.Limit.{Limit as TermLimit}
 use Rattle.kb_term.specs.declared.origin.RuleRef.{RuleRef}
 use Rattle.kb_term.specs.declared.origin.Found.{Found}
 use Rattle.kb_term.specs.declared.origin.Found.TheVariants.{No, Variant, Strict}
 use Rattle.std.specs.Ordering.{ordering_then}
 use Rattle.kb_term.proofs.CanonicalPairs.{nat_equal, then_equal}
 use Rattle.kb_term.proofs.Instances.{instance-agree, agree_at}
-use Rattle.kb_term.proofs.Steps.{contains_cases, contains_behind, contains_first, occurs_from, occurs_to}
+use Rattle.kb_term.proofs.Steps.{contains_behind, contains_first, occurs_from, occurs_to}
 use Rattle.kb_overlap.specs.Trace.{side}
 use Rattle.kb_cert.specs.Family.{family, Orders}
 use Rattle.kb_cert.specs.declared.certificate.Certificate.{Certificate}
@@ -35,16 +32,16 @@ use Rattle.kb_node.specs.declared.job.Fact.{Fact}
 use Rattle.kb_node.specs.declared.job.Deduced.{Deduced}
 use Rattle.kb_node.specs.declared.job.LimitCause.{LimitCause}
 use Rattle.mkb_model.specs.Jobs.{numbers_cmp, process_of}
-use Rattle.mkb_model.specs.Plain.{Plain, other, pair_at, pair_in, rule_at, rules_at, rules_of, constraints_of}
+use Rattle.mkb_model.specs.Plain.{Plain, other, pair_at, rule_at, rules_at, rules_of, constraints_of}
 use Rattle.mkb_model.specs.DueJobs.{reducers, is_usable}
-use Rattle.mkb_model.specs.Proposals.{Proposes, NamedRule, named_rules, as_rules, rules_on, equations_on, redex_cmp, IsUsableRedex, IsFirstRedex, IsIrreducible, IsFactOf, AreMissingFacts, unknown, NamedOverlap, both_ways, all_ways, OrientsBy, reason_of, own_limit, FirstThat, HaveForms, PassesFirst, IsFormed, IsJoined, IsUnjoined, IsStopped, IsUnjoining, IsClosed, IsOverlapStop, IsInputStop, IsDeducing, IsLargeOverlap, AllOverlaps, Picks}
+use Rattle.mkb_model.specs.Proposals.{Proposes, NamedRule, named_rules, as_rules, rules_on, equations_on, redex_cmp, IsFirstRedex, IsIrreducible, AreMissingFacts, unknown, NamedOverlap, both_ways, all_ways, OrientsBy, reason_of, own_limit, FirstThat, HaveForms, PassesFirst, IsFormed, IsJoined, IsUnjoined, IsStopped, IsUnjoining, IsClosed, IsOverlapStop, IsInputStop, IsDeducing, IsLargeOverlap, AllOverlaps, Picks}
 use Rattle.mkb_model.specs.declared.proposed.Proposed.{Proposed}
 use Rattle.mkb_model.specs.declared.proposed.Proposed.TheVariants.{Facts, Rewrite, One, Both, Refuse, Deduce, Unjoined, Closed, Limit}
 use Rattle.mkb_model.proofs.Lists.{none_some, some_is, filter_in, in_map, map_in, in_filter_map}
 use Rattle.mkb_model.proofs.Readiness.{named_rule}
 use Rattle.mkb_model.proofs.Completed.{named_are}
 use Rattle.mkb_model.proofs.Unique.{neither, redex_flip}
-use Rattle.mkb_model.proofs.Alike.{Both as Paired, both_first, both_in, both_picked, AreAlike, overlaps_both, alike_swapped, alike_limit, deduced_same, formed_alike, joined_alike, unjoined_alike, stopped_alike, forms_no_pass, passes_one, formed_not_stopped, joined_formed, joined_not_unjoined, stopped_one}
+use Rattle.mkb_model.proofs.Alike.{Both as Paired, both_first, both_in, both_picked, AreAlike, overlaps_both, alike_swapped, alike_limit, deduced_same, formed_alike, unjoined_alike, stopped_alike, forms_no_pass, passes_one, formed_not_stopped, joined_formed, joined_not_unjoined, stopped_one}
 
 -- ---- terms of the program
 

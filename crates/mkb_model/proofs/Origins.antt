@@ -48,10 +48,10 @@ use Rattle.mkb_model.proofs.AllFine.{states_ordered, commits_fine, deduce_named,
 
 -- ---- pairs with their origins
 
-abbrev Bone : Type 0
+abbrev pub Bone : Type 0
 Bone = Pair × Origin
 
-abbrev bones : List PlainNode → List Bone
+abbrev pub bones : List PlainNode → List Bone
 bones xs = map (λ (x : PlainNode). (x.pair, x.origin)) xs
 
 -- the pair with a number
@@ -109,12 +109,12 @@ bone_label x C0 l = refl
 bone_label x C1 l = refl
 bone_label x X l = refl
 
-bones_label : (n : ℕ) (k : LabelKind) (l : List Name) (xs : List PlainNode) → bones (with_label n k l xs) ≡ bones xs
+pub bones_label : (n : ℕ) (k : LabelKind) (l : List Name) (xs : List PlainNode) → bones (with_label n k l xs) ≡ bones xs
 bones_label n k l [] = refl
 bones_label zero k l (x ∷ xs) = ap (λ (b : Bone). b ∷ bones xs) (bone_label x k l)
 bones_label (suc n) k l (x ∷ xs) = ap ((x.pair, x.origin) ∷◌) (bones_label n k l xs)
 
-bones_fork : (p : Name) (xs : List PlainNode) → bones (map (forked_node p) xs) ≡ bones xs
+pub bones_fork : (p : Name) (xs : List PlainNode) → bones (map (forked_node p) xs) ≡ bones xs
 bones_fork p [] = refl
 bones_fork p (x ∷ xs) = ap ((x.pair, x.origin) ∷◌) (bones_fork p xs)
 
@@ -125,7 +125,7 @@ Right es xs = AreRight es (bones xs)
 right_same : (es : List (Tree × Tree)) (xs ys : List PlainNode) → bones ys ≡ bones xs → Right es xs → Right es ys
 right_same es xs ys e h = subst {A = List Bone} (AreRight es) (sym e) h
 
-bones_append : (xs : List PlainNode) (y : PlainNode) → bones (xs ++ y ∷ []) ≡ bones xs ++ (y.pair, y.origin) ∷ []
+pub bones_append : (xs : List PlainNode) (y : PlainNode) → bones (xs ++ y ∷ []) ≡ bones xs ++ (y.pair, y.origin) ∷ []
 bones_append [] y = refl
 bones_append (x ∷ xs) y = ap ((x.pair, x.origin) ∷◌) (bones_append xs y)
 
@@ -139,13 +139,13 @@ right_with_node es z o xs h r = go (is_present xs z)
 keeps_with_node : (z : Pair) (o : Origin) (xs : List PlainNode) (k : ℕ) (q : Pair) → pair_in xs k ≡ Some q → pair_in (with_node z o xs) k ≡ Some q
 keeps_with_node z o xs k q e = pairs-with_node z o xs k q e
 
-bones_gains_equation : (n : ℕ) (l : List Name) (xs : List PlainNode) → bones (gains_equation n l xs) ≡ bones xs
+pub bones_gains_equation : (n : ℕ) (l : List Name) (xs : List PlainNode) → bones (gains_equation n l xs) ≡ bones xs
 bones_gains_equation n l xs = bones_label n E _ xs
 
-bones_gains_rule : (a : RuleRef) (l : List Name) (xs : List PlainNode) → bones (gains_rule a l xs) ≡ bones xs
+pub bones_gains_rule : (a : RuleRef) (l : List Name) (xs : List PlainNode) → bones (gains_rule a l xs) ≡ bones xs
 bones_gains_rule a l xs = bones_label a.node (rule_kind a.dir) _ (loses a.node E l xs) ∙ bones_label a.node E _ xs
 
-bones_oriented : (p : Name) (a : RuleRef) (xs : List PlainNode) → bones (oriented p a xs) ≡ bones xs
+pub bones_oriented : (p : Name) (a : RuleRef) (xs : List PlainNode) → bones (oriented p a xs) ≡ bones xs
 bones_oriented p a xs = bones_label a.node _ _ (gains a.node (rule_kind a.dir) (p ∷ []) (loses a.node E (p ∷ []) xs)) ∙ bones_label a.node _ _ (loses a.node E (p ∷ []) xs) ∙ bones_label a.node E _ xs
 
 same_pairs : (xs ys : List PlainNode) → bones ys ≡ bones xs → (k : ℕ) (q : Pair) → pair_in xs k ≡ Some q → pair_in ys k ≡ Some q

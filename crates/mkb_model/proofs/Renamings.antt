@@ -1,21 +1,20 @@
 -- A term that a substitution takes to another, from which one takes it back, normalises as that one does.
-use Rattle.std.proofs.Common.{ℕ, zero, suc, ◌<◌, ◌≡◌, arith, refl, sym, ap, ap₂, ◌∙◌, subst, List, [], ◌∷◌, ◌++◌, map, length, Contains, All, Bool, false, true, Option, Some, None}
+use Rattle.std.proofs.Common.{ℕ, zero, suc, ◌<◌, ◌≡◌, arith, refl, sym, ap, ap₂, ◌∙◌, subst, List, [], ◌∷◌, ◌++◌, map, Contains, All, false, Some, None}
 use Rattle.std.specs.Prelude.{slice_get}
 use Rattle.std.proofs.lemmas.List.{length-map}
 use Rattle.std.proofs.lemmas.List.Elements.{All-nil, All-cons, All-head, All-tail}
 use Rattle.kb_term.specs.Tree.{Tree, variable, apply, Trees, no_trees, more_trees, variables_of}
 use Rattle.kb_term.specs.Position.{subtree_at, replace_at, positions_of, positions_in}
-use Rattle.kb_term.specs.Substitution.{instance, instances, Matches}
-use Rattle.kb_term.specs.Pair.{Pair, canonical_pair, term_limit}
+use Rattle.kb_term.specs.Substitution.{instance, instances}
+use Rattle.kb_term.specs.Pair.{canonical_pair, term_limit}
 use Rattle.kb_term.specs.Rule.{Rule}
-use Rattle.kb_term.specs.Proving.{IsPath, Step, RewritesAt}
-use Rattle.kb_term.specs.declared.limit.Limit.{Limit}
+use Rattle.kb_term.specs.Proving.{IsPath, RewritesAt}
 use Rattle.kb_term.proofs.Instances.{instance-instance, instance-agree, agree_at}
 use Rattle.kb_term.proofs.Steps.{contains_behind, occurs_from, occurs_to}
 use Rattle.kb_term.proofs.Subtrees.{subtree-instance, replace-instance}
 use Rattle.kb_overlap.proofs.Extents.{same_term_limit}
 use Rattle.kb_overlap.proofs.Uniqueness.{same_canonical_pair}
-use Rattle.kb_rewrite.specs.NormalForm.{MatchesAt, IsRedex, IsFirstRedex, HasRedex, IsNormal, StrategyStep, IsRunWithinLimits, HoldVariables, Normalised, form, long, large, NormalisesTo}
+use Rattle.kb_rewrite.specs.NormalForm.{IsRedex, IsFirstRedex, HasRedex, IsNormal, StrategyStep, HoldVariables, Normalised, form, long, large, NormalisesTo}
 use Rattle.mkb_model.proofs.Lists.{some_is}
 
 -- e takes the instance of the term by d back to the term

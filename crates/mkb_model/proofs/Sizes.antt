@@ -1,17 +1,17 @@
 -- In a possible run of a problem within the limits the pair of each node is within the limits.
-use Rattle.std.proofs.Common.{ℕ, zero, suc, ◌+◌, ◌≤◌, ◌<◌, ◌≡◌, ◌⊎◌, inl, inr, refl, sym, ap, ap₂, ◌∙◌, subst, arith, eq-eqb, ne_eqb, ◌||◌, List, [], ◌∷◌, ◌++◌, map, length, Contains, Bool, true, false, cond, Option, Some, None, ⊎_elim}
-use Rattle.std.specs.Prelude.{max, nat_lt, Ok, Err, All, IsFalse, IsTrue, option_and_then, option_to_list}
+use Rattle.std.proofs.Common.{ℕ, zero, suc, ◌+◌, ◌≤◌, ◌≡◌, refl, sym, ap, ap₂, ◌∙◌, subst, arith, ◌||◌, List, [], ◌∷◌, ◌++◌, map, length, Contains, Bool, true, false, cond, Option, Some, None, ⊎_elim}
+use Rattle.std.specs.Prelude.{max, nat_lt, Ok, IsFalse, option_and_then, option_to_list}
 use Rattle.std.specs.Option.{option_map_or}
-use Rattle.std.proofs.lemmas.List.Elements.{Contains-append_cases, Contains-append_left, Contains-append_right, All-contains}
-use Rattle.kb_term.proofs.Steps.{contains_cases, contains_behind, contains_first, occurs_from, occurs_to, Occurs}
+use Rattle.std.proofs.lemmas.List.Elements.{All-contains}
+use Rattle.kb_term.proofs.Steps.{contains_cases, contains_behind, contains_first}
 use Rattle.kb_laws.proofs.Cleaning.{length-instances}
 use Rattle.mkb_model.proofs.Variables.{step_few}
 use Rattle.kb_term.specs.declared.limit.Limit.TheVariants.{Size, Depth, Variables}
-use Rattle.kb_term.specs.Tree.{Tree, Trees, variable, apply, no_trees, more_trees, tree_size, trees_size, tree_depth, trees_depth, variables_of}
+use Rattle.kb_term.specs.Tree.{Tree, Trees, variable, apply, no_trees, more_trees, tree_size, trees_size, tree_depth, trees_depth}
 use Rattle.kb_term.specs.View.{tree_of}
 use Rattle.kb_term.specs.Substitution.{instance, instances, rename}
 use Rattle.kb_term.specs.Pair.{Pair, place_in, variables_of_pair, numbered, canonical_pair, canonical, IsWithin, ArePairWithin, term_limit, pair_limit, first_limit, limit_if}
-use Rattle.kb_term.specs.Rule.{Rule, IsRule, rule_of}
+use Rattle.kb_term.specs.Rule.{Rule, rule_of}
 use Rattle.kb_term.specs.Signature.{Signature, Problem, HasArity, IsWellFormed, AreWellFormed, IsRuleOver, IsWithinLimits, IsEquationWithinLimits}
 use Rattle.kb_term.specs.Proving.{RewritesAt}
 use Rattle.kb_term.specs.declared.limit.Limit.{Limit as TermLimit}

@@ -11,3 +11,4 @@ pub mod Headline
 pub mod Invariants
 pub mod GoodAnswers
 pub mod Tickets
+pub mod Origins

@@ -5,11 +5,12 @@ ghost use Rattle.kb_label.specs.Names.{Name, root, has};
 ghost use Rattle.kb_label.specs.declared.verdict.Verdict.{Verdict};
 ghost use Rattle.kb_label.specs.declared.verdict.Verdict.TheVariants.{Complete};
 ghost use Rattle.kb_laws.specs.Completion.{KbReaches, kb_start};
-ghost use Rattle.mkb_model.specs.Plain.{Plain, state_of};
+ghost use Rattle.mkb_model.specs.Plain.{Plain, PlainNode, state_of};
 ghost use Rattle.mkb_model.specs.DueJobs.{first_job, free_jobs};
 ghost use Rattle.mkb_model.specs.Verdicts.{verdict, VerdictMeans};
-ghost use Rattle.mkb_model.specs.Journals.{Moment, Follows, IsFreeJob, IsPossibleRun, IsRun, IsLeaving, IsDropping, After, journal_of, moves_of, opening, tickets};
+ghost use Rattle.mkb_model.specs.Journals.{Alone, Moment, Follows, IsFreeJob, IsPossibleRun, IsRun, IsLeaving, IsDropping, After, journal_of, moves_of, opening, tickets};
 ghost use Rattle.mkb_model.specs.Limits.{AreLimited};
+ghost use Rattle.mkb_model.specs.Origins.{IsOriginOfForm};
 ghost use Rattle.mkb_model.specs.Ready.{KeepsPairs, AllFine};
 ghost use Rattle.kb_node.specs.declared.job.Job.{Job};
 ghost use Rattle.kb_node.specs.declared.job.Job.TheVariants.{Close};
@@ -54,6 +55,11 @@ pub fn living_names_come_of_forks()
 pub fn pairs_stay()
     ensures differ { (problem : Problem) (budget : ℕ) (past : List Moment) (board : Plain) → IsPossibleRun problem budget past board → PairsDiffer board }
     ensures numbers { (problem : Problem) (budget : ℕ) (past : List Moment) (board : Plain) (earlier : Moment) → IsPossibleRun problem budget past board → Contains past earlier → KeepsPairs earlier.board.nodes board.nodes }
+{}
+
+/// In each possible run the sides and directions that the origin of each node names are 0 or 1.
+pub fn origins_are_of_form()
+    ensures { (problem : Problem) (budget : ℕ) (past : List Moment) (board : Plain) → IsPossibleRun problem budget past board → (x : PlainNode) → Contains board.nodes x → IsOriginOfForm x.origin }
 {}
 
 /// In each possible run of a problem within the limits the pair of each node is within the limits: both sides are terms over the
@@ -144,4 +150,10 @@ pub fn journals_decide_runs()
 pub fn moves_decide_runs()
     ensures proposals { (problem : Problem) (budget : ℕ) (past : List Moment) (board : Plain) → IsWithinLimits problem → IsPossibleRun problem budget past board → (job : Job) (one other : Proposed) → Proposes board job one → Proposes board job other → one ≡ other }
     ensures runs { (problem : Problem) (budget : ℕ) → IsWithinLimits problem → (past other : List Moment) (board end : Plain) → IsPossibleRun problem budget past board → IsPossibleRun problem budget other end → moves_of past ≡ moves_of other → (past ≡ other) × (board ≡ end) }
+{}
+
+/// One worker alone, which ends each ticket before it takes the next one, up to a verdict, has one journal for a problem within
+/// the limits and a budget, and one board at its end.
+pub fn one_worker_has_one_journal()
+    ensures { (problem : Problem) (budget : ℕ) (journal other : List Entry) (board end : Plain) → IsWithinLimits problem → Alone problem budget journal board → Alone problem budget other end → (journal ≡ other) × (board ≡ end) }
 {}

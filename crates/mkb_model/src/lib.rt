@@ -12,9 +12,9 @@ pub use entry::{Effect, Entry, Ticket};
 pub use laws::{
     boards_are_sound, certificates_order, closed_processes_rest, commits_stay_within_the_budget,
     complete_is_good, facts_hold, flight_is_in_order, journals_decide_runs, labels_name_the_living,
-    legal_runs_are_possible, living_names_come_of_forks, moves_decide_runs, opening_is_reached,
-    pairs_are_within_limits, pairs_stay, runs_complete, tickets_are_dropped_after_commits,
-    verdicts_stay, work_goes_on,
+    legal_runs_are_possible, living_names_come_of_forks, moves_decide_runs,
+    one_worker_has_one_journal, opening_is_reached, origins_are_of_form, pairs_are_within_limits,
+    pairs_stay, runs_complete, tickets_are_dropped_after_commits, verdicts_stay, work_goes_on,
 };
 pub use proposed::{DeducedList, FactList, Proposed};
 

@@ -1,1 +1,7 @@
--- Lemmas.
+pub mod Rising
+pub mod Traces
+pub mod Forms
+pub mod Boards
+pub mod Viewed
+pub mod Counted
+pub mod Made

@@ -1,0 +1,5 @@
+use Rattle.mkb_model.proofs.OneWorker.{alone_once}
+use Rattle.mkb_model.proofs.laws.one_worker_has_one_journal.Goals as goal
+
+pub returns : goal.returns
+returns c = alone_once

@@ -1,0 +1,5 @@
+use Rattle.mkb_model.proofs.OriginForms.{origins_of_form}
+use Rattle.mkb_model.proofs.laws.origins_are_of_form.Goals as goal
+
+pub returns : goal.returns
+returns c = origins_of_form

@@ -1,0 +1,115 @@
+-- What is known of a board that a legal journal leads to.
+use Rattle.std.proofs.Common.{ℕ, zero, suc, ◌+◌, ◌<◌, ◌≤◌, ◌≡◌, ◌≢◌, ◌∙◌, refl, sym, ap, subst, arith, ⊎_elim, length-append, List, [], ◌∷◌, ◌++◌, map, take, filter, flat_map, length, Contains, AllPairs, Bool, true, false, cond, Option, Some, None, slice_get}
+use Rattle.std.specs.Prelude.{IsTrue, option_map}
+use Rattle.std.proofs.lemmas.Option.{slice_get-map}
+use Rattle.std.proofs.lemmas.List.Elements.{filter-append}
+use Rattle.kb_term.specs.Tree.{Tree}
+use Rattle.kb_term.specs.Pair.{Pair}
+use Rattle.kb_term.specs.Rule.{Rule}
+use Rattle.kb_term.specs.declared.origin.RuleRef.{RuleRef}
+use Rattle.kb_term.specs.declared.origin.Origin.{Origin}
+use Rattle.kb_overlap.specs.Trace.{IsRightOrigin}
+use Rattle.kb_cert.specs.Family.{family}
+use Rattle.kb_cert.specs.declared.certificate.Certificate.{Certificate}
+use Rattle.kb_laws.specs.Complete.{IsCompleteSystem}
+use Rattle.kb_laws.specs.Overlaps.{OverlapsClose, HaveOneNormalForm}
+use Rattle.kb_laws.proofs.Closing.{slice_contains}
+use Rattle.kb_label.specs.Names.{Name}
+use Rattle.kb_label.specs.declared.verdict.Verdict.TheVariants.{Complete}
+use Rattle.mkb_model.specs.Plain.{Plain, PlainNode, numbers_from, directions, node_numbers, is_rule, rules_of, rules_at, pair_in, pair_at, certificate_of}
+use Rattle.mkb_model.specs.Verdicts.{verdict}
+use Rattle.mkb_model.specs.Journals.{IsPossibleRun, IsFreeJob, tickets}
+use Rattle.mkb_model.specs.Invariants.{IsSound, PairsFollow}
+use Rattle.mkb_model.specs.Limits.{IsLimitedPair, AreLimited}
+use Rattle.mkb_model.specs.Origins.{IsOriginOfForm}
+use Rattle.mkb_model.specs.GoodAnswers.{IsGoodAnswer}
+use Rattle.mkb_model.proofs.Changes.{Fits}
+use Rattle.mkb_model.proofs.Fitting.{fits_run}
+use Rattle.mkb_model.proofs.Lists.{clash, decide, none_some, some_is}
+use Rattle.mkb_model.proofs.Selections.{legal-possible}
+use Rattle.mkb_model.proofs.OriginForms.{origins_of_form}
+use Rattle.mkb_model.proofs.Sound.{boards_sound}
+use Rattle.mkb_model.proofs.Sizes.{limited_run}
+use Rattle.mkb_model.proofs.Completed.{good_answer}
+use Rattle.mkb_report.specs.Reports.{IsReached, pairs_of}
+use Rattle.mkb_report.proofs.Traces.{OriginsAreRight, node_pair, right_alike, mapped_is}
+
+-- the rules of the process are a complete system for the problem by its certificate, and what the checker looks at besides
+pub record IsGoodProcess (b : Plain) (p : Name) : Type 0 where
+  pub certificate : Certificate
+  pub there : certificate_of b p ≡ Some certificate
+  pub member : Contains (family b.problem.signature) certificate
+  pub system : IsCompleteSystem b.problem certificate (rules_at b (rules_of b p))
+  pub overlaps : OverlapsClose (rules_at b (rules_of b p))
+  pub inputs : (e : Tree × Tree) → Contains b.problem.equations e → HaveOneNormalForm (rules_at b (rules_of b p)) e.0 e.1
+
+-- ---- pairs and origins of nodes
+
+paired : (o : Option PlainNode) → option_map (λ (x : Pair × Origin). x.0) (option_map (λ (x : PlainNode). (x.pair, x.origin)) o) ≡ option_map (λ (x : PlainNode). x.pair) o
+paired None = refl
+paired (Some x) = refl
+
+-- the pair of a node of the list is that of the node
+pub pair_of_node : (xs : List PlainNode) (m : ℕ) → node_pair (map (λ (x : PlainNode). (x.pair, x.origin)) xs) m ≡ pair_in xs m
+pair_of_node xs m = ap (option_map (λ (x : Pair × Origin). x.0)) (slice_get-map (λ (x : PlainNode). (x.pair, x.origin)) xs m) ∙ paired (slice_get xs m)
+
+take-map : {X Y : Type 0} (f : X → Y) (n : ℕ) (xs : List X) → take n (map f xs) ≡ map f (take n xs)
+take-map f zero xs = refl
+take-map f (suc n) [] = refl
+take-map f (suc n) (x ∷ xs) = ap (f x ∷◌) (take-map f n xs)
+
+pair_of_first : (xs : List PlainNode) (n m : ℕ) → node_pair (take n (map (λ (x : PlainNode). (x.pair, x.origin)) xs)) m ≡ pair_in (take n xs) m
+pair_of_first xs n m = ap (λ (ys : List (Pair × Origin)). node_pair ys m) (take-map (λ (x : PlainNode). (x.pair, x.origin)) n xs) ∙ pair_of_node (take n xs) m
+
+origins_right : (b : Plain) → PairsFollow b → OriginsAreRight b.problem.equations (pairs_of b)
+origins_right b h n x e =
+    let y = mapped_is (λ (z : PlainNode). (z.pair, z.origin)) (slice_get b.nodes n) x (sym (slice_get-map (λ (z : PlainNode). (z.pair, z.origin)) b.nodes n) ∙ e) in
+    right_alike b.problem.equations (pair_in (take n b.nodes)) (node_pair (take n (pairs_of b))) x.1 x.0 (λ m. sym (pair_of_first b.nodes n m))
+    (subst (λ (z : Pair × Origin). IsRightOrigin b.problem.equations (pair_in (take n b.nodes)) z.1 z.0) y.2 (h n y.0 y.1))
+
+module _ (b : Plain) (r : IsReached b) where
+  run : IsPossibleRun b.problem b.budget r.after.0 (record b { flight = r.flight })
+  run = legal-possible b.problem b.budget r.after.0 (record b { flight = r.flight }) r.after.2
+
+  sound : IsSound (tickets r.after.0) (record b { flight = r.flight })
+  sound = boards_sound b.problem b.budget r.after.0 (record b { flight = r.flight }) r.within run
+
+  pub right : OriginsAreRight b.problem.equations (pairs_of b)
+  right = origins_right b sound.pairs_follow
+
+  pub limited : AreLimited b.problem.signature b.nodes
+  limited = limited_run b.problem b.budget r.after.0 (record b { flight = r.flight }) r.within run
+
+  pub fits : Fits b.nodes
+  fits = fits_run IsFreeJob b.problem b.budget r.after.0 (record b { flight = r.flight }) run
+
+  pub formed : (x : PlainNode) → Contains b.nodes x → IsOriginOfForm x.origin
+  formed = origins_of_form b.problem b.budget r.after.0 (record b { flight = r.flight }) run
+
+  pub good : (p : Name) → verdict b ≡ Some (Complete p) → IsGoodProcess b p
+  good p stands =
+      let h : IsGoodAnswer b.problem (record b { flight = r.flight }) p = good_answer b.problem b.budget r.after.0 (record b { flight = r.flight }) p r.within run stands in
+      record { certificate = h.certified.certificate; there = h.certified.there; member = h.certified.member; system = h.system; overlaps = h.overlaps; inputs = h.inputs }
+
+  -- ---- at most one rule for each node
+
+  one_of_two : (p : Name) (n : ℕ) → length {A = RuleRef} (filter (is_rule b p) (directions n)) ≤ 1
+  one_of_two p n = go (is_rule b p (record { node = n; dir = 0 })) (is_rule b p (record { node = n; dir = 1 })) refl refl
+    where
+      go : (x y : Bool) → is_rule b p (record { node = n; dir = 0 }) ≡ x → is_rule b p (record { node = n; dir = 1 }) ≡ y
+          → length {A = RuleRef} (cond x (record { node = n; dir = 0 } ∷ cond y (record { node = n; dir = 1 } ∷ []) []) (cond y (record { node = n; dir = 1 } ∷ []) [])) ≤ 1
+      go true true e f = clash f ((sound.one_role p n).not_both_rules e)
+      go true false e f = omega arith
+      go false true e f = omega arith
+      go false false e f = omega arith
+
+  few_from : (p : Name) (n k : ℕ) → length (filter (is_rule b p) (flat_map directions (numbers_from n k))) ≤ k
+  few_from p n zero = omega arith
+  few_from p n (suc k) =
+      let rest = flat_map directions (numbers_from (n + 1) k) in
+      let F = is_rule b p in
+      omega (arith, ap length (filter-append F (directions n) rest), length-append (filter F (directions n)) (filter F rest), one_of_two p n, few_from p (n + 1) k)
+
+  -- a process has at most as many rules as there are nodes
+  pub few_rules : (p : Name) → length (rules_of b p) ≤ length b.nodes
+  few_rules p = few_from p 0 (length b.nodes)

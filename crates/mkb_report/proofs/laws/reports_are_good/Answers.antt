@@ -1,0 +1,8 @@
+use Rattle.mkb_report.proofs.Made.{made_good, made_accepted}
+use Rattle.mkb_report.proofs.laws.reports_are_good.Goals as goal
+
+pub returns-clause-good : goal.returns-clause-good
+returns-clause-good c = λ b p a r stands h. made_good b p a r stands h
+
+pub returns-clause-accepted : goal.returns-clause-accepted
+returns-clause-accepted c = λ b p a r stands h. made_accepted b p a r stands h
