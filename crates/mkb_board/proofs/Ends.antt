@@ -1,5 +1,5 @@
 -- A legal board after a ticket ended.
-use Rattle.std.proofs.Common.{ℕ, ◌+◌, ◌≡◌, ◌⊎◌, inl, inr, refl, sym, ap, ap₂, ◌∙◌, subst, arith, List, [], ◌∷◌, ◌++◌, Contains, Bool, true, false, ◌||◌, Option, Some, None}
+use Rattle.std.proofs.Common.{ℕ, ◌+◌, ◌≡◌, refl, sym, ap, ap₂, ◌∙◌, subst, arith, List, [], ◌∷◌, ◌++◌, Contains, Bool, true, false, ◌||◌, Option, Some, None}
 use Rattle.std.specs.Prelude.{IsFalse, IsTrue}
 use Rattle.std.specs.Option.{option_map_or}
 use Rattle.kb_term.proofs.Steps.{contains_behind, contains_first}
@@ -10,18 +10,16 @@ use Rattle.mkb_model.specs.Jobs.{process_of}
 use Rattle.mkb_model.specs.Plain.{Plain}
 use Rattle.mkb_model.specs.Effects.{applied, effect, effect_label, effect_entry, limit_of, is_dropped, give_up, counted}
 use Rattle.mkb_model.specs.Verdicts.{verdict}
-use Rattle.mkb_model.specs.Proposals.{Proposes}
 use Rattle.mkb_model.specs.Journals.{Moment, IsRun, After, IsFinishing, journal_of, landed}
 use Rattle.mkb_model.specs.declared.proposed.Proposed.{Proposed}
 use Rattle.kb_node.specs.declared.job.Job.TheVariants.{Reduce, Orient, Overlap, Close}
 use Rattle.mkb_model.specs.declared.proposed.Proposed.TheVariants.{Facts, Rewrite, One, Both, Refuse, Deduce, Unjoined, Closed, Limit}
 use Rattle.mkb_model.specs.declared.entry.Ticket.{Ticket}
-use Rattle.mkb_model.specs.declared.entry.Effect.{Effect}
 use Rattle.mkb_model.specs.declared.entry.Effect.TheVariants.{Over, Made}
 use Rattle.mkb_model.specs.declared.entry.Entry.{Entry}
-use Rattle.mkb_model.specs.declared.entry.Entry.TheVariants.{Take, Commit, Drop}
+use Rattle.mkb_model.specs.declared.entry.Entry.TheVariants.{Commit, Drop}
 use Rattle.mkb_model.proofs.Unique.{after_once}
-use Rattle.mkb_board.specs.Boards.{Seen, seen, IsLegalBoard, IsBoard, has_halt}
+use Rattle.mkb_board.specs.Boards.{Seen, seen, IsBoard, has_halt}
 use Rattle.mkb_board.specs.Takes.{IsTakenOn, IsProposalOf, take_entry}
 use Rattle.mkb_board.proofs.Growing.{grown, board_grown}
 

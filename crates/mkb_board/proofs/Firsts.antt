@@ -1,6 +1,5 @@
 -- The first job is the least of those that the processes would take first.
-use Rattle.std.proofs.Common.{ℕ, ◌≡◌, refl, sym, ap, ◌∙◌, List, [], ◌∷◌, ◌++◌, filter, flat_map, Bool, true, false, cond, ◌&&◌, Option}
-use Rattle.std.specs.List.{find}
+use Rattle.std.proofs.Common.{◌≡◌, refl, ap, ◌∙◌, List, [], ◌∷◌, ◌++◌, filter, flat_map, Bool, true, false, cond, ◌&&◌, Option}
 use Rattle.std.proofs.lemmas.List.Elements.{filter-append}
 use Rattle.kb_label.specs.Names.{Name}
 use Rattle.kb_node.specs.declared.job.Job.{Job}
@@ -9,8 +8,8 @@ use Rattle.mkb_model.specs.Jobs.{job_cmp, least, is_free}
 use Rattle.mkb_model.specs.Plain.{Plain, cost}
 use Rattle.mkb_model.specs.DueJobs.{is_due, work_of, due_jobs_of, first_job}
 use Rattle.mkb_model.specs.declared.entry.Ticket.{Ticket}
-use Rattle.mkb_board.specs.Choosing.{jobs_of, first_choice}
-use Rattle.mkb_board.proofs.Least.{merged, least_append, least_found, job_cmp-total}
+use Rattle.mkb_board.specs.Choosing.{jobs_of, first_choice, merged}
+use Rattle.mkb_board.proofs.Least.{least_append, least_found, job_cmp-total}
 use Rattle.mkb_board.proofs.Rising.{work_rises}
 
 filter_both : {A : Type 0} (s t : A → Bool) (xs : List A) → filter s (filter t xs) ≡ filter (λ x. t x && s x) xs

@@ -1,5 +1,5 @@
 -- A legal board and its journal with one entry more.
-use Rattle.std.proofs.Common.{ℕ, ◌+◌, ◌≡◌, refl, sym, ap, ap₂, ◌∙◌, subst, arith, List, [], ◌∷◌, ◌++◌, length, filter, Bool, true, false, ◌||◌, cond, Option, Some, None}
+use Rattle.std.proofs.Common.{ℕ, ◌+◌, ◌≡◌, refl, sym, ap, ◌∙◌, subst, arith, List, [], ◌∷◌, ◌++◌, length, filter, Bool, true, false, ◌||◌, cond, Some, None}
 use Rattle.std.specs.List.{list_any}
 use Rattle.std.proofs.lemmas.List.{length-append}
 use Rattle.std.proofs.lemmas.List.Elements.{filter-append}
@@ -12,10 +12,10 @@ use Rattle.mkb_model.specs.Journals.{landed, in_flight}
 use Rattle.mkb_model.specs.DueJobs.{first_job}
 use Rattle.mkb_model.specs.Verdicts.{verdict}
 use Rattle.kb_node.specs.declared.job.Job.{Job}
-use Rattle.mkb_model.specs.declared.entry.Entry.TheVariants.{Take, Commit, Drop, Abandon, Halt}
+use Rattle.mkb_model.specs.declared.entry.Entry.TheVariants.{Take, Abandon, Halt}
 use Rattle.mkb_model.specs.declared.entry.Ticket.{Ticket}
-use Rattle.std.specs.Prelude.{IsFalse, Contains, Result, Ok, Err, IsOk, is_ok}
-use Rattle.std.proofs.Common.{◌≤◌, not, ◌==◌, ⊎_elim, ◌⊎◌}
+use Rattle.std.specs.Prelude.{Contains, Result, IsOk, is_ok}
+use Rattle.std.proofs.Common.{◌≤◌, not, ◌==◌, ⊎_elim}
 use Rattle.std.proofs.lemmas.Bool.{eq-eqb}
 use Rattle.kb_term.proofs.Steps.{contains_cases}
 use Rattle.mkb_model.proofs.Lists.{none_in}

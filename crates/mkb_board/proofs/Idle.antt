@@ -1,15 +1,13 @@
 -- Where nothing is due for a process.
-use Rattle.std.proofs.Common.{ℕ, ◌≡◌, refl, sym, ap, ◌∙◌, List, [], ◌∷◌, ◌++◌, map, filter, flat_map, Contains, Bool, true, false, cond, not, ◌&&◌, ◌||◌, Option, Some, None, ⊎_elim, subst}
+use Rattle.std.proofs.Common.{◌≡◌, refl, sym, ap, ◌∙◌, List, [], ◌∷◌, ◌++◌, map, filter, flat_map, Contains, Bool, true, false, cond, not, ◌&&◌, ◌||◌, Some, ⊎_elim, subst}
 use Rattle.std.specs.List.{find, list_any}
-use Rattle.std.specs.Option.{is_some, is_none, option_map_or}
+use Rattle.std.specs.Option.{is_some, is_none}
 use Rattle.std.proofs.lemmas.List.Elements.{Contains-append_cases}
 use Rattle.kb_term.proofs.Steps.{contains_first, contains_behind}
 use Rattle.kb_term.specs.declared.origin.RuleRef.{RuleRef}
 use Rattle.kb_label.specs.Names.{Name, has}
-use Rattle.kb_label.specs.declared.verdict.Reason.{Reason}
 use Rattle.kb_node.specs.declared.job.Job.{Job}
 use Rattle.kb_node.specs.declared.job.Job.TheVariants.{Reduce, Orient, Overlap, Close}
-use Rattle.mkb_model.specs.Jobs.{is_free}
 use Rattle.mkb_model.specs.Plain.{Plain, GivenUp, node_numbers, rules_of, is_over, over_in, over_reason}
 use Rattle.mkb_model.specs.DueJobs.{is_due, is_working, is_work_due, is_close_due, work_of, due_jobs_of}
 use Rattle.mkb_model.specs.Verdicts.{no_members}

@@ -1,5 +1,5 @@
 -- The least job of several lists.
-use Rattle.std.proofs.Common.{ℕ, ◌≡◌, refl, sym, ap, ◌∙◌, subst, List, [], ◌∷◌, ◌++◌, map, filter, flat_map, Contains, Bool, true, false, cond, not, Option, Some, None, ⊎_elim, ◌⊎◌, inl, inr}
+use Rattle.std.proofs.Common.{ℕ, ◌≡◌, refl, sym, ap, ◌∙◌, subst, List, [], ◌∷◌, ◌++◌, map, filter, flat_map, Contains, Bool, true, false, cond, Option, Some, None, ⊎_elim}
 use Rattle.std.specs.Cmp.{IsTotalOrder}
 use Rattle.std.specs.Cmp.Lexicographic.{slice_cmp}
 use Rattle.std.specs.Ordering.{ordering_then, ordering_reverse, is_le, nat_cmp}
@@ -8,12 +8,13 @@ use Rattle.std.proofs.lemmas.List.Elements.{Contains-append_cases}
 use Rattle.std.specs.declared.cmp.Ordering.{Ordering}
 use Rattle.std.specs.declared.cmp.Ordering.TheVariants.{Less, Equal, Greater}
 use Rattle.std.specs.Option.{option_map_or}
-use Rattle.std.proofs.lemmas.Cmp.{alike_right, tied_itself, on_total, then_total, nat_cmp_total, nat_list_cmp_total}
-use Rattle.kb_term.proofs.Steps.{contains_cases, contains_first, contains_behind}
+use Rattle.std.proofs.lemmas.Cmp.{alike_right, on_total, then_total, nat_cmp_total, nat_list_cmp_total}
+use Rattle.kb_term.proofs.Steps.{contains_first, contains_behind}
 use Rattle.kb_label.specs.Names.{Name, name_cmp}
 use Rattle.kb_label.specs.NameOrder.{name_cmp-total}
 use Rattle.kb_node.specs.declared.job.Job.{Job}
 use Rattle.mkb_model.specs.Jobs.{process_of, kind_number, job_numbers, numbers_cmp, job_cmp, lesser, least}
+use Rattle.mkb_board.specs.Choosing.{merged}
 use Rattle.mkb_model.proofs.Lists.{clash, false_unless, none_some, some_is, filter_in, map_in, flat_map_in}
 
 -- ---- the order of jobs
@@ -100,11 +101,6 @@ sorted_flat Q P F each h (x ∷ xs) k =
 -- ---- the least of lists that stand one after another
 
 module _ {A : Type 0} (R : A → A → Ordering) where
-  -- the least of both
-  abbrev pub merged : Option A → Option A → Option A
-  merged None o = o
-  merged (Some x) o = Some (option_map_or (lesser R x) o x)
-
   pick : (x y : A) (b : Bool) → is_le (R x y) ≡ b → lesser R x y ≡ cond b x y
   pick x y b e = ap (λ z. cond z x y) e
 
@@ -120,19 +116,19 @@ module _ {A : Type 0} (R : A → A → Ordering) where
           ∙ sym (pick x z false (false_unless (is_le (R x z)) (λ k. clash (le_trans_of o x z y k (le_or_back o y z f)) e)))
           ∙ sym (ap (lesser R x) (pick y z false f))
 
-  pub merged_both : IsTotalOrder R → (a b c : Option A) → merged (merged a b) c ≡ merged a (merged b c)
+  pub merged_both : IsTotalOrder R → (a b c : Option A) → merged R (merged R a b) c ≡ merged R a (merged R b c)
   merged_both o None b c = refl
   merged_both o (Some x) None c = refl
   merged_both o (Some x) (Some y) None = refl
   merged_both o (Some x) (Some y) (Some z) = ap Some (lesser_both o x y z)
 
-  merged_none : (a : Option A) → merged a None ≡ a
+  pub merged_none : (a : Option A) → merged R a None ≡ a
   merged_none None = refl
   merged_none (Some x) = refl
 
-  pub least_append : IsTotalOrder R → (xs ys : List A) → least R (xs ++ ys) ≡ merged (least R xs) (least R ys)
+  pub least_append : IsTotalOrder R → (xs ys : List A) → least R (xs ++ ys) ≡ merged R (least R xs) (least R ys)
   least_append o [] ys = refl
-  least_append o (x ∷ xs) ys = ap (merged (Some x)) (least_append o xs ys) ∙ sym (merged_both o (Some x) (least R xs) (least R ys))
+  least_append o (x ∷ xs) ys = ap (merged R (Some x)) (least_append o xs ys) ∙ sym (merged_both o (Some x) (least R xs) (least R ys))
 
   -- none of the others stands before
   abbrev pub IsFirst : A → List A → Type 0

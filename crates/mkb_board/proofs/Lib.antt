@@ -1,13 +1,17 @@
+pub mod Better
 pub mod Choices
+pub mod Costs
 pub mod Ends
 pub mod Firsts
 pub mod Flying
 pub mod Growing
+pub mod Held
 pub mod Idle
 pub mod Least
 pub mod Picking
 pub mod Readable
 pub mod Ready
 pub mod Rising
+pub mod Rows
 pub mod There
 pub mod Viewed

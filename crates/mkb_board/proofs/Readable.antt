@@ -1,6 +1,6 @@
 -- What a job reads of a legal board it may read, and what the first job names is there.
 use Rattle.std.proofs.Common.{ℕ, zero, suc, ◌≤◌, ◌<◌, ◌≡◌, refl, sym, ap, ◌∙◌, subst, arith, List, [], ◌∷◌, ◌++◌, map, flat_map, length, Contains, All, Option, Some, None, ⊎_elim}
-use Rattle.std.specs.Prelude.{option_map}
+use Rattle.std.specs.Prelude.{option_map, IsTrue}
 use Rattle.std.specs.List.{cons_option}
 use Rattle.std.proofs.lemmas.List.Elements.{Contains-append_cases}
 use Rattle.kb_term.proofs.Steps.{contains_cases}
@@ -14,7 +14,8 @@ use Rattle.kb_term.specs.Rule.{Rule, rule_of}
 use Rattle.kb_term.specs.Signature.{Signature, SymbolEntry, Problem, HasArity, IsWellFormed, AreWellFormed, IsWithinLimits}
 use Rattle.kb_term.specs.declared.origin.RuleRef.{RuleRef}
 use Rattle.kb_linear.specs.Limits.{IsMeasurable, AreMeasurable}
-use Rattle.kb_label.specs.Names.{Name}
+use Rattle.kb_label.specs.Names.{Name, has, IsInNameOrder}
+use Rattle.kb_label.proofs.Forked.{leaves-forked}
 use Rattle.kb_laws.proofs.Cleaning.{length-instances}
 use Rattle.kb_laws.proofs.Complete.{all_from}
 use Rattle.kb_node.specs.declared.job.Job.{Job}
@@ -28,10 +29,12 @@ use Rattle.mkb_model.specs.Journals.{Moment, IsPossibleRun, IsFreeJob}
 use Rattle.mkb_model.specs.declared.entry.Ticket.{Ticket}
 use Rattle.mkb_model.specs.declared.entry.Entry.{Entry}
 use Rattle.mkb_model.proofs.Lists.{filter_in, filter_map_in, flat_map_in, map_in, numbers_in, none_in, some_is, none_some}
-use Rattle.mkb_model.proofs.Living.{within_budget}
+use Rattle.mkb_model.proofs.Living.{within_budget, living_forked}
 use Rattle.mkb_model.proofs.Selections.{legal-possible, first-free}
 use Rattle.mkb_model.proofs.Sizes.{limited_run, numbered_within, turned}
 use Rattle.mkb_model.proofs.AllFine.{states_ordered, commits_fine}
+use Rattle.mkb_model.proofs.Certificates.{certified_run}
+use Rattle.mkb_model.specs.Invariants.{IsCertified}
 use Rattle.kb_jobs.specs.Groups.{IsOverlappable}
 use Rattle.kb_jobs.specs.Taken.{IsTakenClose}
 use Rattle.kb_jobs.specs.Working.{IsReadable, IsTaken}
@@ -143,6 +146,27 @@ readable_on state flight J legal s h w =
     let c = seen state flight J in
     let r = legal.after in
     readable c.plain.problem c.plain.budget r.0 c.plain legal.within (legal-possible c.plain.problem c.plain.budget r.0 c.plain r.2) s (taken_flying state flight s h) w
+
+-- the pairs of a legal board are within the limits
+pub limited_on : (state : Plain) (flight : List Ticket) (J : List Entry) → IsLegalBoard (seen state flight J) → AreLimited state.problem.signature state.nodes
+limited_on state flight J legal =
+    let c = seen state flight J in
+    let r = legal.after in
+    limited_run c.plain.problem c.plain.budget r.0 c.plain legal.within (legal-possible c.plain.problem c.plain.budget r.0 c.plain r.2)
+
+-- and its living processes are in the order of names
+pub ordered_on : (state : Plain) (flight : List Ticket) (J : List Entry) → IsLegalBoard (seen state flight J) → IsInNameOrder state.living
+ordered_on state flight J legal =
+    let c = seen state flight J in
+    let r = legal.after in
+    (leaves-forked state.living (living_forked IsFreeJob c.plain.problem c.plain.budget r.0 c.plain (legal-possible c.plain.problem c.plain.budget r.0 c.plain r.2)).forked).in_order
+
+-- the certificate of a living process is of the family and orders its constraints
+pub certified_on : (state : Plain) (flight : List Ticket) (J : List Entry) → IsLegalBoard (seen state flight J) → (p : Name) → IsTrue (has state.living p) → IsCertified (seen state flight J).plain p
+certified_on state flight J legal p lives =
+    let c = seen state flight J in
+    let r = legal.after in
+    certified_run c.plain.problem c.plain.budget r.0 c.plain legal.within (legal-possible c.plain.problem c.plain.budget r.0 c.plain r.2) p lives
 
 -- ---- what is named
 

@@ -1,5 +1,5 @@
 -- Where a ticket may be finished, its proposal may be applied to the state.
-use Rattle.std.proofs.Common.{ℕ, ◌≡◌, List, Contains, None}
+use Rattle.std.proofs.Common.{◌≡◌, List, Contains, None}
 use Rattle.std.specs.Prelude.{IsFalse}
 use Rattle.kb_node.specs.declared.job.Job.TheVariants.{Reduce, Orient, Overlap, Close}
 use Rattle.kb_node.specs.declared.job.LimitCause.{LimitCause}

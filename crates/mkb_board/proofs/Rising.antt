@@ -1,5 +1,5 @@
 -- The jobs that a process might have rise in their order.
-use Rattle.std.proofs.Common.{ℕ, zero, suc, ◌+◌, ◌≤◌, ◌<◌, ◌≡◌, refl, sym, ap, ◌∙◌, subst, arith, List, [], ◌∷◌, ◌++◌, map, filter, flat_map, length, Contains, Bool, true, false, cond, not, Option, Some, None, ⊎_elim, ◌⊎◌, inl, inr}
+use Rattle.std.proofs.Common.{ℕ, zero, suc, ◌+◌, ◌<◌, ◌≡◌, refl, sym, ap, ◌∙◌, subst, arith, List, [], ◌∷◌, ◌++◌, map, flat_map, length, Contains, true, ⊎_elim}
 use Rattle.std.specs.Ordering.{ordering_then, is_le, nat_cmp}
 use Rattle.std.specs.declared.cmp.Ordering.{Ordering}
 use Rattle.std.specs.declared.cmp.Ordering.TheVariants.{Less, Equal, Greater}
@@ -12,10 +12,10 @@ use Rattle.kb_label.specs.NameOrder.{name_cmp-same}
 use Rattle.kb_term.specs.declared.origin.RuleRef.{RuleRef}
 use Rattle.kb_node.specs.declared.job.Job.{Job}
 use Rattle.kb_node.specs.declared.job.Job.TheVariants.{Reduce, Orient, Overlap, Close}
-use Rattle.mkb_model.specs.Jobs.{process_of, kind_number, job_numbers, numbers_cmp, job_cmp, ref_le}
+use Rattle.mkb_model.specs.Jobs.{process_of, kind_number, job_numbers, numbers_cmp, job_cmp}
 use Rattle.mkb_model.specs.Plain.{Plain, numbers_from, node_numbers, directions, is_rule, rules_of}
 use Rattle.mkb_model.specs.DueJobs.{work_of}
-use Rattle.mkb_model.proofs.Lists.{map_in, flat_map_in, numbers_in, filter_in, none_in}
+use Rattle.mkb_model.proofs.Lists.{map_in, flat_map_in, numbers_in, none_in}
 use Rattle.mkb_board.proofs.Least.{IsSorted, sorted_append, sorted_filter, sorted_map, sorted_flat}
 
 -- ---- within one process
@@ -60,8 +60,8 @@ rules_rise : (b : Plain) (p : Name) → IsSorted (λ a c. ref_cmp a c ≡ Less) 
 rules_rise b p = sorted_filter (λ a c. ref_cmp a c ≡ Less) (is_rule b p) (flat_map directions (node_numbers b))
     (sorted_flat (λ x y. x < y) (λ a c. ref_cmp a c ≡ Less) directions two_rise
     (λ x y h u v i j.
-        let l : u.node < v.node = omega (arith, h, node_of_two x u i, node_of_two y v j) in
-        ap (λ z. ordering_then z (nat_cmp u.dir v.dir)) (less u.node v.node l))
+    let l : u.node < v.node = omega (arith, h, node_of_two x u i, node_of_two y v j) in
+    ap (λ z. ordering_then z (nat_cmp u.dir v.dir)) (less u.node v.node l))
     (node_numbers b) (numbers_rise 0 (length b.nodes)))
 
 -- ---- jobs
@@ -111,9 +111,9 @@ module _ (b : Plain) (cost : Name → ℕ) (p : Name) where
   overlaps_rise = sorted_flat (λ a c. ref_cmp a c ≡ Less) InOrder (λ (a : RuleRef). map (Overlap p a) (rules_of b p))
       (λ a. sorted_map (λ a c. ref_cmp a c ≡ Less) InOrder (Overlap p a) (λ c y h. in_order (Overlap p a c) (Overlap p a y) refl refl (second_less p a c y h)) (rules_of b p) (rules_rise b p))
       (λ a x h u v i j.
-          let m = map_in (Overlap p a) (rules_of b p) u i in
-          let k = map_in (Overlap p x) (rules_of b p) v j in
-          subst {A = Job} (λ z. InOrder z v) m.2 (subst {A = Job} (InOrder (Overlap p a m.0)) k.2 (in_order (Overlap p a m.0) (Overlap p x k.0) refl refl (overlap_less p a m.0 x k.0 h))))
+      let m = map_in (Overlap p a) (rules_of b p) u i in
+      let k = map_in (Overlap p x) (rules_of b p) v j in
+      subst {A = Job} (λ z. InOrder z v) m.2 (subst {A = Job} (InOrder (Overlap p a m.0)) k.2 (in_order (Overlap p a m.0) (Overlap p x k.0) refl refl (overlap_less p a m.0 x k.0 h))))
       (rules_of b p) (rules_rise b p)
 
   -- the jobs of one kind
@@ -151,3 +151,16 @@ module _ (b : Plain) (cost : Name → ℕ) (p : Name) where
       (λ i j u v. ⊎_elim (λ w. kinds 0 3 (omega arith) i j (are_reduces i w) (are_close j v))
       (λ w. ⊎_elim (λ x. kinds 1 3 (omega arith) i j (are_orients i x) (are_close j v)) (λ x. kinds 2 3 (omega arith) i j (are_overlaps i x) (are_close j v)) (Contains-append_cases orients overlaps i w))
       (Contains-append_cases reduces (orients ++ overlaps) i u))
+
+  of_kind : (k : ℕ) (js : List Job) → AreKind k js → (j : Job) → Contains js j → process_of j ≡ p
+  of_kind k js all j i = (all j i).0
+
+  -- each of them is the process's
+  pub work_process : (j : Job) → Contains (work_of b p ++ Close p ∷ []) j → process_of j ≡ p
+  work_process j i =
+      ⊎_elim
+      (λ k. ⊎_elim (of_kind 0 reduces are_reduces j)
+      (λ l. ⊎_elim (of_kind 1 orients are_orients j) (of_kind 2 overlaps are_overlaps j) (Contains-append_cases orients overlaps j l))
+      (Contains-append_cases reduces (orients ++ overlaps) j k))
+      (of_kind 3 (Close p ∷ []) are_close j)
+      (Contains-append_cases (work_of b p) (Close p ∷ []) j i)

@@ -1,14 +1,14 @@
 -- What a ticket's proposal names is there when the ticket ends, and its result has few variables.
-use Rattle.std.proofs.Common.{ℕ, zero, suc, ◌+◌, ◌≤◌, ◌<◌, eq-eqb, ◌≡◌, ◌≢◌, ◌⊎◌, inl, inr, refl, sym, ap, ◌∙◌, subst, arith, List, [], ◌∷◌, length, Contains, Bool, true, false, ◌==◌, Option, Some, None, ⊎_elim}
-use Rattle.std.specs.Prelude.{IsFalse, IsTrue, option_map}
-use Rattle.kb_term.specs.Signature.{Problem, IsWithinLimits, IsRuleOver}
+use Rattle.std.proofs.Common.{ℕ, zero, suc, ◌≤◌, ◌<◌, eq-eqb, ◌≡◌, ◌≢◌, refl, sym, ap, ◌∙◌, subst, arith, List, [], ◌∷◌, length, Contains, Bool, true, false, ◌==◌, Option, Some, None}
+use Rattle.std.specs.Prelude.{IsFalse, option_map}
+use Rattle.kb_term.specs.Signature.{Problem, IsWithinLimits}
 use Rattle.kb_term.specs.Pair.{Pair, variables_of_pair}
 use Rattle.kb_term.specs.Rule.{Rule, rule_of}
 use Rattle.kb_term.specs.View.{tree_of}
 use Rattle.kb_term.specs.declared.origin.Found.{Found}
 use Rattle.kb_term.specs.declared.origin.RuleRef.{RuleRef}
 use Rattle.kb_overlap.specs.Trace.{side, other_side}
-use Rattle.kb_label.specs.Names.{Name, has}
+use Rattle.kb_label.specs.Names.{Name}
 use Rattle.kb_label.specs.declared.verdict.Spent.TheVariants.{Commits, Over}
 use Rattle.kb_label.specs.declared.verdict.Verdict.TheVariants.{Complete, AllFailed, Spent as IsSpent}
 use Rattle.mkb_model.specs.Verdicts.{is_complete, is_failed, first_over}
@@ -21,12 +21,11 @@ use Rattle.kb_node.specs.declared.job.Job.{Job}
 use Rattle.kb_node.specs.declared.job.Job.TheVariants.{Reduce, Orient, Overlap, Close}
 use Rattle.kb_node.specs.declared.job.LimitCause.{LimitCause}
 use Rattle.mkb_model.specs.Jobs.{process_of}
-use Rattle.mkb_model.specs.Plain.{Plain, PlainNode, pair_in, pair_at, rule_at}
+use Rattle.mkb_model.specs.Plain.{Plain, PlainNode, pair_in, rule_at}
 use Rattle.mkb_model.specs.DueJobs.{reducers}
-use Rattle.mkb_model.specs.Effects.{is_dropped, rewrite_label, first_some, some_if}
-use Rattle.mkb_model.specs.Verdicts.{verdict}
+use Rattle.mkb_model.specs.Effects.{is_dropped, rewrite_label, some_if}
 use Rattle.mkb_model.specs.Proposals.{Proposes, named_rules}
-use Rattle.mkb_model.specs.Ready.{IsRewriteOn, KeepsPairs}
+use Rattle.mkb_model.specs.Ready.{KeepsPairs}
 use Rattle.mkb_model.specs.Limits.{AreLimited, IsLimitedPair}
 use Rattle.mkb_model.specs.Journals.{Moment, IsPossibleRun, IsFreeJob, IsFinishing}
 use Rattle.mkb_model.specs.declared.proposed.Proposed.{Proposed}
@@ -37,7 +36,7 @@ use Rattle.mkb_model.proofs.Roles.{on_there}
 use Rattle.mkb_model.proofs.Views.{rule_listed}
 use Rattle.mkb_model.proofs.Rewriting.{source_of}
 use Rattle.mkb_model.proofs.Endings.{nones}
-use Rattle.mkb_model.proofs.Flyers.{is_own, OwnersLive, owners_live, taken_free}
+use Rattle.mkb_model.proofs.Flyers.{is_own, owners_live, taken_free}
 use Rattle.mkb_model.proofs.Fitting.{pairs_stay}
 use Rattle.mkb_model.proofs.Readiness.{rewrite_ready, named_rule}
 use Rattle.mkb_model.proofs.AllFine.{pair_there, due_equation, states_ordered, commits_fine}

@@ -6,7 +6,7 @@ use Rattle.mkb_model.specs.Plain.{Plain}
 use Rattle.mkb_model.specs.Journals.{After, is_take, is_halt}
 use Rattle.mkb_model.specs.declared.entry.Ticket.{Ticket}
 use Rattle.mkb_model.specs.declared.entry.Entry.{Entry}
-use Rattle.mkb_model.specs.declared.entry.Entry.TheVariants.{Take, Commit, Drop, Abandon, Halt}
+use Rattle.mkb_model.specs.declared.entry.Entry.TheVariants.{Drop}
 
 -- what callers see of a board: the plain board, and the entries that led to it
 pub record Seen : Type 0 where

@@ -1,15 +1,20 @@
 -- Which jobs may be chosen.
-use Rattle.std.specs.Prelude.{ℕ, List, [], ◌∷◌, ◌++◌, length, map, Bool, ◌&&◌, ◌<◌, ◌==◌, not}
+use Rattle.std.specs.Prelude.{ℕ, List, [], ◌∷◌, ◌++◌, length, map, Bool, ◌&&◌, ◌<◌, ◌==◌, ◌≡◌, ◌+◌, not, if◌then◌else◌}
 use Rattle.std.specs.List.{find, list_any}
+use Rattle.std.specs.Option.{option_map_or}
+use Rattle.std.specs.declared.cmp.Ordering.{Ordering}
+use Rattle.std.specs.declared.cmp.Ordering.TheVariants.{Less}
 use Rattle.std.specs.declared.option.Option.{Option}
-use Rattle.kb_label.specs.Names.{Name}
+use Rattle.std.specs.declared.option.Option.TheVariants.{Some, None}
+use Rattle.kb_label.specs.Names.{Name, name_cmp}
 use Rattle.kb_term.specs.declared.origin.RuleRef.{RuleRef}
 use Rattle.kb_node.specs.declared.job.Job.{Job}
 use Rattle.kb_node.specs.declared.job.Job.TheVariants.{Reduce, Orient, Overlap, Close}
-use Rattle.mkb_model.specs.Jobs.{is_free}
-use Rattle.mkb_model.specs.Plain.{Plain, is_rule, known}
+use Rattle.mkb_model.specs.Jobs.{process_of, is_free, lesser}
+use Rattle.mkb_model.specs.Plain.{Plain, node_numbers, is_rule, is_equation, is_constraint, known, node_size, cost}
 use Rattle.mkb_model.specs.DueJobs.{is_work_due, is_due, is_open, work_of}
 use Rattle.mkb_model.specs.declared.entry.Ticket.{Ticket}
+use Rattle.mkb_board.specs.declared.first.Choice.{Choice}
 
 -- the jobs of the tickets
 abbrev pub jobs_of : List Ticket → List Job
@@ -33,3 +38,30 @@ is_open_rule b p n a = is_rule b p a && (not (a.node == n) && list_any (λ w. is
 -- the first job of the process in its order that is due and clashes with none of these
 abbrev pub first_choice : Plain → List Job → Name → Option Job
 first_choice b flight p = find (λ j. is_due b j && is_free flight j) (work_of b p ++ Close p ∷ [])
+
+-- ---- what processes cost
+
+-- the size of each node
+abbrev pub sizes_of : Plain → List ℕ
+sizes_of b = map (node_size b) (node_numbers b)
+
+-- how often the node counts for p: as an equation, and as a constraint in each direction
+abbrev pub role_count : Plain → Name → ℕ → ℕ
+role_count b p n =
+    (if is_equation b p n then 1 else 0)
+    + ((if is_constraint b p (record { node = n; dir = 0 }) then 1 else 0) + (if is_constraint b p (record { node = n; dir = 1 }) then 1 else 0))
+
+-- ---- the least of what the processes would take
+
+-- the lesser of both where there are two, the first where they are equal
+abbrev pub merged : {A : Type 0} → (A → A → Ordering) → Option A → Option A → Option A
+merged cmp None o = o
+merged cmp (Some x) o = Some (option_map_or (lesser cmp x) o x)
+
+-- the cost that is kept beside the job is that of its process
+abbrev pub IsCosted : Plain → Choice → Type 0
+IsCosted b c = c.cost ≡ cost b (process_of c.job)
+
+-- the job is of a process that comes before p by name
+abbrev pub StandsBefore : Name → Choice → Type 0
+StandsBefore p c = name_cmp (process_of c.job) p ≡ Less

@@ -1,4 +1,5 @@
 pub mod Choosing
 pub mod Boards
+pub mod Held
 pub mod Takes
 pub mod Snapshots

@@ -1,7 +1,5 @@
 -- What the calls of a board answer and leave.
 use Rattle.std.specs.Prelude.{ℕ, ◌+◌, ◌<◌, List, [], ◌∷◌, ◌++◌, length, ◌≡◌, IsTrue, IsFalse, Some, None}
-use Rattle.kb_node.specs.declared.job.Job.{Job}
-use Rattle.kb_label.specs.declared.verdict.Verdict.{Verdict}
 use Rattle.kb_jobs.specs.Working.{IsReadable, IsTaken, job_of}
 use Rattle.kb_jobs.specs.declared.working.Snapshot.{Snapshot}
 use Rattle.mkb_model.specs.Plain.{Plain}

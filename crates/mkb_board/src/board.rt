@@ -1,14 +1,22 @@
 // The board: the state, the tickets in flight and the journal.
-ghost use Rattle.std.specs.Prelude.{◌≡◌, ◌≤◌, ◌+◌, ◌++◌, ◌∷◌, ◌==◌, [], length, filter, not, Contains, IfOk, if◌then◌else◌, vec_len};
+ghost use Rattle.std.specs.Prelude.{◌≡◌, ◌≤◌, ◌+◌, ◌++◌, ◌∷◌, ◌==◌, [], length, map, filter, not, Some, Contains, IsTrue, IfOk, if◌then◌else◌, vec_len};
 ghost use Rattle.mkb_model.specs.declared.entry.Ticket.{Ticket};
 ghost use Rattle.kb_term.specs.Signature.{IsWithinLimits};
+ghost use Rattle.kb_cert.specs.Family.{family, Orders};
+ghost use Rattle.kb_label.specs.Names.{has};
+ghost use Rattle.kb_node.specs.declared.node.NodeId.{NodeId as Numbered};
+ghost use Rattle.mkb_model.specs.Plain.{equations_of, rules_of, constraints_of, rules_at, certificate_of};
 ghost use Rattle.mkb_model.specs.Journals.{opening, landed};
 ghost use Rattle.mkb_model.specs.Verdicts.{verdict};
 ghost use Rattle.mkb_model.specs.declared.entry.Entry.TheVariants.{Abandon, Halt};
+ghost use Rattle.mkb_rules.specs.Parts.{plain_nodes};
 ghost use Rattle.mkb_board.specs.Boards.{IsLegalBoard, takes_in, drops_in, has_halt};
 
 use crate::choosing;
+use crate::snapshots::named::view_of;
+use kb_cert::Certificate;
 use kb_label::{Labels, ListLabels, Living, NameLog, Process, Verdict};
+use kb_node::{NodeTable, View};
 use kb_term::{Memory, Problem};
 use mkb_model::{Entry, Ticket};
 use mkb_rules::State;
@@ -80,6 +88,42 @@ impl Board {
         ensures { record result.now { flight = self.now.plain.flight } ≡ self.now.plain }
     {
         &self.state
+    }
+
+    /// The table of nodes.
+    pub fn nodes(&self) -> &NodeTable<ListLabels>
+        ensures { plain_nodes result.now ≡ self.now.plain.nodes }
+    {
+        self.state.nodes()
+    }
+
+    /// What a living process sees of the nodes: its equations, its rules, and each rule that it ever had.
+    ///
+    /// # Errors
+    ///
+    /// Want of memory.
+    pub fn view(&self, p: &Process) -> Result<View, Memory>
+        requires { IsTrue (has self.now.plain.living p.now) }
+        ensures equations { IfOk result (λ view. map (λ (n : Numbered). n.0) view.equations ≡ equations_of self.now.plain p.now) }
+        ensures rules { IfOk result (λ view. view.rules ≡ rules_of self.now.plain p.now) }
+        ensures constraints { IfOk result (λ view. view.constraints ≡ constraints_of self.now.plain p.now) }
+    {
+        view_of(&self.state, p)
+    }
+
+    /// The order by which a living process orients. It is of the family of orders, and orders the constraints of the process.
+    ///
+    /// # Errors
+    ///
+    /// Want of memory.
+    pub fn certificate(&self, p: &Process) -> Result<Certificate, Memory>
+        requires { IsTrue (has self.now.plain.living p.now) }
+        ensures of_process { IfOk result (λ c. certificate_of self.now.plain p.now ≡ Some c) }
+        ensures member { IfOk result (Contains (family self.now.plain.problem.signature)) }
+        ensures orders { IfOk result (λ c. Orders c (rules_at self.now.plain (constraints_of self.now.plain p.now))) }
+    {
+        let certificate = self.state.certificate(p).clone()?;
+        Ok(certificate)
     }
 
     /// The verdict, if one stands.

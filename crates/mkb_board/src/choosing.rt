@@ -8,10 +8,10 @@ ghost use Rattle.mkb_model.specs.Plain.{is_equation, is_rule, is_over, over_reas
 ghost use Rattle.mkb_model.specs.DueJobs.{due_jobs_of};
 ghost use Rattle.mkb_model.specs.Verdicts.{verdict, is_complete, is_failed, first_over, no_members};
 
+use crate::due::first_work;
 use kb_label::{Labels, ListLabels, Process, Reason, Spent, Verdict};
 use kb_node::{LabelKind, NodeId};
 use kb_term::RuleRef;
-use crate::due::first_work;
 use mkb_rules::State;
 
 /// The verdict, if one stands. It takes no memory.
@@ -135,8 +135,8 @@ pub(crate) fn is_rule(state: &State, p: &Process, rule: RuleRef) -> bool
     has_label(state, p, NodeId(rule.node), kind)
 }
 
-// Whether the label of this kind has the process.
-fn has_label(state: &State, p: &Process, n: NodeId, kind: LabelKind) -> bool
+/// Whether the label of this kind has the process.
+pub(crate) fn has_label(state: &State, p: &Process, n: NodeId, kind: LabelKind) -> bool
     requires { n.0 < length state.now.nodes }
     ensures { result ≡ has (label state.now n.0 kind) p.now }
 {

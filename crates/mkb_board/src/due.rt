@@ -81,12 +81,7 @@ fn first_overlap_at(state: &State, flight: &[Ticket], p: &Process, n: NodeId) ->
 }
 
 // The first overlap of this rule with any other, if the process has it.
-fn first_overlap_of(
-    state: &State,
-    flight: &[Ticket],
-    p: &Process,
-    first: RuleRef,
-) -> Option<Job>
+fn first_overlap_of(state: &State, flight: &[Ticket], p: &Process, first: RuleRef) -> Option<Job>
     requires { first.node < length state.now.nodes }
     ensures { result ≡ find (is_choice state.now (jobs_of flight.now)) (flat_map (λ (a : RuleRef). map (jobs.Overlap p.now a) (rules_of state.now p.now)) (filter (is_rule state.now p.now) (first ∷ []))) }
 {
@@ -200,8 +195,7 @@ fn is_overlap_due(state: &State, p: &Process, a: RuleRef, c: RuleRef) -> bool
     requires second { c.node < length state.now.nodes }
     ensures { result ≡ is_work_due state.now (jobs.Overlap p.now a c) }
 {
-    (is_rule(state, p, a) && is_rule(state, p, c))
-        && (is_ordered(a, c) && !state.is_done(p, a, c))
+    (is_rule(state, p, a) && is_rule(state, p, c)) && (is_ordered(a, c) && !state.is_done(p, a, c))
 }
 
 // Whether the process has the node as an equation or a rule.

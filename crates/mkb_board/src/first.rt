@@ -1,20 +1,128 @@
 // The first job.
-ghost use Rattle.std.specs.Prelude.{◌≡◌, IfOk};
-ghost use Rattle.mkb_model.specs.DueJobs.{first_job};
+ghost use Rattle.std.specs.Prelude.{◌≡◌, ◌⊎◌, ◌&&◌, [], true, not, nat_lt, if◌then◌else◌, option_map, Some, None, IsTrue, IfOk, IfSome};
+ghost use Rattle.std.specs.List.{find};
+ghost use Rattle.std.specs.Option.{option_map_or};
+ghost use Rattle.kb_label.specs.Names.{has, IsInNameOrder};
+ghost use Rattle.mkb_model.specs.Limits.{AreLimited};
+ghost use Rattle.kb_node.specs.declared.job.Job.TheVariants.{Close};
+ghost use Rattle.mkb_model.specs.Jobs.{process_of, job_cmp, is_free};
+ghost use Rattle.mkb_model.specs.Plain.{cost};
+ghost use Rattle.mkb_model.specs.DueJobs.{first_job, work_of};
+ghost use Rattle.mkb_board.specs.Choosing.{jobs_of, is_choice, first_choice, sizes_of, merged, IsCosted, StandsBefore};
+ghost use Rattle.mkb_board.specs.declared.first.Choice.{Choice};
 
+use crate::choosing::is_over;
+use crate::cost::{cost, sizes};
+use crate::due::{first_work, is_free};
+use kb_label::Process;
 use kb_node::Job;
 use kb_term::Memory;
 use mkb_model::Ticket;
 use mkb_rules::State;
 use std::alloc::Global;
 
+// What a process would take first, with the cost of the process.
+#[derive(Clone, Copy)]
+struct Choice {
+    cost: u32,
+    job: Job,
+}
+
 /// The first job beside those in flight, if there is one: the least due job that clashes with none of them.
+///
+/// Each pair is measured once, and a process is searched only where its cost is below that of the best job so far.
 pub(crate) fn first_job(
-    _alloc: Global,
+    alloc: Global,
     state: &State,
     flight: &[Ticket],
 ) -> Result<Option<Job>, Memory>
+    requires limited { AreLimited state.now.problem.signature state.now.nodes }
+    requires in_order { IsInNameOrder state.now.living }
     ensures { IfOk result (λ o. o ≡ first_job (record state.now { flight = flight.now })) }
 {
-    Err(Memory)
+    let sizes = sizes(alloc, state)?;
+    let living = state.log().processes();
+    let mut best = None;
+    for i in 0..living.len() {
+        best = lesser_choice(state, flight, sizes.as_slice(), best, &living[i]);
+    }
+    match best {
+        Some(choice) => Ok(Some(choice.job)),
+        None => Ok(None),
+    }
+}
+
+// The best so far, or what the process would take first where that is less. Names come in their order, so of equal costs
+// the best so far is less.
+fn lesser_choice(
+    state: &State,
+    flight: &[Ticket],
+    sizes: &[u32],
+    best: Option<Choice>,
+    p: &Process,
+) -> Option<Choice>
+    requires limited { AreLimited state.now.problem.signature state.now.nodes }
+    requires sizes { sizes.now ≡ sizes_of state.now }
+    requires lives { IsTrue (has state.now.living p.now) }
+    requires costed { IfSome best (IsCosted state.now) }
+    requires earlier { IfSome best (StandsBefore p.now) }
+    ensures least { option_map (λ (c : Choice). c.job) result ≡ merged (job_cmp (cost state.now)) (option_map (λ (c : Choice). c.job) best) (first_choice state.now (jobs_of flight.now) p.now) }
+    ensures costed { IfSome result (IsCosted state.now) }
+    ensures of_either { (result ≡ best) ⊎ IfSome result (λ c. process_of c.job ≡ p.now) }
+{
+    let cost = cost(state, sizes, p);
+    if !is_below(cost, &best) {
+        return best;
+    }
+    match first_choice(state, flight, p) {
+        Some(job) => Some(Choice { cost, job }),
+        None => best,
+    }
+}
+
+// Whether the cost is below that of the best so far, if there is one.
+fn is_below(cost: u32, best: &Option<Choice>) -> bool
+    ensures { result ≡ option_map_or (λ (c : Choice). nat_lt cost c.cost) best.now true }
+{
+    match best {
+        Some(choice) => cost < choice.cost,
+        None => true,
+    }
+}
+
+// What a process would take first: its first job that is due and clashes with none in flight.
+fn first_choice(state: &State, flight: &[Ticket], p: &Process) -> Option<Job>
+    requires { IsTrue (has state.now.living p.now) }
+    ensures { result ≡ first_choice state.now (jobs_of flight.now) p.now }
+{
+    if is_over(state, p) {
+        return None;
+    }
+    match first_work(state, &[], p) {
+        None => first_close(state, flight, p),
+        Some(job) => free_work(state, flight, p, job),
+    }
+}
+
+// The first work of the process that clashes with none in flight, where this is the first that is due.
+fn free_work(state: &State, flight: &[Ticket], p: &Process, first: Job) -> Option<Job>
+    requires { find (is_choice state.now []) (work_of state.now p.now) ≡ Some first }
+    ensures { result ≡ find (is_choice state.now (jobs_of flight.now)) (work_of state.now p.now) }
+{
+    if is_free(flight, &first) {
+        return Some(first);
+    }
+    first_work(state, flight, p)
+}
+
+// The closing of the process, where it is not closed and clashes with none in flight.
+fn first_close(state: &State, flight: &[Ticket], p: &Process) -> Option<Job>
+    ensures { result ≡ (if not (has state.now.closed p.now) && is_free (jobs_of flight.now) (Close p.now) then Some (Close p.now) else None) }
+{
+    let job = Job::Close(*p);
+    if !state.is_closed(p) && is_free(flight, &job) {
+        Some(job)
+    } else {
+        None
+    }
 }

@@ -4,11 +4,16 @@
 mod answers;
 mod board;
 mod choosing;
+mod cost;
 mod due;
 mod finishing;
 mod first;
+mod laws;
 mod snapshots;
 mod taking;
+#[cfg(test)]
+mod tests;
 
 pub use answers::{Finished, Taken};
 pub use board::Board;
+pub use laws::held_tickets_stay;

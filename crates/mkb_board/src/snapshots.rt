@@ -1,6 +1,6 @@
 // What a job reads of the board.
 mod closing;
-mod named;
+pub(crate) mod named;
 mod orienting;
 mod overlapping;
 mod reducing;

@@ -1,16 +1,13 @@
-use Rattle.std.proofs.Common.{◌≡◌, ◌∙◌, ap, rules, List, Bool, not, arith, length, sym}
+use Rattle.std.proofs.Common.{◌≡◌, ap, rules, arith, length}
 use Rattle.std.specs.Prelude.{filter}
 use Rattle.std.proofs.lemmas.Fn.{filter_same}
-use Rattle.mkb_model.specs.declared.entry.Ticket.{Ticket}
 use Rattle.mkb_board.proofs.Growing.{is_other, not_other, loses_one}
 use Rattle.mkb_board.proofs.board.land.Goals as goal
 
 kept : (c : goal.After-retain) → c.retain.new.self.items ≡ filter (is_other c.args.number) c.args.flight.now.items
-unfolding is_other
 kept c = filter_same _ (is_other c.args.number) _ (λ x b f' k. search rules) _ _ c.retain.ensures.filtered
 
 pub returns-clause-items : goal.returns-clause-items
-unfolding is_other
 returns-clause-items c = kept c
 
 pub returns-clause-fewer : goal.returns-clause-fewer

@@ -1,4 +1,4 @@
-use Rattle.std.proofs.Common.{ℕ, ◌<◌, length, arith, sym, ◌∙◌}
+use Rattle.std.proofs.Common.{◌<◌, length, arith, sym, ◌∙◌}
 use Rattle.mkb_model.specs.Plain.{is_equation}
 use Rattle.mkb_board.proofs.Picking.{filter_on}
 use Rattle.mkb_board.proofs.choosing.has_equation.Goals as goal

@@ -1,4 +1,4 @@
-use Rattle.std.proofs.Common.{◌≡◌, ◌-◌, List, [], ◌∷◌, length, map, flat_map}
+use Rattle.std.proofs.Common.{◌≡◌, ◌-◌, [], ◌∷◌, length, map, flat_map}
 use Rattle.std.specs.List.{find}
 use Rattle.kb_node.specs.declared.job.Job.TheVariants.{Orient}
 use Rattle.mkb_model.specs.Plain.{node_numbers, numbers_from}

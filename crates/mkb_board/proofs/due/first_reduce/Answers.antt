@@ -1,5 +1,4 @@
-use Rattle.std.proofs.Common.{ℕ, ◌<◌, ◌∷◌, [], List, length, arith, sym, ◌∙◌}
-use Rattle.kb_node.specs.declared.job.Job.{Job}
+use Rattle.std.proofs.Common.{◌<◌, ◌∷◌, [], length, arith, sym, ◌∙◌}
 use Rattle.kb_node.specs.declared.job.Job.TheVariants.{Reduce}
 use Rattle.mkb_board.specs.Choosing.{is_choice, jobs_of}
 use Rattle.mkb_board.proofs.Picking.{map_parts, find_here, find_on}

@@ -1,6 +1,5 @@
-use Rattle.std.proofs.Common.{ℕ, ◌<◌, ◌∷◌, [], List, length, map, filter, flat_map, arith, sym, ◌∙◌}
+use Rattle.std.proofs.Common.{◌<◌, ◌∷◌, [], length, filter, flat_map, arith, sym, ◌∙◌}
 use Rattle.kb_term.specs.declared.origin.RuleRef.{RuleRef}
-use Rattle.kb_node.specs.declared.job.Job.{Job}
 use Rattle.kb_node.specs.declared.job.Job.TheVariants.{Overlap}
 use Rattle.mkb_model.specs.Plain.{is_rule, directions}
 use Rattle.mkb_board.specs.Choosing.{is_choice, jobs_of}

@@ -1,4 +1,4 @@
-use Rattle.std.proofs.Common.{ℕ, ◌∷◌, [], List, map, filter, flat_map, Option, sym, ◌∙◌}
+use Rattle.std.proofs.Common.{◌∷◌, [], List, filter, flat_map, Option, sym, ◌∙◌}
 use Rattle.std.specs.List.{find}
 use Rattle.kb_term.specs.declared.origin.RuleRef.{RuleRef}
 use Rattle.kb_node.specs.declared.job.Job.{Job}

@@ -1,4 +1,4 @@
-use Rattle.std.proofs.Common.{ℕ, List, map, flat_map, Option, ap, sym, ◌∙◌}
+use Rattle.std.proofs.Common.{List, map, flat_map, sym, ◌∙◌}
 use Rattle.std.specs.List.{find}
 use Rattle.std.specs.Option.{option_or}
 use Rattle.kb_label.specs.Names.{Name}

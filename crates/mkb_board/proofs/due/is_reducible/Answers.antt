@@ -1,4 +1,4 @@
-use Rattle.std.proofs.Common.{ℕ, ◌<◌, ◌∷◌, [], List, length, arith, sym, ◌∙◌, not, ◌==◌}
+use Rattle.std.proofs.Common.{◌<◌, ◌∷◌, [], length, arith, sym, ◌∙◌, not, ◌==◌}
 use Rattle.std.specs.List.{list_any}
 use Rattle.kb_term.specs.declared.origin.RuleRef.{RuleRef}
 use Rattle.mkb_model.specs.Plain.{is_rule, known}

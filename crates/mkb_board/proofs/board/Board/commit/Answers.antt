@@ -1,7 +1,5 @@
-use Rattle.std.proofs.Common.{ℕ, ◌+◌, ◌≤◌, ◌≡◌, ◌∙◌, ◌++◌, ◌∷◌, [], List, arith, subst, ap, ap₂, refl, sym, vec_len, vec_capacity, Bool, true, false, not, ◌==◌, filter, Contains, None, Option}
+use Rattle.std.proofs.Common.{ℕ, ◌≡◌, ◌∙◌, ◌++◌, ◌∷◌, [], List, arith, subst, ap, ap₂, refl, sym, vec_len, not, ◌==◌, filter, Contains, None}
 use Rattle.std.specs.Prelude.{IsFalse}
-use Rattle.kb_label.specs.Names.{Name}
-use Rattle.kb_label.specs.declared.verdict.Reason.{Reason}
 use Rattle.mkb_model.specs.Plain.{Plain}
 use Rattle.mkb_model.specs.Effects.{is_dropped, effect, effect_entry, limit_of}
 use Rattle.mkb_model.specs.Verdicts.{verdict}
@@ -9,13 +7,12 @@ use Rattle.mkb_model.specs.Journals.{landed}
 use Rattle.mkb_model.specs.declared.proposed.Proposed.{Proposed}
 use Rattle.mkb_model.specs.declared.entry.Ticket.{Ticket}
 use Rattle.mkb_model.specs.declared.entry.Effect.{Effect}
-use Rattle.mkb_model.specs.declared.entry.Entry.{Entry}
 use Rattle.mkb_model.specs.declared.entry.Entry.TheVariants.{Commit}
 use Rattle.mkb_rules.specs.Applying.{applied_as}
-use Rattle.mkb_board.specs.Boards.{Seen, seen, IsBoard, owed}
+use Rattle.mkb_board.specs.Boards.{Seen, seen}
 use Rattle.mkb_board.specs.Takes.{IsProposalOf, IsFinishedBy}
 use Rattle.mkb_board.specs.declared.answers.Finished.TheVariants.{Committed}
-use Rattle.mkb_board.proofs.Growing.{after_push, owed_less, owed_fewer, shorter}
+use Rattle.mkb_board.proofs.Growing.{after_push, owed_less, owed_fewer}
 use Rattle.mkb_board.proofs.Ends.{commit_board, effect_flying, entry_flying, limit_flying}
 use Rattle.mkb_board.proofs.Ready.{state_applicable, state_budget}
 use Rattle.mkb_board.proofs.board.Board.commit.Goals as goal
@@ -51,10 +48,11 @@ invariant_of-self-2 c =
     let items = after_push c.push.result _ _ _ ok c.push.ensures.items in
     let len = after_push c.push.result _ _ _ ok c.push.ensures.len in
     let effects : c.effect_of.result ≡ effect_entry (record c.self.inside.state { flight = c.self.inside.flight.items }) c.args.proposal = c.effect_of.ensures (limit_of c.self.inside.state c.args.proposal) c.in-Ok.ensures.ok.1 ∙ sym (entry_flying c.self.inside.state c.self.inside.flight.items c.args.proposal) in
-    let entry = items ∙ ap (λ (z : Effect). c.self.inside.journal.items ++ Commit c.args.ticket.worker c.args.ticket.number z ∷ []) effects in
-    (commit_board c.self.inside.state c.apply.new.self c.self.inside.flight.items c.land.new.flight.items c.self.inside.journal.items c.push.new.self.items c.self.inside.taken c.self.inside.dropped c.self.inside.halted c.args.ticket c.args.proposal c.self.invariant.0 none flying proposal acts
-        (lands c.self.inside.state c.apply.new.self c.self.inside.flight.items c.land.new.flight.items c.args.proposal c.args.ticket.number c.in-Ok.ensures.ok.0 c.land.ensures.items) entry,
-    omega (arith, c.push.ensures.capacity, len, c.self.invariant.1, owed_fewer (vec_len c.land.new.flight) (vec_len c.self.inside.flight) c.self.inside.halted fewer))
+    let entry = items ∙ ap (λ (z : Effect). c.self.inside.journal.items ++ Commit c.args.ticket.worker c.args.ticket.number z ∷ []) effects in (
+      commit_board c.self.inside.state c.apply.new.self c.self.inside.flight.items c.land.new.flight.items c.self.inside.journal.items c.push.new.self.items c.self.inside.taken c.self.inside.dropped c.self.inside.halted c.args.ticket c.args.proposal c.self.invariant.0 none flying proposal acts
+          (lands c.self.inside.state c.apply.new.self c.self.inside.flight.items c.land.new.flight.items c.args.proposal c.args.ticket.number c.in-Ok.ensures.ok.0 c.land.ensures.items) entry,
+      omega (arith, c.push.ensures.capacity, len, c.self.invariant.1, owed_fewer (vec_len c.land.new.flight) (vec_len c.self.inside.flight) c.self.inside.halted fewer),
+    )
 
 pub returns-clause-ok : goal.returns-clause-ok
 returns-clause-ok c =

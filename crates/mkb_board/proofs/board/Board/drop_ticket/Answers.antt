@@ -1,11 +1,10 @@
-use Rattle.std.proofs.Common.{ℕ, ◌+◌, ◌≤◌, ◌≡◌, ◌∙◌, ◌++◌, ◌∷◌, [], List, arith, subst, ap, refl, sym, vec_len, vec_capacity, Bool, true, false, Contains, None}
+use Rattle.std.proofs.Common.{◌≡◌, ◌∙◌, ◌++◌, ◌∷◌, [], arith, subst, ap, refl, sym, vec_len, Contains, None}
 use Rattle.std.specs.Prelude.{IsTrue}
 use Rattle.kb_label.specs.Names.{Name}
 use Rattle.mkb_model.specs.Effects.{is_dropped}
 use Rattle.mkb_model.specs.Verdicts.{verdict}
-use Rattle.mkb_model.specs.declared.entry.Entry.{Entry}
 use Rattle.mkb_model.specs.declared.entry.Entry.TheVariants.{Drop}
-use Rattle.mkb_board.specs.Boards.{Seen, seen, IsBoard, owed, is_drop}
+use Rattle.mkb_board.specs.Boards.{Seen, is_drop}
 use Rattle.mkb_board.specs.Takes.{IsProposalOf}
 use Rattle.mkb_board.proofs.Growing.{after_push, owed_less, owed_fewer, shorter}
 use Rattle.mkb_board.proofs.Ends.{drop_board}
@@ -24,6 +23,7 @@ invariant_of-self c =
     let ok = c.push.ensures.succeeds (omega (arith, c.self.invariant.1, fewer, owed_less (vec_len c.self.inside.flight) c.self.inside.halted)) in
     let items = after_push c.push.result _ _ _ ok c.push.ensures.items in
     let len = after_push c.push.result _ _ _ ok c.push.ensures.len in
-    let entry = items ∙ ap (λ (z : Name). c.self.inside.journal.items ++ Drop c.args.ticket.now.worker c.args.ticket.now.number z ∷ []) c.process_of-process.ensures in
-    (drop_board c.self.inside.state c.self.inside.flight.items c.land.new.flight.items c.self.inside.journal.items c.push.new.self.items c.self.inside.taken c.self.inside.dropped c.self.inside.halted c.args.ticket.now c.args.proposal.now c.self.invariant.0 none flying proposal idle (rw (c.land.ensures.items) refl) entry,
-    omega (arith, c.push.ensures.capacity, len, c.self.invariant.1, owed_fewer (vec_len c.land.new.flight) (vec_len c.self.inside.flight) c.self.inside.halted fewer))
+    let entry = items ∙ ap (λ (z : Name). c.self.inside.journal.items ++ Drop c.args.ticket.now.worker c.args.ticket.now.number z ∷ []) c.process_of-process.ensures in (
+      drop_board c.self.inside.state c.self.inside.flight.items c.land.new.flight.items c.self.inside.journal.items c.push.new.self.items c.self.inside.taken c.self.inside.dropped c.self.inside.halted c.args.ticket.now c.args.proposal.now c.self.invariant.0 none flying proposal idle (rw (c.land.ensures.items) refl) entry,
+      omega (arith, c.push.ensures.capacity, len, c.self.invariant.1, owed_fewer (vec_len c.land.new.flight) (vec_len c.self.inside.flight) c.self.inside.halted fewer),
+    )

@@ -1,10 +1,7 @@
-use Rattle.std.proofs.Common.{◌≡◌, ◌∙◌, refl, sym, subst, ap, Contains, Some, None, true, false}
-use Rattle.std.specs.Prelude.{IsTrue, IsFalse}
-use Rattle.mkb_model.specs.Effects.{is_dropped}
+use Rattle.std.proofs.Common.{◌≡◌, ◌∙◌, refl, sym, subst, Contains, Some, None}
 use Rattle.mkb_model.specs.Verdicts.{verdict}
-use Rattle.mkb_board.specs.Boards.{Seen, seen}
+use Rattle.mkb_board.specs.Boards.{Seen}
 use Rattle.mkb_board.specs.Takes.{IsProposalOf}
-use Rattle.mkb_board.proofs.Ends.{dropped_flying}
 use Rattle.mkb_board.proofs.Ready.{state_named}
 use Rattle.mkb_board.proofs.board.Board.finish.Goals as goal
 

@@ -1,6 +1,4 @@
-use Rattle.std.proofs.Common.{ℕ, ◌+◌, ◌≤◌, ◌≡◌, ◌++◌, ◌∷◌, [], List, arith, subst, vec_len, vec_capacity, Bool, true, false}
-use Rattle.mkb_model.specs.declared.entry.Entry.{Entry}
-use Rattle.mkb_model.specs.declared.entry.Entry.TheVariants.{Halt}
+use Rattle.std.proofs.Common.{◌+◌, ◌≤◌, arith, subst, vec_len, vec_capacity, Bool}
 use Rattle.mkb_board.specs.Boards.{seen, IsBoard, owed}
 use Rattle.mkb_board.proofs.Growing.{halt_board, after_push}
 use Rattle.mkb_board.proofs.board.Board.halt.Goals as goal

@@ -1,11 +1,11 @@
-use Rattle.std.proofs.Common.{ℕ, ◌+◌, ◌≤◌, ◌<◌, ◌≡◌, ◌∙◌, ◌≢◌, List, [], ◌∷◌, length, arith, subst, ap, refl, sym, Bool, true, false, Some, None}
+use Rattle.std.proofs.Common.{ℕ, ◌<◌, ◌≡◌, ◌∙◌, ◌≢◌, List, [], ◌∷◌, length, arith, subst, ap, refl, sym, Some, None}
 use Rattle.std.specs.Prelude.{IsFalse, IsTrue}
-use Rattle.kb_node.specs.declared.job.Job.{Job}
 use Rattle.mkb_model.specs.DueJobs.{first_job}
 use Rattle.mkb_model.specs.Verdicts.{verdict}
 use Rattle.mkb_model.specs.declared.entry.Ticket.{Ticket}
 use Rattle.mkb_model.proofs.Stated.{none_first}
-use Rattle.mkb_board.specs.Boards.{Seen, seen, has_halt}
+use Rattle.mkb_board.specs.Boards.{Seen, has_halt}
+use Rattle.mkb_board.proofs.Readable.{limited_on, ordered_on}
 use Rattle.mkb_board.proofs.board.Board.take.Goals as goal
 
 pub returns-in-Some-clause-ok : goal.returns-in-Some-clause-ok
@@ -17,12 +17,17 @@ returns-then-self-clause-ok c = (refl, subst {A = Seen} (λ z. verdict z.plain �
 pub take_job-requires-clause-no_verdict : goal.take_job-requires-clause-no_verdict
 take_job-requires-clause-no_verdict c = subst {A = Seen} (λ z. verdict z.plain ≡ None) c.self.view_is (sym c.verdict.ensures ∙ c.in_default.is)
 
+pub first_job-requires-clause-limited : goal.first_job-requires-clause-limited
+first_job-requires-clause-limited c = limited_on c.self.inside.state c.self.inside.flight.items c.self.inside.journal.items c.self.invariant.0.legal
+
+pub first_job-requires-clause-in_order : goal.first_job-requires-clause-in_order
+first_job-requires-clause-in_order c = ordered_on c.self.inside.state c.self.inside.flight.items c.self.inside.journal.items c.self.invariant.0.legal
+
 pub returns-in-None-clause-ok : goal.returns-in-None-clause-ok
 returns-in-None-clause-ok c =
     let none = sym c.verdict.ensures ∙ c.in_default.is in
     let first : first_job (record c.self.inside.state { flight = c.self.inside.flight.items }) ≡ None = ap (λ (ts : List Ticket). first_job (record c.self.inside.state { flight = ts })) (sym c.as_slice.ensures.value) ∙ sym c.in_ok-first_job.ensures ∙ c.in-None.is in
-    let count = c.len.ensures ∙ c.self.inside.flight.ok.0 in
-    (
+    let count = c.len.ensures ∙ c.self.inside.flight.ok.0 in (
       refl,
       subst {A = Seen} (λ z. verdict z.plain ≡ None) c.self.view_is none,
       subst {A = Seen} (λ z. IsFalse (has_halt z.journal)) c.self.view_is (sym c.self.invariant.0.halted_is ∙ c.if-self.false),

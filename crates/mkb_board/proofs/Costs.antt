@@ -1,0 +1,123 @@
+-- What a process costs, node by node.
+use Rattle.std.proofs.Common.{ℕ, zero, suc, ◌+◌, ◌*◌, ◌≤◌, ◌<◌, ◌≡◌, refl, ap, ◌∙◌, arith, List, [], ◌∷◌, ◌++◌, map, filter, flat_map, length, get_or, Bool, true, false, cond, Option, Some, None}
+use Rattle.std.specs.Prelude.{sum_by}
+use Rattle.std.specs.Option.{option_map_or}
+use Rattle.std.proofs.lemmas.List.{map-append}
+use Rattle.std.proofs.lemmas.List.Sums.{sum_by-cons, sum_by_push}
+use Rattle.kb_term.specs.Pair.{Pair}
+use Rattle.kb_term.specs.Signature.{Signature}
+use Rattle.kb_term.specs.declared.origin.RuleRef.{RuleRef}
+use Rattle.kb_label.specs.Names.{Name}
+use Rattle.mkb_model.specs.Limits.{AreLimited}
+use Rattle.mkb_model.specs.Plain.{Plain, numbers_from, node_numbers, directions, is_equation, is_constraint, pair_at, pair_size, node_size, cost}
+use Rattle.mkb_board.specs.Choosing.{sizes_of, role_count}
+
+-- ---- numbers
+
+numbers_more : (n k : ℕ) → numbers_from n (suc k) ≡ numbers_from n k ++ (n + k) ∷ []
+numbers_more n zero = let e : n ≡ n + 0 = omega arith in ap (λ (z : ℕ). z ∷ []) e
+numbers_more n (suc k) =
+    let e : (n + 1) + k ≡ n + suc k = omega arith in
+    ap (λ (zs : List ℕ). n ∷ zs) (numbers_more (n + 1) k) ∙ ap (λ (z : ℕ). n ∷ (numbers_from (n + 1) k ++ z ∷ [])) e
+
+-- the numbers below n, and n
+pub numbers_next : (n : ℕ) → numbers_from 0 (n + 1) ≡ numbers_from 0 n ++ n ∷ []
+numbers_next n =
+    let e : n + 1 ≡ suc n = omega arith in
+    let f : 0 + n ≡ n = omega arith in
+    ap (numbers_from 0) e ∙ numbers_more 0 n ∙ ap (λ (z : ℕ). numbers_from 0 n ++ z ∷ []) f
+
+-- one node's more
+pub map_next : (f : ℕ → ℕ) (n : ℕ) → map f (numbers_from 0 (n + 1)) ≡ map f (numbers_from 0 n) ++ f n ∷ []
+map_next f n = ap (map f) (numbers_next n) ∙ map-append f (numbers_from 0 n) (n ∷ [])
+
+pub sum_next : (f : ℕ → ℕ) (n : ℕ) → sum_by f (numbers_from 0 (n + 1)) ≡ sum_by f (numbers_from 0 n) + f n
+sum_next f n = ap (sum_by f) (numbers_next n) ∙ sum_by_push f (numbers_from 0 n) n
+
+at_from : (f : ℕ → ℕ) (m k n d : ℕ) → n < k → get_or (map f (numbers_from m k)) n d ≡ f (m + n)
+at_from f m zero n d h = absurd (omega (arith, h))
+at_from f m (suc k) zero d h = let e : m ≡ m + 0 = omega arith in ap f e
+at_from f m (suc k) (suc n) d h =
+    let e : (m + 1) + n ≡ m + suc n = omega arith in
+    at_from f (m + 1) k n d (omega (arith, h)) ∙ ap f e
+
+-- the size of a node among those of all
+pub size_at : (b : Plain) (n d : ℕ) → n < length b.nodes → get_or (sizes_of b) n d ≡ node_size b n
+size_at b n d h = let e : 0 + n ≡ n = omega arith in at_from (node_size b) 0 (length b.nodes) n d h ∙ ap (node_size b) e
+
+length_from : (f : ℕ → ℕ) (m k : ℕ) → length (map f (numbers_from m k)) ≡ k
+length_from f m zero = refl
+length_from f m (suc k) = omega (arith, length_from f (m + 1) k)
+
+pub sizes_long : (b : Plain) → length (sizes_of b) ≡ length b.nodes
+sizes_long b = length_from (node_size b) 0 (length b.nodes)
+
+-- ---- sums
+
+kept : {A : Type 0} (f : A → ℕ) (t : A → Bool) (x : A) (xs : List A) → sum_by f (filter t (x ∷ xs)) ≡ cond (t x) (f x) 0 + sum_by f (filter t xs)
+kept f t x xs = go (t x)
+  where
+    go : (b : Bool) → sum_by f (cond b (x ∷ filter t xs) (filter t xs)) ≡ cond b (f x) 0 + sum_by f (filter t xs)
+    go true = sum_by-cons f x (filter t xs)
+    go false = omega arith
+
+times : (x y z : Bool) (s : ℕ) → (cond x 1 0 + (cond y 1 0 + cond z 1 0)) * s ≡ cond x s 0 + (cond y s 0 + cond z s 0)
+times true true true s = omega arith
+times true true false s = omega arith
+times true false true s = omega arith
+times true false false s = omega arith
+times false true true s = omega arith
+times false true false s = omega arith
+times false false true s = omega arith
+times false false false s = omega arith
+
+module _ (f : ℕ → ℕ) (e : ℕ → Bool) (c : RuleRef → Bool) where
+  abbrev times_of : ℕ → ℕ
+  times_of n = cond (e n) 1 0 + (cond (c (record { node = n; dir = 0 })) 1 0 + cond (c (record { node = n; dir = 1 })) 1 0)
+
+  abbrev of_rule : RuleRef → ℕ
+  of_rule a = f a.node
+
+  shares : (n k : ℕ) → sum_by f (filter e (numbers_from n k)) + sum_by of_rule (filter c (flat_map directions (numbers_from n k))) ≡ sum_by (λ m. times_of m * f m) (numbers_from n k)
+  shares n zero = refl
+  shares n (suc k) =
+      let ns = numbers_from (n + 1) k in
+      let rs = flat_map directions ns in
+      let forth : RuleRef = record { node = n; dir = 0 } in
+      let back : RuleRef = record { node = n; dir = 1 } in
+      let one = kept f e n ns in
+      let two = kept of_rule c forth (back ∷ rs) in
+      let three = kept of_rule c back rs in
+      let four = sum_by-cons (λ m. times_of m * f m) n ns in
+      let five = shares (n + 1) k in
+      let six = times (e n) (c forth) (c back) (f n) in
+      omega (arith, one, two, three, four, five, six)
+
+-- the cost is what each node adds to it
+pub cost_as : (b : Plain) (p : Name) → cost b p ≡ sum_by (λ n. role_count b p n * node_size b n) (node_numbers b)
+cost_as b p = shares (node_size b) (is_equation b p) (is_constraint b p) 0 (length b.nodes)
+
+-- ---- limits
+
+-- the size of a node within the limits
+pub size_most : (g : Signature) (b : Plain) → AreLimited g b.nodes → (n : ℕ) → node_size b n ≤ 1024
+size_most g b limited n = go (pair_at b n) refl
+  where
+    go : (o : Option Pair) → pair_at b n ≡ o → option_map_or pair_size o 0 ≤ 1024
+    go None e = omega arith
+    go (Some q) e = let h = (limited n q e).within in omega (arith, h.first.size, h.second.size)
+
+few_times : (x y z : Bool) (s : ℕ) → s ≤ 1024 → (cond x 1 0 + (cond y 1 0 + cond z 1 0)) * s ≤ 3072
+few_times true true true s h = omega (arith, h)
+few_times true true false s h = omega (arith, h)
+few_times true false true s h = omega (arith, h)
+few_times true false false s h = omega (arith, h)
+few_times false true true s h = omega (arith, h)
+few_times false true false s h = omega (arith, h)
+few_times false false true s h = omega (arith, h)
+few_times false false false s h = omega arith
+
+-- what a node within the limits adds to the cost
+pub share_most : (g : Signature) (b : Plain) (p : Name) → AreLimited g b.nodes → (n : ℕ) → role_count b p n * node_size b n ≤ 3072
+share_most g b p limited n =
+    few_times (is_equation b p n) (is_constraint b p (record { node = n; dir = 0 })) (is_constraint b p (record { node = n; dir = 1 })) (node_size b n) (size_most g b limited n)

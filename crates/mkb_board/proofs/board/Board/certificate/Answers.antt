@@ -1,0 +1,34 @@
+use Rattle.std.proofs.Common.{◌≡◌, ◌∙◌, Contains, subst, sym, refl, Option, Some, rules}
+use Rattle.std.specs.Prelude.{IsTrue, IsSome}
+use Rattle.kb_cert.specs.Family.{family, Orders}
+use Rattle.kb_cert.specs.declared.certificate.Certificate.{Certificate}
+use Rattle.kb_label.specs.Names.{has}
+use Rattle.mkb_model.specs.Plain.{certificate_of, rules_at, constraints_of}
+use Rattle.mkb_model.specs.Invariants.{IsCertified}
+use Rattle.mkb_model.proofs.Lists.{some_is}
+use Rattle.mkb_board.specs.Boards.{Seen}
+use Rattle.mkb_board.proofs.Readable.{certified_on}
+use Rattle.mkb_board.proofs.board.Board.certificate.Goals as goal
+
+pub certificate-requires : goal.certificate-requires
+certificate-requires c =
+    let p = c.args.p.now in
+    let lives = subst {A = Seen} (λ z. IsTrue (has z.plain.living p)) (sym c.self.view_is) c.requires in
+    let k = certified_on c.self.inside.state c.self.inside.flight.items c.self.inside.journal.items c.self.invariant.0.legal p lives in
+    subst {A = Option Certificate} IsSome (sym k.there) refl
+
+pub returns-clause-member : goal.returns-clause-member
+returns-clause-member c =
+    let p = c.args.p.now in
+    let lives = subst {A = Seen} (λ z. IsTrue (has z.plain.living p)) (sym c.self.view_is) c.requires in
+    let k = subst {A = Seen} (λ z. IsCertified z.plain p) c.self.view_is (certified_on c.self.inside.state c.self.inside.flight.items c.self.inside.journal.items c.self.invariant.0.legal p lives) in
+    let is : certificate_of c.args.self.now.plain p ≡ Some c.in_ok-certificate.certificate = search rules in
+    subst {A = Certificate} (Contains (family c.args.self.now.plain.problem.signature)) (some_is (sym k.there ∙ is)) k.member
+
+pub returns-clause-orders : goal.returns-clause-orders
+returns-clause-orders c =
+    let p = c.args.p.now in
+    let lives = subst {A = Seen} (λ z. IsTrue (has z.plain.living p)) (sym c.self.view_is) c.requires in
+    let k = subst {A = Seen} (λ z. IsCertified z.plain p) c.self.view_is (certified_on c.self.inside.state c.self.inside.flight.items c.self.inside.journal.items c.self.invariant.0.legal p lives) in
+    let is : certificate_of c.args.self.now.plain p ≡ Some c.in_ok-certificate.certificate = search rules in
+    subst {A = Certificate} (λ z. Orders z (rules_at c.args.self.now.plain (constraints_of c.args.self.now.plain p))) (some_is (sym k.there ∙ is)) k.orders
