@@ -1,2 +1,5 @@
-mod OneRule
-mod Refusing
+mod Takes
+mod Endings
+mod Reported
+mod Generated
+mod Tasks

@@ -1,6 +1,6 @@
 -- What a check of an answer comes to.
-use Rattle.std.specs.Prelude.{ℕ, ◌≡◌, List, [], ◌∷◌, Option, codes, decimal}
-use Rattle.kb_io.specs.Bytes.{TakesAll, Appends, AppendsPart}
+use Rattle.std.specs.Prelude.{ℕ, ◌≡◌, List, [], ◌∷◌, Option, None, codes, decimal}
+use Rattle.kb_io.specs.Bytes.{TakesAll}
 use Rattle.kb_text.specs.Lines.{line, IsBadLine}
 use Rattle.kb_checker.specs.Answers.{Answer, IsGoodAnswer}
 use Rattle.kb_checker.specs.Verdicts.{IsVerdict}
@@ -9,6 +9,10 @@ use Rattle.kb_checker.specs.declared.verdict.Reject.TheVariants.{BadStep, Untrac
 use Rattle.kb_checker.specs.declared.verdict.Checked.{Checked}
 use Rattle.kb_checker.specs.declared.verdict.Checked.TheVariants.{Accepted, Rejected}
 use Rattle.kb_report.specs.Answers.{AnswerSpelled, IsSystemText}
+use Rattle.mkb_board.specs.Boards.{Seen}
+use Rattle.mkbtt_top.specs.declared.status.Status.{Status}
+use Rattle.mkbtt_top.specs.declared.status.Status.TheVariants.{Done}
+use Rattle.mkbtt_top.specs.declared.status.Status.TheVariants as status
 
 abbrev pub reject_word : Reject → List ℕ
 reject_word BadStep = codes "badstep"
@@ -33,20 +37,20 @@ pub record IsChecked (bytes : List ℕ) (checked : Checked) : Type 0 where
   pub verdict : IsVerdict answer checked
   pub good : checked ≡ Accepted → IsGoodAnswer answer
 
--- the source was read to its end, and the sink gained what the checker says of the answer that was read
-pub record Checks (checked : Checked) (left_old left_new written_old written_new : Option (List ℕ)) : Type 0 where
-  pub bytes : List ℕ
-  pub read : TakesAll left_old bytes left_new
-  pub is_checked : IsChecked bytes checked
-  pub written : Appends written_old (checked_text checked) written_new
+-- the status of what the checker says
+abbrev pub status_of : Checked → Status
+status_of Accepted = Done
+status_of (Rejected reason n) = status.Rejected reason n
 
--- the same, but for what the sink didn't take any more
-pub record ChecksInPart (left_old left_new written_old written_new : Option (List ℕ)) : Type 0 where
+-- the source was read to its end, its bytes are the text of an answer, and the text and the status are what the checker says of it
+pub record Checks (end : Status) (board : Option Seen) (left_old left_new : Option (List ℕ)) (text : List ℕ) : Type 0 where
   pub checked : Checked
   pub bytes : List ℕ
   pub read : TakesAll left_old bytes left_new
   pub is_checked : IsChecked bytes checked
-  pub written : AppendsPart written_old (checked_text checked) written_new
+  pub status_is : end ≡ status_of checked
+  pub board_is : board ≡ None
+  pub text_is : text ≡ checked_text checked
 
 -- the source was read to its end, and this line is the first that isn't of the form of an answer's text
 pub record HasBadLine (left_old left_new : Option (List ℕ)) (n : ℕ) : Type 0 where

@@ -1,4 +1,7 @@
 pub mod Statuses
-pub mod FirstRun
+pub mod Tasks
+pub mod Replies
 pub mod Checking
+pub mod Completing
+pub mod Generating
 pub mod Runs

@@ -1,16 +1,15 @@
 // The check of an answer.
 ghost use Rattle.std.specs.Prelude.{◌≡◌, ◌≤◌, IfOk, IfErr};
-ghost use Rattle.kb_io.specs.Bytes.{Appends, AppendsPart, HasMoreThan, Rose};
 ghost use Rattle.kb_text.specs.Fields.{IsTextFault};
-ghost use Rattle.kb_checker.specs.declared.verdict.Checked.TheVariants.{Accepted, Rejected};
 ghost use Rattle.kb_report.specs.Answers.{IsSystemText};
-ghost use Rattle.mkbtt_top.specs.Checking.{reject_word as word_of_reject, checked_text as text_of_checked, IsChecked, Checks, ChecksInPart, HasBadLine};
-ghost use Rattle.mkbtt_top.specs.Runs.{IsRefusedBy, WritesNothing};
+ghost use Rattle.mkbtt_top.specs.Checking.{reject_word as word_of_reject, checked_text as text_of_checked, status_of as status_by, IsChecked, Checks};
+ghost use Rattle.mkbtt_top.specs.Runs.{StopsBy};
 
+use crate::reply::{Reply, Stop};
 use crate::status::Status;
 use crate::task::Task;
 use kb_checker::{Checked, Reject, check};
-use kb_io::{ReadAllFault, Sink, Source, read_all, write_all};
+use kb_io::{ReadAllFault, Source, read_all};
 use kb_report::read_answer;
 use kb_syntax::{Bound, Fields, Kind};
 use kb_term::Memory;
@@ -69,14 +68,7 @@ fn check_bytes(alloc: Global, bytes: &[u8]) -> Result<Checked, TextFault>
 }
 
 fn status_of(checked: Checked) -> Status
-    ensures done { result ≡ Status.Done → checked ≡ Accepted }
-    ensures rejected { (reason : _) (n : _) → result ≡ Status.Rejected reason n → checked ≡ Rejected reason n }
-    ensures no_more { ¬ (result ≡ Status.WriteFault) }
-    ensures words { ¬ (result ≡ Status.Words) }
-    ensures read_fault { ¬ (result ≡ Status.ReadFault) }
-    ensures memory { ¬ (result ≡ Status.Memory) }
-    ensures refused { (kind : _) (at : _) → ¬ (result ≡ Status.Refused kind at) }
-    ensures bad_text { (n : _) → ¬ (result ≡ Status.BadText n) }
+    ensures { result ≡ status_by checked }
 {
     match checked {
         Checked::Accepted => Status::Done,
@@ -84,40 +76,28 @@ fn status_of(checked: Checked) -> Status
     }
 }
 
-/// Reads an answer from the source, checks it, and writes what the checker says to the sink.
-pub(crate) fn check_source<S: Source, K: Sink>(
-    alloc: Global,
-    source: &mut S,
-    sink: &mut K,
-) -> Status
-    ensures done { result ≡ Status.Done → Checks Accepted (S.left source.old) (S.left source.new) (K.written sink.old) (K.written sink.new) }
-    ensures rejected { (reason : _) (n : _) → result ≡ Status.Rejected reason n → Checks (Rejected reason n) (S.left source.old) (S.left source.new) (K.written sink.old) (K.written sink.new) }
-    ensures write_fault { result ≡ Status.WriteFault → ChecksInPart (S.left source.old) (S.left source.new) (K.written sink.old) (K.written sink.new) }
-    ensures write_cause { result ≡ Status.WriteFault → Rose (K.faults sink.old) (K.faults sink.new) }
-    ensures read_cause { result ≡ Status.ReadFault → Rose (S.faults source.old) (S.faults source.new) }
-    ensures words { ¬ (result ≡ Status.Words) }
-    ensures refused { (kind : _) (at : _) → result ≡ Status.Refused kind at → IsRefusedBy Task.Check (S.left source.old) (S.left source.new) kind at }
-    ensures bad_text { (n : _) → result ≡ Status.BadText n → HasBadLine (S.left source.old) (S.left source.new) n }
-    ensures nothing { WritesNothing result (K.written sink.old) (K.written sink.new) }
-    ensures source_count { S.faults source.old ≤ S.faults source.new }
-    ensures sink_count { K.faults sink.old ≤ K.faults sink.new }
+/// Reads an answer from the source and checks it; the reply is what the checker says.
+pub(crate) fn check_source<S: Source>(alloc: Global, source: &mut S) -> Result<Reply, Stop>
+    ensures reply { IfOk result (λ r. Checks r.status r.board (S.left source.old) (S.left source.new) r.text.items) }
+    ensures stop { IfErr result (StopsBy Task.Check (S.left source.old) (S.left source.new) (S.faults source.old) (S.faults source.new)) }
+    ensures count { S.faults source.old ≤ S.faults source.new }
 {
     let bytes = match read_all(alloc, source, ANSWER_BYTES) {
         Ok(bytes) => bytes,
-        Err(ReadAllFault::ReadFault) => return Status::ReadFault,
-        Err(ReadAllFault::TooLong) => return Status::Refused(Kind::Limit(Bound::Input), 67_108_864),
-        Err(ReadAllFault::Memory) => return Status::Memory,
+        Err(ReadAllFault::ReadFault) => return Err(Stop::ReadFault),
+        Err(ReadAllFault::TooLong) => {
+            return Err(Stop::Refused(Kind::Limit(Bound::Input), 67_108_864));
+        }
+        Err(ReadAllFault::Memory) => return Err(Stop::Memory(None)),
     };
     let checked = match check_bytes(alloc, &bytes) {
         Ok(checked) => checked,
-        Err(TextFault::BadText(n)) => return Status::BadText(n),
-        Err(TextFault::Memory) => return Status::Memory,
+        Err(TextFault::BadText(n)) => return Err(Stop::BadText(n)),
+        Err(TextFault::Memory) => return Err(Stop::Memory(None)),
     };
-    let Ok(text) = checked_text(alloc, checked) else {
-        return Status::Memory;
-    };
-    match write_all(sink, &text) {
-        Ok(()) => status_of(checked),
-        Err(_) => Status::WriteFault,
-    }
+    Ok(Reply {
+        text: checked_text(alloc, checked)?,
+        status: status_of(checked),
+        board: None,
+    })
 }

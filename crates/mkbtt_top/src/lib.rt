@@ -2,13 +2,16 @@
 #![tactic(auto)]
 
 mod checking;
-mod complete;
+mod completing;
+mod generating;
+mod reply;
 mod status;
 mod task;
 mod top;
 
+pub use reply::Outcome;
 pub use status::{Status, status_code, status_line};
-pub use top::{Outcome, run};
+pub use top::run;
 
 #[cfg(test)]
 mod tests;

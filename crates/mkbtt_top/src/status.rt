@@ -3,6 +3,7 @@ ghost use Rattle.std.specs.Prelude.{◌≡◌, ◌++◌, ◌∷◌, [], IfOk, On
 ghost use Rattle.mkbtt_top.specs.Statuses.{bound_word as word_of_bound, kind_word as word_of_kind, line_of, code_of};
 
 use kb_checker::Reject;
+use kb_label::Spent;
 use kb_syntax::{Bound, Fields, Kind};
 use kb_term::Memory;
 use std::alloc::Global;
@@ -10,17 +11,21 @@ use std::alloc::Global;
 /// How a run ended.
 #[derive(Clone, Copy, Debug, PartialEq, Eq)]
 pub enum Status {
-    /// The answer was written, or that the answer that was read is accepted.
+    /// What was asked for was written: the answer of a complete process, that an answer is accepted, a summary or a problem.
     Done,
+    /// Each living process failed, and that was written.
+    AllFailed,
     /// The answer that was read is rejected, for this reason at the item with this number in its group.
     Rejected(Reject, u64),
+    /// The budget is used up, or each living process failed or passed a limit, and that was written.
+    Spent(Spent),
     /// The bytes that were read are refused, for this reason at this place.
     Refused(Kind, u64),
     /// The line with this number, from 1, is the first that isn't of the form of an answer's text.
     BadText(u64),
     /// The source failed.
     ReadFault,
-    /// The sink failed, after a proper front of the answer.
+    /// The sink failed, after a proper front of the text.
     WriteFault,
     /// There was no memory.
     Memory,
@@ -34,7 +39,9 @@ pub fn status_code(status: &Status) -> u8
 {
     match status {
         Status::Done => 0,
+        Status::AllFailed => 1,
         Status::Rejected(_, _) => 1,
+        Status::Spent(_) => 2,
         Status::Refused(_, _) => 3,
         Status::BadText(_) => 3,
         Status::ReadFault => 4,
@@ -103,7 +110,9 @@ pub fn status_line(alloc: Global, status: &Status) -> Result<Vec<u8>, Memory>
     let mut line = Fields::new(alloc);
     line.word(alloc, b"mkbtt:")?;
     match status {
-        Status::Done | Status::Rejected(_, _) => return Ok(text),
+        Status::Done | Status::AllFailed | Status::Rejected(_, _) | Status::Spent(_) => {
+            return Ok(text);
+        }
         Status::Refused(kind, at) => {
             line.word(alloc, b"refused")?;
             line.push(kind_word(alloc, *kind)?)?;

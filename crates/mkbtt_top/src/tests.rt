@@ -10,8 +10,14 @@ use std::thread::Threads;
 
 const IDENTITY: &str = "(VAR x)(RULES f(x) == x)";
 
-const ANSWER: &str =
-    "MKBTT 1\nSYMBOLS f/1\nEQUATIONS 1\nf(x1) = x1\nRULES 1\nf(x1) -> x1 : 1\nORDER LINEAR 1,1\nTRACE 1\n1 input 1 : x1 = f(x1)\nEND\n";
+const IDENTITY_ANSWER: &str =
+    "MKBTT 1\nSYMBOLS f/1\nEQUATIONS 1\nf(x1) = x1\nRULES 1\nf(x1) -> x1 : 1\nORDER LPO f\nTRACE 1\n1 input 1 : x1 = f(x1)\nEND\n";
+
+const EMPTY_ANSWER: &str = "MKBTT 1\nSYMBOLS\nEQUATIONS 0\nRULES 0\nORDER LPO\nTRACE 0\nEND\n";
+
+const FAILED: &str = "MKBTT 1\nFAILED 1\nEND\n";
+
+const TWO_VALUES: &str = "(RULES f(a) == b f(a) == c)";
 
 fn failing_at(alloc: Global, call: u64) -> Result<Vec<u64>, AllocError> {
     let mut fails = Vec::new(alloc);
@@ -24,44 +30,191 @@ fn source_of(alloc: Global, text: &str) -> Result<MemorySource, AllocError> {
     Ok(MemorySource::new(bytes, Vec::new(alloc), 7))
 }
 
-#[test]
-fn one_equation_is_answered(rt: HostRuntime) -> Result<(), Fail> {
-    let alloc = rt.alloc();
-    let mut source = source_of(alloc, IDENTITY)?;
-    let mut sink = MemorySink::new(alloc, 1000, Vec::new(alloc), 9)?;
-    let outcome = run(&rt, alloc, &["complete"], &mut source, &mut sink, &OpenGate);
-    assert_eq!(rt; outcome.status, Status::Done);
-    assert_eq!(rt; sink.bytes(), ANSWER.as_bytes());
-    Ok(())
+/// How many commits the board has, if there is one.
+fn commits(outcome: &Outcome) -> Option<u32> {
+    match &outcome.board {
+        Some(board) => Some(board.commits()),
+        None => None,
+    }
+}
+
+/// Whether a run with these words on the text ends with this code, a board with so many commits, and this output.
+fn runs<R: Threads + Wait + Sync + Abort>(
+    rt: &R,
+    alloc: Global,
+    words: &[&str],
+    text: &str,
+    code: u8,
+    made: Option<u32>,
+    output: &str,
+) -> bool {
+    let mut source = source_of(alloc, text).expect(rt, "memory");
+    let mut sink = MemorySink::new(alloc, 1000, Vec::new(alloc), 64).expect(rt, "memory");
+    let outcome = run(rt, alloc, words, &mut source, &mut sink, &OpenGate);
+    status_code(&outcome.status) == code
+        && commits(&outcome) == made
+        && sink.bytes() == output.as_bytes()
+}
+
+/// Whether a completion of the text ends with this code, a board with so many commits, and this output.
+fn completes<R: Threads + Wait + Sync + Abort>(
+    rt: &R,
+    alloc: Global,
+    text: &str,
+    code: u8,
+    made: u32,
+    output: &str,
+) -> bool {
+    let words = &["complete", "--workers", "1"];
+    runs(rt, alloc, words, text, code, Some(made), output)
 }
 
 #[test]
-fn an_equation_without_an_order_is_not_built(rt: HostRuntime) -> Result<(), Fail> {
+fn one_process_answers(rt: HostRuntime) {
     let alloc = rt.alloc();
-    let mut source = source_of(alloc, "(VAR x y)(RULES f(x,y) == f(y,x))")?;
-    let mut sink = MemorySink::new(alloc, 1000, Vec::new(alloc), 9)?;
-    let outcome = run(
-        &rt,
-        alloc,
-        &["complete", "--workers", "3"],
-        &mut source,
-        &mut sink,
-        &OpenGate,
+    assert!(rt; completes(&rt, alloc, IDENTITY, 0, 3, IDENTITY_ANSWER));
+    assert!(rt; completes(&rt, alloc, "(RULES )", 0, 1, EMPTY_ANSWER));
+    assert!(rt; completes(&rt, alloc, "(VAR x)(RULES f(f(x)) == a)", 0, 8, SQUARE));
+    assert!(rt;
+        completes(
+            &rt,
+            alloc,
+            "(RULES a == a)",
+            0,
+            1,
+            "MKBTT 1\nSYMBOLS a/0\nEQUATIONS 1\na = a\nRULES 0\nORDER LPO a\nTRACE 0\nEND\n"
+        )
     );
-    assert_eq!(rt; outcome.status, Status::Refused(Kind::NotBuilt, 0));
-    assert!(rt; sink.bytes().is_empty());
-    let line = status_line(alloc, &outcome.status).map_err(|_| AllocError)?;
-    assert_eq!(rt;
-        line.as_slice(),
-        b"mkbtt: refused notbuilt at 0\n".as_slice()
+    assert!(rt;
+        completes(
+            &rt,
+            alloc,
+            "(VAR x y)(RULES f(x) == x f(y) == y)",
+            0,
+            3,
+            "MKBTT 1\nSYMBOLS f/1\nEQUATIONS 2\nf(x1) = x1\nf(x1) = x1\nRULES 1\nf(x1) -> x1 : 1\nORDER LPO f\nTRACE 1\n1 input 1 : x1 = f(x1)\nEND\n"
+        )
     );
-    Ok(())
+    assert!(rt;
+        completes(
+            &rt,
+            alloc,
+            "(VAR x)(RULES f(x) == x g(x) == f(x))",
+            0,
+            9,
+            "MKBTT 1\nSYMBOLS f/1 g/1\nEQUATIONS 2\nf(x1) = x1\ng(x1) = f(x1)\nRULES 2\nf(x1) -> x1 : 1\ng(x1) -> x1 : 3\nORDER LPO f g\nTRACE 3\n1 input 1 : x1 = f(x1)\n2 input 2 : f(x1) = g(x1)\n3 rewrite 2 side 0 at e by 1 dir 1 : x1 = g(x1)\nEND\n"
+        )
+    );
+}
+
+#[test]
+fn several_processes_answer(rt: HostRuntime) {
+    let alloc = rt.alloc();
+    assert!(rt;
+        completes(
+            &rt,
+            alloc,
+            "(RULES a == b)",
+            0,
+            3,
+            "MKBTT 1\nSYMBOLS a/0 b/0\nEQUATIONS 1\na = b\nRULES 1\na -> b : 1\nORDER LPO a b\nTRACE 1\n1 input 1 : a = b\nEND\n"
+        )
+    );
+    assert!(rt;
+        completes(
+            &rt,
+            alloc,
+            "(VAR x)(RULES f(f(x)) == g(x))",
+            0,
+            4,
+            "MKBTT 1\nSYMBOLS f/1 g/1\nEQUATIONS 1\nf(f(x1)) = g(x1)\nRULES 1\ng(x1) -> f(f(x1)) : 1\nORDER LPO g f\nTRACE 1\n1 input 1 : f(f(x1)) = g(x1)\nEND\n"
+        )
+    );
+    assert!(rt;
+        completes(
+            &rt,
+            alloc,
+            TWO_VALUES,
+            0,
+            11,
+            "MKBTT 1\nSYMBOLS f/1 a/0 b/0 c/0\nEQUATIONS 2\nf(a) = b\nf(a) = c\nRULES 2\nf(a) -> c : 2\nb -> c : 3\nORDER LPO f a b c\nTRACE 3\n1 input 1 : f(a) = b\n2 input 2 : f(a) = c\n3 rewrite 2 side 0 at e by 1 dir 0 : b = c\nEND\n"
+        )
+    );
+}
+
+#[test]
+fn failures_and_limits_are_told(rt: HostRuntime) {
+    let alloc = rt.alloc();
+    assert!(rt; completes(&rt, alloc, "(VAR x y)(RULES f(x,y) == f(y,x))", 1, 2, FAILED));
+    assert!(rt; completes(&rt, alloc, "(VAR x y)(RULES x == y)", 1, 2, FAILED));
+    let words = &["complete", "--workers", "1", "--budget", "1"];
+    assert!(rt;
+        runs(
+            &rt,
+            alloc,
+            words,
+            TWO_VALUES,
+            2,
+            Some(1),
+            "MKBTT 1\nSPENT COMMITS 1 2\nEND\n"
+        )
+    );
+    assert!(rt;
+        completes(
+            &rt,
+            alloc,
+            "(VAR x)(RULES f(f(f(f(f(f(f(f(f(f(f(f(f(f(f(f(f(f(f(f(f(f(f(f(f(f(f(f(f(f(f(f(f(f(f(f(f(f(f(f(x)))))))))))))))))))))))))))))))))))))))) == a)",
+            2,
+            2,
+            "MKBTT 1\nSPENT OVER depth 1\nEND\n"
+        )
+    );
+}
+
+#[test]
+fn refusals_have_a_kind_and_a_place(rt: HostRuntime) {
+    let alloc = rt.alloc();
+    for (text, kind, at) in [
+        ("(VAR x y)(RULES f(x,y) == f(x))", Kind::ArityClash, 26),
+        ("(VAR x)(RULES x(a) == a)", Kind::VariableApplied, 14),
+        ("(RULES a == b", Kind::Unclosed, 13),
+        ("(RULES a ->= b)", Kind::Relative, 9),
+        ("(RULES a -> b | c -> d)", Kind::Conditional, 14),
+        ("(THEORY (AC f))(RULES )", Kind::Theory, 1),
+        ("(STRATEGY INNERMOST)(RULES )", Kind::Strategy, 1),
+    ] {
+        let mut source = source_of(alloc, text).expect(&rt, "memory");
+        let mut sink = MemorySink::new(alloc, 1000, Vec::new(alloc), 9).expect(&rt, "memory");
+        let outcome = run(&rt, alloc, &["complete"], &mut source, &mut sink, &OpenGate);
+        assert!(rt; outcome.status == Status::Refused(kind, at), "{text}");
+        assert!(rt; sink.bytes().is_empty());
+    }
+}
+
+#[test]
+fn a_refusal_is_one_line(rt: HostRuntime) {
+    let status = Status::Refused(Kind::Limit(Bound::Size), 20);
+    let line = status_line(rt.alloc(), &status).expect(&rt, "memory");
+    assert!(rt; line.as_slice() == b"mkbtt: refused limit-size at 20\n".as_slice());
+}
+
+#[test]
+fn generated_problems_are_written(rt: HostRuntime) {
+    let output = "(VAR x1)\n(RULES\nf0(f0(x1)) == f1(x1)\nf1(f0(x1)) == f2(x1)\n)\n";
+    assert!(rt; runs(&rt, rt.alloc(), &["gen", "--number", "2"], "", 0, None, output));
+}
+
+#[test]
+fn summaries_are_written(rt: HostRuntime) {
+    let output =
+        "verdict complete 1\ncommits 4\ndrops 0\nnodes 2\ndead 0\nforks 1\nliving 2\nover 0\nrules 1\n";
+    assert!(rt; runs(&rt, rt.alloc(), &["summary", "--number", "1"], "", 0, Some(4), output));
 }
 
 #[test]
 fn a_source_that_fails_at_once_is_told(rt: HostRuntime) -> Result<(), Fail> {
     let alloc = rt.alloc();
-    let bytes = Vec::from_slice(alloc, IDENTITY.as_bytes())?;
+    let bytes = Vec::from_slice(alloc, b"(RULES )")?;
     let mut source = MemorySource::new(bytes, failing_at(alloc, 1)?, 7);
     let mut sink = MemorySink::new(alloc, 1000, Vec::new(alloc), 9)?;
     let outcome = run(&rt, alloc, &["complete"], &mut source, &mut sink, &OpenGate);
@@ -73,31 +226,29 @@ fn a_source_that_fails_at_once_is_told(rt: HostRuntime) -> Result<(), Fail> {
 #[test]
 fn a_sink_that_fails_has_the_front_of_the_answer(rt: HostRuntime) -> Result<(), Fail> {
     let alloc = rt.alloc();
-    let mut source = source_of(alloc, IDENTITY)?;
+    let mut source = source_of(alloc, "(RULES )")?;
     let mut sink = MemorySink::new(alloc, 1000, failing_at(alloc, 3)?, 16)?;
     let outcome = run(&rt, alloc, &["complete"], &mut source, &mut sink, &OpenGate);
     assert_eq!(rt; status_code(&outcome.status), 5);
     assert_eq!(rt;
         sink.bytes(),
-        b"MKBTT 1\nSYMBOLS f/1\nEQUATIONS 1\n".as_slice()
+        b"MKBTT 1\nSYMBOLS\nEQUATIONS 0\nRULE".as_slice()
     );
     Ok(())
 }
 
 #[test]
-fn other_words_are_refused(rt: HostRuntime) -> Result<(), Fail> {
+fn other_words_are_refused(rt: HostRuntime) {
     let alloc = rt.alloc();
-    let mut source = source_of(alloc, IDENTITY)?;
-    let mut sink = MemorySink::new(alloc, 1000, Vec::new(alloc), 9)?;
-    let outcome = run(&rt, alloc, &["gen"], &mut source, &mut sink, &OpenGate);
-    assert_eq!(rt; status_code(&outcome.status), 7);
-    assert!(rt; sink.bytes().is_empty());
-    Ok(())
+    assert!(rt; runs(&rt, alloc, &[], IDENTITY, 7, None, ""));
+    assert!(rt; runs(&rt, alloc, &["complete", "--workers", "17"], IDENTITY, 7, None, ""));
+    assert!(rt; runs(&rt, alloc, &["journal"], IDENTITY, 7, None, ""));
+    assert!(rt; runs(&rt, alloc, &["replay"], IDENTITY, 7, None, ""));
 }
 
-/// The problem with blanks behind it, so many bytes in all.
+/// The empty problem with blanks behind it, so many bytes in all.
 fn padded(alloc: Global, length: usize) -> Result<Vec<u8>, AllocError> {
-    let mut bytes = Vec::from_slice(alloc, IDENTITY.as_bytes())?;
+    let mut bytes = Vec::from_slice(alloc, b"(RULES )")?;
     for _ in bytes.len()..length {
         bytes.push(b' ')?;
     }
@@ -119,21 +270,35 @@ fn padded_run<R: Threads + Wait + Sync>(
 
 #[test]
 fn a_text_of_1048576_bytes_is_read_and_one_byte_more_is_refused(rt: HostRuntime) {
-    let (status, _) = padded_run(&rt, rt.alloc(), 1_048_576).expect(&rt, "memory");
+    let (status, written) = padded_run(&rt, rt.alloc(), 1_048_576).expect(&rt, "memory");
     assert!(rt; status == Status::Done);
+    assert!(rt; written == 58);
     let (status, written) = padded_run(&rt, rt.alloc(), 1_048_577).expect(&rt, "memory");
     assert!(rt; status == Status::Refused(Kind::Limit(Bound::Input), 1_048_576));
     assert!(rt; written == 0);
 }
 
+/// The axioms of groups.
+const GROUP: &str =
+    "(VAR x y z)(RULES m(e,x) == x m(i(x),x) == e m(m(x,y),z) == m(x,m(y,z)))";
+
 #[test]
-fn a_text_that_ends_in_a_section_is_refused_at_its_end(rt: HostRuntime) {
+fn an_answer_for_groups_is_accepted(rt: HostRuntime) {
     let alloc = rt.alloc();
-    let mut source = source_of(alloc, "(RULES a == b").expect(&rt, "memory");
-    let mut sink = MemorySink::new(alloc, 1000, Vec::new(alloc), 9).expect(&rt, "memory");
-    let outcome = run(&rt, alloc, &["complete"], &mut source, &mut sink, &OpenGate);
-    assert!(rt; outcome.status == Status::Refused(Kind::Unclosed, 13));
-    assert!(rt; sink.bytes().is_empty());
+    let words = &["complete", "--budget", "300"];
+    let mut source = source_of(alloc, GROUP).expect(&rt, "memory");
+    let mut sink = MemorySink::new(alloc, 100_000, Vec::new(alloc), 64).expect(&rt, "memory");
+    let outcome = run(&rt, alloc, words, &mut source, &mut sink, &OpenGate);
+    if outcome.status == Status::Done {
+        let bytes = Vec::from_slice(alloc, sink.bytes()).expect(&rt, "memory");
+        let mut answer = MemorySource::new(bytes, Vec::new(alloc), 1000);
+        let mut line = MemorySink::new(alloc, 1000, Vec::new(alloc), 64).expect(&rt, "memory");
+        let checked = run(&rt, alloc, &["check"], &mut answer, &mut line, &OpenGate);
+        assert!(rt; checked.status == Status::Done);
+    } else {
+        assert!(rt; status_code(&outcome.status) == 2);
+        assert!(rt; commits(&outcome) == Some(300));
+    }
 }
 
 /// An answer to f(f(x)) = a.

@@ -1,15 +1,19 @@
 -- One worker's turns: what holds after each.
-use Rattle.std.proofs.Common.{ℕ, ◌≡◌, ◌∙◌, refl, sym, ap, ap₂, subst, arith, List, [], ◌∷◌, ◌++◌, Contains, Bool, true, false, not, ◌==◌, ◌&&◌, ◌||◌, filter, eq-eqb, Some, None}
-use Rattle.std.specs.Prelude.{IsTrue, IsFalse}
+use Rattle.std.proofs.Common.{ℕ, ◌≡◌, ◌∙◌, refl, sym, ap, ap₂, subst, arith, List, [], ◌∷◌, ◌++◌, Contains, Bool, true, false, not, ◌==◌, ◌&&◌, ◌||◌, filter, eq-eqb, Some, None, Ok, Err}
+use Rattle.std.specs.Prelude.{IsTrue, IsFalse, IsSome, is_some, Option, Result, OnOk, OnErr}
+use Rattle.kb_term.specs.Signature.{Problem}
+use Rattle.kb_term.specs.declared.memory.Memory.{Memory}
+use Rattle.kb_label.specs.declared.verdict.Verdict.{Verdict}
 use Rattle.kb_term.proofs.Steps.{contains_first}
 use Rattle.kb_node.specs.declared.job.Job.{Job}
 use Rattle.kb_jobs.specs.Working.{ProposesBy}
+use Rattle.kb_jobs.proofs.TakenLaws.{work_taken}
 use Rattle.kb_jobs.specs.declared.working.Snapshot.{Snapshot}
 use Rattle.mkb_model.specs.Plain.{Plain}
 use Rattle.mkb_model.specs.Effects.{effect}
 use Rattle.mkb_model.specs.Verdicts.{verdict}
 use Rattle.mkb_model.specs.Proposals.{Proposes}
-use Rattle.mkb_model.specs.Journals.{After, in_flight, landed, takes_in_turn, is_end_of}
+use Rattle.mkb_model.specs.Journals.{After, Alone, Moment, IsRun, journal_of, in_flight, landed, takes_in_turn, is_end_of}
 use Rattle.mkb_model.specs.declared.proposed.Proposed.{Proposed}
 use Rattle.mkb_model.specs.declared.entry.Ticket.{Ticket}
 use Rattle.mkb_model.specs.declared.entry.Entry.{Entry}
@@ -22,7 +26,7 @@ use Rattle.mkb_board.specs.Takes.{TakesJob, IsTakenOn, IsProposalOf, IsFinishedB
 use Rattle.mkb_board.specs.declared.answers.Finished.{Finished}
 use Rattle.mkb_board.specs.declared.answers.Finished.TheVariants.{Ended, Dropped, Committed}
 use Rattle.mkb_board.proofs.Growing.{halts_more}
-use Rattle.work_crew.specs.Alone.{IsInTurn, IsSameRun, IsJustTaken}
+use Rattle.work_crew.specs.Alone.{IsInTurn, IsSameRun, IsJustTaken, EndsAlone}
 
 -- one turn more: a take by worker 1 and the end of its ticket
 pub turn_more : (J : List Entry) (t : ℕ) (j : Job) (e : Entry) → IsTrue (takes_in_turn J) → is_end_of t e ≡ true → IsTrue (takes_in_turn ((J ++ Take 1 t j ∷ []) ++ e ∷ []))
@@ -33,6 +37,10 @@ turn_more (Commit w s i ∷ J) t j e h k = absurd (cc)
 turn_more (Drop w s i ∷ J) t j e h k = absurd (cc)
 turn_more (Abandon w s ∷ J) t j e h k = absurd (cc)
 turn_more (Halt ∷ J) t j e h k = absurd (cc)
+
+-- a ticket more or less in flight makes no other run
+pub unchanged_by : (old new : Seen) (n : ℕ) → new.plain ≡ landed n old.plain → IsSameRun old new
+unchanged_by old new n e = record { problem = ap (λ (z : Plain). z.problem) e; budget = ap (λ (z : Plain). z.budget) e }
 
 -- ---- a ticket that was just taken
 
@@ -66,6 +74,14 @@ module _ (s : Seen) (t : Ticket) (snapshot : Snapshot) (h : IsJustTaken s t snap
     p,
   )
 
+  -- so may what its worker proposes
+  pub worked : (x : Proposed) → ProposesBy snapshot x → IsProposalOf s t x
+  worked x p = proposal_of x (subst {A = Job} (λ j. Proposes h.before.plain j x) h.takes.job_is (work_taken h.before.plain snapshot x h.takes.reads p))
+
+  -- where it is given back no verdict stands
+  pub given_back : (new : Seen) → new.plain ≡ landed t.number s.plain → verdict new.plain ≡ None
+  given_back new e = subst {A = Plain} (λ z. verdict z ≡ None) (sym e) no_verdict
+
   no_halt_more : (e : Entry) (J : List Entry) → J ≡ s.journal ++ e ∷ [] → is_end_of t.number e ≡ true → IsFalse (has_halt J)
   no_halt_more (Commit w n i) J e k = ap has_halt e ∙ halts_more s.journal (Commit w n i) ∙ ap (λ z. z || false) (ap has_halt h.takes.entered ∙ halts_more h.before.journal (take_entry t) ∙ ap (λ z. z || false) h.in_turn.no_halt)
   no_halt_more (Drop w n i) J e k = ap has_halt e ∙ halts_more s.journal (Drop w n i) ∙ ap (λ z. z || false) (ap has_halt h.takes.entered ∙ halts_more h.before.journal (take_entry t) ∙ ap (λ z. z || false) h.in_turn.no_halt)
@@ -88,3 +104,56 @@ module _ (s : Seen) (t : Ticket) (snapshot : Snapshot) (h : IsJustTaken s t snap
   finished new x (Ended v) r = none_some (sym no_verdict ∙ r.1)
   finished new x (Dropped p) r = ended (Drop t.worker t.number p) s.plain new (eq-eqb t.number t.number refl) refl refl refl r.3 r.4
   finished new x (Committed a) r = ended (Commit t.worker t.number _) (effect s.plain x) new (eq-eqb t.number t.number refl) (effect_flight s.plain x) (effect_setting s.plain x).0 (effect_setting s.plain x).1 r.3 r.4
+
+-- ---- the first and the last board
+
+-- where the journal is empty nothing is in flight
+pub opened : (s : Seen) → IsLegalBoard s → s.journal ≡ [] → IsInTurn s
+opened s legal e = record {
+  grounded = go legal.after.0 (legal.after.1 ∙ e) legal.after.2;
+  no_halt = ap has_halt e;
+  in_turn = ap takes_in_turn e;
+}
+  where
+    some_entry : (J : List Entry) (x : Entry) → J ++ x ∷ [] ≡ [] → ⊥
+    some_entry [] x q = cc
+    some_entry (y ∷ J) x q = cc
+
+    go : (ms : List Moment) → journal_of ms ≡ [] → IsRun s.plain.problem s.plain.budget ms s.plain → s.plain.flight ≡ []
+    go [] q r = ap (λ (z : Plain). z.flight) r
+    go (m ∷ ms) q r = absurd (some_entry (journal_of ms) m.entry q)
+
+
+no_value : (o : Option Verdict) → is_some o ≡ false → o ≡ None
+no_value None e = refl
+no_value (Some v) e = absurd (cc)
+
+-- where no verdict stands there was no memory
+pub out_of_memory : (old mid end : Seen) (out : Bool) → IsSameRun old mid → end.plain ≡ mid.plain → is_some (verdict mid.plain) ≡ false → out ≡ true → EndsAlone old.plain.problem old.plain.budget (record { board = end; out_of_memory = out })
+out_of_memory old mid end out same e none true_out = (
+    λ q. (let clash : true ≡ false = sym true_out ∙ q in absurd (cc)),
+    λ q. (
+      subst {A = Plain} (λ z. verdict z ≡ None) (sym e) (no_value (verdict mid.plain) none),
+      ap (λ (z : Plain). z.problem) e ∙ same.problem,
+      ap (λ (z : Plain). z.budget) e ∙ same.budget,
+    ),
+)
+
+-- where one stands each ticket was ended
+pub all_ended : (old mid end : Seen) (out : Bool) (r : Result (Unit {0}) Memory) → IsSameRun old mid → OnOk r (IsInTurn mid) → OnErr r (verdict mid.plain ≡ None) → end ≡ mid → IsLegalBoard end → is_some (verdict mid.plain) ≡ true → out ≡ false → EndsAlone old.plain.problem old.plain.budget (record { board = end; out_of_memory = out })
+all_ended old mid end out r same ok err e legal some false_out = (
+    λ q. alone (in_turn r ok err),
+    λ q. (let clash : true ≡ false = sym q ∙ false_out in absurd (cc)),
+)
+  where
+    in_turn : (r : Result (Unit {0}) Memory) → OnOk r (IsInTurn mid) → OnErr r (verdict mid.plain ≡ None) → IsInTurn mid
+    in_turn (Ok x) h k = h
+    in_turn (Err x) h k = let clash : true ≡ false = sym some ∙ ap is_some k in absurd (cc)
+
+    alone : IsInTurn mid → Alone old.plain.problem old.plain.budget end.journal end.plain
+    alone h = record {
+      legal = subst {A = Problem} (λ p. After p old.plain.budget end.journal end.plain) (ap (λ (z : Seen). z.plain.problem) e ∙ same.problem)
+          (subst {A = ℕ} (λ n. After end.plain.problem n end.journal end.plain) (ap (λ (z : Seen). z.plain.budget) e ∙ same.budget) legal.after);
+      in_turn = subst {A = Seen} (λ z. IsTrue (takes_in_turn z.journal)) (sym e) h.in_turn;
+      ended = subst {A = Seen} (λ z. IsSome (verdict z.plain)) (sym e) some;
+    }

@@ -1,7 +1,6 @@
 -- The work of one worker.
-use Rattle.std.specs.Prelude.{ℕ, List, [], ◌≡◌, IsTrue, IsFalse, Some, None, true, false}
+use Rattle.std.specs.Prelude.{ℕ, [], ◌≡◌, IsTrue, IsFalse, None, true, false}
 use Rattle.kb_term.specs.Signature.{Problem}
-use Rattle.kb_label.specs.declared.verdict.Verdict.{Verdict}
 use Rattle.mkb_model.specs.Verdicts.{verdict}
 use Rattle.mkb_model.specs.Journals.{Alone, takes_in_turn}
 use Rattle.mkb_model.specs.declared.entry.Ticket.{Ticket}
@@ -9,8 +8,6 @@ use Rattle.kb_jobs.specs.declared.working.Snapshot.{Snapshot}
 use Rattle.mkb_board.specs.Boards.{Seen, has_halt, IsLegalBoard}
 use Rattle.mkb_board.specs.Takes.{TakesJob}
 use Rattle.work_crew.specs.declared.alone.Crew.{Crew}
-use Rattle.work_crew.specs.declared.alone.Turn.{Turn}
-use Rattle.work_crew.specs.declared.alone.Turn.TheVariants.{Over, Went}
 
 -- nothing is in flight, no halt was made, and each ticket was taken by worker 1 and ended at once
 pub record IsInTurn (s : Seen) : Type 0 where
@@ -22,11 +19,6 @@ pub record IsInTurn (s : Seen) : Type 0 where
 pub record IsSameRun (old new : Seen) : Type 0 where
   pub problem : new.plain.problem ≡ old.plain.problem
   pub budget : new.plain.budget ≡ old.plain.budget
-
--- a verdict stood and nothing was changed, or one ticket was taken and ended
-abbrev pub IsTurn : Seen → Seen → Turn → Type 0
-IsTurn old new (Over v) = (new ≡ old) × (verdict old.plain ≡ Some v)
-IsTurn old new Went = IsInTurn new × IsSameRun old new
 
 -- worker 1 has just taken this ticket, on a board with nothing in flight
 pub record IsJustTaken (s : Seen) (t : Ticket) (snapshot : Snapshot) : Type 0 where

@@ -1,11 +1,10 @@
 // The work of one worker.
-ghost use Rattle.std.specs.Prelude.{◌≡◌, [], None, IfOk, OnErr};
+ghost use Rattle.std.specs.Prelude.{◌≡◌, [], None, OnOk, OnErr};
 ghost use Rattle.mkb_model.specs.Verdicts.{verdict};
-ghost use Rattle.work_crew.specs.declared.alone.Turn.TheVariants.{Went};
-ghost use Rattle.work_crew.specs.Alone.{IsInTurn, IsSameRun, IsTurn, IsJustTaken, EndsAlone};
+ghost use Rattle.mkb_board.specs.Boards.{IsLegalBoard};
+ghost use Rattle.work_crew.specs.Alone.{IsInTurn, IsSameRun, IsJustTaken, EndsAlone};
 
 use kb_jobs::{Snapshot, work};
-use kb_label::Verdict;
 use kb_term::Memory;
 use mkb_board::{Board, Taken};
 use mkb_model::Ticket;
@@ -23,7 +22,7 @@ pub struct Crew {
 #[derive(Drop)]
 enum Turn {
     /// A verdict stands.
-    Over(Verdict),
+    Over,
     /// A ticket was taken and ended.
     Went,
 }
@@ -32,43 +31,56 @@ enum Turn {
 /// memory it gives its ticket back, halts the board and ends.
 pub fn work_alone(alloc: Global, board: Board) -> Crew
     requires { board.journal ≡ [] }
-    ensures { EndsAlone board.plain.problem board.plain.budget result }
+    ensures alone { EndsAlone board.plain.problem board.plain.budget result }
+    ensures legal { IsLegalBoard result.board }
 {
     let mut board = board;
-    for _ in 0..u64::MAX {
-        match turn(alloc, &mut board) {
-            Ok(Turn::Went) => {}
-            Ok(Turn::Over(_)) => {
-                return Crew {
-                    board,
-                    out_of_memory: false,
-                };
-            }
-            Err(_) => break,
-        }
-    }
-    board.halt();
+    let _opening = board.journal();
+    let _worked = take_turns(alloc, &mut board);
     let out_of_memory = board.verdict().is_none();
+    if out_of_memory {
+        board.halt();
+    }
+    let _journal = board.journal();
     Crew {
         board,
         out_of_memory,
     }
 }
 
-// One ticket is taken, worked and ended, unless a verdict stands.
-fn turn(alloc: Global, board: &mut Board) -> Result<Turn, Memory>
+// Turns are taken until a verdict stands.
+fn take_turns(alloc: Global, board: &mut Board) -> Result<(), Memory>
     requires { IsInTurn board.old }
-    ensures ok { IfOk result (IsTurn board.old board.new) }
+    ensures ok { OnOk result (IsInTurn board.new) }
     ensures none { OnErr result (verdict board.new.plain ≡ None) }
-    ensures same { OnErr result (IsSameRun board.old board.new) }
+    ensures same { IsSameRun board.old board.new }
 {
-    if let Some(verdict) = board.verdict() {
-        return Ok(Turn::Over(verdict));
+    for _ in 0..u64::MAX {
+        match take_turn(alloc, board)? {
+            Turn::Went => {}
+            Turn::Over => return Ok(()),
+        }
+    }
+    Ok(())
+}
+
+// One ticket is taken, worked and ended, unless a verdict stands.
+fn take_turn(alloc: Global, board: &mut Board) -> Result<Turn, Memory>
+    requires { IsInTurn board.old }
+    ensures ok { OnOk result (IsInTurn board.new) }
+    ensures none { OnErr result (verdict board.new.plain ≡ None) }
+    ensures same { IsSameRun board.old board.new }
+{
+    if board.verdict().is_some() {
+        return Ok(Turn::Over);
     }
     let _journal = board.journal();
     match board.take(alloc, 1)? {
-        Taken::Job(ticket, snapshot) => work_ticket(alloc, board, ticket, &snapshot),
-        Taken::Over(verdict) => Ok(Turn::Over(verdict)),
+        Taken::Job(ticket, snapshot) => {
+            work_ticket(alloc, board, ticket, &snapshot)?;
+            Ok(Turn::Went)
+        }
+        Taken::Over(_) => Ok(Turn::Over),
         Taken::Idle(_) => unreachable!(),
         Taken::Halted => unreachable!(),
     }
@@ -80,23 +92,22 @@ fn work_ticket(
     board: &mut Board,
     ticket: Ticket,
     snapshot: &Snapshot,
-) -> Result<Turn, Memory>
+) -> Result<(), Memory>
     requires { IsJustTaken board.old ticket snapshot.now }
-    ensures ok { IfOk result (λ _. IsInTurn board.new × IsSameRun board.old board.new) }
-    ensures went { IfOk result (λ t. t ≡ Went) }
+    ensures ok { OnOk result (IsInTurn board.new) }
     ensures none { OnErr result (verdict board.new.plain ≡ None) }
-    ensures same { OnErr result (IsSameRun board.old board.new) }
+    ensures same { IsSameRun board.old board.new }
 {
-    let ended = match work(alloc, snapshot) {
-        Ok(proposal) => board.finish(alloc, ticket, proposal),
+    let proposal = match work(alloc, snapshot) {
+        Ok(proposal) => proposal,
         Err(_) => {
             board.abandon(&ticket);
             return Err(Memory);
         }
     };
-    match ended {
-        Ok(_) => Ok(Turn::Went),
-        Err((ticket, _)) => {
+    match board.finish(alloc, ticket, proposal) {
+        Ok(_) => Ok(()),
+        Err(_) => {
             board.abandon(&ticket);
             Err(Memory)
         }

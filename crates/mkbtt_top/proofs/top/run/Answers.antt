@@ -1,14 +1,37 @@
-use Rattle.mkbtt_top.specs.declared.task.Task.TheVariants.{Complete, Check}
+use Rattle.std.proofs.Common.{List, ℕ, map, Some}
+use Rattle.mkbtt_top.proofs.Endings.{answered, write_fault, not_words, read_cause, write_cause, refused, bad_text, nothing, reads}
+use Rattle.mkbtt_top.proofs.Tasks.{number_of}
 use Rattle.mkbtt_top.proofs.top.run.Goals as goal
 
-pub returns-in-Ok-Some-Complete-clause-done : goal.returns-in-Ok-Some-Complete-clause-done
-returns-in-Ok-Some-Complete-clause-done g c = λ e. (Complete, c.in-Ok-Some-Complete.ensures.asked Complete (cc (c.in-Ok-Some-Complete.field-0-is, c.in-Ok-Some-Complete.field-0-0-is)), c.answer_source-status.ensures.done e)
+pub run_task-requires : goal.run_task-requires
+run_task-requires g c = let a = rw c.in-Ok-Some.field-0-is at c.in-Ok-Some.ensures.asked in number_of c.in-Ok-Some.task _ a
 
-pub returns-in-Ok-Some-Complete-clause-write_fault : goal.returns-in-Ok-Some-Complete-clause-write_fault
-returns-in-Ok-Some-Complete-clause-write_fault g c = λ e. (Complete, c.in-Ok-Some-Complete.ensures.asked Complete (cc (c.in-Ok-Some-Complete.field-0-is, c.in-Ok-Some-Complete.field-0-0-is)), c.answer_source-status.ensures.write_fault e)
+pub returns-in-Ok-Some-clause-answered : goal.returns-in-Ok-Some-clause-answered
+returns-in-Ok-Some-clause-answered g c = let a = rw c.in-Ok-Some.field-0-is at c.in-Ok-Some.ensures.asked in answered _ _ a _ _ _ _ _ _ _ _ _ _ c.run_task.ensures.ends
 
-pub returns-in-Ok-Some-Check-clause-done : goal.returns-in-Ok-Some-Check-clause-done
-returns-in-Ok-Some-Check-clause-done g c = λ e. (Check, c.in-Ok-Some-Check.ensures.asked Check (cc (c.in-Ok-Some-Check.field-0-is, c.in-Ok-Some-Check.field-0-0-is)), c.check_source-status.ensures.done e)
+pub returns-in-Ok-Some-clause-write_fault : goal.returns-in-Ok-Some-clause-write_fault
+returns-in-Ok-Some-clause-write_fault g c = let a = rw c.in-Ok-Some.field-0-is at c.in-Ok-Some.ensures.asked in write_fault _ _ a _ _ _ _ _ _ _ _ _ _ c.run_task.ensures.ends
 
-pub returns-in-Ok-Some-Check-clause-write_fault : goal.returns-in-Ok-Some-Check-clause-write_fault
-returns-in-Ok-Some-Check-clause-write_fault g c = λ e. (Check, c.in-Ok-Some-Check.ensures.asked Check (cc (c.in-Ok-Some-Check.field-0-is, c.in-Ok-Some-Check.field-0-0-is)), c.check_source-status.ensures.write_fault e)
+pub returns-in-Ok-Some-clause-read_cause : goal.returns-in-Ok-Some-clause-read_cause
+returns-in-Ok-Some-clause-read_cause g c = let a = rw c.in-Ok-Some.field-0-is at c.in-Ok-Some.ensures.asked in read_cause _ _ a _ _ _ _ _ _ _ _ _ _ c.run_task.ensures.ends
+
+pub returns-in-Ok-Some-clause-write_cause : goal.returns-in-Ok-Some-clause-write_cause
+returns-in-Ok-Some-clause-write_cause g c = let a = rw c.in-Ok-Some.field-0-is at c.in-Ok-Some.ensures.asked in write_cause _ _ a _ _ _ _ _ _ _ _ _ _ c.run_task.ensures.ends
+
+pub returns-in-Ok-Some-clause-refused : goal.returns-in-Ok-Some-clause-refused
+returns-in-Ok-Some-clause-refused g c = let a = rw c.in-Ok-Some.field-0-is at c.in-Ok-Some.ensures.asked in refused _ _ a _ _ _ _ _ _ _ _ _ _ c.run_task.ensures.ends
+
+pub returns-in-Ok-Some-clause-bad_text : goal.returns-in-Ok-Some-clause-bad_text
+returns-in-Ok-Some-clause-bad_text g c = let a = rw c.in-Ok-Some.field-0-is at c.in-Ok-Some.ensures.asked in bad_text _ _ a _ _ _ _ _ _ _ _ _ _ c.run_task.ensures.ends
+
+pub returns-in-Ok-Some-clause-nothing : goal.returns-in-Ok-Some-clause-nothing
+returns-in-Ok-Some-clause-nothing g c = let a = rw c.in-Ok-Some.field-0-is at c.in-Ok-Some.ensures.asked in nothing _ _ a _ _ _ _ _ _ _ _ _ _ c.run_task.ensures.ends
+
+pub returns-in-Ok-Some-clause-words : goal.returns-in-Ok-Some-clause-words
+returns-in-Ok-Some-clause-words g c = let a = rw c.in-Ok-Some.field-0-is at c.in-Ok-Some.ensures.asked in λ e. absurd (not_words _ _ a _ _ _ _ _ _ _ _ _ _ c.run_task.ensures.ends e)
+
+pub returns-in-Ok-Some-clause-taken : goal.returns-in-Ok-Some-clause-taken
+returns-in-Ok-Some-clause-taken g c = let a = rw c.in-Ok-Some.field-0-is at c.in-Ok-Some.ensures.asked in λ _ _. (c.in-Ok-Some.task, a)
+
+pub returns-in-Ok-Some-clause-reads : goal.returns-in-Ok-Some-clause-reads
+returns-in-Ok-Some-clause-reads g c = let a = rw c.in-Ok-Some.field-0-is at c.in-Ok-Some.ensures.asked in reads _ c.in-Ok-Some.task _ _ a c.run_task.ensures.unread

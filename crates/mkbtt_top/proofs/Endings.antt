@@ -1,0 +1,159 @@
+-- What a run leaves, clause by clause.
+use Rattle.std.proofs.Common.{ℕ, ◌≡◌, ◌∙◌, inl, inr, sym, subst, List}
+use Rattle.std.specs.Prelude.{Option}
+use Rattle.kb_io.specs.Bytes.{Rose, TakesAll}
+use Rattle.kb_text.specs.declared.kind.Kind.{Kind}
+use Rattle.kb_label.specs.declared.verdict.Verdict.{Verdict}
+use Rattle.kb_label.specs.declared.verdict.Verdict.TheVariants as verdicts
+use Rattle.kb_checker.specs.declared.verdict.Checked.{Checked}
+use Rattle.kb_checker.specs.declared.verdict.Checked.TheVariants.{Accepted, Rejected}
+use Rattle.mkb_board.specs.Boards.{Seen}
+use Rattle.mkbtt_top.specs.Checking.{HasBadLine, status_of as status_of_checked}
+use Rattle.mkbtt_top.specs.Completing.{status_of, IsRefusal}
+use Rattle.mkbtt_top.specs.Replies.{status_of_stop}
+use Rattle.mkbtt_top.specs.Runs.{Answers, AnswersInPart, Ends, whole, in_part, stopped, by_text, IsAnswered, IsUnread, Makes, ReadsIfAsked, Refuses, IsRefusedBy, StopsBy, WritesNothing}
+use Rattle.mkbtt_top.specs.Tasks.{AskFor, is_reading}
+use Rattle.mkbtt_top.specs.declared.reply.Stop.{Stop}
+use Rattle.mkbtt_top.specs.declared.reply.Stop.TheVariants as stops
+use Rattle.mkbtt_top.specs.declared.status.Status.{Status}
+use Rattle.mkbtt_top.specs.declared.status.Status.TheVariants.{Done, Refused, BadText, ReadFault, WriteFault, Memory, Words}
+use Rattle.mkbtt_top.specs.declared.status.Status.TheVariants as status
+use Rattle.mkbtt_top.specs.declared.task.Task.{Task}
+use Rattle.mkbtt_top.specs.declared.task.Task.TheVariants.{Complete, Check, Summary, Generate}
+
+answered_verdict : (v : Verdict) → IsAnswered (status_of v)
+answered_verdict (verdicts.Complete p) = tt
+answered_verdict verdicts.AllFailed = tt
+answered_verdict (verdicts.Spent s) = tt
+
+answered_check : (c : Checked) → IsAnswered (status_of_checked c)
+answered_check Accepted = tt
+answered_check (Rejected reason n) = tt
+
+-- what a task makes has a status with which it is written
+answered_made : (task : Task) (end : Status) (board : Option Seen) (old new : Option (List ℕ)) (text : List ℕ) → Makes task end board old new text → IsAnswered end
+answered_made (Complete budget) end board old new text h = subst {A = Status} IsAnswered (sym h.completion.completion.status_is) (answered_verdict h.completion.completion.verdict)
+answered_made Check end board old new text h = subst {A = Status} IsAnswered (sym h.status_is) (answered_check h.checked)
+answered_made (Summary budget number) end board old new text h = subst {A = Status} IsAnswered (sym h.0.status_is) tt
+answered_made (Generate number) end board old new text h = subst {A = Status} IsAnswered (sym h.0.status_is) tt
+
+unanswered_stop : (stop : Stop) → IsAnswered (status_of_stop stop) → ⊥
+unanswered_stop (stops.Refused kind at) h = h
+unanswered_stop (stops.BadText n) h = h
+unanswered_stop stops.ReadFault h = h
+unanswered_stop (stops.Memory board) h = h
+
+writes_all : (end : Status) (old new : Option (List ℕ)) → IsAnswered end → WritesNothing end old new
+writes_all Done old new h = tt
+writes_all status.AllFailed old new h = tt
+writes_all (status.Rejected reason n) old new h = tt
+writes_all (status.Spent spent) old new h = tt
+writes_all (Refused kind at) old new h = absurd h
+writes_all (BadText n) old new h = absurd h
+writes_all ReadFault old new h = absurd h
+writes_all WriteFault old new h = absurd h
+writes_all Memory old new h = absurd h
+writes_all Words old new h = absurd h
+
+writes_none : (end : Status) (old new : Option (List ℕ)) → new ≡ old → WritesNothing end old new
+writes_none Done old new h = tt
+writes_none status.AllFailed old new h = tt
+writes_none (status.Rejected reason n) old new h = tt
+writes_none (status.Spent spent) old new h = tt
+writes_none (Refused kind at) old new h = h
+writes_none (BadText n) old new h = h
+writes_none ReadFault old new h = h
+writes_none WriteFault old new h = tt
+writes_none Memory old new h = h
+writes_none Words old new h = h
+
+-- ---- why a task makes nothing
+
+stop_of_write_fault : (stop : Stop) → status_of_stop stop ≡ WriteFault → ⊥
+stop_of_write_fault (stops.Refused kind at) e = cc
+stop_of_write_fault (stops.BadText n) e = cc
+stop_of_write_fault stops.ReadFault e = cc
+stop_of_write_fault (stops.Memory board) e = cc
+
+stop_of_words : (stop : Stop) → status_of_stop stop ≡ Words → ⊥
+stop_of_words (stops.Refused kind at) e = cc
+stop_of_words (stops.BadText n) e = cc
+stop_of_words stops.ReadFault e = cc
+stop_of_words (stops.Memory board) e = cc
+
+stop_of_read_fault : (task : Task) (old new : Option (List ℕ)) (before after : ℕ) (stop : Stop) → StopsBy task old new before after stop → status_of_stop stop ≡ ReadFault → Rose before after
+stop_of_read_fault task old new before after (stops.Refused kind at) h e = absurd (cc)
+stop_of_read_fault task old new before after (stops.BadText n) h e = absurd (cc)
+stop_of_read_fault task old new before after stops.ReadFault h e = h.1
+stop_of_read_fault task old new before after (stops.Memory board) h e = absurd (cc)
+
+stop_of_refused : (task : Task) (old new : Option (List ℕ)) (before after : ℕ) (stop : Stop) (kind : Kind) (at : ℕ) → StopsBy task old new before after stop → status_of_stop stop ≡ Refused kind at → IsRefusedBy task old new kind at
+stop_of_refused task old new before after (stops.Refused kind at) k n h e =
+    let same : kind ≡ k = cc in
+    let place : at ≡ n = cc in
+    subst {A = ℕ} (λ m. IsRefusedBy task old new k m) place (subst {A = Kind} (λ l. IsRefusedBy task old new l at) same h)
+stop_of_refused task old new before after (stops.BadText n) k m h e = absurd (cc)
+stop_of_refused task old new before after stops.ReadFault k m h e = absurd (cc)
+stop_of_refused task old new before after (stops.Memory board) k m h e = absurd (cc)
+
+stop_of_bad_text : (task : Task) (old new : Option (List ℕ)) (before after : ℕ) (stop : Stop) (n : ℕ) → StopsBy task old new before after stop → status_of_stop stop ≡ BadText n → (task ≡ Check) × HasBadLine old new n
+stop_of_bad_text task old new before after (stops.Refused kind at) m h e = absurd (cc)
+stop_of_bad_text task old new before after (stops.BadText n) m h e =
+    let same : n ≡ m = cc in
+    subst {A = ℕ} (λ k. (task ≡ Check) × HasBadLine old new k) same h
+stop_of_bad_text task old new before after stops.ReadFault m h e = absurd (cc)
+stop_of_bad_text task old new before after (stops.Memory board) m h e = absurd (cc)
+
+-- what the bytes of a problem are refused for, as the refusal of what was read
+pub stop_of_refusal : (budget : ℕ) (old new : Option (List ℕ)) (before after : ℕ) (bytes : List ℕ) (stop : Stop) → TakesAll old bytes new → IsRefusal bytes stop → StopsBy (Complete budget) old new before after stop
+stop_of_refusal budget old new before after bytes (stops.Refused kind at) t h = by_text bytes t h
+stop_of_refusal budget old new before after bytes (stops.BadText n) t h = absurd h
+stop_of_refusal budget old new before after bytes stops.ReadFault t h = absurd h
+stop_of_refusal budget old new before after bytes (stops.Memory board) t h = tt
+
+-- ---- the clauses
+
+module _ (words : List (List ℕ)) (task : Task) (asked : AskFor task words) (end : Status) (board : Option Seen) (left_old left_new : Option (List ℕ)) (reads_before reads_after : ℕ) (written_old written_new : Option (List ℕ)) (writes_before writes_after : ℕ) where
+  pub answered : Ends task end board left_old left_new reads_before reads_after written_old written_new writes_before writes_after → IsAnswered end → Answers words end board left_old left_new written_old written_new
+  answered (whole h) a = record { task = task; asked = asked; text = h.text; made = h.made; written = h.written }
+  answered (in_part h) a = absurd (subst {A = Status} IsAnswered h.end_is a)
+  answered (stopped h) a = absurd (unanswered_stop h.stop (subst {A = Status} IsAnswered h.end_is a))
+
+  pub write_fault : Ends task end board left_old left_new reads_before reads_after written_old written_new writes_before writes_after → end ≡ WriteFault → AnswersInPart words board left_old left_new written_old written_new
+  write_fault (whole h) e = absurd (subst {A = Status} IsAnswered e (answered_made task end board left_old left_new h.text h.made))
+  write_fault (in_part h) e = record { task = task; asked = asked; text = h.text; end = h.whole; made = h.made; written = h.written }
+  write_fault (stopped h) e = absurd (stop_of_write_fault h.stop (sym h.end_is ∙ e))
+
+  pub not_words : Ends task end board left_old left_new reads_before reads_after written_old written_new writes_before writes_after → end ≡ Words → ⊥
+  not_words (whole h) e = subst {A = Status} IsAnswered e (answered_made task end board left_old left_new h.text h.made)
+  not_words (in_part h) e = let clash : WriteFault ≡ Words = sym h.end_is ∙ e in cc
+  not_words (stopped h) e = stop_of_words h.stop (sym h.end_is ∙ e)
+
+  pub read_cause : Ends task end board left_old left_new reads_before reads_after written_old written_new writes_before writes_after → end ≡ ReadFault → Rose reads_before reads_after
+  read_cause (whole h) e = absurd (subst {A = Status} IsAnswered e (answered_made task end board left_old left_new h.text h.made))
+  read_cause (in_part h) e = let clash : WriteFault ≡ ReadFault = sym h.end_is ∙ e in absurd (cc)
+  read_cause (stopped h) e = stop_of_read_fault task left_old left_new reads_before reads_after h.stop h.cause (sym h.end_is ∙ e)
+
+  pub write_cause : Ends task end board left_old left_new reads_before reads_after written_old written_new writes_before writes_after → end ≡ WriteFault → Rose writes_before writes_after
+  write_cause (whole h) e = absurd (subst {A = Status} IsAnswered e (answered_made task end board left_old left_new h.text h.made))
+  write_cause (in_part h) e = h.cause
+  write_cause (stopped h) e = absurd (stop_of_write_fault h.stop (sym h.end_is ∙ e))
+
+  pub refused : Ends task end board left_old left_new reads_before reads_after written_old written_new writes_before writes_after → (kind : Kind) (at : ℕ) → end ≡ Refused kind at → Refuses words left_old left_new kind at
+  refused (whole h) kind at e = absurd (subst {A = Status} IsAnswered e (answered_made task end board left_old left_new h.text h.made))
+  refused (in_part h) kind at e = let clash : WriteFault ≡ Refused kind at = sym h.end_is ∙ e in absurd (cc)
+  refused (stopped h) kind at e = record { task = task; asked = asked; refused = stop_of_refused task left_old left_new reads_before reads_after h.stop kind at h.cause (sym h.end_is ∙ e) }
+
+  pub bad_text : Ends task end board left_old left_new reads_before reads_after written_old written_new writes_before writes_after → (n : ℕ) → end ≡ BadText n → AskFor Check words × HasBadLine left_old left_new n
+  bad_text (whole h) n e = absurd (subst {A = Status} IsAnswered e (answered_made task end board left_old left_new h.text h.made))
+  bad_text (in_part h) n e = let clash : WriteFault ≡ BadText n = sym h.end_is ∙ e in absurd (cc)
+  bad_text (stopped h) n e = let bad = stop_of_bad_text task left_old left_new reads_before reads_after h.stop n h.cause (sym h.end_is ∙ e) in (subst {A = Task} (λ t. AskFor t words) bad.0 asked, bad.1)
+
+  pub nothing : Ends task end board left_old left_new reads_before reads_after written_old written_new writes_before writes_after → WritesNothing end written_old written_new
+  nothing (whole h) = writes_all end written_old written_new (answered_made task end board left_old left_new h.text h.made)
+  nothing (in_part h) = subst {A = Status} (λ s. WritesNothing s written_old written_new) (sym h.end_is) tt
+  nothing (stopped h) = writes_none end written_old written_new h.nothing
+
+pub reads : (words : List (List ℕ)) (task : Task) (old new : Option (List ℕ)) → AskFor task words → IsUnread task old new → ReadsIfAsked words old new
+reads words task old new asked (inl h) = inr (task, asked, h)
+reads words task old new asked (inr h) = inl h

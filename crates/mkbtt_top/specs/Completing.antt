@@ -1,0 +1,79 @@
+-- What a completion of a problem comes to.
+use Rattle.std.specs.Prelude.{ℕ, ◌≡◌, List, Option, Some, ⊤}
+use Rattle.kb_io.specs.Bytes.{TakesAll}
+use Rattle.kb_term.specs.Signature.{Problem}
+use Rattle.kb_text.specs.Problems.{Spells}
+use Rattle.kb_text.specs.Refusals.{IsRefused}
+use Rattle.kb_label.specs.declared.verdict.Verdict.{Verdict}
+use Rattle.kb_label.specs.declared.verdict.Verdict.TheVariants as verdicts
+use Rattle.kb_checker.specs.Answers.{Answer, IsGoodAnswer}
+use Rattle.kb_checker.specs.Verdicts.{IsAccepted}
+use Rattle.kb_report.specs.Answers.{AnswerSpelled}
+use Rattle.kb_report.specs.Reports.{report_text}
+use Rattle.kb_report.specs.declared.report.Report.{Report}
+use Rattle.kb_report.specs.declared.report.Report.TheVariants.{System}
+use Rattle.mkb_model.specs.Headline.{IsOutcome, HasVerdict}
+use Rattle.mkb_model.specs.Journals.{Alone}
+use Rattle.mkb_board.specs.Boards.{Seen}
+use Rattle.mkb_report.specs.Reports.{IsReportOf}
+use Rattle.mkbtt_top.specs.declared.reply.Stop.{Stop}
+use Rattle.mkbtt_top.specs.declared.reply.Stop.TheVariants as stops
+use Rattle.mkbtt_top.specs.declared.status.Status.{Status}
+use Rattle.mkbtt_top.specs.declared.status.Status.TheVariants.{Done, AllFailed, Spent}
+
+-- how a run ends that writes the report of the verdict
+abbrev pub status_of : Verdict → Status
+status_of (verdicts.Complete p) = Done
+status_of verdicts.AllFailed = AllFailed
+status_of (verdicts.Spent s) = Spent s
+
+-- one worker alone worked for the problem on this board until this verdict stood: its journal is legal for the budget, each ticket was ended at once, and the views of each living process are a completion run of that process alone
+pub record IsFinished (problem : Problem) (budget : ℕ) (board : Seen) (verdict : Verdict) : Type 0 where
+  pub outcome : IsOutcome problem budget 1 board.journal board.plain
+  pub alone : Alone problem budget board.journal board.plain
+  pub stands : HasVerdict board.plain verdict
+
+-- the text spells the answer, which is good, and which the checker accepts
+pub record IsGoodText (text : List ℕ) (answer : Answer) : Type 0 where
+  pub spelled : AnswerSpelled text answer
+  pub good : IsGoodAnswer answer
+  pub accepted : IsAccepted answer
+
+-- where the report is an answer, the text is a good one's
+abbrev pub IsGoodReport : List ℕ → Report → Type 0
+IsGoodReport text (System answer) = IsGoodText text answer
+IsGoodReport text report = ⊤
+
+-- the text is that of the report of the verdict: of a complete process its answer, which is good
+pub record IsReported (board : Seen) (verdict : Verdict) (text : List ℕ) : Type 0 where
+  pub report : Report
+  pub is_report : IsReportOf board.plain verdict report
+  pub text_is : text ≡ report_text report
+  pub good : IsGoodReport text report
+
+-- the board is one on which one worker alone completed the problem, and the status and the text tell its verdict
+pub record IsCompletion (problem : Problem) (budget : ℕ) (status : Status) (board : Option Seen) (text : List ℕ) : Type 0 where
+  pub end : Seen
+  pub verdict : Verdict
+  pub board_is : board ≡ Some end
+  pub status_is : status ≡ status_of verdict
+  pub finished : IsFinished problem budget end verdict
+  pub reported : IsReported end verdict text
+
+-- the bytes spell a problem, of which this is a completion
+pub record IsCompletionOf (bytes : List ℕ) (budget : ℕ) (status : Status) (board : Option Seen) (text : List ℕ) : Type 0 where
+  pub problem : Problem
+  pub spelled : Spells bytes problem
+  pub completion : IsCompletion problem budget status board text
+
+-- the source was read to its end, and this is a completion of the problem that its bytes spell
+pub record Completes (budget : ℕ) (status : Status) (board : Option Seen) (left_old left_new : Option (List ℕ)) (text : List ℕ) : Type 0 where
+  pub bytes : List ℕ
+  pub read : TakesAll left_old bytes left_new
+  pub completion : IsCompletionOf bytes budget status board text
+
+-- the bytes are refused so, or there was no memory
+abbrev pub IsRefusal : List ℕ → Stop → Type 0
+IsRefusal bytes (stops.Refused kind at) = IsRefused bytes kind at
+IsRefusal bytes (stops.Memory board) = ⊤
+IsRefusal bytes stop = ⊥

@@ -1,0 +1,23 @@
+-- How replies are written.
+use Rattle.std.specs.Prelude.{ℕ, ◌≡◌, ◌⊎◌, List, Option, None}
+use Rattle.kb_io.specs.Bytes.{Appends, AppendsPart, Rose}
+use Rattle.mkb_board.specs.Boards.{Seen}
+use Rattle.mkbtt_top.specs.declared.reply.Stop.{Stop}
+use Rattle.mkbtt_top.specs.declared.reply.Stop.TheVariants as stops
+use Rattle.mkbtt_top.specs.declared.status.Status.{Status}
+use Rattle.mkbtt_top.specs.declared.status.Status.TheVariants.{Refused, BadText, ReadFault, WriteFault, Memory}
+
+-- the text was written, and the run ends with its status; or the sink failed after a proper front of it
+abbrev pub IsWritten : Status → List ℕ → Status → Option (List ℕ) → Option (List ℕ) → ℕ → ℕ → Type 0
+IsWritten status text end old new before after =
+    ((end ≡ status) × Appends old text new) ⊎ ((end ≡ WriteFault) × AppendsPart old text new × Rose before after)
+
+abbrev pub status_of_stop : Stop → Status
+status_of_stop (stops.Refused kind at) = Refused kind at
+status_of_stop (stops.BadText n) = BadText n
+status_of_stop stops.ReadFault = ReadFault
+status_of_stop (stops.Memory board) = Memory
+
+abbrev pub board_of_stop : Stop → Option Seen
+board_of_stop (stops.Memory board) = board
+board_of_stop stop = None

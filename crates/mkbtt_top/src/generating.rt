@@ -1,0 +1,66 @@
+// Generated problems: their text, and the summary of their completion.
+ghost use Rattle.std.specs.Prelude.{◌≡◌, ◌≤◌, Some, IfOk};
+ghost use Rattle.mkb_model.specs.Verdicts.{verdict as verdict_on};
+ghost use Rattle.mkbtt_top.specs.Generating.{board_text as text_of_board, Generates, Summarises};
+
+use crate::completing::finish;
+use crate::reply::Reply;
+use crate::status::Status;
+use kb_label::Verdict;
+use kb_report::summary_text;
+use kb_syntax::{generate, problem_text};
+use kb_term::Memory;
+use mkb_board::Board;
+use mkb_report::summary_of;
+use std::alloc::Global;
+
+/// The reply is the text of the generated problem with this number.
+///
+/// # Errors
+///
+/// Want of memory.
+pub(crate) fn generated_text(alloc: Global, number: u32) -> Result<Reply, Memory>
+    requires some { 1 ≤ number }
+    requires most { number ≤ 64 }
+    ensures { IfOk result (λ r. Generates number r.status r.board r.text.items) }
+{
+    let problem = generate(alloc, number as usize)?;
+    Ok(Reply {
+        text: problem_text(alloc, &problem)?,
+        status: Status::Done,
+        board: None,
+    })
+}
+
+/// Completes the generated problem with this number by one worker; the reply is the summary of the run.
+///
+/// # Errors
+///
+/// Want of memory, with the board where one was made.
+pub(crate) fn summarise(alloc: Global, budget: u32, number: u32) -> Result<Reply, Option<Board>>
+    requires some { 1 ≤ number }
+    requires most { number ≤ 64 }
+    ensures { IfOk result (λ r. Summarises budget number r.status r.board r.text.items) }
+{
+    let Ok(problem) = generate(alloc, number as usize) else {
+        return Err(None);
+    };
+    let (board, verdict) = finish(alloc, problem, budget)?;
+    match board_text(alloc, &board, verdict) {
+        Ok(text) => Ok(Reply {
+            text,
+            status: Status::Done,
+            board: Some(board),
+        }),
+        Err(Memory) => Err(Some(board)),
+    }
+}
+
+// The summary of a board on which this verdict stands.
+fn board_text(alloc: Global, board: &Board, verdict: Verdict) -> Result<Vec<u8>, Memory>
+    requires { verdict_on board.now.plain ≡ Some verdict }
+    ensures { IfOk result (λ text. text.items ≡ text_of_board board.now) }
+{
+    let summary = summary_of(board.state(), &Some(verdict), board.drops());
+    summary_text(alloc, &summary)
+}
