@@ -1,8 +1,8 @@
 -- What the checker says of an answer is one.
-use Rattle.std.proofs.Common.{ℕ, zero, suc, ◌+◌, ◌≤◌, ◌<◌, ◌≡◌, ◌⊎◌, inl, inr, refl, sym, ap, ap₂, ◌∙◌, subst, arith, List, [], ◌∷◌, ◌++◌, map, length, append_assoc, All, Contains, Option, Some, None, ⊎_elim}
-use Rattle.std.specs.Prelude.{Result, Ok, Err, slice_get, ◌==◌}
-use Rattle.std.proofs.lemmas.List.Elements.{All-contains, All-head, All-tail, All-cons, All-nil, Contains-append_cases, Contains-append_right}
-use Rattle.kb_term.proofs.Steps.{contains_cases, contains_behind, contains_first}
+use Rattle.std.proofs.Common.{ℕ, zero, suc, ◌+◌, ◌≤◌, ◌<◌, ◌≡◌, ◌⊎◌, inl, inr, refl, sym, ap, ap₂, ◌∙◌, subst, arith, List, [], ◌∷◌, ◌++◌, length, append_assoc, All, Contains, ⊎_elim}
+use Rattle.std.specs.Prelude.{Result, Ok, Err, ◌==◌}
+use Rattle.std.proofs.lemmas.List.Elements.{All-contains, All-head, All-tail, All-cons, Contains-append_cases, Contains-append_right}
+use Rattle.kb_term.proofs.Steps.{contains_first}
 use Rattle.kb_term.proofs.Subtrees.{some_same}
 use Rattle.kb_term.specs.Tree.{Tree}
 use Rattle.kb_term.specs.Pair.{Pair}
@@ -20,10 +20,9 @@ use Rattle.kb_laws.proofs.Renamings.{Back, answer_instance, FormBack, normalises
 use Rattle.kb_laws.proofs.Twins.{Both, both_append, both_in, Twins, AlikeSides, AreListedAlike, lists_both}
 use Rattle.kb_trace.specs.Steps.{pairs_of, IsFirstBadStep}
 use Rattle.kb_checker.specs.Answers.{Answer, IsAnswer, IsTraced, rules_of}
-use Rattle.kb_checker.specs.Verdicts.{FailsFirst, IsLarge, IsLong, HasForm, FailToJoin, Closes, FailsToClose, AreOverlapsOf, AreInnerOverlaps, AreOuterOverlaps, FirstUnclosed, IsProved, FailsToProve, IsOriented, PassesSteps, pair_reason, equation_reason, IsAccepted, IsVerdict}
+use Rattle.kb_checker.specs.Verdicts.{FailsFirst, HasForm, FailToJoin, Closes, FailsToClose, AreOverlapsOf, AreInnerOverlaps, AreOuterOverlaps, FirstUnclosed, IsProved, FailsToProve, IsOriented, PassesSteps, pair_reason, equation_reason, IsVerdict}
 use Rattle.kb_checker.specs.declared.joining.Failure.{Failure}
 use Rattle.kb_checker.specs.declared.joining.Failure.TheVariants.{Large, Steps, Different}
-use Rattle.kb_checker.specs.declared.verdict.Reject.{Reject}
 use Rattle.kb_checker.specs.declared.verdict.Reject.TheVariants.{BadStep, Untraced, NotOriented, PairLarge, PairSteps, NotJoined, EquationLarge, EquationSteps, NotProved}
 use Rattle.kb_checker.specs.declared.verdict.Checked.{Checked}
 use Rattle.kb_checker.specs.declared.verdict.Checked.TheVariants.{Accepted, Rejected}
@@ -58,8 +57,8 @@ first_once : {X : Type 0} (G F H : X → Type 0) → ((x : X) → G x → F x �
 first_once {X} G F H f h xs n m (before, x, after, is, at, good, fails) (front, y, back, d, there, fine, failed) = ⊎_elim
     (λ k. (at ∙ ap (λ z. z + 1) k.0 ∙ sym there, (x, fails, subst {A = X} H (sym k.1) failed)))
     (λ k. ⊎_elim
-        (λ c. absurd (f x (All-contains G front x fine (subst {A = List X} (λ zs. Contains zs x) (sym c.1) (middle before c.0 x))) fails))
-        (λ c. absurd (h y (All-contains G before y good (subst {A = List X} (λ zs. Contains zs y) (sym c.1) (middle front c.0 y))) failed)) k)
+    (λ c. absurd (f x (All-contains G front x fine (subst {A = List X} (λ zs. Contains zs x) (sym c.1) (middle before c.0 x))) fails))
+    (λ c. absurd (h y (All-contains G before y good (subst {A = List X} (λ zs. Contains zs y) (sym c.1) (middle front c.0 y))) failed)) k)
     (places before front after back x y (sym is ∙ d))
 
 -- ---- traces
@@ -80,8 +79,8 @@ bad_once : (es : List (Tree × Tree)) (trace : List TraceStep) (n m : ℕ) → I
 bad_once es trace n m f g = ⊎_elim
     (λ k. f.number ∙ ap (λ z. z + 1) k.0 ∙ sym g.number)
     (λ k. ⊎_elim
-        (λ c. absurd (f.not_right (right_there es [] f.before f.step c.0 (subst {A = List TraceStep} (IsRightTrace es) c.1 g.right_before))))
-        (λ c. absurd (g.not_right (right_there es [] g.before g.step c.0 (subst {A = List TraceStep} (IsRightTrace es) c.1 f.right_before)))) k)
+    (λ c. absurd (f.not_right (right_there es [] f.before f.step c.0 (subst {A = List TraceStep} (IsRightTrace es) c.1 g.right_before))))
+    (λ c. absurd (g.not_right (right_there es [] g.before g.step c.0 (subst {A = List TraceStep} (IsRightTrace es) c.1 f.right_before)))) k)
     (places f.before g.before f.after g.after f.step g.step (sym f.parts ∙ g.parts))
 
 -- ---- two terms
@@ -414,8 +413,8 @@ module _ (a : Answer) (formed : IsAnswer a) where
     in_equations : HoldVariables (rules_of a.rules) → FromEquations x → FromEquations y → x ≡ y
     in_equations hold = compare x y
         (λ h k.
-            let r = first_once (IsProved (rules_of a.rules)) (FailsToProve (rules_of a.rules) h.0) (FailsToProve (rules_of a.rules) k.0) (λ e. join_never (rules_of a.rules) hold e.0 e.1 h.0) (λ e. join_never (rules_of a.rules) hold e.0 e.1 k.0) a.problem.equations h.1 k.1 h.2 k.2 in
-            h.3 ∙ ap₂ (λ f n. Rejected (equation_reason f) n) (one_failure (rules_of a.rules) hold r.1.0.0 r.1.0.1 h.0 k.0 r.1.1 r.1.2) r.0 ∙ sym k.3)
+        let r = first_once (IsProved (rules_of a.rules)) (FailsToProve (rules_of a.rules) h.0) (FailsToProve (rules_of a.rules) k.0) (λ e. join_never (rules_of a.rules) hold e.0 e.1 h.0) (λ e. join_never (rules_of a.rules) hold e.0 e.1 k.0) a.problem.equations h.1 k.1 h.2 k.2 in
+        h.3 ∙ ap₂ (λ f n. Rejected (equation_reason f) n) (one_failure (rules_of a.rules) hold r.1.0.0 r.1.0.1 h.0 k.0 r.1.1 r.1.2) r.0 ∙ sym k.3)
         (λ h p. none_fails (IsProved (rules_of a.rules)) (FailsToProve (rules_of a.rules) h.0) (λ e. join_never (rules_of a.rules) hold e.0 e.1 h.0) a.problem.equations h.1 h.2 p)
         (λ h p. none_fails (IsProved (rules_of a.rules)) (FailsToProve (rules_of a.rules) h.0) (λ e. join_never (rules_of a.rules) hold e.0 e.1 h.0) a.problem.equations h.1 h.2 p)
         (λ p h k. h ∙ sym k)
