@@ -5,3 +5,4 @@ pub mod Citing
 pub mod RowsOfOverlaps
 pub mod Ready
 pub mod Rejected
+pub mod OneVerdict

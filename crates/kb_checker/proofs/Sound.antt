@@ -40,7 +40,7 @@ rows_fit (f ∷ g) (row ∷ i) h =
     ((grind (arith, n), λ k d l. (small.coefficients k d l).0), rows_fit g i q.1)
 
 -- what a certificate of the signature orients is a rule
-oriented_rule : (g : Signature) (c : Certificate) → IsTrue (is_certificate g c) → (s t : Tree) → IsWellFormed g t → IsGreater c s t → IsRule (record { left = s; right = t })
+pub oriented_rule : (g : Signature) (c : Certificate) → IsTrue (is_certificate g c) → (s t : Tree) → IsWellFormed g t → IsGreater c s t → IsRule (record { left = s; right = t })
 oriented_rule g (Lpo p) m s t w h = lpo_rule p (record { left = s; right = t }) h
 oriented_rule g (Linear i) m s t w h = record {
   no_variable = λ n e. let k = h (λ z. 0) in let q : linear_value i (λ z. 0) s ≡ 0 = ap (linear_value i (λ z. 0)) e in omega arith;

@@ -7,10 +7,12 @@ mod answer;
 mod checking;
 mod closing;
 mod joining;
+mod laws;
 mod verdict;
 
 pub use answer::Answer;
 pub use checking::check;
+pub use laws::verdicts_are_one;
 pub use verdict::{Checked, Reject};
 
 #[cfg(test)]

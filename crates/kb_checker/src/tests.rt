@@ -20,3 +20,8 @@ fn an_answer_without_rules_is_good_for_no_equations(rt: HostRuntime) {
     let checked = check(alloc, &empty_answer(alloc)).expect(&rt, "memory");
     assert!(rt; checked == Checked::Accepted);
 }
+
+#[test]
+fn an_answer_has_one_verdict(_rt: HostRuntime) {
+    verdicts_are_one();
+}

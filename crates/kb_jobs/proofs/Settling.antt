@@ -28,7 +28,7 @@ use Rattle.mkb_model.specs.Plain.{sides}
 use Rattle.mkb_model.specs.Proposals.{NamedRule, as_rules, NamedOverlap, OverlapsOf, deduced_pair, Picks, HasForm, IsJoinedBy, IsFormed, IsJoined, IsUnjoined}
 use Rattle.mkb_model.proofs.Lists.{none_in, none_some, some_is, any_in, in_any, map_in, in_map, clash}
 use Rattle.mkb_model.proofs.Alike.{joined_formed, joined_not_unjoined}
-use Rattle.mkb_model.proofs.Renamings.{Back, normalises_instance}
+use Rattle.kb_laws.proofs.Renamings.{Back, normalises_instance}
 use Rattle.kb_jobs.specs.Rules.{named, listed}
 use Rattle.kb_jobs.specs.Groups.{AreFew, origin_of, overlaps_in, IsGroupOf, AreGroupsOf}
 use Rattle.kb_jobs.specs.declared.groups.Group.{Group}

@@ -12,5 +12,7 @@ pub mod Complete
 pub mod Orderable
 pub mod Stated
 pub mod LoneRule
+pub mod Renamings
+pub mod Twins
 mod SystemRows
 mod SquareRows

@@ -1,27 +1,16 @@
 -- Rules that halt on a term rewrite it to no instance of itself, and none of them its own right side.
-use Rattle.std.proofs.Common.{ℕ, zero, suc, ◌≤◌, ◌≡◌, ◌≢◌, refl, sym, ap, ◌∙◌, subst, arith, List, [], ◌∷◌, length, Contains, Some, ⊎_elim}
+use Rattle.std.proofs.Common.{ℕ, zero, suc, ◌≤◌, ◌≡◌, ◌≢◌, refl, sym, ap, ◌∙◌, subst, arith, List, [], ◌∷◌, length, Contains, ⊎_elim}
 use Rattle.kb_term.specs.Tree.{Tree, Trees, variable, apply, more_trees}
-use Rattle.kb_term.specs.Position.{replace_at}
 use Rattle.kb_term.specs.Substitution.{instance}
 use Rattle.kb_term.specs.Rule.{Rule}
 use Rattle.kb_term.specs.Proving.{RewritesAt, Step, IsChain, Halts}
-use Rattle.kb_term.proofs.Subtrees.{subtree-instance, replace-instance}
+use Rattle.kb_laws.proofs.Renamings.{rewrites_instance}
 use Rattle.kb_term.proofs.Instances.{instance-instance, instance-variable}
 use Rattle.kb_term.proofs.Steps as Positioned
 use Rattle.kb_term.proofs.Steps.{StepIn, at_root, inside, here, there, contains_cases, contains_first}
 use Rattle.kb_term.proofs.Relation.{Steps}
 use Rattle.kb_term.proofs.Bridge.{step_from_position, halts_from}
 use Rattle.mkb_model.proofs.Lists.{none_in}
-
--- what a rule rewrites it rewrites in each instance
-pub rewrites_instance : (d : ℕ → Tree) (rule : Rule) (p : List ℕ) (t u : Tree) → RewritesAt rule p t u → RewritesAt rule p (instance d t) (instance d u)
-rewrites_instance d rule p t u (m, h) = (
-  (λ x. instance d (m x)),
-  record {
-    redex = subtree-instance d p t (instance m rule.left) h.redex ∙ ap Some (instance-instance d m rule.left);
-    result = ap (replace_at (instance d t) p) (sym (instance-instance d m rule.right)) ∙ replace-instance d p t (instance m rule.right) u h.result;
-  },
-)
 
 pub step_instance : (rules : List Rule) (d : ℕ → Tree) (t u : Tree) → Step rules t u → Step rules (instance d t) (instance d u)
 step_instance rules d t u (rule, i, p, h) = (rule, i, p, rewrites_instance d rule p t u h)

@@ -57,7 +57,6 @@ mod EmptyRun
 mod ForkRun
 mod ForkViews
 mod Replays
-pub mod Renamings
 pub mod Alike
 pub mod OneProposal
 pub mod OneJournal

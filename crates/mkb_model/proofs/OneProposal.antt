@@ -41,7 +41,8 @@ use Rattle.mkb_model.proofs.Lists.{none_some, some_is, filter_in, in_map, map_in
 use Rattle.mkb_model.proofs.Readiness.{named_rule}
 use Rattle.mkb_model.proofs.Completed.{named_are}
 use Rattle.mkb_model.proofs.Unique.{neither, redex_flip}
-use Rattle.mkb_model.proofs.Alike.{Both as Paired, both_first, both_in, both_picked, AreAlike, overlaps_both, alike_swapped, alike_limit, deduced_same, formed_alike, unjoined_alike, stopped_alike, forms_no_pass, passes_one, formed_not_stopped, joined_formed, joined_not_unjoined, stopped_one}
+use Rattle.kb_laws.proofs.Twins.{Both as Paired, both_in}
+use Rattle.mkb_model.proofs.Alike.{both_first, both_picked, AreAlike, overlaps_both, alike_swapped, alike_limit, deduced_same, formed_alike, unjoined_alike, stopped_alike, forms_no_pass, passes_one, formed_not_stopped, joined_formed, joined_not_unjoined, stopped_one}
 
 -- ---- terms of the program
 

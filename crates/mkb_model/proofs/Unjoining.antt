@@ -17,6 +17,7 @@ use Rattle.kb_term.proofs.Variants.{rename-rename}
 use Rattle.kb_term.proofs.Instances.{instance-variable, instance-instance}
 use Rattle.kb_term.proofs.Subtrees.{subtree-instance}
 use Rattle.kb_overlap.specs.Trace.{side}
+use Rattle.kb_laws.proofs.Renamings.{rewrites_instance}
 use Rattle.kb_rewrite.specs.NormalForm.{IsNormal, IsFound, Encompasses}
 use Rattle.kb_label.specs.Names.{Name, has}
 use Rattle.kb_node.specs.declared.node.LabelKind.{LabelKind}
@@ -37,7 +38,7 @@ use Rattle.mkb_model.proofs.Adding.{rule_role, add_one, place, add-place, add-eq
 use Rattle.mkb_model.proofs.Readiness.{named_rule}
 use Rattle.mkb_model.proofs.Resting.{IsBit, Rests, rules_in, in_rules, known_holds, node_one}
 use Rattle.mkb_model.proofs.Proper.{IsOrdered}
-use Rattle.mkb_model.proofs.Endless.{right_irreducible, rewrites_instance}
+use Rattle.mkb_model.proofs.Endless.{right_irreducible}
 use Rattle.mkb_model.proofs.Moved.{ordered_halts}
 use Rattle.mkb_model.proofs.Normal.{rewrites_encompassed}
 use Rattle.mkb_model.proofs.Interreduced.{IsHeld, AreReduced, some_new}

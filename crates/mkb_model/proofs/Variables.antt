@@ -13,7 +13,7 @@ use Rattle.kb_term.proofs.Variants.{filter_kept, distinct_in, in_distinct}
 use Rattle.kb_term.proofs.Steps.{contains_cases, contains_behind, contains_first, occurs_from, occurs_to, Occurs}
 use Rattle.kb_term.proofs.Instances.{instance-variable, instance-agree, agree_at}
 use Rattle.mkb_model.proofs.Lists.{none_in, any_in, in_any, clash}
-use Rattle.mkb_model.proofs.Renamings.{Back, rewrites_back}
+use Rattle.kb_laws.proofs.Renamings.{Back, rewrites_back}
 
 filter_less : (p : ℕ → Bool) (xs : List ℕ) → length (filter p xs) ≤ length xs
 filter_less p [] = omega arith

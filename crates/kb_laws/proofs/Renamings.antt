@@ -11,11 +11,10 @@ use Rattle.kb_term.specs.Rule.{Rule}
 use Rattle.kb_term.specs.Proving.{IsPath, RewritesAt}
 use Rattle.kb_term.proofs.Instances.{instance-instance, instance-agree, agree_at}
 use Rattle.kb_term.proofs.Steps.{contains_behind, occurs_from, occurs_to}
-use Rattle.kb_term.proofs.Subtrees.{subtree-instance, replace-instance}
+use Rattle.kb_term.proofs.Subtrees.{some_same, subtree-instance, replace-instance}
 use Rattle.kb_overlap.proofs.Extents.{same_term_limit}
 use Rattle.kb_overlap.proofs.Uniqueness.{same_canonical_pair}
 use Rattle.kb_rewrite.specs.NormalForm.{IsRedex, IsFirstRedex, HasRedex, IsNormal, StrategyStep, HoldVariables, Normalised, form, long, large, NormalisesTo}
-use Rattle.mkb_model.proofs.Lists.{some_is}
 
 -- e takes the instance of the term by d back to the term
 abbrev pub Back : (d e : ℕ → Tree) → Tree → Type 0
@@ -73,7 +72,8 @@ first_instance d e rules s p i h f = record {
   first_rule = λ j l r. f.first_rule j l (redex_back d e rules s h p j r);
 }
 
-rewrites_instance : (d : ℕ → Tree) (rule : Rule) (p : List ℕ) (s u : Tree) → RewritesAt rule p s u → RewritesAt rule p (instance d s) (instance d u)
+-- what a rule rewrites it rewrites in each instance
+pub rewrites_instance : (d : ℕ → Tree) (rule : Rule) (p : List ℕ) (s u : Tree) → RewritesAt rule p s u → RewritesAt rule p (instance d s) (instance d u)
 rewrites_instance d rule p s u (m, r) = (
   (λ x. instance d (m x)),
   record {
@@ -99,10 +99,10 @@ pub rewrites_back : (d e : ℕ → Tree) (rule : Rule) (p : List ℕ) (s u : Tre
 rewrites_back d e rule p s u held h (m, r) =
     let k : ℕ → Tree = λ x. instance e (d x) in
     let fixed : instance k s ≡ s = sym (instance-instance e d s) ∙ h in
-    let left : instance k (instance m rule.left) ≡ instance m rule.left = some_is (sym (subtree-instance k p s (instance m rule.left) r.redex) ∙ ap (λ z. subtree_at z p) fixed ∙ r.redex) in
+    let left : instance k (instance m rule.left) ≡ instance m rule.left = some_same _ _ (sym (subtree-instance k p s (instance m rule.left) r.redex) ∙ ap (λ z. subtree_at z p) fixed ∙ r.redex) in
     let right : instance k (instance m rule.right) ≡ instance m rule.right = instance-instance k m rule.right
     ∙ instance-agree (λ x. instance k (m x)) m rule.right (λ n o. agree_at (λ x. instance k (m x)) m rule.left (sym (instance-instance k m rule.left) ∙ left) n (occurs_from n rule.left (held n (occurs_to n rule.right o)))) in
-    instance-instance e d u ∙ some_is (sym (replace-instance k p s (instance m rule.right) u r.result) ∙ ap₂ (λ y z. replace_at y p z) fixed right ∙ r.result)
+    instance-instance e d u ∙ some_same _ _ (sym (replace-instance k p s (instance m rule.right) u r.result) ∙ ap₂ (λ y z. replace_at y p z) fixed right ∙ r.result)
 
 step_back : (d e : ℕ → Tree) (rules : List Rule) (s u : Tree) → HoldVariables rules → Back d e s → StrategyStep rules s u → Back d e u
 step_back d e rules s u held h (p, i, f, r) = rewrites_back d e f.redex.rule p s u (held f.redex.rule (rule_among rules i f.redex.rule f.redex.there)) h r
