@@ -1,9 +1,9 @@
 -- Each commit of a possible run of a problem within the limits changes a label, something known or the living names, but for want of room
 -- where all on which it acts have given up.
-use Rattle.std.proofs.Common.{ℕ, ◌≡◌, ◌⊎◌, inl, inr, refl, sym, ap, ap₂, ◌∙◌, subst, arith, List, [], ◌∷◌, map, filter, length, Contains, Bool, true, false, cond, not, ◌&&◌, Option, Some, None, ⊎_elim}
-use Rattle.std.specs.Prelude.{IsFalse, option_map}
+use Rattle.std.proofs.Common.{ℕ, ◌≤◌, ◌≡◌, ◌⊎◌, inl, inr, refl, sym, ap, ap₂, ◌∙◌, subst, arith, List, [], ◌∷◌, map, filter, length, length-append, Contains, Bool, true, false, cond, not, ◌&&◌, Option, Some, None, ⊎_elim}
+use Rattle.std.specs.Prelude.{IsFalse, nat_lt, option_map}
+use Rattle.std.proofs.lemmas.Bool.Decides.{nat_tests}
 use Rattle.std.specs.List.{find}
-use Rattle.std.proofs.Common.{length-append}
 use Rattle.std.specs.Option.{option_map_or}
 use Rattle.kb_term.proofs.Steps.{contains_behind, contains_first}
 use Rattle.kb_term.specs.View.{tree_of}
@@ -25,7 +25,7 @@ use Rattle.kb_node.specs.declared.job.Job.TheVariants.{Reduce, Orient, Overlap, 
 use Rattle.mkb_model.specs.Jobs.{ref_eq}
 use Rattle.mkb_model.specs.Plain.{Plain, Done, GivenUp, label, label_at, done_in, done_of, is_equation, is_over, pair_at, rule_kind}
 use Rattle.mkb_model.specs.DueJobs.{is_due, is_working, is_work_due}
-use Rattle.mkb_model.specs.Effects.{applied, counted, limit_of, give_up, effect_label, not_over, own_reason, is_crowded, is_full, first_some, some_if, is_dropped, rewritten, rewrite_label, overlap_label, gains_done_in, limit_label, added, reason_eq}
+use Rattle.mkb_model.specs.Effects.{applied, counted, limit_of, give_up, effect_label, not_over, own_reason, is_crowded, is_full, first_some, some_if, is_dropped, rewritten, rewrite_label, overlap_label, gains_done_in, limit_label, added, reason_eq, most_nodes}
 use Rattle.mkb_model.specs.Proposals.{Proposes}
 use Rattle.mkb_model.specs.Journals.{Moment, IsPossibleRun, IsFreeJob, IsFinishing, IsCommitting, landed}
 use Rattle.mkb_model.specs.Ready.{IsOn, KeepsPairs, IsRewriteOn}
@@ -54,6 +54,7 @@ use Rattle.mkb_model.proofs.Completed.{ref_self}
 use Rattle.mkb_model.proofs.Origins.{some_named}
 use Rattle.mkb_model.proofs.Sizes.{limited_run}
 use Rattle.mkb_model.proofs.OverReasons.{given_over}
+use Rattle.mkb_model.proofs.PairLists.{few_run}
 use Rattle.mkb_model.proofs.Findings.{is_about, missing_some, missing_stays, added_known}
 use Rattle.mkb_model.proofs.Moved.{role_lost}
 use Rattle.mkb_model.proofs.Unjoining.{never_all, added_had}
@@ -64,17 +65,25 @@ none_named : (l : List Name) (p : Name) → is_empty l ≡ true → has l p ≡ 
 none_named [] p h = refl
 none_named (q ∷ l) p h = clash h refl
 
-module _ (P : Problem) (n : ℕ) (past : List Moment) (b : Plain) (run : IsPossibleRun P n past b) where
+module _ (P : Problem) (n : ℕ) (within : IsWithinLimits P) (past : List Moment) (b : Plain) (run : IsPossibleRun P n past b) where
   -- who gives up is seen to
   limit_seen : (r : Reason) (l : List Name) (p : Name) → has (not_over b l) p ≡ true → SaysTheSame b (give_up r l b) → ⊥
   limit_seen r l p h same = clash (given_over IsFreeJob P n past b run r l p h) (same.over p ∙ not_true (and_left (not (is_over b p)) (has l p) (sym (has-filter (λ q. not (is_over b q)) l p) ∙ h)))
+
+  -- a proposal that comes to a limit acts on some process, since facts alone always find room
+  acted : (x : Proposed) (r : Reason) → IsFalse (is_dropped b x) → limit_of b x ≡ Some r → (p : Name) × (has (effect_label b x) p ≡ true)
+  acted (Facts fs) r acts e = none_some (sym (roomy (length b.nodes) (few_run IsFreeJob P n past b within run)) ∙ e)
+    where
+      roomy : (n : ℕ) → n ≤ most_nodes → first_some (None ∷ None ∷ some_if (nat_lt most_nodes n) Nodes ∷ []) ≡ None
+      roomy n h = let e : nat_lt 4096 n ≡ false = grind (arith, nat_tests) in ap (λ b. first_some (None ∷ None ∷ some_if b Nodes ∷ [])) e
+  acted x r acts e = some_named (effect_label b x) acts
 
   at_limit : (x : Proposed) (r : Reason) → IsFalse (is_dropped b x) → limit_of b x ≡ Some r → (SaysTheSame b (give_up r (effect_label b x) b) → ⊥) ⊎ IsIdleLimit b x
   at_limit x r acts e = go (is_empty (not_over b (effect_label b x))) refl
     where
       go : (y : Bool) → is_empty (not_over b (effect_label b x)) ≡ y → (SaysTheSame b (give_up r (effect_label b x) b) → ⊥) ⊎ IsIdleLimit b x
       go false i = let k = some_named (not_over b (effect_label b x)) i in inl (limit_seen r (effect_label b x) k.0 k.1)
-      go true i = inr (record { not_own = foreign x acts all; limit = room x r (foreign x acts all) e; all_over = all })
+      go true i = let k = acted x r acts e in inr (record { not_own = foreign x acts all; limit = room x r (foreign x acts all) e; some = k.0; acts = k.1; all_over = all })
         where
           all : (p : Name) → has (effect_label b x) p ≡ true → is_over b p ≡ true
           all p h = ⊎_elim (λ k. k) (λ k. clash (has-filter (λ q. not (is_over b q)) (effect_label b x) p ∙ and_both (not (is_over b p)) (has (effect_label b x) p) (not_of_false k) h) (none_named (not_over b (effect_label b x)) p i)) (decide (is_over b p))
@@ -234,7 +243,7 @@ commits_change P n past b w t e d within run c = go (limit_of b c.proposal) refl
     leads o q = c.leads_to ∙ ap (λ o. landed t (counted (option_map_or (λ r. give_up r (effect_label b c.proposal) b) o (applied b c.proposal)))) q
 
     go : (o : Option Reason) → limit_of b c.proposal ≡ o → IsChanged b d ⊎ IsIdleLimit b c.proposal
-    go (Some r) q = ⊎_elim (λ h. inl (λ s. h (landed_same (give_up r (effect_label b c.proposal) b) (leads (Some r) q) s))) (λ h. inr h) (at_limit P n past b run c.proposal r c.acts q)
+    go (Some r) q = ⊎_elim (λ h. inl (λ s. h (landed_same (give_up r (effect_label b c.proposal) b) (leads (Some r) q) s))) (λ h. inr h) (at_limit P n within past b run c.proposal r c.acts q)
     go None q = inl (λ s. applied_seen P n within past b run w t c.job c.proposal c.finishing c.acts q (landed_same (applied b c.proposal) (leads None q) s))
 
 -- ---- idle limits

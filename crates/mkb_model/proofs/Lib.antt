@@ -26,6 +26,7 @@ pub mod Unmoved
 pub mod Resting
 pub mod Restful
 pub mod Staying
+pub mod PairLists
 pub mod Endless
 pub mod OverReasons
 pub mod Findings

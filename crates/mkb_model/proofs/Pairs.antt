@@ -20,7 +20,7 @@ use Rattle.mkb_model.proofs.Lists.{clash, or_one, or_right, or_left, none_some}
 pub pairs_trans : (xs ys zs : List PlainNode) → KeepsPairs xs ys → KeepsPairs ys zs → KeepsPairs xs zs
 pairs_trans xs ys zs h k n q e = k n q (h n q e)
 
-pair-put_in : (x : PlainNode) (k : LabelKind) (l : List Name) → (with_label_in x k l).pair ≡ x.pair
+pub pair-put_in : (x : PlainNode) (k : LabelKind) (l : List Name) → (with_label_in x k l).pair ≡ x.pair
 pair-put_in x R0 l = refl
 pair-put_in x R1 l = refl
 pair-put_in x E l = refl

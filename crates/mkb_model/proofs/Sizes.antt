@@ -197,7 +197,7 @@ step_well g r p s t over w h = keeps_well g (r ∷ []) (all_from (IsRuleOver g) 
 
 -- ---- limits that aren't passed
 
-not_more : (m n : ℕ) → nat_lt m n ≡ false → n ≤ m
+pub not_more : (m n : ℕ) → nat_lt m n ≡ false → n ≤ m
 not_more m n h = grind arith
 
 two_none : (a b : Bool) → first_limit (limit_if a Size ∷ limit_if b Depth ∷ []) ≡ None → (a ≡ false) × (b ≡ false)

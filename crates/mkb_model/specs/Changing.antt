@@ -22,8 +22,10 @@ pub record SaysTheSame (b c : Plain) : Type 0 where
 abbrev pub IsChanged : Plain → Plain → Type 0
 IsChanged b c = ¬ SaysTheSame b c
 
--- the commit comes to want of room, which the proposal doesn't bring, and each process on which it acts has given up before
+-- the commit comes to want of room, which the proposal doesn't bring, and the processes on which it acts, of which there is one, have all given up before
 pub record IsIdleLimit (b : Plain) (x : Proposed) : Type 0 where
   pub not_own : own_reason x ≡ None
   pub limit : (limit_of b x ≡ Some Nodes) ⊎ (limit_of b x ≡ Some Processes)
+  pub some : Name
+  pub acts : IsTrue (has (effect_label b x) some)
   pub all_over : (p : Name) → IsTrue (has (effect_label b x) p) → IsTrue (is_over b p)

@@ -23,7 +23,8 @@ use Rattle.mkb_model.proofs.Roles.{length-put}
 use Rattle.mkb_rules.specs.Rewriting.{target_of, wanted_by, lost, gained}
 use Rattle.mkb_rules.specs.declared.effects.rewriting.Sources.{Sources}
 use Rattle.mkb_rules.specs.declared.effects.rewriting.Target.{Target}
-use Rattle.mkb_rules.proofs.SamePairs.{plain_pairs, pairs-put, with_nodes-same, length-same, limit-room, limit-full}
+use Rattle.mkb_model.proofs.PairLists.{plain_pairs, pairs-put, with_nodes-same, length-same}
+use Rattle.mkb_rules.proofs.SamePairs.{limit-room, limit-full}
 
 -- a node is still there when labels were put anew
 pub there-put : (n m : ℕ) (k : LabelKind) (l : List Name) (xs ys : List PlainNode) → ys ≡ with_label m k l xs → n < length xs → n < length ys
