@@ -4,7 +4,6 @@
 mod laws;
 mod report;
 mod summary;
-
 #[cfg(test)]
 mod tests;
 
