@@ -1,5 +1,5 @@
 -- Boards without equations: the opening board, and the board after its one process closed.
-use Rattle.std.proofs.Common.{ℕ, ◌≡◌, ◌<◌, refl, sym, ap, ◌∙◌, subst, arith, List, [], ◌∷◌, All, Contains, Option, Some, None}
+use Rattle.std.proofs.Common.{ℕ, ◌≡◌, refl, sym, ap, subst, arith, List, [], ◌∷◌, Some, None}
 use Rattle.std.specs.Prelude.{Result, Ok, IfOk}
 use Rattle.kb_term.specs.Signature.{Problem, IsWithinLimits}
 use Rattle.kb_label.specs.declared.verdict.Spent.TheVariants.{Commits}

@@ -1,4 +1,4 @@
-use Rattle.std.proofs.Common.{ℕ, ◌≡◌, ◌+◌, ◌∙◌, ap, sym, arith, cond, true, false}
+use Rattle.std.proofs.Common.{ℕ, ◌≡◌, ◌+◌, ◌∙◌, ap, sym, arith, cond}
 use Rattle.mkb_model.specs.Plain.{is_rule}
 use Rattle.mkb_report.proofs.Counted.{rules_counted, rules_most}
 use Rattle.mkb_report.proofs.summary.rules_of_process.Goals as goal
