@@ -37,13 +37,17 @@ pub verdict_of_state : (s : Seen) (b : Plain) (o : Option Verdict) → IsStateOf
 verdict_of_state s b o e h = subst {A = Plain} (λ z. verdict z ≡ o) (sym e) h
 
 report_of_board : (s : Seen) (b : Plain) (v : Verdict) (r : Report) → IsStateOf s b → IsReportOf b v r → IsReportOf s.plain v r
-report_of_board s b (Complete p) r e h = subst {A = Plain} (λ z. IsReportOf z (Complete p) r) e (h.0, h.1, record {
-  problem = h.2.problem;
-  rules = h.2.rules;
-  cert = h.2.cert;
-  trace = h.2.trace;
-  cites = h.2.cites;
-})
+report_of_board s b (Complete p) r e h = subst {A = Plain} (λ z. IsReportOf z (Complete p) r) e (
+  h.0,
+  h.1,
+  record {
+    problem = h.2.problem;
+    rules = h.2.rules;
+    cert = h.2.cert;
+    trace = h.2.trace;
+    cites = h.2.cites;
+  },
+)
 report_of_board s b AllFailed r e h = subst {A = Plain} (λ z. IsReportOf z AllFailed r) e h
 report_of_board s b (Spent Commits) r e h = subst {A = Plain} (λ z. IsReportOf z (Spent Commits) r) e h
 report_of_board s b (Spent (Over reason)) r e h = subst {A = Plain} (λ z. IsReportOf z (Spent (Over reason)) r) e h

@@ -60,5 +60,5 @@ pub finished_by : (P : Problem) (n : ℕ) (crew : Crew) (v : Verdict) → IsWith
 finished_by P n crew v within ends stands = go crew.out_of_memory refl
   where
     go : (b : Bool) → crew.out_of_memory ≡ b → IsFinished P n crew.board v
-    go true e = none_some (sym (ends.1 e).0 ∙ stands)
+    go true e = none_some (sym (ends.1 e).at_rest.no_verdict ∙ stands)
     go false e = finished P n crew.board v within (ends.0 e) stands

@@ -47,7 +47,11 @@ fn report_text(alloc: Global, board: &Board, verdict: &Verdict) -> Result<Vec<u8
 /// # Errors
 ///
 /// Want of memory before a verdict stands, with the board where one was made.
-pub(crate) fn finish(alloc: Global, problem: Problem, budget: u32) -> Result<(Board, Verdict), Option<Board>>
+pub(crate) fn finish(
+    alloc: Global,
+    problem: Problem,
+    budget: u32,
+) -> Result<(Board, Verdict), Option<Board>>
     requires { IsWithinLimits problem }
     ensures { IfOk result (λ end. IsFinished problem budget end.0 end.1) }
 {

@@ -145,7 +145,16 @@ fn several_processes_answer(rt: HostRuntime) {
 #[test]
 fn failures_and_limits_are_told(rt: HostRuntime) {
     let alloc = rt.alloc();
-    assert!(rt; completes(&rt, alloc, "(VAR x y)(RULES f(x,y) == f(y,x))", 1, 2, FAILED));
+    assert!(rt;
+        completes(
+            &rt,
+            alloc,
+            "(VAR x y)(RULES f(x,y) == f(y,x))",
+            1,
+            2,
+            FAILED
+        )
+    );
     assert!(rt; completes(&rt, alloc, "(VAR x y)(RULES x == y)", 1, 2, FAILED));
     let words = &["complete", "--workers", "1", "--budget", "1"];
     assert!(rt;
@@ -201,14 +210,34 @@ fn a_refusal_is_one_line(rt: HostRuntime) {
 #[test]
 fn generated_problems_are_written(rt: HostRuntime) {
     let output = "(VAR x1)\n(RULES\nf0(f0(x1)) == f1(x1)\nf1(f0(x1)) == f2(x1)\n)\n";
-    assert!(rt; runs(&rt, rt.alloc(), &["gen", "--number", "2"], "", 0, None, output));
+    assert!(rt;
+        runs(
+            &rt,
+            rt.alloc(),
+            &["gen", "--number", "2"],
+            "",
+            0,
+            None,
+            output
+        )
+    );
 }
 
 #[test]
 fn summaries_are_written(rt: HostRuntime) {
     let output =
         "verdict complete 1\ncommits 4\ndrops 0\nnodes 2\ndead 0\nforks 1\nliving 2\nover 0\nrules 1\n";
-    assert!(rt; runs(&rt, rt.alloc(), &["summary", "--number", "1"], "", 0, Some(4), output));
+    assert!(rt;
+        runs(
+            &rt,
+            rt.alloc(),
+            &["summary", "--number", "1"],
+            "",
+            0,
+            Some(4),
+            output
+        )
+    );
 }
 
 #[test]
@@ -241,7 +270,17 @@ fn a_sink_that_fails_has_the_front_of_the_answer(rt: HostRuntime) -> Result<(), 
 fn other_words_are_refused(rt: HostRuntime) {
     let alloc = rt.alloc();
     assert!(rt; runs(&rt, alloc, &[], IDENTITY, 7, None, ""));
-    assert!(rt; runs(&rt, alloc, &["complete", "--workers", "17"], IDENTITY, 7, None, ""));
+    assert!(rt;
+        runs(
+            &rt,
+            alloc,
+            &["complete", "--workers", "17"],
+            IDENTITY,
+            7,
+            None,
+            ""
+        )
+    );
     assert!(rt; runs(&rt, alloc, &["journal"], IDENTITY, 7, None, ""));
     assert!(rt; runs(&rt, alloc, &["replay"], IDENTITY, 7, None, ""));
 }
@@ -279,8 +318,7 @@ fn a_text_of_1048576_bytes_is_read_and_one_byte_more_is_refused(rt: HostRuntime)
 }
 
 /// The axioms of groups.
-const GROUP: &str =
-    "(VAR x y z)(RULES m(e,x) == x m(i(x),x) == e m(m(x,y),z) == m(x,m(y,z)))";
+const GROUP: &str = "(VAR x y z)(RULES m(e,x) == x m(i(x),x) == e m(m(x,y),z) == m(x,m(y,z)))";
 
 #[test]
 fn an_answer_for_groups_is_accepted(rt: HostRuntime) {

@@ -36,12 +36,7 @@ fn make<S: Source>(alloc: Global, task: Task, source: &mut S) -> Result<Reply, S
 }
 
 // Does the task: reads what it reads and writes what it makes.
-fn run_task<S: Source, K: Sink>(
-    alloc: Global,
-    task: Task,
-    source: &mut S,
-    sink: &mut K,
-) -> Outcome
+fn run_task<S: Source, K: Sink>(alloc: Global, task: Task, source: &mut S, sink: &mut K) -> Outcome
     requires { HasNumber task }
     ensures ends { Ends task result.status result.board (S.left source.old) (S.left source.new) (S.faults source.old) (S.faults source.new) (K.written sink.old) (K.written sink.new) (K.faults sink.old) (K.faults sink.new) }
     ensures unread { IsUnread task (S.left source.old) (S.left source.new) }

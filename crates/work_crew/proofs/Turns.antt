@@ -1,6 +1,6 @@
 -- One worker's turns: what holds after each.
 use Rattle.std.proofs.Common.{ℕ, ◌≡◌, ◌∙◌, refl, sym, ap, ap₂, subst, arith, List, [], ◌∷◌, ◌++◌, Contains, Bool, true, false, not, ◌==◌, ◌&&◌, ◌||◌, filter, eq-eqb, Some, None, Ok, Err}
-use Rattle.std.specs.Prelude.{IsTrue, IsFalse, IsSome, is_some, Option, Result, OnOk, OnErr}
+use Rattle.std.specs.Prelude.{IsTrue, IsFalse, IsSome, is_some, Option, Result, OnOk, OnErr, if◌then◌else◌}
 use Rattle.kb_term.specs.Signature.{Problem}
 use Rattle.kb_term.specs.declared.memory.Memory.{Memory}
 use Rattle.kb_label.specs.declared.verdict.Verdict.{Verdict}
@@ -26,7 +26,7 @@ use Rattle.mkb_board.specs.Takes.{TakesJob, IsTakenOn, IsProposalOf, IsFinishedB
 use Rattle.mkb_board.specs.declared.answers.Finished.{Finished}
 use Rattle.mkb_board.specs.declared.answers.Finished.TheVariants.{Ended, Dropped, Committed}
 use Rattle.mkb_board.proofs.Growing.{halts_more}
-use Rattle.work_crew.specs.Alone.{IsInTurn, IsSameRun, IsJustTaken, EndsAlone}
+use Rattle.work_crew.specs.Alone.{IsInTurn, IsSameRun, IsAtRest, IsJustTaken, EndsAlone}
 
 -- one turn more: a take by worker 1 and the end of its ticket
 pub turn_more : (J : List Entry) (t : ℕ) (j : Job) (e : Entry) → IsTrue (takes_in_turn J) → is_end_of t e ≡ true → IsTrue (takes_in_turn ((J ++ Take 1 t j ∷ []) ++ e ∷ []))
@@ -78,9 +78,12 @@ module _ (s : Seen) (t : Ticket) (snapshot : Snapshot) (h : IsJustTaken s t snap
   pub worked : (x : Proposed) → ProposesBy snapshot x → IsProposalOf s t x
   worked x p = proposal_of x (subst {A = Job} (λ j. Proposes h.before.plain j x) h.takes.job_is (work_taken h.before.plain snapshot x h.takes.reads p))
 
-  -- where it is given back no verdict stands
-  pub given_back : (new : Seen) → new.plain ≡ landed t.number s.plain → verdict new.plain ≡ None
-  given_back new e = subst {A = Plain} (λ z. verdict z ≡ None) (sym e) no_verdict
+  -- where it is given back nothing is in flight
+  pub given_back : (new : Seen) → new.plain ≡ landed t.number s.plain → IsAtRest new
+  given_back new e = record {
+    no_verdict = subst {A = Plain} (λ z. verdict z ≡ None) (sym e) no_verdict;
+    grounded = ap (λ (z : Plain). z.flight) e ∙ ap (filter (λ (x : Ticket). not (x.number == t.number))) flight_is ∙ same_landed t.number t.worker t.job;
+  }
 
   no_halt_more : (e : Entry) (J : List Entry) → J ≡ s.journal ++ e ∷ [] → is_end_of t.number e ≡ true → IsFalse (has_halt J)
   no_halt_more (Commit w n i) J e k = ap has_halt e ∙ halts_more s.journal (Commit w n i) ∙ ap (λ z. z || false) (ap has_halt h.takes.entered ∙ halts_more h.before.journal (take_entry t) ∙ ap (λ z. z || false) h.in_turn.no_halt)
@@ -123,32 +126,46 @@ opened s legal e = record {
     go [] q r = ap (λ (z : Plain). z.flight) r
     go (m ∷ ms) q r = absurd (some_entry (journal_of ms) m.entry q)
 
-
 no_value : (o : Option Verdict) → is_some o ≡ false → o ≡ None
 no_value None e = refl
 no_value (Some v) e = absurd (cc)
 
--- where no verdict stands there was no memory
-pub out_of_memory : (old mid end : Seen) (out : Bool) → IsSameRun old mid → end.plain ≡ mid.plain → is_some (verdict mid.plain) ≡ false → out ≡ true → EndsAlone old.plain.problem old.plain.budget (record { board = end; out_of_memory = out })
-out_of_memory old mid end out same e none true_out = (
-    λ q. (let clash : true ≡ false = sym true_out ∙ q in absurd (cc)),
-    λ q. (
-      subst {A = Plain} (λ z. verdict z ≡ None) (sym e) (no_value (verdict mid.plain) none),
-      ap (λ (z : Plain). z.problem) e ∙ same.problem,
-      ap (λ (z : Plain). z.budget) e ∙ same.budget,
-    ),
-)
+halt_made : (J K : List Entry) → K ≡ (if has_halt J then J else J ++ Halt ∷ []) → IsTrue (has_halt K)
+halt_made J K e = go (has_halt J) refl (ap has_halt e)
+  where
+    go : (b : Bool) → has_halt J ≡ b → has_halt K ≡ has_halt (if b then J else J ++ Halt ∷ []) → has_halt K ≡ true
+    go true h k = k ∙ h
+    go false h k = k ∙ halts_more J Halt ∙ ap (λ z. z || true) h
 
--- where one stands each ticket was ended
-pub all_ended : (old mid end : Seen) (out : Bool) (r : Result (Unit {0}) Memory) → IsSameRun old mid → OnOk r (IsInTurn mid) → OnErr r (verdict mid.plain ≡ None) → end ≡ mid → IsLegalBoard end → is_some (verdict mid.plain) ≡ true → out ≡ false → EndsAlone old.plain.problem old.plain.budget (record { board = end; out_of_memory = out })
-all_ended old mid end out r same ok err e legal some false_out = (
-    λ q. alone (in_turn r ok err),
-    λ q. (let clash : true ≡ false = sym q ∙ false_out in absurd (cc)),
+-- where no verdict stands there was no memory
+pub broken_off : (old mid end : Seen) (out : Bool) (r : Result (Unit {0}) Memory) → IsSameRun old mid → OnOk r (IsInTurn mid) → OnErr r (IsAtRest mid) → end.plain ≡ mid.plain → end.journal ≡ (if has_halt mid.journal then mid.journal else mid.journal ++ Halt ∷ []) → is_some (verdict mid.plain) ≡ false → out ≡ true → EndsAlone old.plain.problem old.plain.budget (record { board = end; out_of_memory = out })
+broken_off old mid end out r same ok err e halted none true_out = (
+  λ q. (let clash : true ≡ false = sym true_out ∙ q in absurd (cc)),
+  λ q. record {
+    problem = ap (λ (z : Plain). z.problem) e ∙ same.problem;
+    budget = ap (λ (z : Plain). z.budget) e ∙ same.budget;
+    at_rest = record {
+      no_verdict = subst {A = Plain} (λ z. verdict z ≡ None) (sym e) (no_value (verdict mid.plain) none);
+      grounded = ap (λ (z : Plain). z.flight) e ∙ grounded r ok err;
+    };
+    halted = halt_made mid.journal end.journal halted;
+  },
 )
   where
-    in_turn : (r : Result (Unit {0}) Memory) → OnOk r (IsInTurn mid) → OnErr r (verdict mid.plain ≡ None) → IsInTurn mid
+    grounded : (r : Result (Unit {0}) Memory) → OnOk r (IsInTurn mid) → OnErr r (IsAtRest mid) → mid.plain.flight ≡ []
+    grounded (Ok x) h k = h.grounded
+    grounded (Err x) h k = k.grounded
+
+-- where one stands each ticket was ended
+pub all_ended : (old mid end : Seen) (out : Bool) (r : Result (Unit {0}) Memory) → IsSameRun old mid → OnOk r (IsInTurn mid) → OnErr r (IsAtRest mid) → end ≡ mid → IsLegalBoard end → is_some (verdict mid.plain) ≡ true → out ≡ false → EndsAlone old.plain.problem old.plain.budget (record { board = end; out_of_memory = out })
+all_ended old mid end out r same ok err e legal some false_out = (
+  λ q. alone (in_turn r ok err),
+  λ q. (let clash : true ≡ false = sym q ∙ false_out in absurd (cc)),
+)
+  where
+    in_turn : (r : Result (Unit {0}) Memory) → OnOk r (IsInTurn mid) → OnErr r (IsAtRest mid) → IsInTurn mid
     in_turn (Ok x) h k = h
-    in_turn (Err x) h k = let clash : true ≡ false = sym some ∙ ap is_some k in absurd (cc)
+    in_turn (Err x) h k = let clash : true ≡ false = sym some ∙ ap is_some k.no_verdict in absurd (cc)
 
     alone : IsInTurn mid → Alone old.plain.problem old.plain.budget end.journal end.plain
     alone h = record {

@@ -27,8 +27,18 @@ pub record IsJustTaken (s : Seen) (t : Ticket) (snapshot : Snapshot) : Type 0 wh
   pub in_turn : IsInTurn before
   pub takes : TakesJob before s 1 t snapshot
 
--- the journal is that of one worker alone, ended by a verdict; or no memory was found, and no verdict stands
+-- no verdict stands, and nothing is in flight
+pub record IsAtRest (s : Seen) : Type 0 where
+  pub no_verdict : verdict s.plain ≡ None
+  pub grounded : s.plain.flight ≡ []
+
+-- no memory was found, and the work on the problem was broken off: a halt was made, and each ticket given back
+pub record IsBrokenOff (P : Problem) (n : ℕ) (s : Seen) : Type 0 where
+  pub problem : s.plain.problem ≡ P
+  pub budget : s.plain.budget ≡ n
+  pub at_rest : IsAtRest s
+  pub halted : IsTrue (has_halt s.journal)
+
+-- the journal is that of one worker alone, ended by a verdict; or no memory was found
 abbrev pub EndsAlone : Problem → ℕ → Crew → Type 0
-EndsAlone P n crew =
-    (crew.out_of_memory ≡ false → Alone P n crew.board.journal crew.board.plain)
-    × (crew.out_of_memory ≡ true → (verdict crew.board.plain ≡ None) × (crew.board.plain.problem ≡ P) × (crew.board.plain.budget ≡ n))
+EndsAlone P n crew = (crew.out_of_memory ≡ false → Alone P n crew.board.journal crew.board.plain) × (crew.out_of_memory ≡ true → IsBrokenOff P n crew.board)

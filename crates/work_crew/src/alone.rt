@@ -1,8 +1,7 @@
 // The work of one worker.
-ghost use Rattle.std.specs.Prelude.{◌≡◌, [], None, OnOk, OnErr};
-ghost use Rattle.mkb_model.specs.Verdicts.{verdict};
+ghost use Rattle.std.specs.Prelude.{◌≡◌, [], OnOk, OnErr};
 ghost use Rattle.mkb_board.specs.Boards.{IsLegalBoard};
-ghost use Rattle.work_crew.specs.Alone.{IsInTurn, IsSameRun, IsJustTaken, EndsAlone};
+ghost use Rattle.work_crew.specs.Alone.{IsInTurn, IsSameRun, IsAtRest, IsJustTaken, EndsAlone};
 
 use kb_jobs::{Snapshot, work};
 use kb_term::Memory;
@@ -52,7 +51,7 @@ pub fn work_alone(alloc: Global, board: Board) -> Crew
 fn take_turns(alloc: Global, board: &mut Board) -> Result<(), Memory>
     requires { IsInTurn board.old }
     ensures ok { OnOk result (IsInTurn board.new) }
-    ensures none { OnErr result (verdict board.new.plain ≡ None) }
+    ensures err { OnErr result (IsAtRest board.new) }
     ensures same { IsSameRun board.old board.new }
 {
     for _ in 0..u64::MAX {
@@ -68,7 +67,7 @@ fn take_turns(alloc: Global, board: &mut Board) -> Result<(), Memory>
 fn take_turn(alloc: Global, board: &mut Board) -> Result<Turn, Memory>
     requires { IsInTurn board.old }
     ensures ok { OnOk result (IsInTurn board.new) }
-    ensures none { OnErr result (verdict board.new.plain ≡ None) }
+    ensures err { OnErr result (IsAtRest board.new) }
     ensures same { IsSameRun board.old board.new }
 {
     if board.verdict().is_some() {
@@ -95,7 +94,7 @@ fn work_ticket(
 ) -> Result<(), Memory>
     requires { IsJustTaken board.old ticket snapshot.now }
     ensures ok { OnOk result (IsInTurn board.new) }
-    ensures none { OnErr result (verdict board.new.plain ≡ None) }
+    ensures err { OnErr result (IsAtRest board.new) }
     ensures same { IsSameRun board.old board.new }
 {
     let proposal = match work(alloc, snapshot) {
