@@ -4,8 +4,10 @@ ghost use Rattle.kb_term.specs.Signature.{Problem, IsWithinLimits};
 ghost use Rattle.kb_label.specs.Names.{Name};
 ghost use Rattle.kb_label.specs.declared.verdict.Verdict.{Verdict};
 ghost use Rattle.kb_label.specs.declared.verdict.Verdict.TheVariants.{Complete};
-ghost use Rattle.kb_checker.specs.Answers.{Answer, IsGoodAnswer};
-ghost use Rattle.kb_checker.specs.Verdicts.{IsAccepted};
+ghost use Rattle.kb_checker.specs.Answers.{Answer, IsAnswer, IsGoodAnswer};
+ghost use Rattle.kb_checker.specs.Verdicts.{IsAccepted, IsVerdict};
+ghost use Rattle.kb_checker.specs.declared.verdict.Checked.{Checked};
+ghost use Rattle.kb_checker.specs.declared.verdict.Checked.TheVariants.{Accepted};
 ghost use Rattle.mkb_model.specs.Plain.{Plain};
 ghost use Rattle.mkb_model.specs.Verdicts.{verdict};
 ghost use Rattle.kb_report.specs.declared.report.Report.{Report};
@@ -13,10 +15,12 @@ ghost use Rattle.mkb_report.specs.Reports.{IsReached, IsAnswerOf, IsReportOf};
 
 /// On a board that a legal journal of a problem within the limits leads to, where the verdict is that a process is complete, its
 /// answer is good: its rules halt, are confluent and prove exactly what the problem proves, its trace is right and traces each
-/// rule. And no item of the check of this answer fails, so the checker accepts it.
+/// rule. No item of the check of this answer fails; so what the checker says of it, where it has the form of an answer, is that it
+/// is accepted.
 pub fn reports_are_good()
     ensures good { (b : Plain) (p : Name) (a : Answer) → IsReached b → verdict b ≡ Some (Complete p) → IsAnswerOf b p a → IsGoodAnswer a }
     ensures accepted { (b : Plain) (p : Name) (a : Answer) → IsReached b → verdict b ≡ Some (Complete p) → IsAnswerOf b p a → IsAccepted a }
+    ensures checked { (b : Plain) (p : Name) (a : Answer) (said : Checked) → IsReached b → verdict b ≡ Some (Complete p) → IsAnswerOf b p a → IsAnswer a → IsVerdict a said → said ≡ Accepted }
 {}
 
 /// A board has at most one report.
