@@ -1,23 +1,20 @@
 -- Where new pairs find room.
-use Rattle.std.proofs.Common.{ℕ, zero, suc, ◌+◌, ◌<◌, ◌≤◌, ◌≡◌, refl, sym, ap, ◌∙◌, subst, arith, List, [], ◌∷◌, ◌++◌, map, length, Some, None, Bool, true, false, cond, ◌⊎◌, ⊎_elim}
-use Rattle.std.specs.Prelude.{◌||◌, nat_lt}
-use Rattle.std.specs.List.{list_any}
-use Rattle.std.proofs.lemmas.List.{map-append, length-map, length-append}
+use Rattle.std.proofs.Common.{ℕ, ◌<◌, ◌≤◌, ◌≡◌, refl, sym, ap, ◌∙◌, subst, arith, List, [], ◌∷◌, ◌++◌, length, Some, None, Bool, true, false, cond, ⊎_elim}
+use Rattle.std.specs.Prelude.{nat_lt}
+use Rattle.std.proofs.lemmas.List.{length-append}
 use Rattle.std.proofs.lemmas.Bool.Decides.{nat_tests}
 use Rattle.kb_label.specs.Names.{Name, join, minus}
 use Rattle.kb_label.specs.declared.verdict.Reason.TheVariants.{Nodes}
 use Rattle.kb_term.specs.Pair.{Pair}
 use Rattle.kb_term.specs.declared.origin.Origin.{Origin}
-use Rattle.kb_term.specs.declared.origin.Origin.TheVariants.{Input, Overlap as ByOverlap}
-use Rattle.kb_node.specs.declared.node.LabelKind.{LabelKind}
-use Rattle.kb_node.specs.declared.node.LabelKind.TheVariants.{R0, R1, E, C0, C1, X}
-use Rattle.kb_node.specs.declared.job.Deduced.{Deduced}
+use Rattle.kb_term.specs.declared.origin.Origin.TheVariants.{Input}
+use Rattle.kb_node.specs.declared.node.LabelKind.TheVariants.{R0, R1, E}
 use Rattle.mkb_model.specs.Plain.{PlainNode, label_at}
 use Rattle.mkb_model.proofs.Lists.{equal_or_more}
 use Rattle.mkb_model.proofs.PairLists.{length-with_nodes}
 use Rattle.mkb_model.proofs.Pairs.{node-with_node}
 use Rattle.mkb_model.proofs.Roles.{length-put}
-use Rattle.mkb_model.specs.Effects.{with_label_in, with_label, pair_eq, node_of, is_present, new_node, with_node, with_nodes, gains_equation, added, most_nodes, first_some, some_if}
+use Rattle.mkb_model.specs.Effects.{node_of, is_present, new_node, with_node, with_nodes, gains_equation, most_nodes, first_some, some_if}
 
 -- a new pair of a full table finds no room
 pub overfull : (q : Pair) (qs : List Pair) (xs : List PlainNode) → is_present xs q ≡ false → length xs ≡ most_nodes → most_nodes < length (with_nodes (q ∷ qs) xs)
