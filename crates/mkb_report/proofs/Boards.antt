@@ -1,11 +1,10 @@
 -- What is known of a board that a legal journal leads to.
-use Rattle.std.proofs.Common.{ℕ, zero, suc, ◌+◌, ◌<◌, ◌≤◌, ◌≡◌, ◌≢◌, ◌∙◌, refl, sym, ap, subst, arith, ⊎_elim, length-append, List, [], ◌∷◌, ◌++◌, map, take, filter, flat_map, length, Contains, AllPairs, Bool, true, false, cond, Option, Some, None, slice_get}
-use Rattle.std.specs.Prelude.{IsTrue, option_map}
+use Rattle.std.proofs.Common.{ℕ, zero, suc, ◌+◌, ◌≤◌, ◌≡◌, ◌∙◌, refl, sym, ap, subst, arith, length-append, List, [], ◌∷◌, map, take, filter, flat_map, length, Contains, Bool, true, false, cond, Option, Some, None, slice_get}
+use Rattle.std.specs.Prelude.{option_map}
 use Rattle.std.proofs.lemmas.Option.{slice_get-map}
 use Rattle.std.proofs.lemmas.List.Elements.{filter-append}
 use Rattle.kb_term.specs.Tree.{Tree}
 use Rattle.kb_term.specs.Pair.{Pair}
-use Rattle.kb_term.specs.Rule.{Rule}
 use Rattle.kb_term.specs.declared.origin.RuleRef.{RuleRef}
 use Rattle.kb_term.specs.declared.origin.Origin.{Origin}
 use Rattle.kb_overlap.specs.Trace.{IsRightOrigin}
@@ -13,19 +12,18 @@ use Rattle.kb_cert.specs.Family.{family}
 use Rattle.kb_cert.specs.declared.certificate.Certificate.{Certificate}
 use Rattle.kb_laws.specs.Complete.{IsCompleteSystem}
 use Rattle.kb_laws.specs.Overlaps.{OverlapsClose, HaveOneNormalForm}
-use Rattle.kb_laws.proofs.Closing.{slice_contains}
 use Rattle.kb_label.specs.Names.{Name}
 use Rattle.kb_label.specs.declared.verdict.Verdict.TheVariants.{Complete}
-use Rattle.mkb_model.specs.Plain.{Plain, PlainNode, numbers_from, directions, node_numbers, is_rule, rules_of, rules_at, pair_in, pair_at, certificate_of}
+use Rattle.mkb_model.specs.Plain.{Plain, PlainNode, numbers_from, directions, is_rule, rules_of, rules_at, pair_in, certificate_of}
 use Rattle.mkb_model.specs.Verdicts.{verdict}
 use Rattle.mkb_model.specs.Journals.{IsPossibleRun, IsFreeJob, tickets}
 use Rattle.mkb_model.specs.Invariants.{IsSound, PairsFollow}
-use Rattle.mkb_model.specs.Limits.{IsLimitedPair, AreLimited}
+use Rattle.mkb_model.specs.Limits.{AreLimited}
 use Rattle.mkb_model.specs.Origins.{IsOriginOfForm}
 use Rattle.mkb_model.specs.GoodAnswers.{IsGoodAnswer}
 use Rattle.mkb_model.proofs.Changes.{Fits}
 use Rattle.mkb_model.proofs.Fitting.{fits_run}
-use Rattle.mkb_model.proofs.Lists.{clash, decide, none_some, some_is}
+use Rattle.mkb_model.proofs.Lists.{clash}
 use Rattle.mkb_model.proofs.Selections.{legal-possible}
 use Rattle.mkb_model.proofs.OriginForms.{origins_of_form}
 use Rattle.mkb_model.proofs.Sound.{boards_sound}

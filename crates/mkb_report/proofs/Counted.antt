@@ -1,5 +1,5 @@
 -- Counts of one more node, process or rule.
-use Rattle.std.proofs.Common.{ℕ, zero, suc, ◌+◌, ◌<◌, ◌≤◌, ◌≡◌, refl, sym, ap, ap₂, ◌∙◌, subst, arith, zero-add, add-one, append-nil, length-append, List, [], ◌∷◌, ◌++◌, map, filter, flat_map, length, take, get_or, Bool, true, false, cond, ◌&&◌, ◌||◌, Some, None, Option}
+use Rattle.std.proofs.Common.{ℕ, zero, suc, ◌+◌, ◌<◌, ◌≤◌, ◌≡◌, refl, sym, ap, ap₂, ◌∙◌, subst, arith, zero-add, add-one, append-nil, length-append, List, [], ◌∷◌, ◌++◌, filter, flat_map, length, take, get_or, Bool, true, false, cond, ◌&&◌, ◌||◌, Some}
 use Rattle.std.specs.Prelude.{slice_get, option_map, is_some}
 use Rattle.std.specs.List.{list_any}
 use Rattle.std.proofs.lemmas.List.{length-map, length-take, map-append, take_more}
@@ -7,11 +7,10 @@ use Rattle.std.proofs.lemmas.Option.{slice_get_within, get_or_from_slice_get}
 use Rattle.std.proofs.lemmas.List.Elements.{filter-append}
 use Rattle.std.proofs.lemmas.List.Concat.{flat_map-append}
 use Rattle.kb_label.specs.Names.{Name, has, is_empty}
-use Rattle.kb_label.specs.declared.verdict.Reason.{Reason}
 use Rattle.kb_term.specs.declared.origin.RuleRef.{RuleRef}
 use Rattle.kb_node.specs.declared.node.Node.{Node}
 use Rattle.kb_node.specs.Labelled.{is_dead_under}
-use Rattle.mkb_model.specs.Plain.{Plain, PlainNode, GivenUp, numbers_from, directions, is_rule, over_in}
+use Rattle.mkb_model.specs.Plain.{Plain, GivenUp, numbers_from, directions, is_rule, over_in}
 use Rattle.mkb_model.specs.Verdicts.{no_members}
 use Rattle.mkb_rules.specs.Parts.{plain_node, plain_nodes}
 use Rattle.mkb_report.specs.Summaries.{is_dead}

@@ -1,14 +1,14 @@
 -- The parts of an answer that is made from nodes within the limits have the forms of an answer's parts.
-use Rattle.std.proofs.Common.{ℕ, zero, suc, ◌+◌, ◌<◌, ◌≤◌, ◌≡◌, ◌∙◌, refl, sym, ap, ap₂, subst, arith, ⊎_elim, ◌&&◌, List, [], ◌∷◌, length, All, Contains, Bool, true, false, cond, Option, Some, None, slice_get}
-use Rattle.std.specs.Prelude.{max, nat_le, option_map, option_and_then}
+use Rattle.std.proofs.Common.{ℕ, zero, suc, ◌+◌, ◌≤◌, ◌≡◌, ◌∙◌, refl, sym, ap, subst, arith, ◌&&◌, List, [], ◌∷◌, length, All, Contains, Bool, true, false, cond, Option, Some, None, slice_get}
+use Rattle.std.specs.Prelude.{nat_le, option_and_then}
 use Rattle.std.specs.List.{list_all}
 use Rattle.std.proofs.lemmas.Option.{slice_get_within}
 use Rattle.std.proofs.lemmas.List.Elements.{All-contains}
 use Rattle.kb_term.specs.Tree.{Tree, Trees, variable, apply, no_trees, more_trees, list_of, tree_eq, tree_depth, trees_depth}
 use Rattle.kb_term.specs.Position.{argument, subtree_at}
 use Rattle.kb_term.specs.Substitution.{instances, rename}
-use Rattle.kb_term.specs.Pair.{Pair, IsCanonical, IsTrivial, ArePairWithin, numbered, canonical, canonical_pair, place_in, variables_of_pair}
-use Rattle.kb_term.specs.Rule.{Rule, rule_of, pair_of_rule}
+use Rattle.kb_term.specs.Pair.{Pair, IsCanonical, IsTrivial, ArePairWithin, numbered, canonical, place_in, variables_of_pair}
+use Rattle.kb_term.specs.Rule.{rule_of, pair_of_rule}
 use Rattle.kb_term.specs.Signature.{SymbolEntry, Signature, HasArity, IsWellFormed, AreWellFormed, IsEquationWithinLimits}
 use Rattle.kb_term.specs.declared.origin.RuleRef.{RuleRef}
 use Rattle.kb_term.specs.declared.origin.Origin.{Origin}
@@ -17,7 +17,7 @@ use Rattle.kb_term.proofs.CanonicalPairs.{canonical_from_same}
 use Rattle.kb_term.proofs.OwnPair.{tree_eq-true, numbered_apart}
 use Rattle.kb_term.proofs.Steps.{contains_first, contains_behind}
 use Rattle.kb_term.proofs.Variants.{numbered_renamed}
-use Rattle.kb_overlap.specs.Trace.{TraceStep, item, side, IsRightOrigin}
+use Rattle.kb_overlap.specs.Trace.{item, side, IsRightOrigin}
 use Rattle.kb_text.specs.Terms.{IsPairForm}
 use Rattle.kb_trace.specs.Reached.{cites, with_numbers}
 use Rattle.kb_trace.specs.TraceText.{is_up_to, is_position, is_cited, is_origin}
@@ -28,7 +28,7 @@ use Rattle.kb_laws.proofs.LoneRule.{rule_same}
 use Rattle.kb_checker.specs.Answers.{IsRuleForm}
 use Rattle.mkb_model.specs.Limits.{IsLimitedPair}
 use Rattle.mkb_model.specs.Origins.{IsOriginOfForm}
-use Rattle.mkb_model.proofs.Lists.{and_both, none_in, none_some, some_is}
+use Rattle.mkb_model.proofs.Lists.{and_both, none_some, some_is}
 use Rattle.mkb_model.proofs.Sizes.{numbered_within, turned}
 use Rattle.mkb_report.proofs.Traces.{mapped_is}
 

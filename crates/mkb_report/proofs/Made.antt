@@ -1,13 +1,11 @@
 -- An answer of a complete process on a reached board is good, is accepted, has the form of an answer, and is one.
-use Rattle.std.proofs.Common.{ℕ, zero, suc, eqb→eq, ◌+◌, ◌<◌, ◌≤◌, ◌≡◌, ◌∙◌, refl, sym, ap, ap₂, subst, arith, ⊎_elim, add-one, eq-eqb, ◌==◌, ◌⊎◌, inl, inr, List, [], ◌∷◌, ◌++◌, map, take, not, length, Contains, All, Bool, true, false, cond, Option, Some, None, slice_get}
+use Rattle.std.proofs.Common.{ℕ, suc, eqb→eq, ◌+◌, ◌<◌, ◌≤◌, ◌≡◌, ◌∙◌, refl, sym, ap, ap₂, subst, arith, ⊎_elim, eq-eqb, ◌==◌, ◌⊎◌, inl, inr, List, [], ◌∷◌, map, take, not, length, Contains, All, Bool, true, false, cond, Option, Some, slice_get}
 use Rattle.std.specs.Prelude.{T, option_map}
 use Rattle.std.specs.List.{AllZip, cons_option, position_or_len}
 use Rattle.std.specs.Option.{option_map_or}
 use Rattle.std.proofs.lemmas.List.{length-map}
 use Rattle.std.proofs.lemmas.Option.{slice_get-map, slice_get_within}
 use Rattle.std.proofs.lemmas.Slice.Zip.{AllZip-long}
-use Rattle.std.proofs.lemmas.List.Elements.{All-contains}
-use Rattle.kb_term.specs.Tree.{Tree}
 use Rattle.kb_term.specs.Pair.{Pair, place_in}
 use Rattle.kb_term.specs.Rule.{Rule, rule_of, pair_of_rule}
 use Rattle.kb_term.specs.Signature.{Signature, Problem, IsWithinLimits}
@@ -24,7 +22,7 @@ use Rattle.kb_laws.proofs.Closing.{slice_contains}
 use Rattle.kb_laws.proofs.Complete.{all_from}
 use Rattle.kb_text.specs.Terms.{IsPairForm}
 use Rattle.kb_trace.specs.Steps.{pairs_of as step_pairs}
-use Rattle.kb_trace.specs.Reached.{cites, CitesEarlier, IsStepOf, IsTraceOf, number_in, with_numbers}
+use Rattle.kb_trace.specs.Reached.{cites, CitesEarlier, IsStepOf, IsTraceOf, number_in}
 use Rattle.kb_trace.specs.TraceText.{is_origin, IsStepForm, IsTraceForm}
 use Rattle.kb_trace.proofs.Reaching.{reached_more}
 use Rattle.kb_trace.proofs.StepForms.{IsUpTo}
@@ -36,19 +34,19 @@ use Rattle.kb_label.specs.declared.verdict.Verdict.TheVariants.{Complete, AllFai
 use Rattle.kb_label.specs.declared.verdict.Spent.TheVariants.{Commits, Over}
 use Rattle.kb_report.specs.declared.report.Report.{Report}
 use Rattle.kb_report.specs.declared.report.Report.TheVariants.{System}
-use Rattle.mkb_model.specs.Plain.{Plain, PlainNode, rules_of, pair_in, pair_at, rule_at, rules_at, certificate_of}
+use Rattle.mkb_model.specs.Plain.{Plain, PlainNode, rules_of, pair_at, rule_at, rules_at, certificate_of}
 use Rattle.mkb_model.specs.Effects.{pair_eq}
 use Rattle.mkb_model.specs.Limits.{IsLimitedPair}
 use Rattle.mkb_model.specs.Origins.{IsOriginOfForm}
 use Rattle.mkb_model.specs.Verdicts.{verdict}
 use Rattle.mkb_model.proofs.AllFine.{pair_there}
-use Rattle.mkb_model.proofs.Lists.{in_map, map_in, none_in, none_some, same_test, some_is}
+use Rattle.mkb_model.proofs.Lists.{in_map, map_in, none_in, same_test, some_is}
 use mathlib.Core.Bool.{true≢false}
 use Rattle.mkb_model.proofs.Pairs.{pair_eq-eq, pair_eq-refl}
 use Rattle.mkb_report.specs.Cited.{IsRuleThere, cited_by, number_with}
 use Rattle.mkb_report.specs.Reports.{IsReached, IsAnswerOf, IsReportOf, pairs_of, rule_nodes}
 use Rattle.mkb_report.proofs.Rising.{few_rising, rising_from}
-use Rattle.mkb_report.proofs.Traces.{node_pair, earlier_is, mapped_is, one_kept, one_trace, right_cites, right_trace, traced, OriginsAreRight}
+use Rattle.mkb_report.proofs.Traces.{node_pair, earlier_is, mapped_is, one_kept, one_trace, right_cites, right_trace, traced}
 use Rattle.mkb_report.proofs.Forms.{origin_form, pair_form, rule_form, rule_pair}
 use Rattle.mkb_report.proofs.Boards.{IsGoodProcess, few_rules, fits, formed, good, limited, pair_of_node, right}
 use Rattle.mkb_report.proofs.Viewed.{parts, rule_there}

@@ -1,6 +1,6 @@
 -- Rising lists of numbers.
-use Rattle.std.proofs.Common.{ℕ, zero, suc, ◌+◌, ◌<◌, ◌≤◌, ◌≡◌, ◌∙◌, refl, sym, ap, ap₂, subst, arith, ⊎_elim, List, [], ◌∷◌, ◌++◌, Contains, AllPairs, length}
-use Rattle.std.specs.Prelude.{⊤, ◌↔◌}
+use Rattle.std.proofs.Common.{ℕ, suc, ◌+◌, ◌<◌, ◌≤◌, ◌≡◌, refl, sym, ap₂, subst, arith, ⊎_elim, List, [], ◌∷◌, ◌++◌, Contains, AllPairs, length}
+use Rattle.std.specs.Prelude.{⊤}
 use Rattle.kb_term.proofs.Steps.{contains_cases, contains_first, contains_behind}
 use Rattle.mkb_model.proofs.Lists.{none_in}
 

@@ -1,9 +1,8 @@
 -- The trace of the nodes that wanted ones reach: it is right where the nodes' origins are, and it has each of these nodes' pairs at its number.
-use Rattle.std.proofs.Common.{ℕ, zero, suc, ◌+◌, ◌<◌, ◌≤◌, ◌≡◌, ◌∙◌, refl, sym, ap, ap₂, subst, arith, ⊎_elim, ◌⊎◌, inl, inr, eq-eqb, add-one, append_assoc, append-nil, eqb→eq, List, [], ◌∷◌, ◌++◌, map, take, length, Contains, Bool, true, false, cond, not, ◌==◌, Option, Some, None, slice_get}
-use Rattle.std.specs.Prelude.{⊤, T, option_map}
+use Rattle.std.proofs.Common.{ℕ, zero, suc, ◌+◌, ◌<◌, ◌≡◌, ◌∙◌, refl, sym, ap, ap₂, subst, arith, ⊎_elim, ◌⊎◌, inl, inr, eq-eqb, add-one, append_assoc, append-nil, eqb→eq, List, [], ◌∷◌, ◌++◌, take, Contains, Bool, true, false, cond, not, ◌==◌, Option, Some, None, slice_get}
+use Rattle.std.specs.Prelude.{T, option_map}
 use Rattle.std.specs.List.{AllZip}
-use Rattle.std.proofs.lemmas.Option.{slice_get_within}
-use Rattle.std.proofs.lemmas.List.Elements.{Contains-append_cases, Contains-append_left, Contains-append_right}
+use Rattle.std.proofs.lemmas.List.Elements.{Contains-append_cases, Contains-append_right}
 use Rattle.kb_term.specs.Tree.{Tree}
 use Rattle.kb_term.specs.Pair.{Pair, place_in}
 use Rattle.kb_term.specs.declared.origin.Origin.{Origin}
@@ -11,7 +10,7 @@ use Rattle.kb_term.specs.declared.origin.Origin.TheVariants.{Input, Rewrite, Ove
 use Rattle.kb_term.proofs.Steps.{contains_cases, contains_first, contains_behind}
 use Rattle.kb_overlap.specs.Trace.{TraceStep, item, IsRightOrigin, IsRightAfter, IsRightTrace}
 use Rattle.kb_trace.specs.Steps.{pairs_of}
-use Rattle.kb_trace.specs.Reached.{cites, Cites, CitesEarlier, IsReached, IsStepOf, IsTraceOf, number_in, with_numbers}
+use Rattle.kb_trace.specs.Reached.{cites, CitesEarlier, IsStepOf, IsTraceOf, number_in, with_numbers}
 use Rattle.kb_trace.proofs.Reaching.{reached_more}
 use Rattle.mkb_model.proofs.Lists.{none_in, none_some, some_is}
 use mathlib.Core.Bool.{true≢false}

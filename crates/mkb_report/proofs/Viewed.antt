@@ -1,7 +1,7 @@
 -- What is read from the table of nodes is what stands on the plain board.
-use Rattle.std.proofs.Common.{ℕ, zero, suc, ◌+◌, ◌<◌, ◌≤◌, ◌≡◌, refl, sym, ap, ap₂, ◌∙◌, arith, List, [], ◌∷◌, ◌++◌, map, filter, flat_map, length, take, get_or, Contains, All, Bool, true, false, cond, Some, None, Option, ⊎_elim}
+use Rattle.std.proofs.Common.{ℕ, suc, ◌+◌, ◌<◌, ◌≤◌, ◌≡◌, refl, sym, ap, ap₂, ◌∙◌, arith, List, [], ◌∷◌, ◌++◌, map, filter, flat_map, length, take, get_or, Contains, All, Bool, true, false, cond, Some, Option, ⊎_elim}
 use Rattle.std.specs.Prelude.{slice_get, option_map}
-use Rattle.std.specs.List.{enumerate_from, cons_option, filter_map}
+use Rattle.std.specs.List.{enumerate_from, cons_option}
 use Rattle.std.specs.Option.{option_map_or}
 use Rattle.std.proofs.lemmas.List.{length-map, map-append, take_more}
 use Rattle.std.proofs.lemmas.Option.{slice_get-map, slice_get_within, get_or_from_slice_get}

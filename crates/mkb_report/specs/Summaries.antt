@@ -1,5 +1,5 @@
 -- A board in numbers.
-use Rattle.std.specs.Prelude.{ℕ, ◌-◌, ◌&&◌, Bool, List, length, filter, Option, Some, None}
+use Rattle.std.specs.Prelude.{ℕ, ◌-◌, ◌&&◌, Bool, length, filter, Option, Some}
 use Rattle.kb_label.specs.declared.verdict.Verdict.{Verdict}
 use Rattle.kb_label.specs.declared.verdict.Verdict.TheVariants as verdicts
 use Rattle.mkb_model.specs.Plain.{Plain, PlainNode, rules_of, is_over}

@@ -3,8 +3,7 @@ use Rattle.std.proofs.lemmas.List.{map-append}
 use Rattle.kb_term.specs.Pair.{Pair}
 use Rattle.kb_term.specs.Rule.{Rule}
 use Rattle.kb_term.specs.declared.origin.RuleRef.{RuleRef}
-use Rattle.mkb_model.specs.Plain.{Plain, pair_at, rules_at}
-use Rattle.mkb_report.specs.Cited.{cited_by, number_with}
+use Rattle.mkb_model.specs.Plain.{Plain, pair_at}
 use Rattle.mkb_report.proofs.Viewed.{pair_read, rule_read, rules_next, cites_next}
 use Rattle.mkb_report.proofs.report.cited_rules.Goals as goal
 

@@ -12,5 +12,6 @@ loop-i-preserved c =
     let log = c.args.log.now in
     let i = c.loop-i.i in
     elim c.if-is_dead.branch [
-      then-is_dead w ↦ omega (arith, w.count-is, c.loop-i.invariant, dead_next xs i log true (c.is_dead.ensures ∙ ap Some w.if-is_dead.true))
-    | else-is_dead w ↦ omega (arith, w.count-is, c.loop-i.invariant, dead_next xs i log false (c.is_dead.ensures ∙ ap Some w.if-is_dead.false)) ]
+      | then-is_dead w ↦ omega (arith, w.count-is, c.loop-i.invariant, dead_next xs i log true (c.is_dead.ensures ∙ ap Some w.if-is_dead.true))
+      | else-is_dead w ↦ omega (arith, w.count-is, c.loop-i.invariant, dead_next xs i log false (c.is_dead.ensures ∙ ap Some w.if-is_dead.false))
+    ]

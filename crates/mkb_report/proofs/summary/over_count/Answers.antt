@@ -14,5 +14,6 @@ loop-i-preserved c =
     let p = c.index-processes-i.result in
     let i = c.loop-i.i in
     elim c.if-is_over.branch [
-      then-is_over w ↦ omega (arith, w.count-is, c.loop-i.invariant, counted_next F ps i p true c.loop-i-test.true c.index-processes-i.is (sym c.is_over.ensures ∙ w.if-is_over.true))
-    | else-is_over w ↦ omega (arith, w.count-is, c.loop-i.invariant, counted_next F ps i p false c.loop-i-test.true c.index-processes-i.is (sym c.is_over.ensures ∙ w.if-is_over.false)) ]
+      | then-is_over w ↦ omega (arith, w.count-is, c.loop-i.invariant, counted_next F ps i p true c.loop-i-test.true c.index-processes-i.is (sym c.is_over.ensures ∙ w.if-is_over.true))
+      | else-is_over w ↦ omega (arith, w.count-is, c.loop-i.invariant, counted_next F ps i p false c.loop-i-test.true c.index-processes-i.is (sym c.is_over.ensures ∙ w.if-is_over.false))
+    ]
