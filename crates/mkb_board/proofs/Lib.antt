@@ -8,10 +8,10 @@ pub mod Growing
 pub mod Held
 pub mod Idle
 pub mod Least
+pub mod Letters
 pub mod Picking
 pub mod Readable
 pub mod Ready
 pub mod Rising
-pub mod Rows
 pub mod There
 pub mod Viewed

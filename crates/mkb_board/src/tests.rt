@@ -86,34 +86,35 @@ fn two_parts(rt: &impl Abort, alloc: Global) -> Problem
     Problem::new(signature(rt, alloc), equations)
 }
 
+// A ticket with what its job reads.
+#[derive(Drop)]
+struct Hand {
+    ticket: Ticket,
+    snapshot: Snapshot,
+}
+
 // Takes the first job for the worker.
-fn take(rt: &impl Abort, alloc: Global, board: &mut Board, worker: u8) -> (Ticket, Snapshot)
+fn take(rt: &impl Abort, alloc: Global, board: &mut Board, worker: u8) -> Hand
     requires least { 1 ≤ worker }
     requires most { worker ≤ 16 }
-    ensures held { IsHeld board.new result.0 result.1 }
+    ensures held { IsHeld board.new result.ticket result.snapshot }
     ensures stays { (t : Held) (s : Read) → IsHeld board.old t s → IsHeld board.new t s }
-    ensures other { (t : Held) (s : Read) → IsHeld board.old t s → t.number ≢ result.0.number }
+    ensures other { (t : Held) (s : Read) → IsHeld board.old t s → t.number ≢ result.ticket.number }
 {
     let _journal = board.journal();
     match board.take(alloc, worker).expect(rt, "memory") {
-        Taken::Job(ticket, snapshot) => (ticket, snapshot),
+        Taken::Job(ticket, snapshot) => Hand { ticket, snapshot },
         _ => panic!(rt; "no ticket"),
     }
 }
 
 // Works a ticket and ends it.
-fn finish(
-    rt: &impl Abort,
-    alloc: Global,
-    board: &mut Board,
-    ticket: Ticket,
-    snapshot: &Snapshot,
-) -> Finished
-    requires { IsHeld board.old ticket snapshot.now }
-    ensures { (t : Held) (s : Read) → IsHeld board.old t s → t.number ≢ ticket.number → IsHeld board.new t s }
+fn finish(rt: &impl Abort, alloc: Global, board: &mut Board, hand: &Hand) -> Finished
+    requires { IsHeld board.old hand.now.ticket hand.now.snapshot }
+    ensures { (t : Held) (s : Read) → IsHeld board.old t s → t.number ≢ hand.now.ticket.number → IsHeld board.new t s }
 {
-    let proposal = work(alloc, snapshot).expect(rt, "memory");
-    match board.finish(alloc, ticket, proposal) {
+    let proposal = work(alloc, &hand.snapshot).expect(rt, "memory");
+    match board.finish(alloc, hand.ticket, proposal) {
         Ok(finished) => finished,
         Err(_) => panic!(rt; "memory"),
     }
@@ -121,9 +122,9 @@ fn finish(
 
 // Takes, works and ends one ticket; its job.
 fn turn(rt: &impl Abort, alloc: Global, board: &mut Board) -> Job {
-    let (ticket, snapshot) = take(rt, alloc, board, 1);
-    finish(rt, alloc, board, ticket, &snapshot);
-    ticket.job
+    let hand = take(rt, alloc, board, 1);
+    finish(rt, alloc, board, &hand);
+    hand.ticket.job
 }
 
 // A take that gives no ticket: how many are in flight.
@@ -149,129 +150,4 @@ fn have_equation(board: &Board, n: u16) -> bool {
         return label.has(log, &child(false)) && label.has(log, &child(true));
     }
     false
-}
-
-// The orienting of node 1 forks while the rule of node 0 is overlapped with itself: both children get the deduced pair.
-#[test]
-fn a_deduced_pair_reaches_both_children(rt: HostRuntime) {
-    let alloc = rt.alloc();
-    let problem = two_parts(&rt, alloc);
-    let mut board = Board::start(alloc, problem, 100).expect(&rt, "memory");
-    let root = Process::root();
-    let rule = RuleRef { node: 0, dir: 0 };
-    assert_eq!(rt; turn(&rt, alloc, &mut board), Job::Orient(root, NodeId(0)));
-    assert_eq!(rt; turn(&rt, alloc, &mut board), Job::Reduce(root, NodeId(1)));
-    let (orient, oriented) = take(&rt, alloc, &mut board, 1);
-    assert_eq!(rt; orient.job, Job::Orient(root, NodeId(1)));
-    let (overlap, overlapped) = take(&rt, alloc, &mut board, 2);
-    assert_eq!(rt; overlap.job, Job::Overlap(root, rule, rule));
-    assert_eq!(rt; idle(&rt, alloc, &mut board), 2);
-    finish(&rt, alloc, &mut board, orient, &oriented);
-    assert_eq!(rt; board.living(), 2);
-    let ended = finish(&rt, alloc, &mut board, overlap, &overlapped);
-    assert!(rt; matches!(ended, Finished::Committed(_)));
-    assert_eq!(rt; board.nodes().len(), 3);
-    assert!(rt; have_equation(&board, 2));
-}
-
-// The rule of node 0 rewrites node 1 for both children, so nothing is left of its orienting.
-#[test]
-fn a_ticket_with_nothing_left_is_dropped(rt: HostRuntime) {
-    let alloc = rt.alloc();
-    let problem = two_values(&rt, alloc);
-    let mut board = Board::start(alloc, problem, 100).expect(&rt, "memory");
-    turn(&rt, alloc, &mut board);
-    let (reduce, reduced) = take(&rt, alloc, &mut board, 1);
-    assert_eq!(rt; reduce.job, Job::Reduce(child(false), NodeId(1)));
-    let (orient, oriented) = take(&rt, alloc, &mut board, 2);
-    assert_eq!(rt; orient.job, Job::Orient(child(false), NodeId(1)));
-    finish(&rt, alloc, &mut board, reduce, &reduced);
-    let ended = finish(&rt, alloc, &mut board, orient, &oriented);
-    assert!(rt; matches!(ended, Finished::Dropped(p) if p == child(false)));
-    assert_eq!(rt; board.nodes().len(), 3);
-    assert_eq!(rt; board.drops(), 1);
-    assert_eq!(rt; board.journal().len(), 6);
-}
-
-// The rule of node 0 is composed for one of two processes while its overlaps are sought: one commit is for the other
-// process alone, and of the other overlap nothing is left.
-#[test]
-fn a_commit_is_for_whom_it_still_concerns(rt: HostRuntime) {
-    let alloc = rt.alloc();
-    let problem = two_values(&rt, alloc);
-    let mut board = Board::start(alloc, problem, 100).expect(&rt, "memory");
-    for _ in 0..4 {
-        turn(&rt, alloc, &mut board);
-    }
-    let first = child(false).child(false);
-    let second = child(false).child(true);
-    let rule = RuleRef { node: 0, dir: 0 };
-    let (reduce, reduced) = take(&rt, alloc, &mut board, 1);
-    assert_eq!(rt; reduce.job, Job::Reduce(first, NodeId(0)));
-    let (same, same_read) = take(&rt, alloc, &mut board, 2);
-    assert_eq!(rt; same.job, Job::Overlap(first, rule, rule));
-    let (other, other_read) = take(&rt, alloc, &mut board, 3);
-    assert_eq!(rt; other.job, Job::Overlap(first, rule, RuleRef { node: 2, dir: 0 }));
-    finish(&rt, alloc, &mut board, reduce, &reduced);
-    let ended = finish(&rt, alloc, &mut board, same, &same_read);
-    assert!(rt; matches!(ended, Finished::Committed(_)));
-    assert!(rt; board.state().is_done(&second, rule, rule));
-    assert!(rt; !board.state().is_done(&first, rule, rule));
-    let ended = finish(&rt, alloc, &mut board, other, &other_read);
-    assert!(rt; matches!(ended, Finished::Dropped(p) if p == first));
-}
-
-// What a process sees before any commit, and by what it orients.
-#[test]
-fn a_process_is_looked_at(rt: HostRuntime) {
-    let alloc = rt.alloc();
-    let problem = two_values(&rt, alloc);
-    let board = Board::start(alloc, problem, 100).expect(&rt, "memory");
-    let root = Process::root();
-    let view = board.view(&root).expect(&rt, "memory");
-    assert_eq!(rt; view.equations.items().len(), 2);
-    let certificate = board.certificate(&root).expect(&rt, "memory");
-    assert!(rt; matches!(&certificate, Certificate::Lpo(_)));
-}
-
-// A ticket is given back, taken again and ended; after a halt none is taken.
-#[test]
-fn a_ticket_is_given_back(rt: HostRuntime) {
-    let alloc = rt.alloc();
-    let problem = two_values(&rt, alloc);
-    let mut board = Board::start(alloc, problem, 100).expect(&rt, "memory");
-    let (back, _) = take(&rt, alloc, &mut board, 1);
-    board.abandon(&back);
-    let (again, read) = take(&rt, alloc, &mut board, 2);
-    assert_eq!(rt; (again.number, again.worker), (2, 2));
-    assert_eq!(rt; again.job, back.job);
-    let ended = finish(&rt, alloc, &mut board, again, &read);
-    assert!(rt; matches!(ended, Finished::Committed(Applied::Done)));
-    board.halt();
-    board.halt();
-    assert!(rt; matches!(board.take(alloc, 1).expect(&rt, "memory"), Taken::Halted));
-    assert!(rt; matches!(board.verdict(), None));
-    assert_eq!(rt; board.commits(), 1);
-    assert_eq!(rt; board.journal().len(), 5);
-}
-
-// At the budget the verdict stands, and a ticket ends with it.
-#[test]
-fn a_spent_budget_ends_the_search(rt: HostRuntime) {
-    let alloc = rt.alloc();
-    let problem = two_values(&rt, alloc);
-    let mut board = Board::start(alloc, problem, 2).expect(&rt, "memory");
-    turn(&rt, alloc, &mut board);
-    let (reduce, reduced) = take(&rt, alloc, &mut board, 1);
-    let (orient, oriented) = take(&rt, alloc, &mut board, 2);
-    finish(&rt, alloc, &mut board, reduce, &reduced);
-    let ended = finish(&rt, alloc, &mut board, orient, &oriented);
-    assert!(rt; matches!(ended, Finished::Ended(Verdict::Spent(Spent::Commits))));
-    let taken = board.take(alloc, 1).expect(&rt, "memory");
-    assert!(rt; matches!(taken, Taken::Over(Verdict::Spent(Spent::Commits))));
-}
-
-#[test]
-fn the_law_is_called(_rt: HostRuntime) {
-    held_tickets_stay();
 }
