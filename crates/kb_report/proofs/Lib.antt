@@ -1,4 +1,3 @@
-mod FormLaws
 mod AnswerLaws
 mod LinesOfTexts
 mod Fronts

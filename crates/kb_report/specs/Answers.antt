@@ -1,10 +1,8 @@
 -- The answer text.
 use Rattle.std.specs.Prelude.{◌≡◌, ℕ, List, [], ◌∷◌, ◌++◌, map, flat_map, length, codes, decimal}
 use Rattle.kb_term.specs.Tree.{Tree}
-use Rattle.kb_term.specs.Pair.{Pair}
 use Rattle.kb_term.specs.Rule.{Rule}
-use Rattle.kb_term.specs.Signature.{SymbolEntry, Signature, Problem, IsSignature, IsWithinLimits}
-use Rattle.kb_term.specs.declared.origin.Origin.TheVariants.{Input}
+use Rattle.kb_term.specs.Signature.{SymbolEntry, Signature, Problem, IsSignature}
 use Rattle.kb_text.specs.Names.{Name}
 use Rattle.kb_text.specs.Lines.{line, counted}
 use Rattle.kb_text.specs.Terms.{names_of, infix_text}
@@ -56,11 +54,6 @@ system_text a = let names = names_of a.problem.signature in
 
 -- ---- their form
 
--- a problem within the limits, whose names are different identifiers
-pub record IsProblemForm (p : Problem) : Type 0 where
-  pub signature : IsSignature p.signature
-  pub within : IsWithinLimits p
-
 -- what a system may be, so that it has a text; whether it is good is another question
 pub record IsSystem (a : Answer) : Type 0 where
   pub signature : IsSignature a.problem.signature
@@ -74,14 +67,3 @@ pub record AnswerSpelled (bytes : List ℕ) (a : Answer) : Type 0 where
 -- the texts of systems, which alone are read
 abbrev pub IsSystemText : List ℕ → Type 0
 IsSystemText bytes = (a : Answer) × AnswerSpelled bytes a
-
--- ---- answers with one rule
-
--- the system of this one rule, from the pair of the first equation, with this certificate
-abbrev pub one_rule_answer : Problem → Rule → Certificate → Pair → Answer
-one_rule_answer problem rule cert pair = record {
-  problem = problem;
-  rules = (rule, 1) ∷ [];
-  cert = cert;
-  trace = record { origin = Input 1; pair = pair } ∷ [];
-}

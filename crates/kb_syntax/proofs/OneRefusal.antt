@@ -7,7 +7,7 @@ use Rattle.kb_text.specs.Tokens.{Token, tokens}
 use Rattle.kb_text.specs.Fronts.{Front, IsFrontOf}
 use Rattle.kb_text.specs.Refusals.{Shows, IsFirstShown, IsRefused, too_long, not_utf8, by_tokens, rank, place_of}
 use Rattle.kb_text.specs.declared.kind.Kind.{Kind}
-use Rattle.kb_text.specs.declared.kind.Kind.TheVariants.{NotUtf8, Unclosed, BadSection, Theory, Strategy, DoubleVariable, Relative, Conditional, VariableApplied, ArityClash, BadToken, Limit, NotBuilt}
+use Rattle.kb_text.specs.declared.kind.Kind.TheVariants.{NotUtf8, Unclosed, BadSection, Theory, Strategy, DoubleVariable, Relative, Conditional, VariableApplied, ArityClash, BadToken, Limit}
 use Rattle.kb_text.specs.declared.kind.Bound.TheVariants.{Name as NameLimit, Equations, Size, Depth, Symbols, Variables, Arity, Input}
 use Rattle.kb_text.proofs.RunTexts.{one_front}
 use Rattle.kb_text.proofs.Exact.{split_at}
@@ -38,7 +38,6 @@ by_rank before f t (Limit Symbols) k s = refl
 by_rank before f t (Limit Variables) k s = refl
 by_rank before f t (Limit Arity) k s = refl
 by_rank before f t (Limit Input) k s = absurd (cc)
-by_rank before f t NotBuilt k s = absurd (cc)
 
 -- two refusals of which neither is before the other
 same_choice : (before : List Token) (f : Front) (t : Token) (a b : Kind) (m n : ℕ) → Shows before f t a m → Shows before f t b n → (n < m) ⊎ ((n ≡ m) × (rank a ≤ rank b)) → (m < n) ⊎ ((m ≡ n) × (rank b ≤ rank a)) → (a ≡ b) × (m ≡ n)

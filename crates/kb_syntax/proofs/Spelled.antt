@@ -11,7 +11,7 @@ use Rattle.kb_text.specs.Problems.{names_in, depth_in, is_unapplied, uses_in, va
 use Rattle.kb_text.specs.Refusals.{shown, Shows, IsRefused, too_long, not_utf8, by_tokens, back, here, or_else, Spot, spot_of, equation_spot, side_of, last_alone, closing_clash, alone_clash, front_variables, front_names, front_count, is_token, is_some_and, is_new, name_in, arguments_so_far}
 use Rattle.kb_text.specs.Machine.{next_equation, whole_equation, is_whole, sign_of, begin_term, or_try, next_rules, next_section, next_front, start}
 use Rattle.kb_text.specs.declared.kind.Kind.{Kind}
-use Rattle.kb_text.specs.declared.kind.Kind.TheVariants.{NotUtf8, Unclosed, BadSection, Theory, Strategy, DoubleVariable, Relative, Conditional, VariableApplied, ArityClash, BadToken, Limit, NotBuilt}
+use Rattle.kb_text.specs.declared.kind.Kind.TheVariants.{NotUtf8, Unclosed, BadSection, Theory, Strategy, DoubleVariable, Relative, Conditional, VariableApplied, ArityClash, BadToken, Limit}
 use Rattle.kb_text.specs.declared.kind.Bound.TheVariants.{Name as NameLimit, Equations, Size, Depth, Symbols, Variables, Arity, Input}
 use Rattle.kb_text.proofs.Leads.{Leads, leads_split, leads_once}
 use Rattle.kb_text.proofs.RunTexts.{closed_at, one_front, last_split, reaches_front, run_sections}
@@ -324,7 +324,6 @@ hidden f g t k n (Limit Symbols) = spot_hidden f (λ o x. is_some o && is_new x 
 hidden f g t k n (Limit Variables) = spot_hidden f (λ o x. is_some_and o (λ s. is_new x (variables_among (front_variables f) s.equation) 64 && is_among (front_variables f) x)) t (λ c. refl) n.variables
 hidden f g t k n (Limit Arity) = arity_hidden f t n
 hidden f g t k n (Limit Input) = refl
-hidden f g t k n NotBuilt = refl
 
 -- behind whole sections the end of the input shows nothing, where one of them has rules
 end_hidden : (ss : List Section) → list_any is_rules ss ≡ true → (kind : Kind) → shown kind (closed_at ss) end_of_input ≡ None
@@ -354,7 +353,6 @@ unshown_kind before f t has h Conditional k s = none_some (sym (h Conditional) �
 unshown_kind before f t has h VariableApplied k s = none_some (sym (h VariableApplied) ∙ s)
 unshown_kind before f t has h ArityClash k s = none_some (sym (h ArityClash) ∙ s)
 unshown_kind before f t has h (Limit b) k s = none_some (sym (h (Limit b)) ∙ s)
-unshown_kind before f t has h NotBuilt k s = none_some (sym (h NotBuilt) ∙ s)
 
 text_shows_nothing : (ss : List Section) → AllByRecursion IsSection ss → MeetsConditions ss → MeetsLimits ss → (before : List Token) (t : Token) (more : List Token) → text_tokens ss ≡ before ++ t ∷ more → (f : Front) → IsFrontOf before f → (kind : Kind) (k : ℕ) → Shows before f t kind k → ⊥
 text_shows_nothing ss a c l before t more e f h = ⊎_elim at_end within (last_split before more xs t end_of_input (sym e))

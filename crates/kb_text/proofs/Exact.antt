@@ -9,7 +9,7 @@ use Rattle.kb_text.specs.Grammar.{HasNext, section_tokens}
 use Rattle.kb_text.specs.Fronts.{SectionFront, Front, IsFrontOf, open_tokens}
 use Rattle.kb_text.specs.Refusals.{shown, Shows, rank, ShowNothing, IsFirstShown}
 use Rattle.kb_text.specs.declared.kind.Kind.{Kind}
-use Rattle.kb_text.specs.declared.kind.Kind.TheVariants.{NotUtf8, Unclosed, BadSection, Theory, Strategy, DoubleVariable, Relative, Conditional, VariableApplied, ArityClash, BadToken, Limit, NotBuilt}
+use Rattle.kb_text.specs.declared.kind.Kind.TheVariants.{NotUtf8, Unclosed, BadSection, Theory, Strategy, DoubleVariable, Relative, Conditional, VariableApplied, ArityClash, BadToken, Limit}
 use Rattle.kb_text.specs.declared.kind.Bound.TheVariants.{Name as NameLimit, Equations, Size, Depth, Symbols, Variables, Arity, Input}
 use Rattle.kb_text.specs.Machine.{kinds, better, best, judged, may_end, next_front, go, from_next, first_from, start}
 use Rattle.kb_text.proofs.RunTexts.{one_front, taken_if_next, last_split, reaches_front}
@@ -162,7 +162,6 @@ Judged before f t (Some p) = Shows before f t p.0 p.1
 ranks : (kind : Kind) → rank kind ≤ 17
 ranks NotUtf8 = lit≤ tt
 ranks (Limit Input) = lit≤ tt
-ranks NotBuilt = lit≤ tt
 ranks BadToken = lit≤ tt
 ranks (Limit NameLimit) = lit≤ tt
 ranks Unclosed = lit≤ tt
@@ -184,7 +183,6 @@ ranks (Limit Arity) = lit≤ tt
 shows_of : (before : List Token) (f : Front) (t : Token) (kind : Kind) (k : ℕ) → shown kind f t ≡ Some k → Shows before f t kind k
 shows_of before f t NotUtf8 k h = h
 shows_of before f t (Limit Input) k h = h
-shows_of before f t NotBuilt k h = h
 shows_of before f t (Limit NameLimit) k h = h
 shows_of before f t Unclosed k h = h
 shows_of before f t BadSection k h = h
@@ -228,7 +226,6 @@ in_kinds f t other k i h = keeps_better (best None kinds f t) BadToken other (to
 all_judged : (before : List Token) (f : Front) (t : Token) → IsFrontOf before f → (other : Kind) (k : ℕ) → Shows before f t other k → NotBefore (judged f t) other k
 all_judged before f t h NotUtf8 k s = absurd (cc)
 all_judged before f t h (Limit Input) k s = absurd (cc)
-all_judged before f t h NotBuilt k s = absurd (cc)
 all_judged before f t h (Limit NameLimit) k s = in_kinds f t (Limit NameLimit) k (inl refl) s
 all_judged before f t h Unclosed k s = in_kinds f t Unclosed k (inr (inl refl)) s
 all_judged before f t h BadSection k s = in_kinds f t BadSection k (inr (inr (inl refl))) s

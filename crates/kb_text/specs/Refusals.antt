@@ -8,7 +8,7 @@ use Rattle.kb_text.specs.Grammar.{alone, applied, no_arguments, argument, HasNex
 use Rattle.kb_text.specs.Fronts.{TermFront, whole, opened, within, EquationFront, in_left, behind_sign, in_right, SectionFront, begun, in_variables, in_rules, in_equation, in_skipped, Front, IsFrontOf, term_front_tokens}
 use Rattle.kb_text.specs.Problems.{variables_of, equations_of, names_in, names_in_all, count_of, uses_in, uses_in_all, arity_in, all_names, all_uses, variables_among, symbols_among, is_rules}
 use Rattle.kb_text.specs.declared.kind.Kind.{Kind}
-use Rattle.kb_text.specs.declared.kind.Kind.TheVariants.{NotUtf8, Unclosed, BadSection, Theory, Strategy, DoubleVariable, Relative, Conditional, VariableApplied, ArityClash, BadToken, Limit, NotBuilt}
+use Rattle.kb_text.specs.declared.kind.Kind.TheVariants.{NotUtf8, Unclosed, BadSection, Theory, Strategy, DoubleVariable, Relative, Conditional, VariableApplied, ArityClash, BadToken, Limit}
 use Rattle.kb_text.specs.declared.kind.Bound.TheVariants.{Name as NameLimit, Equations, Size, Depth, Symbols, Variables, Arity, Input}
 
 -- ---- what stands in a front
@@ -295,8 +295,6 @@ shown (Limit Variables) f t = here (is_some_and (name_in t) (λ x. is_some_and (
 -- the comma before a ninth argument
 shown (Limit Arity) f t = here (is_token t comma && is_some_and (side_of f.open_section) (λ u. nat_eq (arguments_so_far u) 8))
 shown BadToken f t = None
--- what isn't built yet is no fault of the text
-shown NotBuilt f t = None
 
 -- A token t that stands behind these tokens, of the front f, shows a refusal of this kind, whose place is k tokens before it.
 -- BadToken: the grammar doesn't have it there.
@@ -312,7 +310,6 @@ Shows before f t Conditional k = shown Conditional f t ≡ Some k
 Shows before f t VariableApplied k = shown VariableApplied f t ≡ Some k
 Shows before f t ArityClash k = shown ArityClash f t ≡ Some k
 Shows before f t (Limit b) k = shown (Limit b) f t ≡ Some k
-Shows before f t NotBuilt k = shown NotBuilt f t ≡ Some k
 Shows before f t BadToken k = (HasNext before t → ⊥) × (k ≡ 0)
 
 -- which kind comes first, where one token shows two at one place
@@ -336,7 +333,6 @@ rank (Limit Variables) = 15
 rank (Limit Arity) = 16
 rank BadToken = 17
 rank (Limit Input) = 0
-rank NotBuilt = 0
 
 -- these tokens show nothing: no token of theirs does, behind those before it
 abbrev pub ShowNothing : List Token → Type 0

@@ -2,7 +2,7 @@
 use Rattle.std.specs.Prelude.{ℕ, List, [], ◌∷◌, ◌++◌, codes, decimal}
 use Rattle.kb_text.specs.Lines.{line}
 use Rattle.kb_text.specs.declared.kind.Kind.{Kind}
-use Rattle.kb_text.specs.declared.kind.Kind.TheVariants.{NotUtf8, Unclosed, BadSection, Theory, Strategy, DoubleVariable, Relative, Conditional, VariableApplied, ArityClash, BadToken, Limit, NotBuilt}
+use Rattle.kb_text.specs.declared.kind.Kind.TheVariants.{NotUtf8, Unclosed, BadSection, Theory, Strategy, DoubleVariable, Relative, Conditional, VariableApplied, ArityClash, BadToken, Limit}
 use Rattle.kb_text.specs.declared.kind.Bound.{Bound}
 use Rattle.kb_text.specs.declared.kind.Bound.TheVariants.{Name, Equations, Size, Depth, Symbols, Variables, Arity, Input}
 use Rattle.mkbtt_top.specs.declared.status.Status.{Status}
@@ -32,7 +32,6 @@ kind_word VariableApplied = codes "variableapplied"
 kind_word ArityClash = codes "arityclash"
 kind_word BadToken = codes "badtoken"
 kind_word (Limit b) = codes "limit-" ++ bound_word b
-kind_word NotBuilt = codes "notbuilt"
 
 -- nothing where the run did its work
 abbrev pub line_of : Status → List ℕ

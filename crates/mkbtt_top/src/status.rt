@@ -81,7 +81,6 @@ fn kind_word(alloc: Global, kind: Kind) -> Result<Vec<u8>, Memory>
         Kind::VariableApplied => b"variableapplied",
         Kind::ArityClash => b"arityclash",
         Kind::BadToken => b"badtoken",
-        Kind::NotBuilt => b"notbuilt",
         Kind::Limit(bound) => return limit_word(alloc, bound),
     };
     Ok(Vec::from_slice(alloc, word)?)
