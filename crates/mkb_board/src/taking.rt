@@ -21,7 +21,7 @@ use std::alloc::{AllocError, Global};
 impl Board {
     /// Takes the first job for a worker: the least due job that clashes with none in flight.
     ///
-    /// Where it gives no ticket it takes no memory and changes nothing.
+    /// Where it gives no ticket it changes nothing.
     ///
     /// # Errors
     ///

@@ -10,7 +10,7 @@ ghost use Rattle.mkb_board.specs.Held.{IsHeld};
 use crate::*;
 use kb_cert::Certificate;
 use kb_jobs::{Snapshot, work};
-use kb_label::{Labels, Process, Spent, Verdict};
+use kb_label::{Labels, Process};
 use kb_node::{Job, LabelKind, NodeId};
 use kb_term::{Problem, RuleRef, Signature, Symbol, Term, Terms};
 use mkb_model::Ticket;
@@ -120,26 +120,69 @@ fn finish(rt: &impl Abort, alloc: Global, board: &mut Board, hand: &Hand) -> Fin
     }
 }
 
-// Takes, works and ends one ticket; its job.
-fn turn(rt: &impl Abort, alloc: Global, board: &mut Board) -> Job {
-    let hand = take(rt, alloc, board, 1);
-    finish(rt, alloc, board, &hand);
-    hand.ticket.job
+// Takes the first job for the worker, which is this one.
+fn take_this(rt: &impl Abort, alloc: Global, board: &mut Board, worker: u8, job: Job) -> Hand
+    requires least { 1 ≤ worker }
+    requires most { worker ≤ 16 }
+    ensures held { IsHeld board.new result.ticket result.snapshot }
+    ensures stays { (t : Held) (s : Read) → IsHeld board.old t s → IsHeld board.new t s }
+    ensures other { (t : Held) (s : Read) → IsHeld board.old t s → t.number ≢ result.ticket.number }
+{
+    let hand = take(rt, alloc, board, worker);
+    assert!(rt; hand.ticket.job == job);
+    hand
 }
 
-// A take that gives no ticket: how many are in flight.
-fn idle(rt: &impl Abort, alloc: Global, board: &mut Board) -> usize
+// Takes, works and ends so many tickets, one after another.
+fn turns(rt: &impl Abort, alloc: Global, board: &mut Board, count: u32) {
+    for _ in 0..count {
+        let hand = take(rt, alloc, board, 1);
+        finish(rt, alloc, board, &hand);
+    }
+}
+
+// A take that gives no ticket, while so many are in flight.
+fn is_idle(rt: &impl Abort, alloc: Global, board: &mut Board, count: usize) -> bool
     ensures { (t : Held) (s : Read) → IsHeld board.old t s → IsHeld board.new t s }
 {
     match board.take(alloc, 16).expect(rt, "memory") {
-        Taken::Idle(count) => count,
-        _ => panic!(rt; "not idle"),
+        Taken::Idle(flying) => flying == count,
+        _ => false,
     }
+}
+
+fn is_dropped(finished: &Finished, p: Process) -> bool {
+    matches!(finished, Finished::Dropped(process) if *process == p)
+}
+
+fn is_committed(finished: &Finished) -> bool {
+    matches!(finished, Finished::Committed(Applied::Done))
+}
+
+// The board of the equations f(a) = b and f(a) = c after so many turns.
+fn values_after(rt: &impl Abort, alloc: Global, count: u32) -> Board {
+    let problem = two_values(rt, alloc);
+    let mut board = Board::start(alloc, problem, 100).expect(rt, "memory");
+    turns(rt, alloc, &mut board, count);
+    board
+}
+
+// The board of the equations f(f(x1)) = a and b = c after so many turns.
+fn parts_after(rt: &impl Abort, alloc: Global, count: u32) -> Board {
+    let problem = two_parts(rt, alloc);
+    let mut board = Board::start(alloc, problem, 100).expect(rt, "memory");
+    turns(rt, alloc, &mut board, count);
+    board
 }
 
 // The child of the first process with this bit.
 fn child(bit: bool) -> Process {
     Process::root().child(bit)
+}
+
+// The rule of the node from side 0 to side 1.
+fn forth(node: u16) -> RuleRef {
+    RuleRef { node, dir: 0 }
 }
 
 // Whether both children of the first process have the node as an equation.
@@ -150,4 +193,99 @@ fn have_equation(board: &Board, n: u16) -> bool {
         return label.has(log, &child(false)) && label.has(log, &child(true));
     }
     false
+}
+
+// The orienting of node 1 forks while the rule of node 0 is overlapped with itself: both children get the deduced pair.
+#[test]
+fn a_deduced_pair_reaches_both_children(rt: HostRuntime) {
+    let alloc = rt.alloc();
+    let root = Process::root();
+    let mut board = parts_after(&rt, alloc, 2);
+    let orient = take_this(&rt, alloc, &mut board, 1, Job::Orient(root, NodeId(1)));
+    let overlap = take_this(
+        &rt,
+        alloc,
+        &mut board,
+        2,
+        Job::Overlap(root, forth(0), forth(0)),
+    );
+    assert!(rt; is_idle(&rt, alloc, &mut board, 2));
+    finish(&rt, alloc, &mut board, &orient);
+    let ended = finish(&rt, alloc, &mut board, &overlap);
+    assert!(rt; is_committed(&ended) && have_equation(&board, 2));
+}
+
+// The rule of node 0 rewrites node 1 for both children, so nothing is left of its orienting.
+#[test]
+fn a_ticket_with_nothing_left_is_dropped(rt: HostRuntime) {
+    let alloc = rt.alloc();
+    let p = child(false);
+    let mut board = values_after(&rt, alloc, 1);
+    let reduce = take_this(&rt, alloc, &mut board, 1, Job::Reduce(p, NodeId(1)));
+    let orient = take_this(&rt, alloc, &mut board, 2, Job::Orient(p, NodeId(1)));
+    finish(&rt, alloc, &mut board, &reduce);
+    let ended = finish(&rt, alloc, &mut board, &orient);
+    assert!(rt; is_dropped(&ended, p));
+}
+
+// The rule of node 0 is composed for one of two processes while its overlaps are sought: one commit is for the other
+// process alone, and of the other overlap nothing is left.
+#[test]
+fn a_commit_is_for_whom_it_still_concerns(rt: HostRuntime) {
+    let alloc = rt.alloc();
+    let p = child(false).child(false);
+    let mut board = values_after(&rt, alloc, 4);
+    let reduce = take_this(&rt, alloc, &mut board, 1, Job::Reduce(p, NodeId(0)));
+    let same = take_this(
+        &rt,
+        alloc,
+        &mut board,
+        2,
+        Job::Overlap(p, forth(0), forth(0)),
+    );
+    let other = take_this(
+        &rt,
+        alloc,
+        &mut board,
+        3,
+        Job::Overlap(p, forth(0), forth(2)),
+    );
+    finish(&rt, alloc, &mut board, &reduce);
+    let ended = finish(&rt, alloc, &mut board, &same);
+    let is_done = board.state().is_done(&p, forth(0), forth(0));
+    assert!(rt; is_committed(&ended) && !is_done);
+    let ended = finish(&rt, alloc, &mut board, &other);
+    assert!(rt; is_dropped(&ended, p));
+}
+
+// What a process sees before any commit, and by what it orients.
+#[test]
+fn a_process_is_looked_at(rt: HostRuntime) {
+    let alloc = rt.alloc();
+    let problem = two_values(&rt, alloc);
+    let board = Board::start(alloc, problem, 100).expect(&rt, "memory");
+    let root = Process::root();
+    let view = board.view(&root).expect(&rt, "memory");
+    assert_eq!(rt; view.equations.items().len(), 2);
+    let certificate = board.certificate(&root).expect(&rt, "memory");
+    assert!(rt; matches!(&certificate, Certificate::Lpo(_)));
+}
+
+// A ticket is given back and its job taken again; after a halt none is taken.
+#[test]
+fn a_ticket_is_given_back(rt: HostRuntime) {
+    let alloc = rt.alloc();
+    let mut board = values_after(&rt, alloc, 0);
+    let back = take(&rt, alloc, &mut board, 1);
+    board.abandon(&back.ticket);
+    take_this(&rt, alloc, &mut board, 2, back.ticket.job);
+    board.halt();
+    let taken = board.take(alloc, 1).expect(&rt, "memory");
+    assert!(rt; matches!(taken, Taken::Halted));
+    assert_eq!(rt; board.journal().len(), 4);
+}
+
+#[test]
+fn the_law_is_called(_rt: HostRuntime) {
+    held_tickets_stay();
 }
