@@ -36,6 +36,7 @@ fn report_text(alloc: Global, board: &Board, verdict: &Verdict) -> Result<Vec<u8
     requires { verdict_on board.now.plain ≡ Some verdict.now }
     ensures { IfOk result (λ text. IsReported board.now verdict.now text.items) }
 {
+    // laws: the report is good, and the journal is legal
     reports_are_good();
     let _journal = board.journal();
     let report = report_of(alloc, board.state(), verdict)?;
@@ -86,6 +87,7 @@ fn complete_bytes(alloc: Global, bytes: &[u8], budget: u32) -> Result<Reply, Sto
     ensures reply { IfOk result (λ r. IsCompletionOf bytes.now budget r.status r.board r.text.items) }
     ensures stop { IfErr result (IsRefusal bytes.now) }
 {
+    // a law: what the bytes spell is within the limits
     spelled_problems_are_within_limits();
     let problem = match parse_problem(alloc, bytes) {
         Ok(problem) => problem,
