@@ -8,7 +8,6 @@ pub mod Growing
 pub mod Held
 pub mod Idle
 pub mod Least
-pub mod Letters
 pub mod Picking
 pub mod Readable
 pub mod Ready

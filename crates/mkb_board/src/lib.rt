@@ -11,8 +11,6 @@ mod first;
 mod laws;
 mod snapshots;
 mod taking;
-#[cfg(test)]
-mod tests;
 
 pub use answers::{Finished, Taken};
 pub use board::Board;

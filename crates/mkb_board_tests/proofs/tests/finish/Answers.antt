@@ -1,6 +1,6 @@
 use Rattle.std.proofs.Common.{◌≡◌, Ok}
 use Rattle.mkb_board.proofs.Held.{held_proposes, held_after_finish}
-use Rattle.mkb_board.proofs.tests.finish.Goals as goal
+use Rattle.mkb_board_tests.proofs.tests.finish.Goals as goal
 
 pub finish-requires-clause-proposed : goal.finish-requires-clause-proposed
 finish-requires-clause-proposed g c =

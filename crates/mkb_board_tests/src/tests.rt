@@ -7,7 +7,7 @@ ghost use Rattle.kb_jobs.specs.declared.working.Snapshot.{Snapshot as Read};
 ghost use Rattle.mkb_model.specs.declared.entry.Ticket.{Ticket as Held};
 ghost use Rattle.mkb_board.specs.Held.{IsHeld};
 
-use crate::*;
+use mkb_board::{Board, Finished, Taken, held_tickets_stay};
 use kb_cert::Certificate;
 use kb_jobs::{Snapshot, work};
 use kb_label::{Labels, Process};

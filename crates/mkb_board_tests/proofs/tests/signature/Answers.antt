@@ -1,7 +1,7 @@
 use Rattle.std.proofs.Common.{◌≡◌, subst, sym, rules}
 use Rattle.kb_term.specs.Signature.{Signature, IsSignature, symbols_of_list}
-use Rattle.mkb_board.proofs.Letters.{letters, signature-letters}
-use Rattle.mkb_board.proofs.tests.signature.Goals as goal
+use Rattle.mkb_board_tests.proofs.Letters.{letters, signature-letters}
+use Rattle.mkb_board_tests.proofs.tests.signature.Goals as goal
 
 pub new-requires : goal.new-requires
 new-requires g c =

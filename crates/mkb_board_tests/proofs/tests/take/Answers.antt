@@ -1,7 +1,7 @@
 use Rattle.std.proofs.Common.{◌≡◌, Ok}
 use Rattle.mkb_board.specs.declared.answers.Taken.TheVariants.{Job}
 use Rattle.mkb_board.proofs.Held.{held_taken, held_numbered}
-use Rattle.mkb_board.proofs.tests.take.Goals as goal
+use Rattle.mkb_board_tests.proofs.tests.take.Goals as goal
 
 pub returns-clause-held : goal.returns-clause-held
 returns-clause-held g c =
