@@ -13,5 +13,3 @@ pub use reply::Outcome;
 pub use status::{Status, status_code, status_line};
 pub use top::run;
 
-#[cfg(test)]
-mod tests;

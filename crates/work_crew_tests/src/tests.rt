@@ -1,4 +1,4 @@
-use kb_label::Process;
+use kb_label::{Process, Reason};
 use kb_node::{Job, NodeId};
 use kb_syntax::{parse_problem, spelled_problems_are_within_limits};
 use kb_term::RuleRef;
@@ -101,6 +101,57 @@ fn one_rule_and_its_own_pair(rt: HostRuntime) {
         (Job::Close(e), Made::Closed),
     ];
     assert!(rt; is_journal(&board, &wanted));
+}
+
+#[test]
+fn no_equation_needs_a_closing_alone(rt: HostRuntime) {
+    let board = finished(&rt, rt.alloc(), "(RULES )");
+    assert!(rt; is_journal(&board, &[(Job::Close(first()), Made::Closed)]));
+}
+
+#[test]
+fn the_first_of_two_equal_processes_closes(rt: HostRuntime) {
+    let board = finished(&rt, rt.alloc(), "(RULES a == b)");
+    let p = Process::from_bits(&[false]);
+    let wanted = [
+        (Job::Orient(first(), NodeId(0)), Made::Forked),
+        (Job::Overlap(p, rule(0, 0), rule(0, 0)), Made::Deduced(0)),
+        (Job::Close(p), Made::Closed),
+    ];
+    assert!(rt; is_journal(&board, &wanted));
+}
+
+#[test]
+fn a_rewritten_equation_is_oriented_again(rt: HostRuntime) {
+    let board = finished(&rt, rt.alloc(), "(VAR x)(RULES f(x) == x g(x) == f(x))");
+    let e = first();
+    let wanted = [
+        (Job::Orient(e, NodeId(0)), Made::Oriented(1)),
+        (Job::Reduce(e, NodeId(1)), Made::Rewritten),
+        (Job::Reduce(e, NodeId(2)), Made::Facts(2)),
+        (Job::Orient(e, NodeId(2)), Made::Oriented(1)),
+        (Job::Reduce(e, NodeId(0)), Made::Facts(2)),
+        (Job::Overlap(e, rule(0, 1), rule(0, 1)), Made::Deduced(0)),
+        (Job::Overlap(e, rule(0, 1), rule(2, 1)), Made::Deduced(0)),
+        (Job::Overlap(e, rule(2, 1), rule(2, 1)), Made::Deduced(0)),
+        (Job::Close(e), Made::Closed),
+    ];
+    assert!(rt; is_journal(&board, &wanted));
+    assert!(rt; board.nodes().len() == 3);
+}
+
+#[test]
+fn a_process_gives_up_at_a_deep_overlap(rt: HostRuntime) {
+    let text =
+        "(VAR x)(RULES f(f(f(f(f(f(f(f(f(f(f(f(f(f(f(f(f(f(f(f(f(f(f(f(f(f(f(f(f(f(f(f(f(f(f(f(f(f(f(f(x)))))))))))))))))))))))))))))))))))))))) == a)";
+    let board = finished(&rt, rt.alloc(), text);
+    let e = first();
+    let wanted = [
+        (Job::Orient(e, NodeId(0)), Made::Oriented(0)),
+        (Job::Overlap(e, rule(0, 0), rule(0, 0)), Made::Over),
+    ];
+    assert!(rt; is_journal(&board, &wanted));
+    assert!(rt; board.state().over(&e) == Some(Reason::Depth));
 }
 
 #[test]

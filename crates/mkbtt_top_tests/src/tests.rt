@@ -1,7 +1,7 @@
-use super::*;
 use kb_checker::Reject;
 use kb_io::{MemorySink, MemorySource, OpenGate};
 use kb_syntax::{Bound, Kind};
+use mkbtt_top::{Outcome, Status, run, status_code, status_line};
 use std::alloc::{AllocError, Global};
 use std::process::Abort;
 use std::sync::Wait;
@@ -285,22 +285,23 @@ fn other_words_are_refused(rt: HostRuntime) {
     assert!(rt; runs(&rt, alloc, &["replay"], IDENTITY, 7, None, ""));
 }
 
-/// The empty problem with blanks behind it, so many bytes in all.
-fn padded(alloc: Global, length: usize) -> Result<Vec<u8>, AllocError> {
-    let mut bytes = Vec::from_slice(alloc, b"(RULES )")?;
-    for _ in bytes.len()..length {
-        bytes.push(b' ')?;
+/// A comment and the empty problem behind it, with so many letters in the comment.
+fn commented(alloc: Global, letters: usize) -> Result<Vec<u8>, AllocError> {
+    let mut bytes = Vec::from_slice(alloc, b"(COMMENT ")?;
+    for _ in 0..letters {
+        bytes.push(b'a')?;
     }
+    bytes.extend_from_slice(b")(RULES )")?;
     Ok(bytes)
 }
 
-/// The status of a run on the problem with blanks behind it, and how many bytes were written.
-fn padded_run<R: Threads + Wait + Sync>(
+/// The status of a run on the empty problem behind a comment of so many letters, and how many bytes were written.
+fn commented_run<R: Threads + Wait + Sync>(
     rt: &R,
     alloc: Global,
-    length: usize,
+    letters: usize,
 ) -> Result<(Status, usize), AllocError> {
-    let bytes = padded(alloc, length)?;
+    let bytes = commented(alloc, letters)?;
     let mut source = MemorySource::new(bytes, Vec::new(alloc), 65_536);
     let mut sink = MemorySink::new(alloc, 1000, Vec::new(alloc), 100)?;
     let outcome = run(rt, alloc, &["complete"], &mut source, &mut sink, &OpenGate);
@@ -309,10 +310,10 @@ fn padded_run<R: Threads + Wait + Sync>(
 
 #[test]
 fn a_text_of_1048576_bytes_is_read_and_one_byte_more_is_refused(rt: HostRuntime) {
-    let (status, written) = padded_run(&rt, rt.alloc(), 1_048_576).expect(&rt, "memory");
+    let (status, written) = commented_run(&rt, rt.alloc(), 1_048_558).expect(&rt, "memory");
     assert!(rt; status == Status::Done);
     assert!(rt; written == 58);
-    let (status, written) = padded_run(&rt, rt.alloc(), 1_048_577).expect(&rt, "memory");
+    let (status, written) = commented_run(&rt, rt.alloc(), 1_048_559).expect(&rt, "memory");
     assert!(rt; status == Status::Refused(Kind::Limit(Bound::Input), 1_048_576));
     assert!(rt; written == 0);
 }
