@@ -12,7 +12,7 @@ ghost use Rattle.mkb_model.specs.declared.entry.Entry.TheVariants.{Abandon, Halt
 ghost use Rattle.mkb_rules.specs.Parts.{plain_nodes};
 ghost use Rattle.mkb_board.specs.Boards.{IsLegalBoard, takes_in, drops_in, has_halt};
 
-use crate::choosing;
+use crate::judged::Judged;
 use crate::snapshots::named::view_of;
 use kb_cert::Certificate;
 use kb_label::{Labels, ListLabels, Living, NameLog, Process, Verdict};
@@ -28,7 +28,7 @@ use std::marker::Model;
 /// The room for the end of each ticket in flight and for a halt is kept, so neither takes memory.
 #[derive(Drop)]
 pub struct Board {
-    pub(crate) state: State,
+    pub(crate) judged: Judged,
     pub(crate) flight: Vec<Ticket>,
     pub(crate) journal: Vec<Entry>,
     pub(crate) taken: u64,
@@ -46,9 +46,9 @@ impl Model for Board {
 
     ghost coded = { Prim.hlevel (codes, coded_pair, coded_tree, coded_problem) };
 
-    ghost view = { λ b. seen b.state b.flight.items b.journal.items };
+    ghost view = { λ b. seen b.judged b.flight.items b.journal.items };
 
-    ghost invariant = { λ b. IsBoard (seen b.state b.flight.items b.journal.items) b.taken b.dropped b.halted × (vec_len b.journal + owed (vec_len b.flight) b.halted ≤ vec_capacity b.journal) };
+    ghost invariant = { λ b. IsBoard (seen b.judged b.flight.items b.journal.items) b.taken b.dropped b.halted × (vec_len b.journal + owed (vec_len b.flight) b.halted ≤ vec_capacity b.journal) };
 }
 
 impl Board {
@@ -62,11 +62,11 @@ impl Board {
         ensures plain { IfOk result (λ b. b.plain ≡ opening problem budget) }
         ensures journal { IfOk result (λ b. b.journal ≡ []) }
     {
-        let state = State::start(alloc, problem, budget)?;
+        let judged = Judged::new(State::start(alloc, problem, budget)?);
         let mut journal = Vec::new(alloc);
         journal.reserve(1)?;
         Ok(Board {
-            state,
+            judged,
             flight: Vec::new(alloc),
             journal,
             taken: 0,
@@ -87,14 +87,14 @@ impl Board {
     pub fn state(&self) -> &State
         ensures { record result.now { flight = self.now.plain.flight } ≡ self.now.plain }
     {
-        &self.state
+        self.judged.state()
     }
 
     /// The table of nodes.
     pub fn nodes(&self) -> &NodeTable<ListLabels>
         ensures { plain_nodes result.now ≡ self.now.plain.nodes }
     {
-        self.state.nodes()
+        self.judged.state().nodes()
     }
 
     /// What a living process sees of the nodes: its equations, its rules, and each rule that it ever had.
@@ -108,7 +108,7 @@ impl Board {
         ensures rules { IfOk result (λ view. view.rules ≡ rules_of self.now.plain p.now) }
         ensures constraints { IfOk result (λ view. view.constraints ≡ constraints_of self.now.plain p.now) }
     {
-        view_of(&self.state, p)
+        view_of(self.judged.state(), p)
     }
 
     /// The order by which a living process orients. It is of the family of orders, and orders the constraints of the process.
@@ -122,7 +122,7 @@ impl Board {
         ensures member { IfOk result (Contains (family self.now.plain.problem.signature)) }
         ensures orders { IfOk result (λ c. Orders c (rules_at self.now.plain (constraints_of self.now.plain p.now))) }
     {
-        let certificate = self.state.certificate(p).clone()?;
+        let certificate = self.judged.state().certificate(p).clone()?;
         Ok(certificate)
     }
 
@@ -130,14 +130,14 @@ impl Board {
     pub fn verdict(&self) -> Option<Verdict>
         ensures { result ≡ verdict self.now.plain }
     {
-        choosing::verdict(&self.state)
+        self.judged.verdict()
     }
 
     /// How many commits were made.
     pub fn commits(&self) -> u32
         ensures { result ≡ self.now.plain.commits }
     {
-        self.state.commits()
+        self.judged.state().commits()
     }
 
     /// How many tickets were dropped.
@@ -151,7 +151,7 @@ impl Board {
     pub fn living(&self) -> u32
         ensures { result ≡ length self.now.plain.living }
     {
-        self.state.log().living()
+        self.judged.state().log().living()
     }
 
     /// Makes a halt, if none was made: no job is taken from here on. It takes no memory.

@@ -12,7 +12,6 @@ ghost use Rattle.mkb_board.specs.Takes.{IsProposalOf, IsFinishedBy};
 
 use crate::answers::Finished;
 use crate::board::{Board, land};
-use crate::choosing;
 use kb_label::Process;
 use kb_node::Job;
 use mkb_model::{Effect, Entry, Proposed, Ticket};
@@ -21,7 +20,7 @@ use std::alloc::Global;
 
 impl Board {
     /// Ends a ticket with what its job proposed on the board from which it was taken. Where a verdict stands nothing is
-    /// changed; where nothing is left on which the proposal could act it is dropped; else it has its effect.
+    /// changed and no memory is taken; where nothing is left on which the proposal could act it is dropped; else it has its effect.
     ///
     /// # Errors
     ///
@@ -37,11 +36,12 @@ impl Board {
         ensures ok { IfOk result (IsFinishedBy self.old self.new ticket proposal) }
         ensures back { IfErr result (λ e. e ≡ (ticket, proposal)) }
         ensures err { OnErr result (self.new ≡ self.old) }
+        ensures memory { OnErr result (verdict self.old.plain ≡ None) }
     {
-        if let Some(verdict) = choosing::verdict(&self.state) {
+        if let Some(verdict) = self.judged.verdict() {
             return Ok(Finished::Ended(verdict));
         }
-        match self.state.is_dropped(alloc, &proposal) {
+        match self.judged.state().is_dropped(alloc, &proposal) {
             Err(_) => Err((ticket, proposal)),
             Ok(true) => Ok(self.drop_ticket(&ticket, &proposal)),
             Ok(false) => self.commit(alloc, ticket, proposal),
@@ -83,7 +83,7 @@ impl Board {
         ensures back { IfErr result (λ e. e ≡ (ticket, proposal)) }
         ensures err { OnErr result (self.new ≡ self.old) }
     {
-        let applied = match self.state.apply(alloc, &proposal) {
+        let applied = match self.judged.apply(alloc, &proposal) {
             Ok(applied) => applied,
             Err(_) => return Err((ticket, proposal)),
         };

@@ -8,6 +8,7 @@ mod cost;
 mod due;
 mod finishing;
 mod first;
+mod judged;
 mod laws;
 mod snapshots;
 mod taking;

@@ -9,7 +9,6 @@ ghost use Rattle.mkb_board.specs.Takes.{IsTakenBy, take_entry};
 
 use crate::answers::Taken;
 use crate::board::Board;
-use crate::choosing;
 use crate::first::first_job;
 use crate::snapshots::snapshot;
 use kb_jobs::Snapshot;
@@ -21,7 +20,7 @@ use std::alloc::{AllocError, Global};
 impl Board {
     /// Takes the first job for a worker: the least due job that clashes with none in flight.
     ///
-    /// Where it gives no ticket it changes nothing.
+    /// Where it gives no ticket it changes nothing. Where a verdict stands or a halt was made it takes no memory.
     ///
     /// # Errors
     ///
@@ -31,14 +30,15 @@ impl Board {
         requires most { worker ≤ 16 }
         ensures ok { IfOk result (IsTakenBy self.old self.new worker) }
         ensures err { OnErr result (self.new ≡ self.old) }
+        ensures memory { OnErr result ((verdict self.old.plain ≡ None) × IsFalse (has_halt self.old.journal)) }
     {
-        if let Some(verdict) = choosing::verdict(&self.state) {
+        if let Some(verdict) = self.judged.verdict() {
             return Ok(Taken::Over(verdict));
         }
         if self.halted {
             return Ok(Taken::Halted);
         }
-        match first_job(alloc, &self.state, self.flight.as_slice())? {
+        match first_job(alloc, self.judged.state(), self.flight.as_slice())? {
             None => Ok(Taken::Idle(self.flight.len())),
             Some(job) => self.take_job(alloc, worker, &job),
         }
@@ -56,7 +56,7 @@ impl Board {
         ensures ok { IfOk result (IsTakenBy self.old self.new worker) }
         ensures err { OnErr result (self.new ≡ self.old) }
     {
-        let snapshot = snapshot(alloc, &self.state, job)?;
+        let snapshot = snapshot(alloc, self.judged.state(), job)?;
         reserve(&mut self.flight, &mut self.journal)?;
         let ticket = Ticket {
             number: self.taken + 1,

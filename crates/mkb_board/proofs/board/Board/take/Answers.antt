@@ -18,22 +18,22 @@ pub take_job-requires-clause-no_verdict : goal.take_job-requires-clause-no_verdi
 take_job-requires-clause-no_verdict c = subst {A = Seen} (λ z. verdict z.plain ≡ None) c.self.view_is (sym c.verdict.ensures ∙ c.in_default.is)
 
 pub first_job-requires-clause-limited : goal.first_job-requires-clause-limited
-first_job-requires-clause-limited c = limited_on c.self.inside.state c.self.inside.flight.items c.self.inside.journal.items c.self.invariant.0.legal
+first_job-requires-clause-limited c = limited_on c.self.inside.judged c.self.inside.flight.items c.self.inside.journal.items c.self.invariant.0.legal
 
 pub first_job-requires-clause-in_order : goal.first_job-requires-clause-in_order
-first_job-requires-clause-in_order c = ordered_on c.self.inside.state c.self.inside.flight.items c.self.inside.journal.items c.self.invariant.0.legal
+first_job-requires-clause-in_order c = ordered_on c.self.inside.judged c.self.inside.flight.items c.self.inside.journal.items c.self.invariant.0.legal
 
 pub returns-in-None-clause-ok : goal.returns-in-None-clause-ok
 returns-in-None-clause-ok c =
     let none = sym c.verdict.ensures ∙ c.in_default.is in
-    let first : first_job (record c.self.inside.state { flight = c.self.inside.flight.items }) ≡ None = ap (λ (ts : List Ticket). first_job (record c.self.inside.state { flight = ts })) (sym c.as_slice.ensures.value) ∙ sym c.in_ok-first_job.ensures ∙ c.in-None.is in
+    let first : first_job (record c.self.inside.judged { flight = c.self.inside.flight.items }) ≡ None = ap (λ (ts : List Ticket). first_job (record c.self.inside.judged { flight = ts })) (sym c.as_slice.ensures.value) ∙ sym c.in_ok-first_job.ensures ∙ c.in-None.is in
     let count = c.len.ensures ∙ c.self.inside.flight.ok.0 in (
       refl,
       subst {A = Seen} (λ z. verdict z.plain ≡ None) c.self.view_is none,
       subst {A = Seen} (λ z. IsFalse (has_halt z.journal)) c.self.view_is (sym c.self.invariant.0.halted_is ∙ c.if-self.false),
       subst {A = Seen} (λ z. first_job z.plain ≡ None) c.self.view_is first,
       subst {A = Seen} (λ z. c.len.result ≡ length z.plain.flight) c.self.view_is count,
-      some_left c.self.inside.flight.items c.len.result count (none_first (record c.self.inside.state { flight = c.self.inside.flight.items }) none first),
+      some_left c.self.inside.flight.items c.len.result count (none_first (record c.self.inside.judged { flight = c.self.inside.flight.items }) none first),
     )
   where
     some_left : (ts : List Ticket) (n : ℕ) → n ≡ length ts → ts ≢ [] → 0 < n
