@@ -12,7 +12,7 @@ ghost use Rattle.mkb_model.specs.declared.entry.Entry.TheVariants.{Abandon, Halt
 ghost use Rattle.mkb_rules.specs.Parts.{plain_nodes};
 ghost use Rattle.mkb_board.specs.Boards.{IsLegalBoard, takes_in, drops_in, has_halt};
 
-use crate::judged::Judged;
+use crate::choosing;
 use crate::snapshots::named::view_of;
 use kb_cert::Certificate;
 use kb_label::{Labels, ListLabels, Living, NameLog, Process, Verdict};
@@ -25,10 +25,12 @@ use std::marker::Model;
 
 /// The board that workers share. Contracts see the plain board and the journal that led to it.
 ///
-/// The room for the end of each ticket in flight and for a halt is kept, so neither takes memory.
+/// The room for the end of each ticket in flight and for a halt is kept, so neither takes memory. The verdict is found once
+/// for each commit.
 #[derive(Drop)]
 pub struct Board {
-    pub(crate) judged: Judged,
+    pub(crate) state: State,
+    pub(crate) verdict: Option<Verdict>,
     pub(crate) flight: Vec<Ticket>,
     pub(crate) journal: Vec<Entry>,
     pub(crate) taken: u64,
@@ -37,18 +39,19 @@ pub struct Board {
 }
 
 impl Model for Board {
-    ghost use Rattle.std.specs.Prelude.{vec_len, vec_capacity, ◌+◌, ◌≤◌};
+    ghost use Rattle.std.specs.Prelude.{vec_len, vec_capacity, ◌+◌, ◌≤◌, ◌≡◌};
     ghost use Rattle.std.specs.Coded.{codes};
     ghost use Rattle.kb_term.specs.Coding.{coded_pair, coded_problem, coded_tree};
+    ghost use Rattle.mkb_model.specs.Verdicts.{verdict as verdict_on};
     ghost use Rattle.mkb_board.specs.Boards.{Seen, seen, IsBoard, owed};
 
     ghost Value = { Seen };
 
     ghost coded = { Prim.hlevel (codes, coded_pair, coded_tree, coded_problem) };
 
-    ghost view = { λ b. seen b.judged b.flight.items b.journal.items };
+    ghost view = { λ b. seen b.state b.flight.items b.journal.items };
 
-    ghost invariant = { λ b. IsBoard (seen b.judged b.flight.items b.journal.items) b.taken b.dropped b.halted × (vec_len b.journal + owed (vec_len b.flight) b.halted ≤ vec_capacity b.journal) };
+    ghost invariant = { λ b. IsBoard (seen b.state b.flight.items b.journal.items) b.taken b.dropped b.halted × (vec_len b.journal + owed (vec_len b.flight) b.halted ≤ vec_capacity b.journal) × (b.verdict ≡ verdict_on b.state) };
 }
 
 impl Board {
@@ -62,11 +65,13 @@ impl Board {
         ensures plain { IfOk result (λ b. b.plain ≡ opening problem budget) }
         ensures journal { IfOk result (λ b. b.journal ≡ []) }
     {
-        let judged = Judged::new(State::start(alloc, problem, budget)?);
+        let state = State::start(alloc, problem, budget)?;
+        let verdict = choosing::verdict(&state);
         let mut journal = Vec::new(alloc);
         journal.reserve(1)?;
         Ok(Board {
-            judged,
+            state,
+            verdict,
             flight: Vec::new(alloc),
             journal,
             taken: 0,
@@ -87,14 +92,14 @@ impl Board {
     pub fn state(&self) -> &State
         ensures { record result.now { flight = self.now.plain.flight } ≡ self.now.plain }
     {
-        self.judged.state()
+        &self.state
     }
 
     /// The table of nodes.
     pub fn nodes(&self) -> &NodeTable<ListLabels>
         ensures { plain_nodes result.now ≡ self.now.plain.nodes }
     {
-        self.judged.state().nodes()
+        self.state.nodes()
     }
 
     /// What a living process sees of the nodes: its equations, its rules, and each rule that it ever had.
@@ -108,7 +113,7 @@ impl Board {
         ensures rules { IfOk result (λ view. view.rules ≡ rules_of self.now.plain p.now) }
         ensures constraints { IfOk result (λ view. view.constraints ≡ constraints_of self.now.plain p.now) }
     {
-        view_of(self.judged.state(), p)
+        view_of(&self.state, p)
     }
 
     /// The order by which a living process orients. It is of the family of orders, and orders the constraints of the process.
@@ -122,7 +127,7 @@ impl Board {
         ensures member { IfOk result (Contains (family self.now.plain.problem.signature)) }
         ensures orders { IfOk result (λ c. Orders c (rules_at self.now.plain (constraints_of self.now.plain p.now))) }
     {
-        let certificate = self.judged.state().certificate(p).clone()?;
+        let certificate = self.state.certificate(p).clone()?;
         Ok(certificate)
     }
 
@@ -130,14 +135,14 @@ impl Board {
     pub fn verdict(&self) -> Option<Verdict>
         ensures { result ≡ verdict self.now.plain }
     {
-        self.judged.verdict()
+        self.verdict
     }
 
     /// How many commits were made.
     pub fn commits(&self) -> u32
         ensures { result ≡ self.now.plain.commits }
     {
-        self.judged.state().commits()
+        self.state.commits()
     }
 
     /// How many tickets were dropped.
@@ -151,7 +156,7 @@ impl Board {
     pub fn living(&self) -> u32
         ensures { result ≡ length self.now.plain.living }
     {
-        self.judged.state().log().living()
+        self.state.log().living()
     }
 
     /// Makes a halt, if none was made: no job is taken from here on. It takes no memory.

@@ -12,6 +12,7 @@ ghost use Rattle.mkb_board.specs.Takes.{IsProposalOf, IsFinishedBy};
 
 use crate::answers::Finished;
 use crate::board::{Board, land};
+use crate::choosing;
 use kb_label::Process;
 use kb_node::Job;
 use mkb_model::{Effect, Entry, Proposed, Ticket};
@@ -36,12 +37,12 @@ impl Board {
         ensures ok { IfOk result (IsFinishedBy self.old self.new ticket proposal) }
         ensures back { IfErr result (λ e. e ≡ (ticket, proposal)) }
         ensures err { OnErr result (self.new ≡ self.old) }
-        ensures memory { OnErr result (verdict self.old.plain ≡ None) }
+        ensures undecided { OnErr result (verdict self.old.plain ≡ None) }
     {
-        if let Some(verdict) = self.judged.verdict() {
+        if let Some(verdict) = self.verdict {
             return Ok(Finished::Ended(verdict));
         }
-        match self.judged.state().is_dropped(alloc, &proposal) {
+        match self.state.is_dropped(alloc, &proposal) {
             Err(_) => Err((ticket, proposal)),
             Ok(true) => Ok(self.drop_ticket(&ticket, &proposal)),
             Ok(false) => self.commit(alloc, ticket, proposal),
@@ -82,11 +83,13 @@ impl Board {
         ensures ok { IfOk result (IsFinishedBy self.old self.new ticket proposal) }
         ensures back { IfErr result (λ e. e ≡ (ticket, proposal)) }
         ensures err { OnErr result (self.new ≡ self.old) }
+        ensures undecided { OnErr result (verdict self.old.plain ≡ None) }
     {
-        let applied = match self.judged.apply(alloc, &proposal) {
+        let applied = match self.state.apply(alloc, &proposal) {
             Ok(applied) => applied,
             Err(_) => return Err((ticket, proposal)),
         };
+        self.verdict = choosing::verdict(&self.state);
         land(&mut self.flight, ticket.number);
         let entry = Entry::Commit {
             worker: ticket.worker,

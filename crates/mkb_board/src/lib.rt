@@ -8,7 +8,6 @@ mod cost;
 mod due;
 mod finishing;
 mod first;
-mod judged;
 mod laws;
 mod snapshots;
 mod taking;

@@ -30,15 +30,16 @@ impl Board {
         requires most { worker ≤ 16 }
         ensures ok { IfOk result (IsTakenBy self.old self.new worker) }
         ensures err { OnErr result (self.new ≡ self.old) }
-        ensures memory { OnErr result ((verdict self.old.plain ≡ None) × IsFalse (has_halt self.old.journal)) }
+        ensures undecided { OnErr result (verdict self.old.plain ≡ None) }
+        ensures unhalted { OnErr result (IsFalse (has_halt self.old.journal)) }
     {
-        if let Some(verdict) = self.judged.verdict() {
+        if let Some(verdict) = self.verdict {
             return Ok(Taken::Over(verdict));
         }
         if self.halted {
             return Ok(Taken::Halted);
         }
-        match first_job(alloc, self.judged.state(), self.flight.as_slice())? {
+        match first_job(alloc, &self.state, self.flight.as_slice())? {
             None => Ok(Taken::Idle(self.flight.len())),
             Some(job) => self.take_job(alloc, worker, &job),
         }
@@ -55,8 +56,10 @@ impl Board {
         requires first { first_job self.old.plain ≡ Some job.now }
         ensures ok { IfOk result (IsTakenBy self.old self.new worker) }
         ensures err { OnErr result (self.new ≡ self.old) }
+        ensures undecided { OnErr result (verdict self.old.plain ≡ None) }
+        ensures unhalted { OnErr result (IsFalse (has_halt self.old.journal)) }
     {
-        let snapshot = snapshot(alloc, self.judged.state(), job)?;
+        let snapshot = snapshot(alloc, &self.state, job)?;
         reserve(&mut self.flight, &mut self.journal)?;
         let ticket = Ticket {
             number: self.taken + 1,

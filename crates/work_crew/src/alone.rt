@@ -70,9 +70,6 @@ fn take_turn(alloc: Global, board: &mut Board) -> Result<Turn, Memory>
     ensures err { OnErr result (IsAtRest board.new) }
     ensures same { IsSameRun board.old board.new }
 {
-    if board.verdict().is_some() {
-        return Ok(Turn::Over);
-    }
     let _journal = board.journal();
     match board.take(alloc, 1)? {
         Taken::Job(ticket, snapshot) => {

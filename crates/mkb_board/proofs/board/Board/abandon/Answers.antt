@@ -11,6 +11,7 @@ invariant_of-self c =
     let ok = c.push.ensures.succeeds (omega (arith, c.self.invariant.1, fewer, owed_less (vec_len c.self.inside.flight) c.self.inside.halted)) in
     let items = after_push c.push.result _ _ _ ok c.push.ensures.items in
     let len = after_push c.push.result _ _ _ ok c.push.ensures.len in (
-      abandon_board c.self.inside.judged c.self.inside.flight.items c.land.new.flight.items c.self.inside.journal.items c.push.new.self.items c.self.inside.taken c.self.inside.dropped c.self.inside.halted c.args.ticket.now c.self.invariant.0 flying (rw (c.land.ensures.items) refl) items,
+      abandon_board c.self.inside.state c.self.inside.flight.items c.land.new.flight.items c.self.inside.journal.items c.push.new.self.items c.self.inside.taken c.self.inside.dropped c.self.inside.halted c.args.ticket.now c.self.invariant.0 flying (rw (c.land.ensures.items) refl) items,
       omega (arith, c.push.ensures.capacity, len, c.self.invariant.1, owed_fewer (vec_len c.land.new.flight) (vec_len c.self.inside.flight) c.self.inside.halted fewer),
+      c.self.invariant.2,
     )

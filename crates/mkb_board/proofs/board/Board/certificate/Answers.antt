@@ -14,14 +14,14 @@ pub certificate-requires : goal.certificate-requires
 certificate-requires c =
     let p = c.args.p.now in
     let lives = subst {A = Seen} (λ z. IsTrue (has z.plain.living p)) (sym c.self.view_is) c.requires in
-    let k = certified_on c.self.inside.judged c.self.inside.flight.items c.self.inside.journal.items c.self.invariant.0.legal p lives in
+    let k = certified_on c.self.inside.state c.self.inside.flight.items c.self.inside.journal.items c.self.invariant.0.legal p lives in
     subst {A = Option Certificate} IsSome (sym k.there) refl
 
 pub returns-clause-member : goal.returns-clause-member
 returns-clause-member c =
     let p = c.args.p.now in
     let lives = subst {A = Seen} (λ z. IsTrue (has z.plain.living p)) (sym c.self.view_is) c.requires in
-    let k = subst {A = Seen} (λ z. IsCertified z.plain p) c.self.view_is (certified_on c.self.inside.judged c.self.inside.flight.items c.self.inside.journal.items c.self.invariant.0.legal p lives) in
+    let k = subst {A = Seen} (λ z. IsCertified z.plain p) c.self.view_is (certified_on c.self.inside.state c.self.inside.flight.items c.self.inside.journal.items c.self.invariant.0.legal p lives) in
     let is : certificate_of c.args.self.now.plain p ≡ Some c.in_ok-certificate.certificate = search rules in
     subst {A = Certificate} (Contains (family c.args.self.now.plain.problem.signature)) (some_is (sym k.there ∙ is)) k.member
 
@@ -29,6 +29,6 @@ pub returns-clause-orders : goal.returns-clause-orders
 returns-clause-orders c =
     let p = c.args.p.now in
     let lives = subst {A = Seen} (λ z. IsTrue (has z.plain.living p)) (sym c.self.view_is) c.requires in
-    let k = subst {A = Seen} (λ z. IsCertified z.plain p) c.self.view_is (certified_on c.self.inside.judged c.self.inside.flight.items c.self.inside.journal.items c.self.invariant.0.legal p lives) in
+    let k = subst {A = Seen} (λ z. IsCertified z.plain p) c.self.view_is (certified_on c.self.inside.state c.self.inside.flight.items c.self.inside.journal.items c.self.invariant.0.legal p lives) in
     let is : certificate_of c.args.self.now.plain p ≡ Some c.in_ok-certificate.certificate = search rules in
     subst {A = Certificate} (λ z. Orders z (rules_at c.args.self.now.plain (constraints_of c.args.self.now.plain p))) (some_is (sym k.there ∙ is)) k.orders

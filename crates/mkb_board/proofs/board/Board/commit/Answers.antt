@@ -19,14 +19,14 @@ use Rattle.mkb_board.proofs.board.Board.commit.Goals as goal
 
 pub apply-requires-clause-budget : goal.apply-requires-clause-budget
 apply-requires-clause-budget c =
-    state_budget c.self.inside.judged c.self.inside.flight.items c.self.inside.journal.items c.args.ticket c.args.proposal c.self.invariant.0.legal
+    state_budget c.self.inside.state c.self.inside.flight.items c.self.inside.journal.items c.args.ticket c.args.proposal c.self.invariant.0.legal
     (subst {A = Seen} (λ z. verdict z.plain ≡ None) (sym c.self.view_is) c.requires.no_verdict)
     (subst {A = Seen} (λ z. Contains z.plain.flight c.args.ticket) (sym c.self.view_is) c.requires.flying)
     (subst {A = Seen} (λ z. IsProposalOf z c.args.ticket c.args.proposal) (sym c.self.view_is) c.requires.proposed)
 
 pub apply-requires-clause-applicable : goal.apply-requires-clause-applicable
 apply-requires-clause-applicable c =
-    state_applicable c.self.inside.judged c.self.inside.flight.items c.self.inside.journal.items c.args.ticket c.args.proposal c.self.invariant.0.legal
+    state_applicable c.self.inside.state c.self.inside.flight.items c.self.inside.journal.items c.args.ticket c.args.proposal c.self.invariant.0.legal
     (subst {A = Seen} (λ z. verdict z.plain ≡ None) (sym c.self.view_is) c.requires.no_verdict)
     (subst {A = Seen} (λ z. Contains z.plain.flight c.args.ticket) (sym c.self.view_is) c.requires.flying)
     (subst {A = Seen} (λ z. IsProposalOf z c.args.ticket c.args.proposal) (sym c.self.view_is) c.requires.proposed)
@@ -47,11 +47,12 @@ invariant_of-self-2 c =
     let ok = c.push.ensures.succeeds (omega (arith, c.self.invariant.1, fewer, owed_less (vec_len c.self.inside.flight) c.self.inside.halted)) in
     let items = after_push c.push.result _ _ _ ok c.push.ensures.items in
     let len = after_push c.push.result _ _ _ ok c.push.ensures.len in
-    let effects : c.effect_of.result ≡ effect_entry (record c.self.inside.judged { flight = c.self.inside.flight.items }) c.args.proposal = c.effect_of.ensures (limit_of c.self.inside.judged c.args.proposal) c.in-Ok.ensures.ok.1 ∙ sym (entry_flying c.self.inside.judged c.self.inside.flight.items c.args.proposal) in
+    let effects : c.effect_of.result ≡ effect_entry (record c.self.inside.state { flight = c.self.inside.flight.items }) c.args.proposal = c.effect_of.ensures (limit_of c.self.inside.state c.args.proposal) c.in-Ok.ensures.ok.1 ∙ sym (entry_flying c.self.inside.state c.self.inside.flight.items c.args.proposal) in
     let entry = items ∙ ap (λ (z : Effect). c.self.inside.journal.items ++ Commit c.args.ticket.worker c.args.ticket.number z ∷ []) effects in (
-      commit_board c.self.inside.judged c.apply.new.self c.self.inside.flight.items c.land.new.flight.items c.self.inside.journal.items c.push.new.self.items c.self.inside.taken c.self.inside.dropped c.self.inside.halted c.args.ticket c.args.proposal c.self.invariant.0 none flying proposal acts
-          (lands c.self.inside.judged c.apply.new.self c.self.inside.flight.items c.land.new.flight.items c.args.proposal c.args.ticket.number c.in-Ok.ensures.ok.0 c.land.ensures.items) entry,
+      commit_board c.self.inside.state c.apply.new.self c.self.inside.flight.items c.land.new.flight.items c.self.inside.journal.items c.push.new.self.items c.self.inside.taken c.self.inside.dropped c.self.inside.halted c.args.ticket c.args.proposal c.self.invariant.0 none flying proposal acts
+          (lands c.self.inside.state c.apply.new.self c.self.inside.flight.items c.land.new.flight.items c.args.proposal c.args.ticket.number c.in-Ok.ensures.ok.0 c.land.ensures.items) entry,
       omega (arith, c.push.ensures.capacity, len, c.self.invariant.1, owed_fewer (vec_len c.land.new.flight) (vec_len c.self.inside.flight) c.self.inside.halted fewer),
+      c.verdict-self-inside.ensures,
     )
 
 pub returns-clause-ok : goal.returns-clause-ok
@@ -60,12 +61,12 @@ returns-clause-ok c =
     let fewer = c.land.ensures.fewer c.args.ticket flying refl in
     let ok = c.push.ensures.succeeds (omega (arith, c.self.invariant.1, fewer, owed_less (vec_len c.self.inside.flight) c.self.inside.halted)) in
     let items = after_push c.push.result _ _ _ ok c.push.ensures.items in
-    let b : Plain = record c.self.inside.judged { flight = c.self.inside.flight.items } in
-    let effects : c.effect_of.result ≡ effect_entry b c.args.proposal = c.effect_of.ensures (limit_of c.self.inside.judged c.args.proposal) c.in-Ok.ensures.ok.1 ∙ sym (entry_flying c.self.inside.judged c.self.inside.flight.items c.args.proposal) in
+    let b : Plain = record c.self.inside.state { flight = c.self.inside.flight.items } in
+    let effects : c.effect_of.result ≡ effect_entry b c.args.proposal = c.effect_of.ensures (limit_of c.self.inside.state c.args.proposal) c.in-Ok.ensures.ok.1 ∙ sym (entry_flying c.self.inside.state c.self.inside.flight.items c.args.proposal) in
     subst {A = Seen} (λ z. IsFinishedBy z (seen c.apply.new.self c.land.new.flight.items c.push.new.self.items) c.args.ticket c.args.proposal (Committed c.in-Ok.applied)) c.self.view_is (
       subst {A = Seen} (λ z. verdict z.plain ≡ None) (sym c.self.view_is) c.requires.no_verdict,
       subst {A = Seen} (λ z. IsFalse (is_dropped z.plain c.args.proposal)) (sym c.self.view_is) c.requires.acts,
-      c.in-Ok.ensures.ok.1 ∙ ap applied_as (sym (limit_flying c.self.inside.judged c.self.inside.flight.items c.args.proposal)),
-      lands c.self.inside.judged c.apply.new.self c.self.inside.flight.items c.land.new.flight.items c.args.proposal c.args.ticket.number c.in-Ok.ensures.ok.0 c.land.ensures.items,
+      c.in-Ok.ensures.ok.1 ∙ ap applied_as (sym (limit_flying c.self.inside.state c.self.inside.flight.items c.args.proposal)),
+      lands c.self.inside.state c.apply.new.self c.self.inside.flight.items c.land.new.flight.items c.args.proposal c.args.ticket.number c.in-Ok.ensures.ok.0 c.land.ensures.items,
       items ∙ ap (λ (z : Effect). c.self.inside.journal.items ++ Commit c.args.ticket.worker c.args.ticket.number z ∷ []) effects,
     )

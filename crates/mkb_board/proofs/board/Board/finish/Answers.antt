@@ -6,14 +6,17 @@ use Rattle.mkb_board.proofs.Ready.{state_named}
 use Rattle.mkb_board.proofs.board.Board.finish.Goals as goal
 
 pub returns-in-Some-clause-ok : goal.returns-in-Some-clause-ok
-returns-in-Some-clause-ok c = (refl, subst {A = Seen} (λ z. verdict z.plain ≡ Some c.in-Some.verdict) c.self.view_is (sym c.verdict.ensures ∙ c.in-Some.is))
+returns-in-Some-clause-ok c = (refl, subst {A = Seen} (λ z. verdict z.plain ≡ Some c.in-Some.verdict) c.self.view_is (sym c.self.invariant.2 ∙ c.in-Some.is))
 
 pub is_dropped-requires : goal.is_dropped-requires
-is_dropped-requires c = state_named c.self.inside.judged c.self.inside.flight.items c.self.inside.journal.items c.args.ticket c.args.proposal c.self.invariant.0.legal (sym c.verdict.ensures ∙ c.in_default.is)
+is_dropped-requires c = state_named c.self.inside.state c.self.inside.flight.items c.self.inside.journal.items c.args.ticket c.args.proposal c.self.invariant.0.legal (sym c.self.invariant.2 ∙ c.in_default.is)
     (subst {A = Seen} (λ z. Contains z.plain.flight c.args.ticket) (sym c.self.view_is) c.requires.flying) (subst {A = Seen} (λ z. IsProposalOf z c.args.ticket c.args.proposal) (sym c.self.view_is) c.requires.proposed)
 
 pub drop_ticket-requires-clause-no_verdict : goal.drop_ticket-requires-clause-no_verdict
-drop_ticket-requires-clause-no_verdict c = subst {A = Seen} (λ z. verdict z.plain ≡ None) c.self.view_is (sym c.verdict.ensures ∙ c.in_default.is)
+drop_ticket-requires-clause-no_verdict c = subst {A = Seen} (λ z. verdict z.plain ≡ None) c.self.view_is (sym c.self.invariant.2 ∙ c.in_default.is)
 
 pub commit-requires-clause-no_verdict : goal.commit-requires-clause-no_verdict
-commit-requires-clause-no_verdict c = subst {A = Seen} (λ z. verdict z.plain ≡ None) c.self.view_is (sym c.verdict.ensures ∙ c.in_default.is)
+commit-requires-clause-no_verdict c = subst {A = Seen} (λ z. verdict z.plain ≡ None) c.self.view_is (sym c.self.invariant.2 ∙ c.in_default.is)
+
+pub returns-in-Err-clause-undecided : goal.returns-in-Err-clause-undecided
+returns-in-Err-clause-undecided c = subst {A = Seen} (λ z. verdict z.plain ≡ None) c.self.view_is (sym c.self.invariant.2 ∙ c.in_default.is)

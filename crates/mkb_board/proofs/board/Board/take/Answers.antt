@@ -1,5 +1,5 @@
 use Rattle.std.proofs.Common.{ℕ, ◌<◌, ◌≡◌, ◌∙◌, ◌≢◌, List, [], ◌∷◌, length, arith, subst, ap, refl, sym, Some, None}
-use Rattle.std.specs.Prelude.{IsFalse, IsTrue}
+use Rattle.std.specs.Prelude.{IsFalse, IsTrue, OnErr, Result, Ok, Err}
 use Rattle.mkb_model.specs.DueJobs.{first_job}
 use Rattle.mkb_model.specs.Verdicts.{verdict}
 use Rattle.mkb_model.specs.declared.entry.Ticket.{Ticket}
@@ -9,31 +9,42 @@ use Rattle.mkb_board.proofs.Readable.{limited_on, ordered_on}
 use Rattle.mkb_board.proofs.board.Board.take.Goals as goal
 
 pub returns-in-Some-clause-ok : goal.returns-in-Some-clause-ok
-returns-in-Some-clause-ok c = (refl, subst {A = Seen} (λ z. verdict z.plain ≡ Some c.in-Some.verdict) c.self.view_is (sym c.verdict.ensures ∙ c.in-Some.is))
+returns-in-Some-clause-ok c = (refl, subst {A = Seen} (λ z. verdict z.plain ≡ Some c.in-Some.verdict) c.self.view_is (sym c.self.invariant.2 ∙ c.in-Some.is))
 
 pub returns-then-self-clause-ok : goal.returns-then-self-clause-ok
-returns-then-self-clause-ok c = (refl, subst {A = Seen} (λ z. verdict z.plain ≡ None) c.self.view_is (sym c.verdict.ensures ∙ c.in_default.is), subst {A = Seen} (λ z. IsTrue (has_halt z.journal)) c.self.view_is (sym c.self.invariant.0.halted_is ∙ c.if-self.true))
+returns-then-self-clause-ok c = (refl, subst {A = Seen} (λ z. verdict z.plain ≡ None) c.self.view_is (sym c.self.invariant.2 ∙ c.in_default.is), subst {A = Seen} (λ z. IsTrue (has_halt z.journal)) c.self.view_is (sym c.self.invariant.0.halted_is ∙ c.if-self.true))
 
 pub take_job-requires-clause-no_verdict : goal.take_job-requires-clause-no_verdict
-take_job-requires-clause-no_verdict c = subst {A = Seen} (λ z. verdict z.plain ≡ None) c.self.view_is (sym c.verdict.ensures ∙ c.in_default.is)
+take_job-requires-clause-no_verdict c = subst {A = Seen} (λ z. verdict z.plain ≡ None) c.self.view_is (sym c.self.invariant.2 ∙ c.in_default.is)
 
 pub first_job-requires-clause-limited : goal.first_job-requires-clause-limited
-first_job-requires-clause-limited c = limited_on c.self.inside.judged c.self.inside.flight.items c.self.inside.journal.items c.self.invariant.0.legal
+first_job-requires-clause-limited c = limited_on c.self.inside.state c.self.inside.flight.items c.self.inside.journal.items c.self.invariant.0.legal
 
 pub first_job-requires-clause-in_order : goal.first_job-requires-clause-in_order
-first_job-requires-clause-in_order c = ordered_on c.self.inside.judged c.self.inside.flight.items c.self.inside.journal.items c.self.invariant.0.legal
+first_job-requires-clause-in_order c = ordered_on c.self.inside.state c.self.inside.flight.items c.self.inside.journal.items c.self.invariant.0.legal
+
+-- what holds anyway holds where there is an error
+on_err : {T E P : Type 0} (r : Result T E) → P → OnErr r P
+on_err (Ok x) p = tt
+on_err (Err e) p = p
+
+pub returns-in_err-first_job-clause-undecided : goal.returns-in_err-first_job-clause-undecided
+returns-in_err-first_job-clause-undecided c = on_err c.from_residual.result (subst {A = Seen} (λ z. verdict z.plain ≡ None) c.self.view_is (sym c.self.invariant.2 ∙ c.in_default.is))
+
+pub returns-in_err-first_job-clause-unhalted : goal.returns-in_err-first_job-clause-unhalted
+returns-in_err-first_job-clause-unhalted c = on_err c.from_residual.result (subst {A = Seen} (λ z. IsFalse (has_halt z.journal)) c.self.view_is (sym c.self.invariant.0.halted_is ∙ c.if-self.false))
 
 pub returns-in-None-clause-ok : goal.returns-in-None-clause-ok
 returns-in-None-clause-ok c =
-    let none = sym c.verdict.ensures ∙ c.in_default.is in
-    let first : first_job (record c.self.inside.judged { flight = c.self.inside.flight.items }) ≡ None = ap (λ (ts : List Ticket). first_job (record c.self.inside.judged { flight = ts })) (sym c.as_slice.ensures.value) ∙ sym c.in_ok-first_job.ensures ∙ c.in-None.is in
+    let none = sym c.self.invariant.2 ∙ c.in_default.is in
+    let first : first_job (record c.self.inside.state { flight = c.self.inside.flight.items }) ≡ None = ap (λ (ts : List Ticket). first_job (record c.self.inside.state { flight = ts })) (sym c.as_slice.ensures.value) ∙ sym c.in_ok-first_job.ensures ∙ c.in-None.is in
     let count = c.len.ensures ∙ c.self.inside.flight.ok.0 in (
       refl,
       subst {A = Seen} (λ z. verdict z.plain ≡ None) c.self.view_is none,
       subst {A = Seen} (λ z. IsFalse (has_halt z.journal)) c.self.view_is (sym c.self.invariant.0.halted_is ∙ c.if-self.false),
       subst {A = Seen} (λ z. first_job z.plain ≡ None) c.self.view_is first,
       subst {A = Seen} (λ z. c.len.result ≡ length z.plain.flight) c.self.view_is count,
-      some_left c.self.inside.flight.items c.len.result count (none_first (record c.self.inside.judged { flight = c.self.inside.flight.items }) none first),
+      some_left c.self.inside.flight.items c.len.result count (none_first (record c.self.inside.state { flight = c.self.inside.flight.items }) none first),
     )
   where
     some_left : (ts : List Ticket) (n : ℕ) → n ≡ length ts → ts ≢ [] → 0 < n

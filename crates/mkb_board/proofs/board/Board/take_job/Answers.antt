@@ -14,7 +14,7 @@ use Rattle.mkb_board.proofs.board.Board.take_job.Goals as goal
 
 pub snapshot-requires : goal.snapshot-requires
 snapshot-requires c =
-    first_there c.self.inside.judged c.self.inside.flight.items c.args.job.now (subst {A = Seen} (λ z. first_job z.plain ≡ Some c.args.job.now) (sym c.self.view_is) c.requires.first)
+    first_there c.self.inside.state c.self.inside.flight.items c.args.job.now (subst {A = Seen} (λ z. first_job z.plain ≡ Some c.args.job.now) (sym c.self.view_is) c.requires.first)
 
 pub overflow_add-ticket : goal.overflow_add-ticket
 overflow_add-ticket c = omega (arith, c.self.invariant.0.taken_is, shorter is_take c.self.inside.journal.items, c.self.inside.journal.ok.0, c.self.inside.journal.small)
@@ -22,7 +22,7 @@ overflow_add-ticket c = omega (arith, c.self.invariant.0.taken_is, shorter is_ta
 pub invariant_of-self-2 : goal.invariant_of-self-2
 invariant_of-self-2 c =
     let no = c.self.invariant.0.halted_is ∙ subst {A = Seen} (λ z. IsFalse (has_halt z.journal)) (sym c.self.view_is) c.requires.no_halt in
-    let h = subst {A = Bool} (λ z. IsBoard (seen c.self.inside.judged c.self.inside.flight.items c.self.inside.journal.items) c.self.inside.taken c.self.inside.dropped z) no c.self.invariant.0 in
+    let h = subst {A = Bool} (λ z. IsBoard (seen c.self.inside.state c.self.inside.flight.items c.self.inside.journal.items) c.self.inside.taken c.self.inside.dropped z) no c.self.invariant.0 in
     let none = subst {A = Seen} (λ z. verdict z.plain ≡ None) (sym c.self.view_is) c.requires.no_verdict in
     let first = subst {A = Seen} (λ z. first_job z.plain ≡ Some c.args.job.now) (sym c.self.view_is) c.requires.first in
     let ok = c.push.ensures.succeeds (omega (arith, c.in_ok-reserve.ensures.journal_room, c.in_ok-reserve.ensures.journal_len)) in
@@ -34,11 +34,12 @@ invariant_of-self-2 c =
     let J = c.in_ok-reserve.ensures.journal in
     let F = c.in_ok-reserve.ensures.flight in
     let room : vec_len c.push.new.self + owed (vec_len c.push-2.new.self) false ≤ vec_capacity c.push.new.self = omega (arith, c.in_ok-reserve.ensures.journal_room, c.in_ok-reserve.ensures.journal_len, c.in_ok-reserve.ensures.flight_len, len, len2, c.push.ensures.capacity) in
-    subst {A = Bool} (λ z. IsBoard (seen c.self.inside.judged c.push-2.new.self.items c.push.new.self.items) (c.self.inside.taken + 1) c.self.inside.dropped z × (vec_len c.push.new.self + owed (vec_len c.push-2.new.self) z ≤ vec_capacity c.push.new.self)) (sym no) (
-      take_board c.self.inside.judged c.self.inside.flight.items c.push-2.new.self.items c.self.inside.journal.items c.push.new.self.items c.self.inside.taken c.self.inside.dropped c.args.worker c.args.job.now h c.requires.least c.requires.most none first
+    let whole = subst {A = Bool} (λ z. IsBoard (seen c.self.inside.state c.push-2.new.self.items c.push.new.self.items) (c.self.inside.taken + 1) c.self.inside.dropped z × (vec_len c.push.new.self + owed (vec_len c.push-2.new.self) z ≤ vec_capacity c.push.new.self)) (sym no) (
+      take_board c.self.inside.state c.self.inside.flight.items c.push-2.new.self.items c.self.inside.journal.items c.push.new.self.items c.self.inside.taken c.self.inside.dropped c.args.worker c.args.job.now h c.requires.least c.requires.most none first
           (items2 ∙ ap (λ (z : List Ticket). z ++ record { number = c.self.inside.taken + 1; worker = c.args.worker; job = c.args.job.now } ∷ []) F) (items ∙ ap (λ (z : List Entry). z ++ c.entry_of.result ∷ []) J ∙ ap (λ (e : Entry). c.self.inside.journal.items ++ e ∷ []) c.entry_of.ensures),
       room,
-    )
+    ) in
+    (whole.0, whole.1, c.self.invariant.2)
 
 pub returns-clause-ok : goal.returns-clause-ok
 returns-clause-ok c =
@@ -50,15 +51,15 @@ returns-clause-ok c =
     let F = items2 ∙ ap (λ (z : List Ticket). z ++ t ∷ []) c.in_ok-reserve.ensures.flight in
     let J = items ∙ ap (λ (z : List Entry). z ++ c.entry_of.result ∷ []) c.in_ok-reserve.ensures.journal ∙ ap (λ (e : Entry). c.self.inside.journal.items ++ e ∷ []) c.entry_of.ensures in
     let s = c.in_ok-snapshot.snapshot in
-    subst {A = Seen} (λ z. TakesJob z (seen c.self.inside.judged c.push-2.new.self.items c.push.new.self.items) c.args.worker t s) c.self.view_is record {
+    subst {A = Seen} (λ z. TakesJob z (seen c.self.inside.state c.push-2.new.self.items c.push.new.self.items) c.args.worker t s) c.self.view_is record {
       no_verdict = subst {A = Seen} (λ z. verdict z.plain ≡ None) (sym c.self.view_is) c.requires.no_verdict;
       no_halt = subst {A = Seen} (λ z. IsFalse (has_halt z.journal)) (sym c.self.view_is) c.requires.no_halt;
       first = subst {A = Seen} (λ z. first_job z.plain ≡ Some c.args.job.now) (sym c.self.view_is) c.requires.first;
       worker_is = refl;
       number_is = ap (λ z. z + 1) c.self.invariant.0.taken_is;
-      flies = ap (λ (ts : List Ticket). record c.self.inside.judged { flight = ts }) F;
+      flies = ap (λ (ts : List Ticket). record c.self.inside.state { flight = ts }) F;
       entered = J;
       job_is = c.in_ok-snapshot.ensures.job;
-      reads = taken_flying c.self.inside.judged c.self.inside.flight.items s c.in_ok-snapshot.ensures.taken;
-      readable = readable_on c.self.inside.judged c.self.inside.flight.items c.self.inside.journal.items c.self.invariant.0.legal s c.in_ok-snapshot.ensures.taken c.in_ok-snapshot.ensures.whole;
+      reads = taken_flying c.self.inside.state c.self.inside.flight.items s c.in_ok-snapshot.ensures.taken;
+      readable = readable_on c.self.inside.state c.self.inside.flight.items c.self.inside.journal.items c.self.invariant.0.legal s c.in_ok-snapshot.ensures.taken c.in_ok-snapshot.ensures.whole;
     }
