@@ -1,5 +1,5 @@
 -- What a call that applies an effect answers.
-use Rattle.std.specs.Prelude.{◌≡◌, ◌<◌, Option, Some, None}
+use Rattle.std.specs.Prelude.{ℕ, List, ◌≡◌, ◌<◌, Option, Some, None}
 use Rattle.kb_label.specs.declared.verdict.Reason.{Reason}
 use Rattle.mkb_model.specs.Plain.{Plain}
 use Rattle.mkb_model.specs.Effects.{effect, limit_of}
