@@ -11,3 +11,4 @@ pub mod Answered
 pub mod Forks
 pub mod Committed
 pub mod FirstOrder
+pub mod Indexed

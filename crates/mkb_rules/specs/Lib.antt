@@ -1,4 +1,5 @@
 pub mod Parts
+pub mod Indexed
 pub mod Nodes
 pub mod Kept
 pub mod Over

@@ -3,6 +3,7 @@
 
 mod applied;
 mod effects;
+mod facts;
 mod labels;
 mod nodes;
 mod opening;

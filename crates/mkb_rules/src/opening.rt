@@ -11,6 +11,7 @@ ghost use Rattle.mkb_model.specs.Journals.{opening, with_input, with_inputs};
 ghost use Rattle.mkb_rules.specs.Kept.{plain_certificates};
 ghost use Rattle.mkb_rules.specs.Over.{lists_of};
 
+use crate::facts::Facts;
 use crate::labels::only;
 use crate::nodes::Nodes;
 use crate::state::{Certified, GivenUp, State};
@@ -40,7 +41,7 @@ impl State {
             log,
             nodes,
             done: Vec::new(alloc),
-            facts: Vec::new(alloc),
+            facts: Facts::new(alloc),
             closed: ListLabels::new(alloc),
             over: nobody(alloc),
             commits: 0,

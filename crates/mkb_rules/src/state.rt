@@ -1,16 +1,17 @@
 // The state: the board without flight and journal.
-ghost use Rattle.std.specs.Prelude.{◌≡◌, ◌<◌, ◌&&◌, ◌==◌, [], length, Some, IsSome, MatchOption};
+ghost use Rattle.std.specs.Prelude.{◌≡◌, ◌<◌, ◌&&◌, [], length, Some, IsSome, MatchOption};
 ghost use Rattle.kb_label.specs.Names.{has, name_eq};
 ghost use Rattle.kb_node.specs.declared.node.LabelKind.TheVariants.{X};
 ghost use Rattle.mkb_model.specs.Jobs.{ref_eq};
 ghost use Rattle.mkb_model.specs.Plain.{known, done_in, done_of, label, over_reason, certificate_of};
-ghost use Rattle.mkb_rules.specs.Parts.{plain_nodes, known_in};
+ghost use Rattle.mkb_rules.specs.Parts.{plain_nodes};
 ghost use Rattle.mkb_rules.specs.Kept.{plain_done, plain_certificates, place_in};
 
+use crate::facts::Facts;
 use crate::nodes::Nodes;
 use kb_cert::Certificate;
 use kb_label::{Labels, ListLabels, NameLog, Process, Reason};
-use kb_node::{Fact, LabelKind, NodeId, NodeTable};
+use kb_node::{LabelKind, NodeId, NodeTable};
 use kb_term::{Found, Problem, RuleRef};
 use std::marker::Model;
 
@@ -48,7 +49,7 @@ pub struct State {
     pub(crate) log: NameLog,
     pub(crate) nodes: Nodes,
     pub(crate) done: Vec<DonePair>,
-    pub(crate) facts: Vec<Fact>,
+    pub(crate) facts: Facts,
     pub(crate) closed: ListLabels,
     pub(crate) over: GivenUp,
     pub(crate) commits: u32,
@@ -70,7 +71,7 @@ impl Model for State {
 
     ghost view = { λ s. board_of s.problem s.budget s.log s.nodes.now
         (map (λ (d : DonePair). record { first = d.first; second = d.second; names = d.names }) s.done.items)
-        s.facts.items s.closed
+        s.facts s.closed
         (given_up s.over.nodes s.over.processes s.over.size s.over.depth s.over.variables s.over.steps)
         s.commits
         (map (λ (c : Certified). record { name = c.name; certificate = c.certificate }) s.certificates.items) };
@@ -116,7 +117,7 @@ impl State {
     pub fn known(&self, n: NodeId, side: u8, rule: RuleRef) -> Option<Found>
         ensures { result ≡ known self.now n.0 side rule }
     {
-        found_in(&self.facts, n, side, rule)
+        self.facts.known(n, side, rule)
     }
 
     /// Whether two rules have been overlapped for a process.
@@ -199,31 +200,11 @@ pub(crate) fn is_same(a: RuleRef, b: RuleRef) -> bool
     a.node == b.node && a.dir == b.dir
 }
 
-// Whether the fact is of this side of the node and of the rule.
-fn is_about(fact: Fact, n: NodeId, side: u8, rule: RuleRef) -> bool
-    ensures { result ≡ ((fact.node.0 == n.0) && ((fact.side == side) && ref_eq fact.rule rule)) }
-{
-    fact.node.0 == n.0 && fact.side == side && is_same(fact.rule, rule)
-}
-
 /// Whether the list is kept for these two rules.
 pub(crate) fn is_of(pair: &DonePair, a: RuleRef, b: RuleRef) -> bool
     ensures { result ≡ (ref_eq pair.now.first a && ref_eq pair.now.second b) }
 {
     is_same(pair.first, a) && is_same(pair.second, b)
-}
-
-// What the first of the facts of the side and the rule says.
-fn found_in(facts: &[Fact], n: NodeId, side: u8, rule: RuleRef) -> Option<Found>
-    ensures { result ≡ known_in facts.now n.0 side rule }
-{
-    for i in 0..facts.len() {
-        let fact = facts[i];
-        if is_about(fact, n, side, rule) {
-            return Some(fact.found);
-        }
-    }
-    None
 }
 
 /// The processes for which the two rules have been overlapped; none where no list of them is kept.

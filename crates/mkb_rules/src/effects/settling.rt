@@ -24,7 +24,7 @@ impl State {
         ensures err { OnErr result (self.new ≡ self.old) }
     {
         let _count = node_count(&self.nodes);
-        self.facts.extend_from_slice(facts)?;
+        self.facts.extend(facts)?;
         self.commits = counted_up(self.commits, self.budget);
         Ok(Applied::Done)
     }

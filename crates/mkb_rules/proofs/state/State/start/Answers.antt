@@ -1,4 +1,4 @@
-use Rattle.std.proofs.Common.{◌≡◌, List, [], map, take, ap, ◌∙◌}
+use Rattle.std.proofs.Common.{List, [], map, take, ap, ◌∙◌}
 use Rattle.kb_term.specs.Tree.{Tree}
 use Rattle.kb_term.specs.Signature.{Signature}
 use Rattle.kb_label.specs.Names.{root}
@@ -19,7 +19,7 @@ returns c =
       living = c.in_ok-log.ensures i;
       nodes = nodes i;
       done = plain_done (c.new.ensures.items i);
-      facts = c.new-2.ensures.items i;
+      facts = c.new-2.ensures i;
       closed = c.new-3.ensures [] i;
       over = c.nobody.ensures i;
       commits = 0;
