@@ -1,0 +1,275 @@
+// A state of a problem, and each call of it, with ample memory: what the call wants is tested first.
+ghost use Rattle.std.specs.Prelude.{◌≡◌, ◌<◌};
+ghost use Rattle.kb_term.specs.Signature.{IsWithinLimits};
+ghost use Rattle.kb_term.specs.View.{tree_of};
+ghost use Rattle.kb_overlap.specs.Trace.{other_side};
+ghost use Rattle.mkb_model.specs.Plain.{Plain};
+ghost use Rattle.mkb_rules.specs.Applicable.{IsApplicable};
+ghost use Rattle.mkb_rules.specs.Applying.{HasBudget};
+ghost use Rattle.mkb_rules.specs.Named.{IsThere, Lives};
+ghost use Rattle.mkb_rules.specs.Rewriting.{HasFewVariables};
+
+use crate::terms::above;
+use kb_label::{Labels, Living, Process, Reason};
+use kb_node::{Deduced, Fact, Job, LabelKind, LimitCause, NodeId};
+use kb_syntax::{parse_problem, spelled_problems_are_within_limits};
+use kb_term::{Found, Pair, Position, Problem, RuleRef, Term, pair_limit};
+use mkb_model::{DeducedList, Proposed};
+use mkb_rules::{Applied, State};
+use std::alloc::Global;
+use std::process::Abort;
+
+// The problem that the text spells.
+fn problem(rt: &impl Abort, alloc: Global, text: &[u8]) -> Problem
+    ensures { IsWithinLimits result }
+{
+    spelled_problems_are_within_limits();
+    match parse_problem(alloc, text) {
+        Ok(problem) => problem,
+        Err(_) => panic!(rt; "no problem"),
+    }
+}
+
+/// The state of the problem before any commit, with a budget of 100 commits.
+pub(crate) fn opened(rt: &impl Abort, alloc: Global, text: &[u8]) -> State {
+    let problem = problem(rt, alloc, text);
+    State::start(alloc, problem, 100).expect(rt, "memory")
+}
+
+// There is budget for one commit more.
+fn ready(rt: &impl Abort, state: &State)
+    ensures { HasBudget state.now }
+{
+    assert!(rt; state.commits() < state.budget());
+}
+
+// There is a node with this number.
+fn there(rt: &impl Abort, state: &State, n: u16)
+    ensures { IsThere state.now n }
+{
+    assert!(rt; u32::from(n) < state.nodes().len());
+}
+
+// The process lives.
+fn living(rt: &impl Abort, state: &State, p: &Process)
+    ensures { Lives state.now p.now }
+{
+    assert!(rt; state.log().is_living(p));
+}
+
+// The side of the pair that is not this one.
+fn rest_of(pair: &Pair, side: u8) -> &Term
+    ensures { tree_of result.now ≡ other_side pair.now side }
+{
+    if side == 0 {
+        pair.second()
+    } else {
+        pair.first()
+    }
+}
+
+// The term and the other side of the node have few variables together.
+fn few(rt: &impl Abort, state: &State, n: u16, side: u8, outcome: &Term)
+    requires { IsThere state.now n }
+    ensures { HasFewVariables state.now n side (tree_of outcome.now) }
+{
+    let pair = state.nodes().pair(NodeId(n)).expect(rt, "memory");
+    assert!(rt; pair_limit(outcome, rest_of(&pair, side)).is_none());
+}
+
+/// Makes the facts known.
+pub(crate) fn know(rt: &impl Abort, alloc: Global, state: &mut State, facts: &[Fact]) -> Applied {
+    ready(rt, state);
+    state.know(alloc, facts).expect(rt, "memory")
+}
+
+/// The root of a side of the node is rewritten by the rule.
+pub(crate) fn rewrite(
+    rt: &impl Abort,
+    alloc: Global,
+    state: &mut State,
+    n: u16,
+    side: u8,
+    rule: RuleRef,
+    outcome: &Term,
+) -> Applied {
+    let root = Position::root(alloc);
+    ready(rt, state);
+    there(rt, state, n);
+    there(rt, state, rule.node);
+    few(rt, state, n, side, outcome);
+    state
+        .rewrite(alloc, NodeId(n), side, &root, rule, Found::Variant, outcome)
+        .expect(rt, "memory")
+}
+
+/// The process turns the node into the rule from side 0 to side 1, with symbol 0 above symbol 1.
+pub(crate) fn orient(
+    rt: &impl Abort,
+    alloc: Global,
+    state: &mut State,
+    p: &Process,
+    n: u16,
+) -> Applied {
+    let order = above(rt, alloc, 0, 1);
+    ready(rt, state);
+    there(rt, state, n);
+    living(rt, state, p);
+    state
+        .orient_one(alloc, p, NodeId(n), 0, &order)
+        .expect(rt, "memory")
+}
+
+/// The process forks at the node: the left child has symbol 0 above symbol 1, the right one has it below.
+pub(crate) fn fork(
+    rt: &impl Abort,
+    alloc: Global,
+    state: &mut State,
+    p: &Process,
+    n: u16,
+) -> Applied {
+    let order0 = above(rt, alloc, 0, 1);
+    let order1 = above(rt, alloc, 1, 0);
+    ready(rt, state);
+    there(rt, state, n);
+    living(rt, state, p);
+    state
+        .orient_both(alloc, p, NodeId(n), &order0, &order1)
+        .expect(rt, "memory")
+}
+
+/// The process can't orient the node.
+pub(crate) fn refuse(
+    rt: &impl Abort,
+    alloc: Global,
+    state: &mut State,
+    p: &Process,
+    n: u16,
+) -> Applied {
+    ready(rt, state);
+    there(rt, state, n);
+    living(rt, state, p);
+    state.refuse(alloc, p, NodeId(n)).expect(rt, "memory")
+}
+
+/// The pairs of the overlaps of two rules.
+pub(crate) fn deduce(
+    rt: &impl Abort,
+    alloc: Global,
+    state: &mut State,
+    a: RuleRef,
+    b: RuleRef,
+    pairs: &[Deduced],
+) -> Applied {
+    ready(rt, state);
+    there(rt, state, a.node);
+    there(rt, state, b.node);
+    state.deduce(alloc, a, b, pairs).expect(rt, "memory")
+}
+
+/// The pairs that the process does not join.
+pub(crate) fn unjoined(
+    rt: &impl Abort,
+    alloc: Global,
+    state: &mut State,
+    p: &Process,
+    pairs: &[Deduced],
+) -> Applied {
+    ready(rt, state);
+    living(rt, state, p);
+    state.unjoined(alloc, p, pairs).expect(rt, "memory")
+}
+
+/// Closes the process.
+pub(crate) fn close(rt: &impl Abort, alloc: Global, state: &mut State, p: &Process) -> Applied {
+    ready(rt, state);
+    living(rt, state, p);
+    state.close(alloc, p).expect(rt, "memory")
+}
+
+/// An overlap of the rule with itself came to a limit.
+pub(crate) fn pass_limit(
+    rt: &impl Abort,
+    alloc: Global,
+    state: &mut State,
+    p: &Process,
+    rule: RuleRef,
+    reason: Reason,
+) -> Applied {
+    let job = Job::Overlap(*p, rule, rule);
+    let cause = LimitCause {
+        redex: None,
+        reason,
+    };
+    ready(rt, state);
+    there(rt, state, rule.node);
+    state.pass_limit(alloc, &job, &cause).expect(rt, "memory")
+}
+
+// The proposal to deduce these pairs of overlaps of the rule with itself.
+fn proposal(rule: RuleRef, pairs: Vec<Deduced>) -> Proposed
+    ensures { (b : Plain) → IsThere b rule.node → IsApplicable b result }
+{
+    Proposed::Deduce {
+        a: rule,
+        b: rule,
+        pairs: DeducedList::new(pairs),
+    }
+}
+
+/// The proposal to deduce these pairs of overlaps of the rule with itself has its effect.
+pub(crate) fn apply(
+    rt: &impl Abort,
+    alloc: Global,
+    state: &mut State,
+    rule: RuleRef,
+    pairs: Vec<Deduced>,
+) -> Applied {
+    let deduced = proposal(rule, pairs);
+    ready(rt, state);
+    there(rt, state, rule.node);
+    state.apply(alloc, &deduced).expect(rt, "memory")
+}
+
+/// The processes on which that proposal acts.
+pub(crate) fn acts_on(
+    rt: &impl Abort,
+    alloc: Global,
+    state: &State,
+    rule: RuleRef,
+    pairs: Vec<Deduced>,
+) -> Vec<Process> {
+    let deduced = proposal(rule, pairs);
+    there(rt, state, rule.node);
+    state.effect_label(alloc, &deduced).expect(rt, "memory")
+}
+
+/// Whether nothing is left for that proposal to act on.
+pub(crate) fn is_dropped(
+    rt: &impl Abort,
+    alloc: Global,
+    state: &State,
+    rule: RuleRef,
+    pairs: Vec<Deduced>,
+) -> bool {
+    let deduced = proposal(rule, pairs);
+    there(rt, state, rule.node);
+    state.is_dropped(alloc, &deduced).expect(rt, "memory")
+}
+
+/// Whether the process has the node so.
+pub(crate) fn has(state: &State, p: &Process, n: u16, kind: LabelKind) -> bool {
+    let table = state.nodes();
+    u32::from(n) < table.len() && table.label(NodeId(n), kind).has(state.log(), p)
+}
+
+/// Whether the process can't orient the node.
+pub(crate) fn is_refused(rt: &impl Abort, state: &State, p: &Process, n: u16) -> bool {
+    there(rt, state, n);
+    state.is_refused(p, NodeId(n))
+}
+
+/// Whether the node has the pair.
+pub(crate) fn is_pair(state: &State, pair: &Pair, n: u16) -> bool {
+    state.nodes().find(pair) == Some(NodeId(n))
+}

@@ -1,0 +1,172 @@
+// Each call and each reader on a small state. The steps take the state by reference: to own one makes a proof slow.
+use crate::calls::{
+    acts_on, apply, fork, has, is_dropped, is_pair, opened, orient, pass_limit, unjoined,
+};
+use crate::terms::{applied_and_bare, first, forth, left, overlap, right};
+use kb_label::{Living, Reason};
+use kb_node::{Deduced, LabelKind};
+use mkb_rules::{Applied, State};
+use std::alloc::Global;
+use std::process::Abort;
+
+// The state has one process, two equations, and no commit of the 100 that there may be.
+fn is_new(rt: &impl Abort, state: &State) {
+    assert_eq!(rt; state.commits(), 0);
+    assert_eq!(rt; state.budget(), 100);
+    assert_eq!(rt; state.nodes().len(), 2);
+    assert_eq!(rt; state.problem().equations().len(), 2);
+    assert_eq!(rt; state.log().living(), 1);
+    assert!(rt; state.log().is_living(&first()));
+}
+
+// The first process has both equations, and is neither closed nor over.
+fn has_equations(rt: &impl Abort, state: &State) {
+    assert!(rt; has(state, &first(), 0, LabelKind::E));
+    assert!(rt; has(state, &first(), 1, LabelKind::E));
+    assert!(rt; !state.is_closed(&first()));
+    assert!(rt; state.over(&first()).is_none());
+}
+
+#[test]
+fn a_state_begins_with_the_equations(rt: HostRuntime) {
+    let alloc = rt.alloc();
+    let state = opened(&rt, alloc, b"(RULES f(a) == b f(a) == c)");
+    is_new(&rt, &state);
+    has_equations(&rt, &state);
+}
+
+// There are so many nodes.
+fn has_nodes(rt: &impl Abort, state: &State, nodes: u32) {
+    assert_eq!(rt; state.nodes().len(), nodes);
+}
+
+#[test]
+fn a_trivial_equation_is_left_out(rt: HostRuntime) {
+    let state = opened(&rt, rt.alloc(), b"(RULES a == a)");
+    has_nodes(&rt, &state, 0);
+}
+
+#[test]
+fn equal_equations_are_one_node(rt: HostRuntime) {
+    let state = opened(&rt, rt.alloc(), b"(VAR x y)(RULES f(x) == x f(y) == y)");
+    has_nodes(&rt, &state, 1);
+}
+
+// The first process turns the node into a rule.
+fn orient_first(rt: &impl Abort, alloc: Global, state: &mut State, n: u16) {
+    let answer = orient(rt, alloc, state, &first(), n);
+    assert_eq!(rt; answer, Applied::Done);
+}
+
+// The first process forks at the node.
+fn fork_first(rt: &impl Abort, alloc: Global, state: &mut State, n: u16) {
+    let answer = fork(rt, alloc, state, &first(), n);
+    assert_eq!(rt; answer, Applied::Done);
+}
+
+// The pair f(a) = a, of the overlap of the rule of node 0 with itself.
+fn bare(rt: &impl Abort, alloc: Global) -> Vec<Deduced> {
+    overlap(rt, alloc, forth(0), forth(0), applied_and_bare(rt, alloc))
+}
+
+// The first process does not join f(a) and a, which becomes its equation.
+fn leave_unjoined(rt: &impl Abort, alloc: Global, state: &mut State) {
+    let pairs = bare(rt, alloc);
+    let answer = unjoined(rt, alloc, state, &first(), pairs.as_slice());
+    assert_eq!(rt; answer, Applied::Done);
+    assert!(rt; has(state, &first(), 1, LabelKind::E));
+    assert!(rt; is_pair(state, &applied_and_bare(rt, alloc), 1));
+    assert!(rt; !state.is_done(&first(), forth(0), forth(0)));
+    assert_eq!(rt; state.commits(), 2);
+}
+
+#[test]
+fn an_overlap_that_does_not_join_becomes_an_equation(rt: HostRuntime) {
+    let alloc = rt.alloc();
+    let mut state = opened(&rt, alloc, b"(VAR x)(RULES f(f(x)) == a)");
+    orient_first(&rt, alloc, &mut state, 0);
+    leave_unjoined(&rt, alloc, &mut state);
+}
+
+// The two children live in the place of the first process.
+fn is_forked(rt: &impl Abort, state: &State) {
+    assert_eq!(rt; state.log().living(), 2);
+    assert!(rt; state.log().is_living(&left()));
+    assert!(rt; state.log().is_living(&right()));
+    assert!(rt; !state.log().is_living(&first()));
+    assert_eq!(rt; state.commits(), 1);
+}
+
+// Each child has its own direction of node 0.
+fn has_children(rt: &impl Abort, state: &State) {
+    assert!(rt; has(state, &left(), 0, LabelKind::R0));
+    assert!(rt; has(state, &left(), 0, LabelKind::C0));
+    assert!(rt; !has(state, &left(), 0, LabelKind::R1));
+    assert!(rt; !has(state, &left(), 0, LabelKind::E));
+    assert!(rt; has(state, &right(), 0, LabelKind::R1));
+    assert!(rt; has(state, &right(), 0, LabelKind::C1));
+    assert!(rt; !has(state, &right(), 0, LabelKind::E));
+}
+
+#[test]
+fn a_process_forks(rt: HostRuntime) {
+    let alloc = rt.alloc();
+    let mut state = opened(&rt, alloc, b"(RULES a == b)");
+    fork_first(&rt, alloc, &mut state, 0);
+    is_forked(&rt, &state);
+    has_children(&rt, &state);
+}
+
+// The overlap of the rule of node 0 with itself is too deep.
+fn pass_depth(rt: &impl Abort, alloc: Global, state: &mut State) {
+    assert!(rt; state.over(&first()).is_none());
+    let answer = pass_limit(rt, alloc, state, &first(), forth(0), Reason::Depth);
+    assert_eq!(rt; answer, Applied::Over(Reason::Depth));
+    assert_eq!(rt; state.over(&first()), Some(Reason::Depth));
+    assert_eq!(rt; state.commits(), 2);
+}
+
+#[test]
+fn a_limit_is_passed(rt: HostRuntime) {
+    let alloc = rt.alloc();
+    // A term with 40 symbols f, and a.
+    let text =
+        b"(VAR x)(RULES f(f(f(f(f(f(f(f(f(f(f(f(f(f(f(f(f(f(f(f(f(f(f(f(f(f(f(f(f(f(f(f(f(f(f(f(f(f(f(f(x)))))))))))))))))))))))))))))))))))))))) == a)";
+    let mut state = opened(&rt, alloc, text);
+    orient_first(&rt, alloc, &mut state, 0);
+    pass_depth(&rt, alloc, &mut state);
+}
+
+// The proposal to overlap the rule of node 0 with itself names both children.
+fn names_both(rt: &impl Abort, alloc: Global, state: &State) {
+    let names = acts_on(rt, alloc, state, forth(0), bare(rt, alloc));
+    assert!(rt; names.as_slice() == [left(), right()].as_slice());
+    assert!(rt; !is_dropped(rt, alloc, state, forth(0), bare(rt, alloc)));
+}
+
+// It has its effect on both.
+fn apply_to_both(rt: &impl Abort, alloc: Global, state: &mut State) {
+    let answer = apply(rt, alloc, state, forth(0), bare(rt, alloc));
+    assert_eq!(rt; answer, Applied::Done);
+    assert!(rt; has(state, &left(), 2, LabelKind::E));
+    assert!(rt; has(state, &right(), 2, LabelKind::E));
+    assert_eq!(rt; state.commits(), 3);
+}
+
+// Nothing is left for it to do.
+fn names_none(rt: &impl Abort, alloc: Global, state: &State) {
+    let names = acts_on(rt, alloc, state, forth(0), bare(rt, alloc));
+    assert!(rt; names.is_empty());
+    assert!(rt; is_dropped(rt, alloc, state, forth(0), bare(rt, alloc)));
+}
+
+#[test]
+fn a_proposal_acts_on_both_children_once(rt: HostRuntime) {
+    let alloc = rt.alloc();
+    let mut state = opened(&rt, alloc, b"(VAR x)(RULES f(f(x)) == a b == c)");
+    orient_first(&rt, alloc, &mut state, 0);
+    fork_first(&rt, alloc, &mut state, 1);
+    names_both(&rt, alloc, &state);
+    apply_to_both(&rt, alloc, &mut state);
+    names_none(&rt, alloc, &state);
+}
