@@ -324,6 +324,14 @@ fn halts(board: &Board) -> usize {
         .count()
 }
 
+// The board counts so many commits, drops and living processes, and no verdict stands.
+fn counts(rt: &impl Abort, board: &Board, commits: u32, drops: u64, living: u32) {
+    assert_eq!(rt; board.commits(), commits);
+    assert_eq!(rt; board.drops(), drops);
+    assert_eq!(rt; board.living(), living);
+    assert!(rt; board.verdict().is_none());
+}
+
 // The orienting of node 1 forks while the rule of node 0 is overlapped with itself: both children get the deduced pair.
 #[test]
 fn a_deduced_pair_reaches_both_children(rt: HostRuntime) {
@@ -333,6 +341,7 @@ fn a_deduced_pair_reaches_both_children(rt: HostRuntime) {
     fork_while_deducing(&rt, alloc, &mut board);
     the_pair_is_there(&rt, alloc, &board);
     both_have_the_pair(&rt, &board);
+    counts(&rt, &board, 4, 0, 2);
 }
 
 // Node 0 is a rule, by which node 1 is not rewritten.
@@ -378,6 +387,7 @@ fn a_ticket_with_nothing_left_is_dropped(rt: HostRuntime) {
     rewrite_while_orienting(&rt, alloc, &mut board);
     the_rest_is_there(&rt, alloc, &board);
     one_has_the_rest(&rt, &board);
+    counts(&rt, &board, 2, 1, 2);
 }
 
 // One child of the first process rewrites node 1 while it orients it.
@@ -415,6 +425,7 @@ fn a_commit_is_for_whom_it_still_concerns(rt: HostRuntime) {
     compose_while_overlapping(&rt, alloc, &mut board);
     one_rule_is_composed(&rt, &board);
     one_rule_is_as_it_was(&rt, &board);
+    counts(&rt, &board, 6, 1, 3);
 }
 
 // Four tickets in turn, of which two fork.
