@@ -5,15 +5,12 @@ use Rattle.kb_term.specs.declared.origin.RuleRef.{RuleRef}
 use Rattle.kb_node.specs.declared.job.Job.{Job}
 use Rattle.kb_node.specs.declared.job.Job.TheVariants as jobs
 use Rattle.mkb_model.specs.Plain.{Plain, known}
+use Rattle.mkb_rules.specs.Named.{IsRuleThere}
 use Rattle.kb_jobs.specs.Rules.{AreNamed}
 use Rattle.kb_jobs.specs.Reducing.{no_name}
 use Rattle.kb_jobs.specs.declared.reducing.ReduceSnapshot.{ReduceSnapshot}
 use Rattle.kb_jobs.specs.declared.working.Snapshot.{Snapshot}
 use Rattle.kb_jobs.specs.declared.working.Snapshot.TheVariants.{Reduce, Orient, Overlap, Close}
-
--- the rule's node is there, and the rule is of one of its two directions
-abbrev pub IsRuleThere : Plain → RuleRef → Type 0
-IsRuleThere b a = (a.node < length b.nodes) × (a.dir ≤ 1)
 
 -- the nodes that the job names are there
 abbrev pub HasJobNodes : Plain → Job → Type 0

@@ -43,13 +43,15 @@ use Rattle.mkb_model.proofs.AllFine.{pair_there}
 use Rattle.mkb_model.proofs.Lists.{in_map, map_in, none_in, same_test, some_is}
 use mathlib.Core.Bool.{true≢false}
 use Rattle.mkb_model.proofs.Pairs.{pair_eq-eq, pair_eq-refl}
-use Rattle.mkb_report.specs.Cited.{IsRuleThere, cited_by, number_with}
+use Rattle.mkb_rules.specs.Named.{IsRuleThere}
+use Rattle.mkb_rules.proofs.Viewed.{rule_there}
+use Rattle.mkb_report.specs.Cited.{cited_by, number_with}
 use Rattle.mkb_report.specs.Reports.{IsReached, IsAnswerOf, IsReportOf, pairs_of, rule_nodes}
 use Rattle.mkb_report.proofs.Rising.{few_rising, rising_from}
 use Rattle.mkb_report.proofs.Traces.{node_pair, earlier_is, mapped_is, one_kept, one_trace, right_cites, right_trace, traced}
 use Rattle.mkb_report.proofs.Forms.{origin_form, pair_form, rule_form, rule_pair}
 use Rattle.mkb_report.proofs.Boards.{IsGoodProcess, few_rules, fits, formed, good, limited, pair_of_node, right}
-use Rattle.mkb_report.proofs.Viewed.{parts, rule_there}
+use Rattle.mkb_report.proofs.Viewed.{parts}
 
 -- ---- rules and the numbers that they cite
 

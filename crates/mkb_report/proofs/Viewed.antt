@@ -21,75 +21,9 @@ use Rattle.kb_laws.proofs.Complete.{all_from}
 use Rattle.mkb_model.specs.Plain.{Plain, PlainNode, numbers_from, node_numbers, directions, label_or_none, is_rule, rules_of, pair_at, rule_at, rules_at}
 use Rattle.mkb_model.proofs.Lists.{filter_in, flat_map_in, numbers_in, none_in, some_is}
 use Rattle.mkb_rules.specs.Parts.{plain_node, plain_nodes}
-use Rattle.mkb_report.specs.Cited.{IsRuleThere, cited_by, number_with}
+pub use Rattle.mkb_rules.proofs.Viewed.{rules_viewed}
+use Rattle.mkb_report.specs.Cited.{cited_by, number_with}
 use Rattle.mkb_report.proofs.Traces.{mapped_is}
-
--- ---- the rules of a process
-
--- the node of this number of the board is that of the list
-abbrev StandsFrom : List PlainNode → ℕ → List (Node (List Name)) → Type 0
-StandsFrom ns n xs = (k : ℕ) → k < length xs → slice_get ns (n + k) ≡ slice_get (plain_nodes xs) k
-
-from_next : (ns : List PlainNode) (n : ℕ) (x : Node (List Name)) (xs : List (Node (List Name))) → StandsFrom ns n (x ∷ xs) → StandsFrom ns (n + 1) xs
-from_next ns n x xs h k l = let e : (n + 1) + k ≡ n + suc k = omega arith in ap (slice_get ns) e ∙ h (suc k) (omega (arith, l))
-
-from_here : (ns : List PlainNode) (n : ℕ) (x : Node (List Name)) (xs : List (Node (List Name))) → StandsFrom ns n (x ∷ xs) → slice_get ns n ≡ Some (plain_node x)
-from_here ns n x xs h = let e : n ≡ n + 0 = omega arith in ap (slice_get ns) e ∙ h 0 (omega arith)
-
-two : (a c : RuleRef) (x y : Bool) (F : RuleRef → Bool) → F a ≡ x → F c ≡ y → filter F (a ∷ c ∷ []) ≡ views.when x a ++ views.when y c
-two a c x y F e f = ap₂ (λ (u v : Bool). cond u (a ∷ cond v (c ∷ []) []) (cond v (c ∷ []) [])) e f ∙ go x y
-  where
-    go : (x y : Bool) → cond x (a ∷ cond y (c ∷ []) []) (cond y (c ∷ []) []) ≡ views.when x a ++ views.when y c
-    go true y = refl
-    go false y = refl
-
-filtered : (F : RuleRef → Bool) (G : ℕ × Node (List Name) → List RuleRef) (ns : List PlainNode) (n : ℕ) (xs : List (Node (List Name)))
-    → ((m : ℕ) (x : Node (List Name)) → slice_get ns m ≡ Some (plain_node x) → G (m, x) ≡ filter F (directions m)) → StandsFrom ns n xs
-    → flat_map G (enumerate_from n xs) ≡ filter F (flat_map directions (numbers_from n (length xs)))
-filtered F G ns n [] h s = refl
-filtered F G ns n (x ∷ xs) h s =
-    ap₂ (λ (names bs : List RuleRef). names ++ bs) (h n x (from_here ns n x xs s)) (filtered F G ns (n + 1) xs h (from_next ns n x xs s))
-    ∙ sym (filter-append F (directions n) (flat_map directions (numbers_from (n + 1) (length xs))))
-
-module _ (b : Plain) (xs : List (Node (List Name))) (log : List Name) (p : Name) (is : plain_nodes xs ≡ b.nodes) where
-  all_stand : StandsFrom b.nodes 0 xs
-  all_stand k l = let e : 0 + k ≡ k = omega arith in ap (slice_get b.nodes) e ∙ ap (λ ns. slice_get ns k) (sym is)
-
-  as_many : length xs ≡ length b.nodes
-  as_many = sym (length-map xs plain_node) ∙ ap length is
-
-  -- the rules, by number, then direction
-  pub rules_viewed : views.rules_of {K = List Name} {L = List Name} (λ log l. l) log p xs ≡ rules_of b p
-  rules_viewed =
-      filtered (is_rule b p) (views.rules_at {K = List Name} {L = List Name} (λ log l. l) log p) b.nodes 0 xs
-      (λ m x e. sym (two (record { node = m; dir = 0 }) (record { node = m; dir = 1 }) (has x.rule0 p) (has x.rule1 p) (is_rule b p) (ap (λ o. has (label_or_none o R0) p) e) (ap (λ o. has (label_or_none o R1) p) e)))
-      all_stand
-      ∙ ap (λ k. filter (is_rule b p) (flat_map directions (numbers_from 0 k))) as_many
-
-in_directions : (n : ℕ) (a : RuleRef) → Contains (directions n) a → (a.node ≡ n) × (a.dir ≤ 1)
-in_directions n a i =
-    ⊎_elim (λ e. (sym (ap (λ (z : RuleRef). z.node) e), omega (arith, ap (λ (z : RuleRef). z.dir) e)))
-    (λ k. ⊎_elim (λ e. (sym (ap (λ (z : RuleRef). z.node) e), omega (arith, ap (λ (z : RuleRef). z.dir) e))) (λ j. none_in j) (contains_cases (record { node = n; dir = 1 }) [] a k))
-    (contains_cases (record { node = n; dir = 0 }) (record { node = n; dir = 1 } ∷ []) a i)
-
--- the rules of a process are there
-pub rule_there : (b : Plain) (p : Name) (a : RuleRef) → Contains (rules_of b p) a → IsRuleThere b a
-rule_there b p a i =
-    let m = flat_map_in directions (node_numbers b) a (filter_in (is_rule b p) (flat_map directions (node_numbers b)) a i).0 in
-    let k = numbers_in 0 (length b.nodes) m.0 m.1 in
-    let d = in_directions m.0 a m.2 in
-    (omega (arith, k.1, d.0), d.1)
-
-pub rules_there : (b : Plain) (p : Name) → All (IsRuleThere b) (rules_of b p)
-rules_there b p = all_from (IsRuleThere b) (rules_of b p) (rule_there b p)
-
--- ---- one more
-
--- the rules of one name more
-pub rules_next : (b : Plain) (names : List RuleRef) (i : ℕ) (d : RuleRef) (r : Rule) → i < length names → rule_at b (get_or names i d) ≡ Some r → rules_at b (take (i + 1) names) ≡ rules_at b (take i names) ++ r ∷ []
-rules_next b names i d r l there =
-    ap (rules_at b) (take_more names i d l) ∙ filter_map-append (rule_at b) (take i names) (get_or names i d ∷ [])
-    ∙ ap (λ (o : Option Rule). rules_at b (take i names) ++ cons_option o []) there
 
 -- the pair of a node of the table is that of the board's node
 pub pair_read : (b : Plain) (xs : List (Node (List Name))) → plain_nodes xs ≡ b.nodes → (n : ℕ) (q : Pair) → HasPair {L = List Name} xs n q → pair_at b n ≡ Some q

@@ -1,5 +1,5 @@
 -- The steps that the rules of an answer cite.
-use Rattle.std.specs.Prelude.{ℕ, ◌+◌, ◌<◌, ◌≤◌, List, length}
+use Rattle.std.specs.Prelude.{ℕ, ◌+◌, List}
 use Rattle.std.specs.List.{position_or_len}
 use Rattle.std.specs.Option.{option_map_or}
 use Rattle.kb_term.specs.Pair.{Pair}
@@ -7,10 +7,6 @@ use Rattle.kb_term.specs.declared.origin.RuleRef.{RuleRef}
 use Rattle.kb_overlap.specs.Trace.{TraceStep}
 use Rattle.mkb_model.specs.Plain.{Plain, pair_at}
 use Rattle.mkb_model.specs.Effects.{pair_eq}
-
--- the rule's node is there, and the rule is of one of its two directions
-abbrev pub IsRuleThere : Plain → RuleRef → Type 0
-IsRuleThere b a = (a.node < length b.nodes) × (a.dir ≤ 1)
 
 -- the number, from 1, of the first step with the pair
 abbrev pub number_with : List TraceStep → Pair → ℕ

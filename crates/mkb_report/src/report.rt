@@ -8,7 +8,8 @@ ghost use Rattle.mkb_rules.specs.Parts.{plain_nodes};
 ghost use Rattle.kb_checker.specs.Answers.{Answer as SystemAnswer};
 ghost use Rattle.kb_report.specs.Answers.{IsSystem};
 ghost use Rattle.mkb_report.specs.Reports.{IsReached, IsAnswerOf, IsReportOf};
-ghost use Rattle.mkb_report.specs.Cited.{IsRuleThere, cited_by, number_with as number_of_pair};
+ghost use Rattle.mkb_rules.specs.Named.{IsRuleThere};
+ghost use Rattle.mkb_report.specs.Cited.{cited_by, number_with as number_of_pair};
 
 use kb_checker::Answer;
 use kb_label::{ListLabels, Living, Process, Spent, Verdict};

@@ -12,3 +12,4 @@ pub mod Forks
 pub mod Committed
 pub mod FirstOrder
 pub mod Indexed
+pub mod Viewed

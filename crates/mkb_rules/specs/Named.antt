@@ -1,5 +1,5 @@
 -- The nodes and processes that a proposal names are there.
-use Rattle.std.specs.Prelude.{ℕ, List, length, ◌<◌, IsTrue, ⊤, Option, Some, None, Bool, true, false}
+use Rattle.std.specs.Prelude.{ℕ, List, length, ◌<◌, ◌≤◌, IsTrue, ⊤, Option, Some, None, Bool, true, false}
 use Rattle.kb_label.specs.Names.{Name, has}
 use Rattle.kb_term.specs.declared.origin.RuleRef.{RuleRef}
 use Rattle.kb_term.specs.declared.origin.Found.{Found}
@@ -12,6 +12,10 @@ use Rattle.mkb_model.specs.declared.proposed.Proposed.TheVariants.{Facts, Rewrit
 -- the node is there
 abbrev pub IsThere : Plain → ℕ → Type 0
 IsThere b n = n < length b.nodes
+
+-- the rule's node is there, and the rule is of one of its two directions
+abbrev pub IsRuleThere : Plain → RuleRef → Type 0
+IsRuleThere b a = IsThere b a.node × (a.dir ≤ 1)
 
 -- the process lives
 abbrev pub Lives : Plain → Name → Type 0

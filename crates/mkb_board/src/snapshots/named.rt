@@ -4,7 +4,7 @@ ghost use Rattle.kb_node.specs.declared.node.NodeId.{NodeId as Numbered};
 ghost use Rattle.mkb_model.specs.Plain.{pair_at, rule_at, rules_at, rules_of, constraints_of, equations_of};
 ghost use Rattle.mkb_model.specs.Proposals.{named_rules};
 ghost use Rattle.kb_jobs.specs.Rules.{listed};
-ghost use Rattle.mkb_board.specs.Snapshots.{IsRuleThere};
+ghost use Rattle.mkb_rules.specs.Named.{IsRuleThere};
 
 use kb_jobs::NamedRules;
 use kb_label::Process;

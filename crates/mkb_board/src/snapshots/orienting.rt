@@ -2,7 +2,7 @@
 ghost use Rattle.std.specs.Prelude.{◌≡◌, ◌<◌, ◌++◌, ◌∷◌, [], All, IfOk, length};
 ghost use Rattle.mkb_model.specs.Plain.{rules_at};
 ghost use Rattle.kb_jobs.specs.Taken.{IsTakenOrient};
-ghost use Rattle.mkb_board.specs.Snapshots.{IsRuleThere};
+ghost use Rattle.mkb_rules.specs.Named.{IsRuleThere};
 
 use super::named::{rule_at, rules_at, view_of};
 use kb_jobs::OrientSnapshot;

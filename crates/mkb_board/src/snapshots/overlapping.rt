@@ -1,7 +1,7 @@
 // What an Overlap reads.
 ghost use Rattle.std.specs.Prelude.{◌≡◌, IfOk};
 ghost use Rattle.kb_jobs.specs.Taken.{IsTakenOverlap};
-ghost use Rattle.mkb_board.specs.Snapshots.{IsRuleThere};
+ghost use Rattle.mkb_rules.specs.Named.{IsRuleThere};
 
 use super::named::rule_at;
 use kb_jobs::OverlapSnapshot;

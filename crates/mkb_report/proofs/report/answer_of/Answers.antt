@@ -9,11 +9,12 @@ use Rattle.kb_checker.specs.Answers.{Answer}
 use Rattle.kb_label.specs.Names.{Name}
 use Rattle.mkb_model.specs.Plain.{Plain, rules_of}
 use Rattle.mkb_rules.specs.Parts.{plain_node}
-use Rattle.mkb_report.specs.Cited.{IsRuleThere}
+use Rattle.mkb_rules.specs.Named.{IsRuleThere}
 use Rattle.mkb_report.specs.Reports.{IsAnswerOf, pairs_of, rule_nodes}
 use Rattle.mkb_report.proofs.Boards.{good}
 use Rattle.mkb_report.proofs.Made.{answer_read, few_steps, made_form, nodes_cite_earlier, trace_read, wanted_there}
-use Rattle.mkb_report.proofs.Viewed.{parts, rules_there}
+use Rattle.mkb_rules.proofs.Viewed.{rules_there}
+use Rattle.mkb_report.proofs.Viewed.{parts}
 use Rattle.mkb_report.proofs.report.answer_of.Goals as goal
 
 pub certificate-requires : goal.certificate-requires

@@ -4,7 +4,8 @@ use Rattle.kb_term.specs.Pair.{Pair}
 use Rattle.kb_term.specs.Rule.{Rule}
 use Rattle.kb_term.specs.declared.origin.RuleRef.{RuleRef}
 use Rattle.mkb_model.specs.Plain.{Plain, pair_at}
-use Rattle.mkb_report.proofs.Viewed.{pair_read, rule_read, rules_next, cites_next}
+use Rattle.mkb_rules.proofs.Viewed.{rules_next}
+use Rattle.mkb_report.proofs.Viewed.{pair_read, rule_read, cites_next}
 use Rattle.mkb_report.proofs.report.cited_rules.Goals as goal
 
 pub loop-i-preserved : goal.loop-i-preserved
