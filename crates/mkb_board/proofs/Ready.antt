@@ -13,7 +13,7 @@ use Rattle.mkb_model.specs.declared.entry.Entry.{Entry}
 use Rattle.mkb_model.proofs.Selections.{legal-possible}
 use Rattle.mkb_rules.specs.Named.{HasNamed, HasRedexRule}
 use Rattle.mkb_rules.specs.Applying.{HasBudget}
-use Rattle.mkb_rules.specs.Applicable.{HasFewVariablesThen, IsApplicable}
+use Rattle.mkb_rules.specs.Applicable.{HasFewVariablesAfter, IsApplicable}
 use Rattle.mkb_board.specs.Boards.{seen, IsLegalBoard}
 use Rattle.mkb_board.specs.Takes.{IsProposalOf}
 use Rattle.mkb_board.proofs.Ends.{finishing}
@@ -36,7 +36,7 @@ named_grounded b f (Limit (Orient p n) cause) h = h
 named_grounded b f (Limit (Overlap p a c) cause) h = h
 named_grounded b f (Limit (Close p) cause) h = h
 
-fitting_grounded : (b : Plain) (f : List Ticket) (x : Proposed) → HasFewVariablesThen (record b { flight = f }) x → HasFewVariablesThen b x
+fitting_grounded : (b : Plain) (f : List Ticket) (x : Proposed) → HasFewVariablesAfter (record b { flight = f }) x → HasFewVariablesAfter b x
 fitting_grounded b f (Facts fs) h = h
 fitting_grounded b f (Rewrite n w at a found t) h = h
 fitting_grounded b f (One p n d c) h = h

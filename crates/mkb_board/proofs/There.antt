@@ -45,7 +45,7 @@ use Rattle.mkb_model.proofs.Origins.{some_named}
 use Rattle.mkb_model.proofs.Sizes.{limited_run, turned}
 use Rattle.mkb_model.proofs.Variables.{step_few}
 use Rattle.mkb_rules.specs.Named.{IsThere, Lives, HasNamed, HasNamedJob, HasRedexRule}
-use Rattle.mkb_rules.specs.Applicable.{HasFewVariablesThen, IsApplicable}
+use Rattle.mkb_rules.specs.Applicable.{HasFewVariablesAfter, IsApplicable}
 
 at_within : (xs : List PlainNode) (n : ℕ) (q : Pair) → pair_in xs n ≡ Some q → n < length xs
 at_within [] n q e = none_some e
@@ -137,10 +137,10 @@ module _ (P : Problem) (n : ℕ) (ms : List Moment) (b : Plain) (run : IsPossibl
     few_side q (suc v) l = (turned q.first q.second l.within).few
 
     -- the result of a rewriting has few variables with the other side
-    pub fitting : HasFewVariablesThen b x
+    pub fitting : HasFewVariablesAfter b x
     fitting = go j x refl refl f.proposed
       where
-        go : (i : Job) (y : Proposed) → i ≡ j → y ≡ x → Proposes f.before i y → HasFewVariablesThen b y
+        go : (i : Job) (y : Proposed) → i ≡ j → y ≡ x → Proposes f.before i y → HasFewVariablesAfter b y
         go (Reduce p m) (Rewrite k v at a kind u) e d h = λ q there_q.
             let r = rewrite_ready f.before b p m k v at a kind u h keeps in
             let named = some_named (rewrite_label b k.0 v a kind) (subst {A = Proposed} (λ z. is_dropped b z ≡ false) (sym d) acts) in

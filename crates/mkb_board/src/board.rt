@@ -102,7 +102,7 @@ impl Board {
         self.state.nodes()
     }
 
-    /// What a living process sees of the nodes: its equations, its rules, and each rule that it ever had.
+    /// What a living process sees of the nodes: its equations, its rules, and each rule that it oriented.
     ///
     /// # Errors
     ///
