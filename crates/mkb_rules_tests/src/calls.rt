@@ -19,8 +19,8 @@ use mkb_rules::{Applied, State};
 use std::alloc::Global;
 use std::process::Abort;
 
-// The problem that the text spells.
-fn problem(rt: &impl Abort, alloc: Global, text: &[u8]) -> Problem
+/// The problem that the text spells.
+pub(crate) fn problem(rt: &impl Abort, alloc: Global, text: &[u8]) -> Problem
     ensures { IsWithinLimits result }
 {
     spelled_problems_are_within_limits();
@@ -36,22 +36,22 @@ pub(crate) fn opened(rt: &impl Abort, alloc: Global, text: &[u8]) -> State {
     State::start(alloc, problem, 100).expect(rt, "memory")
 }
 
-// There is budget for one commit more.
-fn ready(rt: &impl Abort, state: &State)
+/// There is budget for one commit more.
+pub(crate) fn ready(rt: &impl Abort, state: &State)
     ensures { HasBudget state.now }
 {
     assert!(rt; state.commits() < state.budget());
 }
 
-// There is a node with this number.
-fn there(rt: &impl Abort, state: &State, n: u16)
+/// There is a node with this number.
+pub(crate) fn there(rt: &impl Abort, state: &State, n: u16)
     ensures { IsThere state.now n }
 {
     assert!(rt; u32::from(n) < state.nodes().len());
 }
 
-// The process lives.
-fn living(rt: &impl Abort, state: &State, p: &Process)
+/// The process lives.
+pub(crate) fn living(rt: &impl Abort, state: &State, p: &Process)
     ensures { Lives state.now p.now }
 {
     assert!(rt; state.log().is_living(p));

@@ -4,6 +4,8 @@
 #[cfg(test)]
 mod calls;
 #[cfg(test)]
+mod orders;
+#[cfg(test)]
 mod runs;
 #[cfg(test)]
 mod terms;
