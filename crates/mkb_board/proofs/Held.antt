@@ -1,11 +1,11 @@
 -- Held tickets stay held.
-use Rattle.std.proofs.Common.{ℕ, ◌+◌, ◌≤◌, ◌≡◌, ◌≢◌, ◌==◌, refl, sym, ap, ◌∙◌, subst, arith, append_assoc, List, [], ◌∷◌, ◌++◌, filter, Contains, Bool, true, false, not}
+use Rattle.std.proofs.Common.{ℕ, ◌≡◌, ◌≢◌, ◌==◌, refl, sym, ap, ◌∙◌, subst, arith, append_assoc, List, [], ◌∷◌, ◌++◌, Contains, true, not}
 use Rattle.std.proofs.lemmas.Bool.Decides.{nat_tests}
 use Rattle.std.proofs.lemmas.List.Elements.{Contains-append_left, Contains-append_right}
 use Rattle.kb_term.proofs.Steps.{contains_first}
 use Rattle.kb_term.specs.Signature.{Problem}
 use Rattle.kb_node.specs.declared.job.Job.{Job}
-use Rattle.kb_jobs.specs.Working.{ProposesBy, IsTaken, job_of}
+use Rattle.kb_jobs.specs.Working.{ProposesBy}
 use Rattle.kb_jobs.specs.declared.working.Snapshot.{Snapshot}
 use Rattle.kb_jobs.proofs.TakenLaws.{work_taken}
 use Rattle.mkb_model.specs.Plain.{Plain}
@@ -20,7 +20,7 @@ use Rattle.mkb_model.proofs.Lists.{in_filter}
 use Rattle.mkb_model.proofs.Flights.{effect_flight}
 use Rattle.mkb_model.proofs.Living.{effect_setting, flight_numbered}
 use Rattle.mkb_board.specs.Boards.{Seen, IsLegalBoard, takes_in}
-use Rattle.mkb_board.specs.Takes.{TakesJob, IsTakenOn, IsTakenBy, IsFinishedBy, IsProposalOf, take_entry}
+use Rattle.mkb_board.specs.Takes.{TakesJob, IsTakenBy, IsFinishedBy, IsProposalOf, take_entry}
 use Rattle.mkb_board.specs.Held.{IsHeld}
 use Rattle.mkb_board.specs.declared.answers.Taken.{Taken}
 use Rattle.mkb_board.specs.declared.answers.Taken.TheVariants.{Job as TakenJob, Idle, Over, Halted}

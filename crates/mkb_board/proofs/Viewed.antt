@@ -1,29 +1,25 @@
 -- What jobs read of the board, name by name.
-use Rattle.std.proofs.Common.{ℕ, zero, suc, ◌+◌, ◌<◌, ◌≤◌, ◌≡◌, refl, sym, ap, ap₂, ◌∙◌, subst, arith, List, [], ◌∷◌, ◌++◌, map, filter, flat_map, length, nat_cmp, take, get_or, Contains, All, Bool, true, false, cond, Some, None, Option, append_assoc, ⊎_elim}
+use Rattle.std.proofs.Common.{ℕ, zero, suc, ◌+◌, ◌<◌, ◌≤◌, ◌≡◌, refl, sym, ap, ◌∙◌, subst, arith, List, [], ◌∷◌, ◌++◌, map, filter, flat_map, length, nat_cmp, take, get_or, Contains, All, Bool, true, false, cond, Some, None, Option, append_assoc, ⊎_elim}
 use Rattle.std.specs.Prelude.{slice_get, option_map, is_none}
-use Rattle.std.specs.List.{enumerate_from, cons_option, filter_map}
+use Rattle.std.specs.List.{cons_option, filter_map}
 use Rattle.std.specs.Option.{option_map_or}
 use Rattle.std.specs.Ordering.{ordering_then}
 use Rattle.std.specs.declared.cmp.Ordering.{Ordering}
-use Rattle.std.proofs.lemmas.List.{length-map, map-append, take_more, append-nil}
+use Rattle.std.proofs.lemmas.List.{map-append, take_more, append-nil}
 use Rattle.std.proofs.lemmas.List.Elements.{filter-append, filter_map-append, All-contains, Contains-append_cases}
-use Rattle.kb_label.specs.Names.{Name, has}
+use Rattle.kb_label.specs.Names.{Name}
 use Rattle.kb_term.proofs.Steps.{contains_behind, contains_first, contains_cases}
 use Rattle.kb_term.specs.Pair.{Pair}
 use Rattle.kb_term.specs.Rule.{Rule, rule_of}
 use Rattle.kb_term.specs.declared.origin.RuleRef.{RuleRef}
-use Rattle.kb_node.specs.declared.node.Node.{Node}
 use Rattle.kb_node.specs.declared.node.NodeId.{NodeId}
-use Rattle.kb_node.specs.declared.node.LabelKind.TheVariants.{R0, R1, E, C0, C1}
-use Rattle.kb_node.specs.Views as views
 use Rattle.kb_laws.proofs.Complete.{all_from}
-use Rattle.mkb_model.specs.Plain.{Plain, PlainNode, numbers_from, node_numbers, directions, label_or_none, is_equation, is_rule, is_constraint, equations_of, rules_of, constraints_of, pair_at, rule_at, rules_at, equations_at, sides, known}
+use Rattle.mkb_model.specs.Plain.{Plain, numbers_from, node_numbers, directions, is_rule, rules_of, pair_at, rule_at, rules_at, equations_at, sides, known}
 use Rattle.mkb_model.specs.Proposals.{NamedRule, named_rules}
-use Rattle.mkb_model.proofs.Lists.{filter_in, flat_map_in, in_map, numbers_in, none_in, none_some}
+use Rattle.mkb_model.proofs.Lists.{filter_in, flat_map_in, numbers_in, none_in, none_some}
 use Rattle.mkb_model.proofs.AllFine.{pair_there}
 use Rattle.kb_jobs.specs.Rules.{named, ComesBefore, AreInOrder}
 use Rattle.kb_jobs.proofs.Preorder.{nat_less, nat_same}
-use Rattle.mkb_rules.specs.Parts.{plain_node, plain_nodes}
 use Rattle.kb_jobs.specs.Reducing.{no_name}
 use Rattle.mkb_rules.specs.Named.{IsRuleThere}
 use Rattle.mkb_board.specs.Snapshots.{AreWithin, with_names, unknown_on}

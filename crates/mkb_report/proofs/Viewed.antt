@@ -1,13 +1,10 @@
 -- What is read from the table of nodes is what stands on the plain board.
-use Rattle.std.proofs.Common.{ℕ, suc, ◌+◌, ◌<◌, ◌≤◌, ◌≡◌, refl, sym, ap, ap₂, ◌∙◌, arith, List, [], ◌∷◌, ◌++◌, map, filter, flat_map, length, take, get_or, Contains, All, Bool, true, false, cond, Some, Option, ⊎_elim}
+use Rattle.std.proofs.Common.{ℕ, ◌+◌, ◌<◌, ◌≡◌, sym, ap, ap₂, ◌∙◌, List, [], ◌∷◌, ◌++◌, map, length, take, get_or, Some, Option}
 use Rattle.std.specs.Prelude.{slice_get, option_map}
-use Rattle.std.specs.List.{enumerate_from, cons_option}
 use Rattle.std.specs.Option.{option_map_or}
-use Rattle.std.proofs.lemmas.List.{length-map, map-append, take_more}
+use Rattle.std.proofs.lemmas.List.{map-append, take_more}
 use Rattle.std.proofs.lemmas.Option.{slice_get-map, slice_get_within, get_or_from_slice_get}
-use Rattle.std.proofs.lemmas.List.Elements.{filter-append, filter_map-append}
-use Rattle.kb_label.specs.Names.{Name, has}
-use Rattle.kb_term.proofs.Steps.{contains_cases}
+use Rattle.kb_label.specs.Names.{Name}
 use Rattle.kb_term.specs.Pair.{Pair}
 use Rattle.kb_term.specs.Rule.{Rule, rule_of}
 use Rattle.kb_term.specs.declared.origin.RuleRef.{RuleRef}
@@ -15,11 +12,8 @@ use Rattle.kb_term.specs.declared.origin.Origin.{Origin}
 use Rattle.kb_overlap.specs.Trace.{TraceStep}
 use Rattle.kb_node.specs.Labelled.{HasPair}
 use Rattle.kb_node.specs.declared.node.Node.{Node}
-use Rattle.kb_node.specs.declared.node.LabelKind.TheVariants.{R0, R1}
-use Rattle.kb_node.specs.Views as views
-use Rattle.kb_laws.proofs.Complete.{all_from}
-use Rattle.mkb_model.specs.Plain.{Plain, PlainNode, numbers_from, node_numbers, directions, label_or_none, is_rule, rules_of, pair_at, rule_at, rules_at}
-use Rattle.mkb_model.proofs.Lists.{filter_in, flat_map_in, numbers_in, none_in, some_is}
+use Rattle.mkb_model.specs.Plain.{Plain, PlainNode, pair_at, rule_at}
+use Rattle.mkb_model.proofs.Lists.{some_is}
 use Rattle.mkb_rules.specs.Parts.{plain_node, plain_nodes}
 pub use Rattle.mkb_rules.proofs.Viewed.{rules_viewed}
 use Rattle.mkb_report.specs.Cited.{cited_by, number_with}
