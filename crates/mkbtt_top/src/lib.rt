@@ -12,4 +12,3 @@ mod top;
 pub use reply::Outcome;
 pub use status::{Status, status_code, status_line};
 pub use top::run;
-
