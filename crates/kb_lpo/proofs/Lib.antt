@@ -8,11 +8,9 @@ pub mod Arities
 mod LpoHalting
 pub mod PathOrderLaws
 mod Places
-mod Symbols
 mod Exact
 mod Cases
 mod Answering
 pub mod First
 mod Ascending
-mod Nothing
 mod ThreeSymbols
