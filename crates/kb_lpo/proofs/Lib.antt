@@ -11,6 +11,7 @@ mod Places
 mod Exact
 mod Cases
 mod Answering
+mod Rows
 pub mod First
 mod Ascending
 mod ThreeSymbols
