@@ -44,7 +44,8 @@ pub(crate) fn force(known: &Known, s: &Term, t: &Term, fuel: &mut u32) -> Option
             if *f == *g {
                 let n = agreement(ss, ts);
                 if n < ss.len() && n < ts.len() {
-                    let first = force_difference(known, s, ss, ts, n, fuel);
+                    let difference = force(known, &ss[n], &ts[n], fuel);
+                    let first = force_each(difference, s, ts, n + 1, fuel);
                     if adds_nothing(&first, known) {
                         return Some(*known);
                     }
@@ -52,7 +53,7 @@ pub(crate) fn force(known: &Known, s: &Term, t: &Term, fuel: &mut u32) -> Option
                 }
                 force_witness(known, ss, n, t, fuel)
             } else if known.is_from(*f, *g) {
-                force_each(known, s, ts, 0, fuel)
+                force_each(Some(*known), s, ts, 0, fuel)
             } else if known.is_from(*g, *f) {
                 force_witness(known, ss, 0, t, fuel)
             } else {
@@ -63,17 +64,20 @@ pub(crate) fn force(known: &Known, s: &Term, t: &Term, fuel: &mut u32) -> Option
     }
 }
 
-/// What is known where `s` is above each of the terms from the place on.
+/// What is known where, besides what is needed first, `s` is above each of the terms from the place on.
 #[cycle(force)]
-fn force_each(known: &Known, s: &Term, ts: &[Term], from: usize, fuel: &mut u32) -> Option<Known>
-    ensures { (prec : List ℕ) → Fits known.now prec → Between (λ u. LpoGreater prec (tree_of s.now) u) (map tree_of ts.now) from (length ts.now) → IsSomeAnd result (λ more. Fits more prec) }
+fn force_each(
+    first: Option<Known>,
+    s: &Term,
+    ts: &[Term],
+    from: usize,
+    fuel: &mut u32,
+) -> Option<Known>
+    ensures { (prec : List ℕ) → IsSomeAnd first (λ known. Fits known prec) → Between (λ u. LpoGreater prec (tree_of s.now) u) (map tree_of ts.now) from (length ts.now) → IsSomeAnd result (λ more. Fits more prec) }
 {
-    let mut more = *known;
+    let mut more = first?;
     for j in from..ts.len() {
-        match force(&more, s, &ts[j], fuel) {
-            Some(next) => more = next,
-            None => return None,
-        }
+        more = force(&more, s, &ts[j], fuel)?;
     }
     Some(more)
 }
@@ -97,26 +101,6 @@ fn force_witness(known: &Known, ss: &[Term], from: usize, t: &Term, fuel: &mut u
     shared
 }
 
-/// What is known where the terms at the first difference are in order, and `s` is above each later one.
-#[cycle(force)]
-fn force_difference(
-    known: &Known,
-    s: &Term,
-    ss: &[Term],
-    ts: &[Term],
-    n: usize,
-    fuel: &mut u32,
-) -> Option<Known>
-    requires first { n < length ss.now }
-    requires second { n < length ts.now }
-    ensures { (prec : List ℕ) → Fits known.now prec → ((u v : Tree) → At (map tree_of ss.now) n u → At (map tree_of ts.now) n v → LpoGreater prec u v) → Between (λ u. LpoGreater prec (tree_of s.now) u) (map tree_of ts.now) (n + 1) (length ts.now) → IsSomeAnd result (λ more. Fits more prec) }
-{
-    match force(known, &ss[n], &ts[n], fuel) {
-        Some(more) => force_each(&more, s, ts, n + 1, fuel),
-        None => None,
-    }
-}
-
 /// What is known where `f` is above `g` and `s` above each of the terms.
 #[cycle(force)]
 fn force_above(
@@ -131,7 +115,7 @@ fn force_above(
 {
     let mut more = *known;
     more.put(f, g);
-    force_each(&more, s, ts, 0, fuel)
+    force_each(Some(more), s, ts, 0, fuel)
 }
 
 /// What is known where `f` isn't above `g` and one of the terms is `t` or above it.
