@@ -14,4 +14,4 @@ mod Answering
 mod Rows
 pub mod First
 mod Ascending
-mod ThreeSymbols
+pub mod Letters
