@@ -1,4 +1,6 @@
-// Which comparison of symbols decides next. What is answered here steers the search alone, so it has no contract.
+// Which comparison of symbols decides next. Which one it is steers the search alone, so no contract says it.
+ghost use Rattle.std.specs.Prelude.{◌<◌, length, IfSome};
+
 use crate::known::Known;
 use crate::order::{agreement, is_same, occurs};
 use kb_term::{Rule, Symbol, Term};
@@ -11,11 +13,27 @@ enum Verdict {
     Open(Symbol, Symbol),
 }
 
-/// Two different symbols that some rule compares first of all that what is known doesn't decide.
-pub(crate) fn open_pair(known: &Known, rules: &[Rule]) -> Option<(Symbol, Symbol)> {
-    for i in 0..rules.len() {
-        if let Verdict::Open(f, g) = verdict_of(known, rules[i].left(), rules[i].right()) {
-            return Some((f, g));
+/// A rule that what is known doesn't decide, by its place, and two symbols that it compares first of all that are open, the
+/// lesser number first. What is known decides the rules before it.
+#[derive(Clone, Copy)]
+pub(crate) struct OpenPair {
+    pub(crate) place: usize,
+    pub(crate) first: Symbol,
+    pub(crate) second: Symbol,
+}
+
+/// The first comparison that is open.
+pub(crate) fn open_pair(known: &Known, rules: &[Rule]) -> Option<OpenPair>
+    ensures { IfSome result (λ pair. pair.place < length rules.now) }
+{
+    for place in 0..rules.len() {
+        if let Verdict::Open(f, g) = verdict_of(known, rules[place].left(), rules[place].right()) {
+            let (first, second) = if f.0 < g.0 { (f, g) } else { (g, f) };
+            return Some(OpenPair {
+                place,
+                first,
+                second,
+            });
         }
     }
     None

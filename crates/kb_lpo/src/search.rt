@@ -1,5 +1,5 @@
 // The first precedence that orients given rules.
-ghost use Rattle.std.specs.Prelude.{ℕ, List, ◌≡◌, ◌++◌, IsTrue, ◌↔◌, IfOk, map, ◌+◌, ◌<◌, ◌≤◌, length, Contains, [], ◌∷◌, true, false};
+ghost use Rattle.std.specs.Prelude.{ℕ, List, ◌≡◌, ◌++◌, IsTrue, IsSome, ◌↔◌, IfOk, map, ◌+◌, ◌<◌, ◌≤◌, length, Contains, [], ◌∷◌, true, false};
 ghost use Rattle.kb_term.specs.Pair.{place_in};
 ghost use Rattle.kb_lpo.specs.PathOrder.{LpoGreater, IsAbove};
 ghost use Rattle.kb_lpo.specs.Precedences.{precedences};
@@ -65,35 +65,51 @@ fn propagate(known: &mut Known, rules: &[Rule]) -> bool
     true
 }
 
-/// Whether some precedence that fits orients all rules: false only where none does. Each comparison of two symbols that
-/// the rules leave open is decided one way and then the other; `pairs` bounds how many are decided at a time.
-#[cycle(is_feasible)]
-fn is_feasible(known: &Known, rules: &[Rule], pairs: u32) -> bool
-    ensures { (prec : List ℕ) → Fits known.now prec → LpoOrients prec rules.now → IsTrue result }
+/// What is known and more, by which the rules are decided: none only where no precedence that fits orients all. Each
+/// comparison of two symbols that the rules leave open is decided one way and then the other; `pairs` bounds how many are
+/// decided at a time.
+#[cycle(decide)]
+fn decide(known: &Known, rules: &[Rule], pairs: u32) -> Option<Known>
+    ensures { (prec : List ℕ) → Fits known.now prec → LpoOrients prec rules.now → IsSome result }
 {
     if pairs == 0 {
-        return true;
+        return Some(*known);
     }
     match open_pair(known, rules) {
-        None => true,
-        Some((f, g)) => {
-            is_feasible_with(known, rules, f, g, pairs - 1)
-                || is_feasible_with(known, rules, g, f, pairs - 1)
+        None => Some(*known),
+        Some(open) => {
+            let rest = &rules[open.place..];
+            let found = decide_with(known, rest, open.first, open.second, pairs - 1);
+            if found.is_some() {
+                return found;
+            }
+            decide_with(known, rest, open.second, open.first, pairs - 1)
         }
     }
 }
 
 /// The same of the precedences in which `f` doesn't stand behind `g`.
-#[cycle(is_feasible)]
-fn is_feasible_with(known: &Known, rules: &[Rule], f: Symbol, g: Symbol, pairs: u32) -> bool
-    ensures { (prec : List ℕ) → Fits known.now prec → place_in prec f.0 ≤ place_in prec g.0 → LpoOrients prec rules.now → IsTrue result }
+#[cycle(decide)]
+fn decide_with(known: &Known, rules: &[Rule], f: Symbol, g: Symbol, pairs: u32) -> Option<Known>
+    ensures { (prec : List ℕ) → Fits known.now prec → place_in prec f.0 ≤ place_in prec g.0 → LpoOrients prec rules.now → IsSome result }
 {
     let mut more = *known;
     more.put(f, g);
     if !propagate(&mut more, rules) {
-        return false;
+        return None;
     }
-    is_feasible(&more, rules, pairs)
+    decide(&more, rules, pairs)
+}
+
+/// The table by which the rules were decided before, or one that is looked for: none only where no precedence that fits
+/// orients all.
+fn decided(known: &Known, rules: &[Rule], before: Option<Known>) -> Option<Known>
+    ensures { (prec : List ℕ) → Fits known.now prec → LpoOrients prec rules.now → IsSome result }
+{
+    if before.is_some() {
+        return before;
+    }
+    decide(known, rules, PAIRS)
 }
 
 /// Whether the symbol is listed.
@@ -171,6 +187,14 @@ fn may_follow(known: &Known, symbols: &[Symbol], f: Symbol, count: u8) -> bool
     true
 }
 
+/// The table, if `f` may stand behind the listed symbols by it.
+fn fitting(table: &Known, symbols: &[Symbol], f: Symbol, count: u8) -> Option<Known> {
+    if may_follow(table, symbols, f, count) {
+        return Some(*table);
+    }
+    None
+}
+
 /// Puts the symbols that are left behind those of the prefix, each time the least that may follow, and tests this one
 /// arrangement. Where it orients all rules it is the first that does; else the prefix is as before.
 fn first_fitting(
@@ -222,8 +246,9 @@ fn behind(floor: &[Symbol], f: Symbol) -> &[Symbol]
 }
 
 /// Puts the symbols that are left behind those of the prefix, as the first arrangement that orients all rules: at each
-/// place the least symbol with which the rules are still feasible. None before the floor orients them, so the search begins
-/// there; an empty floor lets it begin at the first arrangement.
+/// place the least symbol with which the rules can still be decided. None before the floor orients them, so the search
+/// begins there; an empty floor lets it begin at the first arrangement. A table by which the rules were decided goes on to
+/// the next place where its symbol fits it.
 #[cycle(search_from)]
 fn search_from(
     known: &Known,
@@ -232,6 +257,7 @@ fn search_from(
     prefix: &mut Vec<Symbol>,
     left: u8,
     floor: &[Symbol],
+    before: Option<Known>,
 ) -> Result<bool, Memory>
     requires sound { (rest : List ℕ) → LpoOrients (numbers prefix.old.items ++ rest) rules.now → Fits known.now (numbers prefix.old.items ++ rest) }
     requires bound { IsFloor rules.now count left (numbers prefix.old.items) (numbers floor.now) }
@@ -240,16 +266,17 @@ fn search_from(
     if left == 0 {
         return Ok(orients(prefix, rules));
     }
-    if !is_feasible(known, rules, PAIRS) {
+    let Some(table) = decided(known, rules, before) else {
         return Ok(false);
-    }
+    };
     for y in lowest(floor)..count {
         let f = Symbol(y);
         let mut more = *known;
         if place_next(&mut more, rules, prefix, f, count) {
+            let next = fitting(&table, prefix, f, count);
             prefix.push(f)?;
             let next_floor = behind(floor, f);
-            if search_or_fit(&more, rules, count, prefix, left - 1, next_floor)? {
+            if search_or_fit(&more, rules, count, prefix, left - 1, next_floor, next)? {
                 return Ok(true);
             }
             prefix.pop();
@@ -267,6 +294,7 @@ fn search_or_fit(
     prefix: &mut Vec<Symbol>,
     left: u8,
     floor: &[Symbol],
+    before: Option<Known>,
 ) -> Result<bool, Memory>
     requires sound { (rest : List ℕ) → LpoOrients (numbers prefix.old.items ++ rest) rules.now → Fits known.now (numbers prefix.old.items ++ rest) }
     requires bound { IsFloor rules.now count left (numbers prefix.old.items) (numbers floor.now) }
@@ -275,7 +303,7 @@ fn search_or_fit(
     if first_fitting(known, rules, count, prefix, left)? {
         return Ok(true);
     }
-    search_from(known, rules, count, prefix, left, floor)
+    search_from(known, rules, count, prefix, left, floor, before)
 }
 
 /// The first precedence that orients all rules, where none before the floor does.
@@ -301,7 +329,7 @@ fn search_above(
     if !propagate(&mut known, rules) {
         return Ok(None);
     }
-    if search_or_fit(&known, rules, count, &mut prefix, count, floor)? {
+    if search_or_fit(&known, rules, count, &mut prefix, count, floor, None)? {
         return Ok(Some(Precedence::new(prefix)));
     }
     Ok(None)

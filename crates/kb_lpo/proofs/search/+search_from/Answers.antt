@@ -33,11 +33,6 @@ search_from-search_or_fit-requires t c =
     subst (Fits c.place_next.new.known) (d ∙ sym e) (c.place_next.ensures.sound rest u (subst (Fits c.args.known.now) (sym d) (c.requires.sound (y ∷ rest) q)) (subst (λ z. LpoOrients z rules) (sym d) q)).1 in
     (grind arith, (sound, floor_next rules c.args.count c.args.left (c.args.left - 1) y xs (numbers c.push.new.self.items) (numbers c.args.floor.now) (numbers c.behind-next_floor.result.now) n p (grind arith) (subst (λ z. ¬ Contains z y) s u) c.behind-next_floor.ensures c.requires.bound))
 
-pub search_from-returns-then-not-is_feasible : goal.search_from-returns-then-not-is_feasible
-search_from-returns-then-not-is_feasible t c =
-    let xs = numbers c.args.prefix.now.items in
-    (refl, λ k d i o. let r = slice_index_or (arrangements c.args.left (outside c.args.count xs)) k d in false≢true (sym c.if-not-is_feasible.true ∙ c.is_feasible.ensures (xs ++ r) (c.requires.sound r o) o))
-
 pub search_from-loop-y-init : goal.search_from-loop-y-init
 search_from-loop-y-init t c =
     let n : suc (c.args.left - 1) ≡ c.args.left = grind arith in
