@@ -1,5 +1,5 @@
 -- Rows of bits that say which symbols don't stand behind which.
-use Rattle.std.proofs.Common.{ℕ, zero, suc, ◌≡◌, ◌<◌, ◌≤◌, ◌+◌, ◌%◌, ◌*◌, ◌^◌, ◌≢◌, inl, inr, ◌⊎◌, ⊎_elim, refl, sym, ap, ◌∙◌, subst, arith, List, [], ◌∷◌, length, get_or, set, max, min}
+use Rattle.std.proofs.Common.{ℕ, zero, suc, ◌≡◌, ◌<◌, ◌≤◌, ◌+◌, ◌%◌, ◌*◌, ◌^◌, inl, inr, ◌⊎◌, ⊎_elim, sym, ap, ◌∙◌, subst, arith, List, length, get_or, set, max, min}
 use Rattle.std.proofs.lemmas.Bool.{cases_eq}
 use Rattle.std.proofs.lemmas.List.{get_or-set_same, get_or-set_other}
 use Rattle.std.specs.Int.{bit_at, w32}
@@ -40,6 +40,7 @@ rows_put rows prec x g below h fit up low k y i b = ⊎_elim at_x elsewhere (cas
     at_x e =
         let w = subst (λ z. bit_at z y ≡ 1) (ap (λ z. get_or (set rows x (bit_or (get_or rows x 0) below)) z 0) e ∙ get_or-set_same rows x (bit_or (get_or rows x 0) below) 0 h) b in
         subst (λ z. place_in prec z ≤ place_in prec y) (sym e) (⊎_elim (λ q. fit x y (subst (λ z. z < 24) e i) q) (λ q. let l = low y q in omega (arith, l, up)) (either_bit (get_or rows x 0) below y w))
+
     elsewhere : ¬ (k ≡ x) → place_in prec k ≤ place_in prec y
     elsewhere d = fit k y i (subst (λ z. bit_at z y ≡ 1) (get_or-set_other rows x k (bit_or (get_or rows x 0) below) 0 d) b)
 
@@ -52,10 +53,12 @@ common_next rows here there i h common k y j b = ⊎_elim at_i elsewhere (cases_
   where
     both : ℕ
     both = bit_and (get_or rows i 0) (get_or there i 0)
+
     at_i : k ≡ i → (bit_at (get_or here k 0) y ≡ 1) × (k < i + 1 → bit_at (get_or there k 0) y ≡ 1)
     at_i e =
         let w = both_bits (get_or rows i 0) (get_or there i 0) y (subst (λ z. bit_at z y ≡ 1) (ap (λ z. get_or (set rows i (bit_and (get_or rows i 0) (get_or there i 0))) z 0) e ∙ get_or-set_same rows i (bit_and (get_or rows i 0) (get_or there i 0)) 0 h) b) in
         ((common k y j (subst (λ z. bit_at (get_or rows z 0) y ≡ 1) (sym e) w.0)).0, λ q. subst (λ z. bit_at (get_or there z 0) y ≡ 1) (sym e) w.1)
+
     elsewhere : ¬ (k ≡ i) → (bit_at (get_or here k 0) y ≡ 1) × (k < i + 1 → bit_at (get_or there k 0) y ≡ 1)
     elsewhere d =
         let w = common k y j (subst (λ z. bit_at z y ≡ 1) (get_or-set_other rows i k (bit_and (get_or rows i 0) (get_or there i 0)) 0 d) b) in
@@ -70,5 +73,6 @@ own_next rows i h j own k y l b = ⊎_elim at_i elsewhere (cases_eq k i)
   where
     at_i : k ≡ i → k ≡ y
     at_i e = e ∙ one_bit i y j (subst (λ z. bit_at z y ≡ 1) (ap (λ z. get_or (set rows i (1 * 2 ^ i % 2 ^ 32)) z 0) e ∙ get_or-set_same rows i (1 * 2 ^ i % 2 ^ 32) 0 h) b)
+
     elsewhere : ¬ (k ≡ i) → k ≡ y
     elsewhere d = own k y l (subst (λ z. bit_at z y ≡ 1) (get_or-set_other rows i k (1 * 2 ^ i % 2 ^ 32) 0 d) b)

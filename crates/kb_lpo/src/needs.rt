@@ -31,13 +31,7 @@ pub(crate) fn force(known: &Known, s: &Term, t: &Term, fuel: &mut u32) -> Option
     *fuel -= 1;
     match (s, t) {
         (Term::Var(_), _) => None,
-        (Term::App(_, _), Term::Var(n)) => {
-            if occurs(s, *n) {
-                Some(*known)
-            } else {
-                None
-            }
-        }
+        (Term::App(_, _), Term::Var(n)) => { if occurs(s, *n) { Some(*known) } else { None } }
         (Term::App(f, front), Term::App(g, back)) => {
             let ss = front.items();
             let ts = back.items();

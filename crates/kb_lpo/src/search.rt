@@ -150,13 +150,7 @@ fn put_next(known: &mut Known, symbols: &[Symbol], f: Symbol, count: u8) -> bool
 }
 
 /// Puts `f` behind the listed symbols: false where it is listed, or what the rules need refuses it.
-fn place_next(
-    known: &mut Known,
-    rules: &[Rule],
-    symbols: &[Symbol],
-    f: Symbol,
-    count: u8,
-) -> bool
+fn place_next(known: &mut Known, rules: &[Rule], symbols: &[Symbol], f: Symbol, count: u8) -> bool
     ensures unlisted { result ≡ true → ¬ Contains (numbers symbols.now) f.0 }
     ensures sound { (rest : List ℕ) → ¬ Contains (numbers symbols.now) f.0 → Fits known.old (numbers symbols.now ++ f.0 ∷ rest) → LpoOrients (numbers symbols.now ++ f.0 ∷ rest) rules.now → IsTrue result × Fits known.new (numbers symbols.now ++ f.0 ∷ rest) }
 {

@@ -218,11 +218,14 @@ fn symbols_that_no_choice_concerns_do_not_hide_a_conflict(rt: HostRuntime) -> Re
     let mut rules = selectors(alloc)?;
     rules.push(Rule::new(word(alloc, &[1, 1])?, word(alloc, &[0, 0])?))?;
     let found = search_lpo(alloc, &sig, &rules)?;
-    assert!(rt; found.is_some_and(|prec| prec.symbols()[..2] == [Symbol(1), Symbol(0)]));
-    rules.push(Rule::new(
-        word(alloc, &[0, 0, 1])?,
-        word(alloc, &[1, 0, 0])?,
-    ))?;
+    let wanted = precedence(
+        alloc,
+        &[
+            1, 0, 2, 3, 4, 5, 6, 7, 8, 9, 10, 11, 12, 13, 14, 15, 16, 17, 18, 19, 20, 21, 22, 23,
+        ],
+    )?;
+    assert!(rt; is_same_answer(&found, &Some(wanted)));
+    rules.push(Rule::new(word(alloc, &[0, 0, 1])?, word(alloc, &[1, 0, 0])?))?;
     assert!(rt; search_lpo(alloc, &sig, &rules)?.is_none());
     Ok(())
 }

@@ -1,11 +1,9 @@
-use Rattle.std.proofs.Common.{ap, sym, ◌∙◌, subst, ◌+◌, ◌<◌, ◌≤◌, ◌⊎◌, inl, inr, ⊎_elim, arith, map, ◌≡◌, length, ℕ, List}
-use Rattle.std.specs.Prelude.{IsSomeAnd, Option, Some, None}
+use Rattle.std.proofs.Common.{ap, ◌∙◌, subst, ◌+◌, ◌≤◌, ◌⊎◌, inl, inr, ⊎_elim, arith, map, ◌≡◌, length}
+use Rattle.std.specs.Prelude.{IsSomeAnd, Option}
 use Rattle.std.proofs.lemmas.Bool.{false≢true, cases_lt}
 use Rattle.kb_term.specs.View.{tree_of}
-use Rattle.kb_term.specs.Tree.{Tree}
 use Rattle.kb_term.specs.Pair.{place_in}
-use Rattle.kb_lpo.specs.PathOrder.{LpoGreater, IsAbove}
-use Rattle.kb_lpo.specs.Agreeing.{Between, HasWitness}
+use Rattle.kb_lpo.specs.PathOrder.{LpoGreater}
 use Rattle.kb_lpo.specs.Search.{Fits}
 use Rattle.kb_lpo.proofs.Places.{at_from}
 use Rattle.kb_lpo.proofs.Exact.{variable_above}
@@ -113,12 +111,12 @@ force_witness-loop-k-preserved t c =
     λ prec fit w. ⊎_elim
     (λ m. inl (c.either-shared.ensures.first prec m))
     (λ m. ⊎_elim
-        (λ behind. inr (omega (arith, m.0), behind))
-        (λ here. ⊎_elim
-            (λ e. absurd (no c.is_same.ensures c.if-is_same.false (ap tree_of (same_index items k c.index-ss-k.result u (grind arith) c.index-ss-k.is c.index-ss-k-in-loop-k.is) ∙ e)))
-            (λ up. inl (c.either-shared.ensures.second prec (c.force-here.ensures prec fit up)))
-            here)
-        (witness_here_or_behind prec (tree_of c.args.t.now) (map tree_of items) k (tree_of u) (at_from items k u (grind arith) c.index-ss-k-in-loop-k.is) m.1))
+    (λ behind. inr (omega (arith, m.0), behind))
+    (λ here. ⊎_elim
+    (λ e. absurd (no c.is_same.ensures c.if-is_same.false (ap tree_of (same_index items k c.index-ss-k.result u (grind arith) c.index-ss-k.is c.index-ss-k-in-loop-k.is) ∙ e)))
+    (λ up. inl (c.either-shared.ensures.second prec (c.force-here.ensures prec fit up)))
+    here)
+    (witness_here_or_behind prec (tree_of c.args.t.now) (map tree_of items) k (tree_of u) (at_from items k u (grind arith) c.index-ss-k-in-loop-k.is) m.1))
     (c.loop-k.invariant prec fit w)
 
 pub force_witness-returns : goal.force_witness-returns

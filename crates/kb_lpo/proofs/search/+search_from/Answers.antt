@@ -1,5 +1,5 @@
 use Rattle.std.proofs.Common.{sym, ◌∙◌, ◌++◌, ◌∷◌, [], ap, subst, arith, ◌≡◌, suc, ◌-◌, Contains, refl, List, ℕ}
-use Rattle.std.specs.Prelude.{None, slice_index_or}
+use Rattle.std.specs.Prelude.{None}
 use Rattle.kb_lpo.specs.Precedences.{arrangements}
 use Rattle.kb_term.specs.First.{IsFirst}
 use Rattle.std.proofs.lemmas.Bool.{false≢true}

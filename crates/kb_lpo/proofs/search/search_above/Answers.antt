@@ -1,4 +1,4 @@
-use Rattle.std.proofs.Common.{Bool, true, false, ℕ, List, ◌≡◌, [], sym, ◌∙◌, ap, subst, subst₂, ◌++◌, slice_index_or, length}
+use Rattle.std.proofs.Common.{Bool, true, false, ℕ, List, ◌≡◌, [], sym, ◌∙◌, ap, subst, subst₂, ◌++◌}
 use Rattle.std.proofs.lemmas.Bool.{false≢true}
 use Rattle.std.specs.Prelude.{Some, None}
 use Rattle.kb_lpo.specs.Precedences.{precedences}

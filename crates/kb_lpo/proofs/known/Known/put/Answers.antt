@@ -1,4 +1,4 @@
-use Rattle.std.proofs.Common.{arith, sym, ◌∙◌, subst, ap, ◌≡◌, ◌≤◌, slice_index_or, ℕ, List}
+use Rattle.std.proofs.Common.{arith, sym, ◌∙◌, subst, ◌≤◌, slice_index_or}
 use Rattle.std.proofs.lemmas.Nat.Bits.{shr_and_one}
 use Rattle.kb_term.specs.Pair.{place_in}
 use Rattle.kb_lpo.specs.Search.{FitsRows}
