@@ -53,34 +53,204 @@ fn orients(prec: &[u8], rule: &Rule) -> bool {
     greater(&above, &rule.0, &rule.1)
 }
 
-/// Whether some precedence that begins so may orient the rule: an undecided question is answered by yes.
-fn may_orient(prefix: &[u8], rule: &Rule) -> bool {
-    let above = |f, g| prefix.iter().find(|x| **x == f || **x == g) != Some(&g);
-    greater(&above, &rule.0, &rule.1)
+/// Bit g of row f: f doesn't stand behind g. Closed under transitivity.
+type Table = [u32; 24];
+
+fn is_from(known: &Table, f: u8, g: u8) -> bool {
+    known[f as usize] >> g & 1 == 1
 }
 
-/// Whether some permutation orients the rules, in lexicographic order from the prefix on, which then holds it.
-/// With `prunes` a prefix is given up where some rule fails however it goes on.
-fn permute(count: u8, rules: &[Rule], prec: &mut Vec<u8>, prunes: bool) -> bool {
-    if prec.len() == count as usize {
-        return rules.iter().all(|rule| orients(prec, rule));
+fn put(known: &Table, f: u8, g: u8) -> Table {
+    let below = known[g as usize];
+    known.map(|row| if row >> f & 1 == 1 { row | below } else { row })
+}
+
+/// What both ways share, or the one that is left.
+fn either(a: Option<Table>, b: Option<Table>) -> Option<Table> {
+    match (a, b) {
+        (Some(a), Some(b)) => Some(std::array::from_fn(|f| a[f] & b[f])),
+        (a, b) => a.or(b),
     }
-    for f in 0..count {
-        if !prec.contains(&f) {
-            prec.push(f);
-            let is_open = !prunes || rules.iter().all(|rule| may_orient(prec, rule));
-            if is_open && permute(count, rules, prec, prunes) {
-                return true;
+}
+
+/// What every precedence that fits and has s above t fulfils; none where there is none.
+fn force(known: &Table, s: &Term, t: &Term, fuel: &mut u32) -> Option<Table> {
+    if *fuel == 0 {
+        return Some(*known);
+    }
+    *fuel -= 1;
+    let (App(f, ss), App(g, ts)) = (s, t) else {
+        return match (s, t) {
+            (App(..), Var(x)) if occurs(*x, s) => Some(*known),
+            _ => None,
+        };
+    };
+    if f != g && is_from(known, *f, *g) {
+        return force_each(Some(*known), s, ts, fuel);
+    }
+    if f != g && is_from(known, *g, *f) {
+        return force_some(known, ss, t, fuel);
+    }
+    if f != g {
+        let first = force_each(Some(put(known, *f, *g)), s, ts, fuel);
+        return either(first, force_some(&put(known, *g, *f), ss, t, fuel));
+    }
+    for i in 0..ss.len().min(ts.len()) {
+        if ss[i] != ts[i] {
+            let first = force_each(force(known, &ss[i], &ts[i], fuel), s, &ts[i + 1..], fuel);
+            if first == Some(*known) {
+                return first;
             }
-            prec.pop();
+            return either(first, force_some(known, &ss[i + 1..], t, fuel));
         }
     }
-    false
+    None
+}
+
+fn force_each(first: Option<Table>, s: &Term, ts: &[Term], fuel: &mut u32) -> Option<Table> {
+    ts.iter().try_fold(first?, |known, u| force(&known, s, u, fuel))
+}
+
+fn force_some(known: &Table, ss: &[Term], t: &Term, fuel: &mut u32) -> Option<Table> {
+    let mut shared = None;
+    for u in ss {
+        if u == t {
+            return Some(*known);
+        }
+        let here = force(known, u, t, fuel);
+        if here == Some(*known) {
+            return here;
+        }
+        shared = either(shared, here);
+    }
+    shared
+}
+
+fn propagate(known: &Table, rules: &[Rule]) -> Option<Table> {
+    let mut now = *known;
+    loop {
+        let before = now;
+        for (l, r) in rules {
+            now = force(&now, l, r, &mut 1000)?;
+        }
+        if now == before {
+            return Some(now);
+        }
+    }
+}
+
+/// Two symbols that some rule compares first of all that are undecided: the first place at which it fails under the table,
+/// where what isn't known is taken as open.
+fn open_pair(known: &Table, s: &Term, t: &Term) -> Result<bool, (u8, u8)> {
+    let each = |us: &[Term]| {
+        for u in us {
+            if !open_pair(known, s, u)? {
+                return Ok(false);
+            }
+        }
+        Ok(true)
+    };
+    let some = |us: &[Term]| {
+        let mut open = Ok(false);
+        for u in us {
+            if u == t {
+                return Ok(true);
+            }
+            match open_pair(known, u, t) {
+                Ok(true) => return Ok(true),
+                Ok(false) => {}
+                pair => open = pair,
+            }
+        }
+        open
+    };
+    let (App(f, ss), App(g, ts)) = (s, t) else {
+        return Ok(matches!((s, t), (App(..), Var(x)) if occurs(*x, s)));
+    };
+    if f == g {
+        return match (0..ss.len().min(ts.len())).find(|i| ss[*i] != ts[*i]) {
+            Some(i) if open_pair(known, &ss[i], &ts[i])? => each(&ts[i + 1..]),
+            Some(i) => some(&ss[i + 1..]),
+            None => Ok(false),
+        };
+    }
+    match (is_from(known, *f, *g), is_from(known, *g, *f)) {
+        (true, _) => each(ts),
+        (_, true) => some(ss),
+        _ => Err((*f, *g)),
+    }
+}
+
+/// A table by which the rules are decided. What is known decides those before the first that is open.
+fn decide(known: &Table, rules: &[Rule]) -> Option<Table> {
+    let is_open = |(at, (l, r)): (usize, &Rule)| open_pair(known, l, r).err().map(|pair| (at, pair));
+    let Some((at, (f, g))) = rules.iter().enumerate().find_map(is_open) else {
+        return Some(*known);
+    };
+    let rest = &rules[at..];
+    [(f.min(g), f.max(g)), (f.max(g), f.min(g))].iter().find_map(|(f, g)| {
+        propagate(&put(known, *f, *g), rest).and_then(|more| decide(&more, rest))
+    })
+}
+
+/// The prefix, continued each time by the least symbol that may follow.
+fn first_fitting(known: &Table, count: u8, prefix: &[u8]) -> Vec<u8> {
+    let mut prec = prefix.to_vec();
+    while prec.len() < count as usize {
+        let is_free = |f: &u8| {
+            let is_first = |g| g == *f || prec.contains(&g) || !is_from(known, g, *f);
+            !prec.contains(f) && (0..count).all(is_first)
+        };
+        let Some(f) = (0..count).find(is_free) else { break };
+        prec.push(f);
+    }
+    prec
+}
+
+/// Places the symbols one by one, each time the least with which the rules can be decided. A table by which they were
+/// decided goes on to the next place where its symbol fits it.
+fn place(
+    known: &Table,
+    count: u8,
+    rules: &[Rule],
+    prefix: &mut Vec<u8>,
+    before: Option<Table>,
+) -> Option<Vec<u8>> {
+    let prec = first_fitting(known, count, prefix);
+    if prec.len() == count as usize && rules.iter().all(|rule| orients(&prec, rule)) {
+        return Some(prec);
+    }
+    if prefix.len() == count as usize {
+        return None;
+    }
+    let table = before.or_else(|| decide(known, rules))?;
+    for f in 0..count {
+        let behind = |g: &u8| *g != f && !prefix.contains(g);
+        if prefix.contains(&f) || (0..count).filter(behind).any(|g| is_from(known, g, f)) {
+            continue;
+        }
+        let more = (0..count).filter(behind).fold(*known, |known, g| put(&known, f, g));
+        let Some(more) = propagate(&more, rules) else { continue };
+        let fits = !(0..count).filter(behind).any(|g| is_from(&table, g, f));
+        prefix.push(f);
+        if let Some(prec) = place(&more, count, rules, prefix, fits.then_some(table)) {
+            return Some(prec);
+        }
+        prefix.pop();
+    }
+    None
 }
 
 fn search_path(count: u8, rules: &[Rule]) -> Option<Vec<u8>> {
-    let mut prec = vec![];
-    permute(count, rules, &mut prec, count > 8).then_some(prec)
+    let mut known: Table = std::array::from_fn(|f| 1 << f);
+    for (l, r) in rules {
+        known = force(&known, l, r, &mut 1000)?;
+    }
+    let prec = first_fitting(&known, count, &[]);
+    if prec.len() == count as usize && rules.iter().all(|rule| orients(&prec, rule)) {
+        return Some(prec);
+    }
+    place(&propagate(&known, rules)?, count, rules, &mut vec![], None)
 }
 
 // ---- the linear interpretations
@@ -413,6 +583,71 @@ fn path_case(count: usize, rules: Vec<Rule>, repetitions: u32) -> u64 {
     })
 }
 
+fn selectors(pairs: u8) -> Vec<Rule> {
+    let word = |symbols: &[u8]| symbols.iter().rev().fold(Var(0), |t, f| App(*f, vec![t]));
+    let mut rules = vec![
+        (word(&[0, 0]), word(&[1, 1])),
+        (word(&[1, 1, 0]), word(&[0, 1, 1])),
+    ];
+    for n in 0..pairs {
+        let pair = App(2 + pairs + n, vec![Var(0), Var(1)]);
+        rules.push((App(2 + n, vec![pair]), Var(0)));
+    }
+    rules
+}
+
+fn shuffled(seed: &mut u32, count: usize) -> Vec<u8> {
+    let mut symbols: Vec<u8> = (0..count as u8).collect();
+    for f in 1..count {
+        let other = next(seed, 24) as usize;
+        if other < f {
+            symbols.swap(f, other);
+        }
+    }
+    symbols
+}
+
+/// From 5 to 60 rules over 3 to 24 symbols. Every third set has an answer; in the others each eighth rule is oriented by a
+/// precedence of its own.
+fn random_set(number: u32) -> (Vec<u8>, Vec<Rule>) {
+    let seed = &mut number.clone();
+    let count = 3 + next(seed, 22);
+    let arities: Vec<u8> = (0..count).map(|_| next(seed, 4) as u8).collect();
+    let first = shuffled(seed, arities.len());
+    let second = if number % 3 == 0 { first.clone() } else { shuffled(seed, arities.len()) };
+    let wanted = 5 + next(seed, 56) as usize;
+    let mut rules = vec![];
+    for _ in 0..20000 {
+        if rules.len() >= wanted {
+            break;
+        }
+        let s = some_term(seed, &arities, 3);
+        let t = some_term(seed, &arities, 2);
+        let rule = (s, t);
+        if orients(if rules.len() % 8 == 7 { &second } else { &first }, &rule) {
+            rules.push(rule);
+        }
+    }
+    (arities, rules)
+}
+
+/// A line for each set: the checksum of the answer, and the nanoseconds of the search, the least of five times.
+fn print_sets(sets: u32) {
+    for number in 0..sets {
+        let (arities, rules) = random_set(number);
+        let count = arities.len() as u8;
+        let mut least = u128::MAX;
+        let mut code = 0;
+        for _ in 0..5 {
+            let start = std::time::Instant::now();
+            let found = search_path(count, std::hint::black_box(&rules));
+            code = found.unwrap_or_default().iter().fold(1, |sum, f| with_next(sum, u64::from(*f)));
+            least = least.min(start.elapsed().as_nanos());
+        }
+        println!("{code} {least}");
+    }
+}
+
 fn linear_case(arities: &[u8], rules: Vec<Rule>, repetitions: u32) -> u64 {
     repeat(repetitions, &|| {
         let found = search_linear(arities, std::hint::black_box(&rules));
@@ -670,11 +905,16 @@ fn reading_case(text: &[u8], times: u32) -> u64 {
 fn main() {
     let words: Vec<String> = std::env::args().skip(1).collect();
     let times: u32 = words[1].parse().unwrap();
+    if words[0] == "sets" {
+        return print_sets(times);
+    }
     let sum = match words[0].as_str() {
         "lpo_group" => path_case(3, group_rules(), times),
         "lpo_unary" => path_case(12, path_rules(&UNARY, 20, 4, false), times),
         "lpo_wide" => path_case(24, path_rules(&WIDE, 60, 4, false), times),
         "lpo_wide_none" => path_case(24, path_rules(&WIDE, 60, 4, true), times),
+        "lpo_selectors" => path_case(14, selectors(6), times),
+        "lpo_selectors_wide" => path_case(24, selectors(11), times),
         "linear_group" => linear_case(&GROUP, group_rules(), times),
         "linear_unary" => linear_case(&FIVE, linear_rules(&FIVE, 20, 5, false), times),
         "linear_unary_none" => linear_case(&FIVE, linear_rules(&FIVE, 20, 5, true), times),

@@ -42,8 +42,8 @@ pub fn next(seed: &mut u32, bound: u32) -> u32
     (*seed >> 16) % bound
 }
 
-// A term of three variables and symbols of these arities, at most so deep.
-fn some_term(alloc: Global, seed: &mut u32, arities: &[u8], depth: u8) -> Result<Term, Memory>
+/// A term of three variables and symbols of these arities, at most so deep.
+pub fn some_term(alloc: Global, seed: &mut u32, arities: &[u8], depth: u8) -> Result<Term, Memory>
     requires { length arities.now ≤ 24 }
 {
     if depth == 0 || arities.is_empty() || next(seed, 7) == 0 {

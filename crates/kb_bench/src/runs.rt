@@ -5,6 +5,7 @@ ghost use Rattle.kb_linear.specs.Limits.{AreMeasurable};
 use crate::reading;
 use crate::rewriting::{product_case, tree_case};
 use crate::rules::{group_rules, linear_rules, path_rules};
+use crate::sets::selectors;
 use crate::shapes::{comb, eight_doubles, eight_variables, full_tree, signature, unary};
 use kb_linear::{Interp, search_linear};
 use kb_lpo::{Precedence, search_lpo};
@@ -19,6 +20,8 @@ pub enum Case {
     LpoUnary,
     LpoWide,
     LpoWideNone,
+    LpoSelectors,
+    LpoSelectorsWide,
     LinearGroup,
     LinearUnary,
     LinearUnaryNone,
@@ -39,6 +42,8 @@ pub(crate) fn case_named(name: &str) -> Option<Case> {
         "lpo_unary" => Some(Case::LpoUnary),
         "lpo_wide" => Some(Case::LpoWide),
         "lpo_wide_none" => Some(Case::LpoWideNone),
+        "lpo_selectors" => Some(Case::LpoSelectors),
+        "lpo_selectors_wide" => Some(Case::LpoSelectorsWide),
         "linear_group" => Some(Case::LinearGroup),
         "linear_unary" => Some(Case::LinearUnary),
         "linear_unary_none" => Some(Case::LinearUnaryNone),
@@ -62,6 +67,10 @@ const FIVE: [u8; 5] = [1; 5];
 
 const EIGHT: [u8; 8] = [1; 8];
 
+const FOURTEEN: [u8; 14] = [1; 14];
+
+const TWENTY_FOUR: [u8; 24] = [1; 24];
+
 const WIDE: [u8; 24] = [
     2, 3, 2, 0, 1, 2, 3, 1, 3, 0, 0, 3, 2, 1, 1, 3, 2, 2, 1, 1, 1, 1, 2, 3,
 ];
@@ -71,7 +80,8 @@ pub(crate) fn with_next(sum: u64, number: u64) -> u64 {
     sum.wrapping_mul(31).wrapping_add(number)
 }
 
-fn precedence_code(found: &Option<Precedence>) -> u64 {
+/// The symbols of the precedence in one number.
+pub(crate) fn precedence_code(found: &Option<Precedence>) -> u64 {
     let mut sum = 1;
     if let Some(prec) = found {
         for f in prec.symbols() {
@@ -163,6 +173,19 @@ fn path_case(
     repeat_lpo(alloc, &sig, &rules, repetitions)
 }
 
+fn selector_case(
+    alloc: Global,
+    arities: &[u8],
+    pairs: u8,
+    repetitions: u32,
+) -> Result<u64, Memory>
+    requires few { length arities.now ≤ 24 }
+    requires pairs { pairs ≤ 11 }
+{
+    let sig = signature(alloc, arities)?;
+    repeat_lpo(alloc, &sig, &selectors(alloc, pairs)?, repetitions)
+}
+
 fn linear_case(
     alloc: Global,
     arities: &[u8],
@@ -186,6 +209,8 @@ pub(crate) fn checksum(alloc: Global, case: Case, repetitions: u32) -> Result<u6
         Case::LpoUnary => path_case(alloc, &UNARY, 20, false, repetitions),
         Case::LpoWide => path_case(alloc, &WIDE, 60, false, repetitions),
         Case::LpoWideNone => path_case(alloc, &WIDE, 60, true, repetitions),
+        Case::LpoSelectors => selector_case(alloc, &FOURTEEN, 6, repetitions),
+        Case::LpoSelectorsWide => selector_case(alloc, &TWENTY_FOUR, 11, repetitions),
         Case::LinearGroup => {
             let sig = signature(alloc, &GROUP)?;
             repeat_linear(alloc, &sig, &group_rules(alloc)?, repetitions)

@@ -1,6 +1,6 @@
 -- Which case decides between two applications.
-use Rattle.std.proofs.Common.{ℕ, ◌≡◌, ◌<◌, ◌≤◌, ◌+◌, ◌⊎◌, sym, ap, ◌∙◌, subst, subst₂, arith, List, length, map, ⊎_elim}
-use Rattle.std.proofs.lemmas.Bool.{cases_lt}
+use Rattle.std.proofs.Common.{ℕ, ◌≡◌, ◌<◌, ◌≤◌, ◌+◌, ◌⊎◌, inl, inr, sym, ap, ◌∙◌, subst, subst₂, arith, List, length, map, ⊎_elim}
+use Rattle.std.proofs.lemmas.Bool.{cases_lt, cases_eq}
 use Rattle.std.proofs.lemmas.List.{length-map}
 use Rattle.kb_term.specs.Tree.{Tree, apply, trees_of}
 use Rattle.kb_term.specs.View.{tree_of}
@@ -9,6 +9,7 @@ use Rattle.kb_lpo.specs.PathOrder.{IsAbove, LpoGreater}
 use Rattle.kb_lpo.specs.Agreeing.{At, Between, HasWitness, IsAgreement, IsNoWitness}
 use Rattle.kb_lpo.proofs.Exact.{by_symbol, by_arguments, by_witness, each_below, witness_by_symbol, witness_behind, witness_at_end, greater_at_difference, not_both_ways}
 use Rattle.kb_lpo.proofs.Exact as Exact
+use Rattle.kb_lpo.proofs.Places.{at_same, at_within}
 
 -- s and t are applications of f and g to the terms ss and ts
 module _ (p : List ℕ) (s t : Tree) (f g : ℕ) (ss ts : List Tree) (es : s ≡ apply f (trees_of ss)) (et : t ≡ apply g (trees_of ts)) where
@@ -45,3 +46,12 @@ module _ (p : List ℕ) (s t : Tree) (f g : ℕ) (ss ts : List Tree) (es : s ≡
 -- where there is a witness, one is found before the end
 pub witness_before : (p : List ℕ) (t : Tree) (items : List Term) (n i : ℕ) → HasWitness p t (map tree_of items) n → Between (IsNoWitness p t) (map tree_of items) n i → i < length items
 witness_before p t items n i w b = ⊎_elim (λ h. h) (λ h. absurd (let l = length-map items tree_of in not_both_ways p t (map tree_of items) n i (omega arith) w b)) (cases_lt i (length items))
+
+-- a witness from the place on is the member there, or stands behind it
+pub witness_here_or_behind : (p : List ℕ) (t : Tree) (xs : List Tree) (k : ℕ) (u : Tree) → At xs k u → HasWitness p t xs k → HasWitness p t xs (k + 1) ⊎ ((u ≡ t) ⊎ LpoGreater p u t)
+witness_here_or_behind p t xs k u a (j, v, h, b, w) =
+    ⊎_elim (λ e. inr (subst (λ z. (z ≡ t) ⊎ LpoGreater p z t) (at_same xs k v u (subst (λ z. At xs z v) e b) a) w)) (λ d. inl (j, v, omega (arith, d), b, w)) (cases_eq j k)
+
+-- no witness stands behind the end
+pub no_witness_at_end : (p : List ℕ) (t : Tree) (items : List Term) (k : ℕ) → length items ≤ k → HasWitness p t (map tree_of items) k → ⊥
+no_witness_at_end p t items k h (j, v, i, b, w) = let l = at_within (map tree_of items) j v b in let m = length-map items tree_of in omega arith

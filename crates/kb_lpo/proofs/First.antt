@@ -1,13 +1,13 @@
 -- The first arrangement, block by block.
-use Rattle.std.proofs.Common.{ℕ, zero, suc, ◌≡◌, ◌<◌, ◌+◌, ◌++◌, ◌⊎◌, inl, inr, ⊎_elim, List, [], ◌∷◌, length, refl, sym, ap, ◌∙◌, subst, arith, map, filter, Bool, true, false, ◌==◌, Contains, cond, IsTrue, ap₂}
+use Rattle.std.proofs.Common.{ℕ, zero, suc, ◌≡◌, ◌<◌, ◌+◌, ◌++◌, ◌⊎◌, inl, inr, ⊎_elim, List, [], ◌∷◌, length, take, drop, refl, sym, ap, ◌∙◌, subst, arith, map, filter, Bool, true, false, ◌==◌, Contains, cond, IsTrue, ap₂}
 use Rattle.std.specs.Prelude.{not, ◌&&◌, ◌||◌, slice_index_or, Some, None, Option}
 use Rattle.std.specs.List.{range_with_len, list_any, flat_map}
 use Rattle.std.proofs.lemmas.Bool.{false≢true, cases_eq}
 use Rattle.std.proofs.lemmas.List.{append_assoc, length-append, length-map}
 use Rattle.std.specs.Option.{option_to_list, IsSome}
-use Rattle.std.proofs.lemmas.List.Elements.{filter-append, All-append}
+use Rattle.std.proofs.lemmas.List.Elements.{filter-append, All-append, All-take, All-drop}
 use Rattle.std.proofs.lemmas.Grind.{flat_map-append}
-use Rattle.kb_lpo.specs.PathOrder.{IsAbove}
+use Rattle.kb_lpo.specs.PathOrder.{IsAbove, LpoGreater}
 use Rattle.kb_lpo.specs.Precedences.{arrangements, precedences}
 use Rattle.kb_term.specs.First.{IsFirst}
 use Rattle.kb_lpo.specs.Search.{outside, numbers, IsSearched}
@@ -232,3 +232,9 @@ snoc_inj (a ∷ xs) (b ∷ ys) x y e = let h = snoc_inj xs ys x y (ap tail e) in
 pub popped : (xs : List ℕ) (y : ℕ) (old new : List Symbol) (o : Option Symbol) → numbers old ≡ xs ++ y ∷ [] → old ≡ new ++ option_to_list o → (0 < length old → IsSome o) → numbers new ≡ xs
 popped xs y old new (Some f) e d v = snoc_inj (numbers new) xs f.0 y (sym (numbers_push new f) ∙ ap numbers (sym d) ∙ e)
 popped xs y old new None e d v = absurd (false≢true (v (let l = length-append xs (y ∷ []) in let m = length-map old (λ (f : Symbol). f.0) in let q = ap length e in omega (arith, l, m, q))))
+
+-- what orients all rules orients those from a place on
+pub orients_rest : (prec : List ℕ) (rules : List Rule) (place n : ℕ) → LpoOrients prec rules → LpoOrients prec (take n (drop place rules))
+orients_rest prec rules place n o =
+    let P : Rule → Type 0 = λ rule. LpoGreater prec rule.left rule.right in
+    All-take P n (drop place rules) (All-drop P place rules o)

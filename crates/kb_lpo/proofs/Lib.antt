@@ -8,11 +8,10 @@ pub mod Arities
 mod LpoHalting
 pub mod PathOrderLaws
 mod Places
-mod Symbols
 mod Exact
 mod Cases
 mod Answering
+mod Rows
 pub mod First
 mod Ascending
-mod Nothing
-mod ThreeSymbols
+pub mod Letters

@@ -1,16 +1,21 @@
 -- The search for a precedence: what is known of it, and what is found.
-use Rattle.std.specs.Prelude.{ℕ, ◌<◌, ◌+◌, ◌*◌, ◌≡◌, ◌++◌, ◌∷◌, ◌⊎◌, [], cond, List, Bool, true, false, slice_get, Some, None, not, filter, map, Contains, ◌==◌, All}
+use Rattle.std.specs.Prelude.{ℕ, ◌<◌, ◌≤◌, ◌≡◌, ◌++◌, ◌∷◌, ◌⊎◌, [], cond, List, Bool, true, false, slice_index, Some, None, not, filter, map, Contains, ◌==◌, All}
 use Rattle.std.specs.List.{range_with_len, list_any}
 use Rattle.kb_term.specs.declared.term.Symbol.{Symbol}
 use Rattle.kb_lpo.specs.declared.known.Known.{Known}
 use Rattle.kb_term.specs.Rule.{Rule}
-use Rattle.kb_lpo.specs.PathOrder.{IsAbove}
+use Rattle.std.specs.Int.{bit_at}
+use Rattle.kb_term.specs.Pair.{place_in}
 use Rattle.kb_lpo.specs.Precedences.{arrangements, LpoOrients}
 use Rattle.kb_term.specs.First.{IsFirst}
 
--- the precedence has f above g wherever this is known
+-- wherever bit g of row f is 1, f doesn't stand behind g in the precedence
+abbrev pub FitsRows : List ℕ → List ℕ → Type 0
+FitsRows rows prec = (f g : ℕ) → f < 24 → bit_at (slice_index rows f) g ≡ 1 → place_in prec f ≤ place_in prec g
+
+-- the precedence fulfils what is known
 abbrev pub Fits : Known → List ℕ → Type 0
-Fits known prec = (f g : ℕ) → f < 24 → g < 24 → slice_get known.above (24 * f + g) ≡ Some true → IsAbove prec f g
+Fits known prec = FitsRows known.rows prec
 
 -- the symbols by number
 abbrev pub numbers : List Symbol → List ℕ

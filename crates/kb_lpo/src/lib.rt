@@ -4,6 +4,7 @@
 mod known;
 mod laws;
 mod needs;
+mod open;
 mod order;
 mod precedence;
 mod search;

@@ -1,170 +1,130 @@
 // What rules need of a precedence.
-ghost use Rattle.std.specs.Prelude.{ℕ, List, ◌≡◌, IsTrue, map, ◌+◌, ◌<◌, ◌≤◌, length, true};
+ghost use Rattle.std.specs.Prelude.{ℕ, List, ◌≡◌, map, ◌+◌, ◌<◌, ◌≤◌, length, IsSomeAnd};
 ghost use Rattle.kb_term.specs.View.{tree_of};
 ghost use Rattle.kb_term.specs.Tree.{Tree};
-ghost use Rattle.kb_lpo.specs.PathOrder.{LpoGreater, IsAbove};
-ghost use Rattle.kb_lpo.specs.Agreeing.{At, Between, HasWitness, IsNoWitness};
+ghost use Rattle.kb_term.specs.Pair.{place_in};
+ghost use Rattle.kb_lpo.specs.PathOrder.{LpoGreater};
+ghost use Rattle.kb_lpo.specs.Agreeing.{At, Between, HasWitness};
 ghost use Rattle.kb_lpo.specs.Search.{Fits};
 
-use crate::known::Known;
+use crate::known::{Known, either};
 use crate::order::{agreement, is_same, occurs};
 use kb_term::{Symbol, Term};
 
-/// Whether `s` may be above `t`: false where no precedence that fits what is known has it so.
-#[cycle(possible)]
-pub(crate) fn possible(known: &Known, s: &Term, t: &Term) -> bool
-    ensures { (prec : List ℕ) → Fits known.now prec → LpoGreater prec (tree_of s.now) (tree_of t.now) → IsTrue result }
-{
-    match (s, t) {
-        (Term::Var(_), _) => false,
-        (Term::App(_, _), Term::Var(n)) => occurs(s, *n),
-        (Term::App(f, front), Term::App(g, back)) => {
-            let ss = front.items();
-            let ts = back.items();
-            if *f == *g {
-                let n = agreement(ss, ts);
-                if n < ss.len() && n < ts.len() {
-                    if possible(known, &ss[n], &ts[n]) {
-                        return possible_each(known, s, ts, n + 1);
-                    }
-                    return first_witness(known, ss, n + 1, t) < ss.len();
-                }
-                first_witness(known, ss, n, t) < ss.len()
-            } else if known.is_above(*g, *f) {
-                first_witness(known, ss, 0, t) < ss.len()
-            } else {
-                possible_each(known, s, ts, 0)
-            }
-        }
+/// Whether a way asks for no more than is known.
+fn adds_nothing(way: &Option<Known>, known: &Known) -> bool {
+    match way {
+        Some(more) => *more == *known,
+        None => false,
     }
 }
 
-/// Whether `s` may be above each of the terms from the place on.
-#[cycle(possible)]
-fn possible_each(known: &Known, s: &Term, ts: &[Term], from: usize) -> bool
-    ensures { (prec : List ℕ) → Fits known.now prec → Between (λ u. LpoGreater prec (tree_of s.now) u) (map tree_of ts.now) from (length ts.now) → IsTrue result }
-{
-    for j in from..ts.len() {
-        if !possible(known, s, &ts[j]) {
-            return false;
-        }
-    }
-    true
-}
-
-/// The first place from `from` on of a term that may be `t` or above it, or the number of terms.
-#[cycle(possible)]
-fn first_witness(known: &Known, ss: &[Term], from: usize, t: &Term) -> usize
-    ensures { (prec : List ℕ) → Fits known.now prec → Between (IsNoWitness prec (tree_of t.now)) (map tree_of ss.now) from result }
-{
-    for k in from..ss.len() {
-        if is_same(&ss[k], t) {
-            return k;
-        }
-        if possible(known, &ss[k], t) {
-            return k;
-        }
-    }
-    ss.len()
-}
-
-/// Records what every precedence that has `s` above `t` needs: false where there is none. It may record less; the fuel
-/// bounds its steps.
+/// What is known of every precedence that has `s` above `t`: none where there is no such precedence. Each way in which `s`
+/// may be above `t` is followed, and what all of them share is known. The fuel bounds the steps; at its end nothing is added.
 #[cycle(force)]
-pub(crate) fn force(known: &mut Known, s: &Term, t: &Term, fuel: &mut u32) -> bool
-    ensures { (prec : List ℕ) → Fits known.old prec → LpoGreater prec (tree_of s.now) (tree_of t.now) → IsTrue result × Fits known.new prec }
+pub(crate) fn force(known: &Known, s: &Term, t: &Term, fuel: &mut u32) -> Option<Known>
+    ensures { (prec : List ℕ) → Fits known.now prec → LpoGreater prec (tree_of s.now) (tree_of t.now) → IsSomeAnd result (λ more. Fits more prec) }
 {
     if *fuel == 0 {
-        return true;
+        return Some(*known);
     }
     *fuel -= 1;
     match (s, t) {
-        (Term::Var(_), _) => false,
-        (Term::App(_, _), Term::Var(n)) => occurs(s, *n),
+        (Term::Var(_), _) => None,
+        (Term::App(_, _), Term::Var(n)) => { if occurs(s, *n) { Some(*known) } else { None } }
         (Term::App(f, front), Term::App(g, back)) => {
             let ss = front.items();
             let ts = back.items();
             if *f == *g {
                 let n = agreement(ss, ts);
                 if n < ss.len() && n < ts.len() {
-                    if !force_difference(known, ss, ts, n, t, fuel) {
-                        return false;
+                    let difference = force(known, &ss[n], &ts[n], fuel);
+                    let first = force_each(difference, s, ts, n + 1, fuel);
+                    if adds_nothing(&first, known) {
+                        return Some(*known);
                     }
-                    return force_each(known, s, ts, n + 1, fuel);
+                    return either(first, force_witness(known, ss, n + 1, t, fuel));
                 }
-                first_witness(known, ss, n, t) < ss.len()
-            } else if known.is_above(*g, *f) {
-                force_witness(known, ss, t, fuel)
+                force_witness(known, ss, n, t, fuel)
+            } else if known.is_from(*f, *g) {
+                force_each(Some(*known), s, ts, 0, fuel)
+            } else if known.is_from(*g, *f) {
+                force_witness(known, ss, 0, t, fuel)
             } else {
-                if !force_symbol(known, *f, *g, ss, t) {
-                    return false;
-                }
-                force_each(known, s, ts, 0, fuel)
+                let first = force_above(known, *f, *g, s, ts, fuel);
+                either(first, force_below(known, *f, *g, ss, t, fuel))
             }
         }
     }
 }
 
-/// Records what is needed to have `s` above each of the terms from the place on.
+/// What is known where, besides what is needed first, `s` is above each of the terms from the place on.
 #[cycle(force)]
-fn force_each(known: &mut Known, s: &Term, ts: &[Term], from: usize, fuel: &mut u32) -> bool
-    ensures { (prec : List ℕ) → Fits known.old prec → Between (λ u. LpoGreater prec (tree_of s.now) u) (map tree_of ts.now) from (length ts.now) → IsTrue result × Fits known.new prec }
+fn force_each(
+    first: Option<Known>,
+    s: &Term,
+    ts: &[Term],
+    from: usize,
+    fuel: &mut u32,
+) -> Option<Known>
+    ensures { (prec : List ℕ) → IsSomeAnd first (λ known. Fits known prec) → Between (λ u. LpoGreater prec (tree_of s.now) u) (map tree_of ts.now) from (length ts.now) → IsSomeAnd result (λ more. Fits more prec) }
 {
+    let mut more = first?;
     for j in from..ts.len() {
-        if !force(known, s, &ts[j], fuel) {
-            return false;
-        }
+        more = force(&more, s, &ts[j], fuel)?;
     }
-    true
+    Some(more)
 }
 
-/// Records what the first difference needs, where no later argument can be `t` or above it.
+/// What is known where one of the terms from the place on is `t` or above it.
 #[cycle(force)]
-fn force_difference(
-    known: &mut Known,
-    ss: &[Term],
+fn force_witness(known: &Known, ss: &[Term], from: usize, t: &Term, fuel: &mut u32) -> Option<Known>
+    ensures { (prec : List ℕ) → Fits known.now prec → HasWitness prec (tree_of t.now) (map tree_of ss.now) from → IsSomeAnd result (λ more. Fits more prec) }
+{
+    let mut shared = None;
+    for k in from..ss.len() {
+        if is_same(&ss[k], t) {
+            return Some(*known);
+        }
+        let here = force(known, &ss[k], t, fuel);
+        if adds_nothing(&here, known) {
+            return Some(*known);
+        }
+        shared = either(shared, here);
+    }
+    shared
+}
+
+/// What is known where `f` is above `g` and `s` above each of the terms.
+#[cycle(force)]
+fn force_above(
+    known: &Known,
+    f: Symbol,
+    g: Symbol,
+    s: &Term,
     ts: &[Term],
-    n: usize,
+    fuel: &mut u32,
+) -> Option<Known>
+    ensures { (prec : List ℕ) → Fits known.now prec → place_in prec f.0 ≤ place_in prec g.0 → Between (λ u. LpoGreater prec (tree_of s.now) u) (map tree_of ts.now) 0 (length ts.now) → IsSomeAnd result (λ more. Fits more prec) }
+{
+    let mut more = *known;
+    more.put(f, g);
+    force_each(Some(more), s, ts, 0, fuel)
+}
+
+/// What is known where `f` isn't above `g` and one of the terms is `t` or above it.
+#[cycle(force)]
+fn force_below(
+    known: &Known,
+    f: Symbol,
+    g: Symbol,
+    ss: &[Term],
     t: &Term,
     fuel: &mut u32,
-) -> bool
-    requires first { n < length ss.now }
-    requires second { n < length ts.now }
-    ensures { (prec : List ℕ) → Fits known.old prec → (Between (IsNoWitness prec (tree_of t.now)) (map tree_of ss.now) (n + 1) (length ss.now) → (u v : Tree) → At (map tree_of ss.now) n u → At (map tree_of ts.now) n v → LpoGreater prec u v) → IsTrue result × Fits known.new prec }
+) -> Option<Known>
+    ensures { (prec : List ℕ) → Fits known.now prec → place_in prec g.0 ≤ place_in prec f.0 → HasWitness prec (tree_of t.now) (map tree_of ss.now) 0 → IsSomeAnd result (λ more. Fits more prec) }
 {
-    if first_witness(known, ss, n + 1, t) < ss.len() {
-        return true;
-    }
-    force(known, &ss[n], &ts[n], fuel)
-}
-
-/// Records what is needed to have one of the terms be `t` or above it, where only one can.
-#[cycle(force)]
-fn force_witness(known: &mut Known, ss: &[Term], t: &Term, fuel: &mut u32) -> bool
-    ensures { (prec : List ℕ) → Fits known.old prec → HasWitness prec (tree_of t.now) (map tree_of ss.now) 0 → IsTrue result × Fits known.new prec }
-{
-    let k = first_witness(known, ss, 0, t);
-    if k < ss.len() {
-        if is_same(&ss[k], t) {
-            return true;
-        }
-        if first_witness(known, ss, k + 1, t) < ss.len() {
-            return true;
-        }
-        return force(known, &ss[k], t, fuel);
-    }
-    false
-}
-
-/// Records that `f` is above `g`, where none of the arguments can be `t` or above it.
-fn force_symbol(known: &mut Known, f: Symbol, g: Symbol, ss: &[Term], t: &Term) -> bool
-    ensures { (prec : List ℕ) → Fits known.old prec → (Between (IsNoWitness prec (tree_of t.now)) (map tree_of ss.now) 0 (length ss.now) → IsAbove prec f.0 g.0) → IsTrue result × Fits known.new prec }
-{
-    if known.is_above(f, g) {
-        return true;
-    }
-    if first_witness(known, ss, 0, t) < ss.len() {
-        return true;
-    }
-    known.learn(f, g)
+    let mut more = *known;
+    more.put(g, f);
+    force_witness(&more, ss, 0, t, fuel)
 }

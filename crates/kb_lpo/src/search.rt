@@ -1,5 +1,6 @@
 // The first precedence that orients given rules.
-ghost use Rattle.std.specs.Prelude.{ℕ, List, ◌≡◌, ◌++◌, IsTrue, ◌↔◌, IfOk, map, ◌+◌, ◌<◌, ◌≤◌, length, Contains, [], ◌∷◌, true, false};
+ghost use Rattle.std.specs.Prelude.{ℕ, List, ◌≡◌, ◌++◌, IsTrue, IsSome, ◌↔◌, IfOk, map, ◌+◌, ◌<◌, ◌≤◌, length, Contains, [], ◌∷◌, true, false};
+ghost use Rattle.kb_term.specs.Pair.{place_in};
 ghost use Rattle.kb_lpo.specs.PathOrder.{LpoGreater, IsAbove};
 ghost use Rattle.kb_lpo.specs.Precedences.{precedences};
 ghost use Rattle.kb_term.specs.First.{IsFirst};
@@ -8,15 +9,19 @@ ghost use Rattle.kb_lpo.specs.Search.{Fits, IsFloor, IsSearched, IsTried, floor_
 ghost use Rattle.kb_lpo.specs.Precedences.{IsLowerBound, LpoOrients};
 
 use crate::known::Known;
-use crate::needs::{force, possible};
-use crate::order::{greater, has_symbol};
+use crate::needs::force;
+use crate::open::open_pair;
+use crate::order::greater;
 use crate::precedence::Precedence;
 use kb_term::{Memory, Rule, Signature, Symbol};
 use std::alloc::Global;
 
-/// How many prefixes the rules refuse before all that they need is recorded for each prefix: until then the search only asks
-/// whether the rules are still possible, which takes a fraction of the time.
-const PATIENCE: u32 = 100;
+/// The steps that a search takes to find what one rule needs before it leaves the rest of it open. Rules that are compared
+/// in more steps have hundreds of ways to be oriented.
+const FUEL: u32 = 1000;
+
+/// How many pairs of symbols are decided one after the other at the most: as many as 24 symbols have.
+const PAIRS: u32 = 276;
 
 /// Whether the precedence orients all rules.
 fn orients(symbols: &[Symbol], rules: &[Rule]) -> bool
@@ -35,24 +40,10 @@ fn force_all(known: &mut Known, rules: &[Rule]) -> bool
     ensures { (prec : List ℕ) → Fits known.old prec → LpoOrients prec rules.now → IsTrue result × Fits known.new prec }
 {
     for i in 0..rules.len() {
-        let mut fuel = 1000;
-        if !force(known, rules[i].left(), rules[i].right(), &mut fuel) {
-            return false;
-        }
-    }
-    true
-}
-
-/// Whether the rules are still possible, where `f` was put above other symbols: false where no precedence that fits orients
-/// all. This changes nothing for rules without `f` on the right, so they are left out.
-fn are_possible(known: &Known, rules: &[Rule], f: Symbol) -> bool
-    ensures { (prec : List ℕ) → Fits known.now prec → LpoOrients prec rules.now → IsTrue result }
-{
-    for i in 0..rules.len() {
-        if has_symbol(rules[i].right(), f) {
-            if !possible(known, rules[i].left(), rules[i].right()) {
-                return false;
-            }
+        let mut fuel = FUEL;
+        match force(known, rules[i].left(), rules[i].right(), &mut fuel) {
+            Some(more) => *known = more,
+            None => return false,
         }
     }
     true
@@ -62,16 +53,63 @@ fn are_possible(known: &Known, rules: &[Rule], f: Symbol) -> bool
 fn propagate(known: &mut Known, rules: &[Rule]) -> bool
     ensures { (prec : List ℕ) → Fits known.old prec → LpoOrients prec rules.now → IsTrue result × Fits known.new prec }
 {
-    for _ in 0..576 {
-        let before = known.records;
+    for _ in 0..PAIRS {
+        let before = *known;
         if !force_all(known, rules) {
             return false;
         }
-        if known.records == before {
+        if *known == before {
             return true;
         }
     }
     true
+}
+
+/// What is known and more, by which the rules are decided: none only where no precedence that fits orients all. Each
+/// comparison of two symbols that the rules leave open is decided one way and then the other; `pairs` bounds how many are
+/// decided at a time.
+#[cycle(decide)]
+fn decide(known: &Known, rules: &[Rule], pairs: u32) -> Option<Known>
+    ensures { (prec : List ℕ) → Fits known.now prec → LpoOrients prec rules.now → IsSome result }
+{
+    if pairs == 0 {
+        return Some(*known);
+    }
+    match open_pair(known, rules) {
+        None => Some(*known),
+        Some(open) => {
+            let rest = &rules[open.place..];
+            let found = decide_with(known, rest, open.first, open.second, pairs - 1);
+            if found.is_some() {
+                return found;
+            }
+            decide_with(known, rest, open.second, open.first, pairs - 1)
+        }
+    }
+}
+
+/// The same of the precedences in which `f` doesn't stand behind `g`.
+#[cycle(decide)]
+fn decide_with(known: &Known, rules: &[Rule], f: Symbol, g: Symbol, pairs: u32) -> Option<Known>
+    ensures { (prec : List ℕ) → Fits known.now prec → place_in prec f.0 ≤ place_in prec g.0 → LpoOrients prec rules.now → IsSome result }
+{
+    let mut more = *known;
+    more.put(f, g);
+    if !propagate(&mut more, rules) {
+        return None;
+    }
+    decide(&more, rules, pairs)
+}
+
+/// The table by which the rules were decided before, or one that is looked for: none only where no precedence that fits
+/// orients all.
+fn decided(known: &Known, rules: &[Rule], before: Option<Known>) -> Option<Known>
+    ensures { (prec : List ℕ) → Fits known.now prec → LpoOrients prec rules.now → IsSome result }
+{
+    if before.is_some() {
+        return before;
+    }
+    decide(known, rules, PAIRS)
 }
 
 /// Whether the symbol is listed.
@@ -96,7 +134,7 @@ fn put_above(known: &mut Known, symbols: &[Symbol], f: Symbol, g: Symbol) -> boo
     if is_listed(symbols, g) {
         return true;
     }
-    known.record(f, g)
+    known.learn(f, g)
 }
 
 /// Records that `f` is above each symbol below `count` that is not listed: false where this cannot be.
@@ -111,49 +149,21 @@ fn put_next(known: &mut Known, symbols: &[Symbol], f: Symbol, count: u8) -> bool
     true
 }
 
-/// Puts `f` behind the listed symbols: false where it is listed, or no precedence orients all rules. A refusal by the
-/// rules takes from the patience.
-fn place_next(
-    known: &mut Known,
-    rules: &[Rule],
-    symbols: &[Symbol],
-    f: Symbol,
-    count: u8,
-    patience: &mut u32,
-) -> bool
+/// Puts `f` behind the listed symbols: false where it is listed, or what the rules need refuses it.
+fn place_next(known: &mut Known, rules: &[Rule], symbols: &[Symbol], f: Symbol, count: u8) -> bool
     ensures unlisted { result ≡ true → ¬ Contains (numbers symbols.now) f.0 }
     ensures sound { (rest : List ℕ) → ¬ Contains (numbers symbols.now) f.0 → Fits known.old (numbers symbols.now ++ f.0 ∷ rest) → LpoOrients (numbers symbols.now ++ f.0 ∷ rest) rules.now → IsTrue result × Fits known.new (numbers symbols.now ++ f.0 ∷ rest) }
 {
     if is_listed(symbols, f) {
         return false;
     }
-    let before = known.records;
     if !put_next(known, symbols, f, count) {
         return false;
     }
-    if known.records == before {
-        return true;
-    }
-    if are_possible(known, rules, f) {
-        return true;
-    }
-    *patience = patience.saturating_sub(1);
-    false
-}
-
-/// Records what the rules need, where the patience is at an end and this has not been done: false where no precedence that
-/// fits orients all.
-fn narrow(known: &mut Known, rules: &[Rule], patience: u32, is_narrowed: &mut bool) -> bool
-    ensures { (prec : List ℕ) → Fits known.old prec → LpoOrients prec rules.now → IsTrue result × Fits known.new prec }
-{
-    if patience > 0 || *is_narrowed {
-        return true;
-    }
-    *is_narrowed = true;
     propagate(known, rules)
 }
 
-/// Whether `f` may stand behind the listed symbols: it is none of them, and no other is known to be above it.
+/// Whether `f` may stand behind the listed symbols: it is none of them, and none of the others has to stand before it.
 fn may_follow(known: &Known, symbols: &[Symbol], f: Symbol, count: u8) -> bool
     ensures unlisted { result ≡ true → ¬ Contains (numbers symbols.now) f.0 }
     ensures sound { (rest : List ℕ) → ¬ Contains (numbers symbols.now) f.0 → Fits known.now (numbers symbols.now ++ f.0 ∷ rest) → IsTrue result }
@@ -162,13 +172,21 @@ fn may_follow(known: &Known, symbols: &[Symbol], f: Symbol, count: u8) -> bool
         return false;
     }
     for y in 0..count {
-        if known.is_above(Symbol(y), f) {
+        if y != f.0 && known.is_from(Symbol(y), f) {
             if !is_listed(symbols, Symbol(y)) {
                 return false;
             }
         }
     }
     true
+}
+
+/// The table, if `f` may stand behind the listed symbols by it.
+fn fitting(table: &Known, symbols: &[Symbol], f: Symbol, count: u8) -> Option<Known> {
+    if may_follow(table, symbols, f, count) {
+        return Some(*table);
+    }
+    None
 }
 
 /// Puts the symbols that are left behind those of the prefix, each time the least that may follow, and tests this one
@@ -221,49 +239,65 @@ fn behind(floor: &[Symbol], f: Symbol) -> &[Symbol]
     }
 }
 
-/// Puts the symbols that are left behind those of the prefix, as the first arrangement that orients all rules. None
-/// before the floor does, so the search begins there; an empty floor lets it begin at the first arrangement.
+/// Puts the symbols that are left behind those of the prefix, as the first arrangement that orients all rules: at each
+/// place the least symbol with which the rules can still be decided. None before the floor orients them, so the search
+/// begins there; an empty floor lets it begin at the first arrangement. A table by which the rules were decided goes on to
+/// the next place where its symbol fits it.
+#[cycle(search_from)]
 fn search_from(
-    known: &mut Known,
+    known: &Known,
     rules: &[Rule],
     count: u8,
     prefix: &mut Vec<Symbol>,
     left: u8,
     floor: &[Symbol],
-    patience: &mut u32,
+    before: Option<Known>,
 ) -> Result<bool, Memory>
-    requires sound { (rest : List ℕ) → LpoOrients (numbers prefix.old.items ++ rest) rules.now → Fits known.old (numbers prefix.old.items ++ rest) }
+    requires sound { (rest : List ℕ) → LpoOrients (numbers prefix.old.items ++ rest) rules.now → Fits known.now (numbers prefix.old.items ++ rest) }
     requires bound { IsFloor rules.now count left (numbers prefix.old.items) (numbers floor.now) }
     ensures { IfOk result (λ found. IsSearched rules.now count left (numbers prefix.old.items) (numbers prefix.new.items) found) }
 {
     if left == 0 {
         return Ok(orients(prefix, rules));
     }
-    let mut is_narrowed = false;
+    let Some(table) = decided(known, rules, before) else {
+        return Ok(false);
+    };
     for y in lowest(floor)..count {
-        if !narrow(known, rules, *patience, &mut is_narrowed) {
-            return Ok(false);
-        }
         let f = Symbol(y);
         let mut more = *known;
-        if place_next(&mut more, rules, prefix, f, count, patience) {
+        if place_next(&mut more, rules, prefix, f, count) {
+            let next = fitting(&table, prefix, f, count);
             prefix.push(f)?;
             let next_floor = behind(floor, f);
-            if search_from(
-                &mut more,
-                rules,
-                count,
-                prefix,
-                left - 1,
-                next_floor,
-                patience,
-            )? {
+            if search_or_fit(&more, rules, count, prefix, left - 1, next_floor, next)? {
                 return Ok(true);
             }
             prefix.pop();
         }
     }
     Ok(false)
+}
+
+/// The same, where the first arrangement that fits what is known is tested before.
+#[cycle(search_from)]
+fn search_or_fit(
+    known: &Known,
+    rules: &[Rule],
+    count: u8,
+    prefix: &mut Vec<Symbol>,
+    left: u8,
+    floor: &[Symbol],
+    before: Option<Known>,
+) -> Result<bool, Memory>
+    requires sound { (rest : List ℕ) → LpoOrients (numbers prefix.old.items ++ rest) rules.now → Fits known.now (numbers prefix.old.items ++ rest) }
+    requires bound { IsFloor rules.now count left (numbers prefix.old.items) (numbers floor.now) }
+    ensures { IfOk result (λ found. IsSearched rules.now count left (numbers prefix.old.items) (numbers prefix.new.items) found) }
+{
+    if first_fitting(known, rules, count, prefix, left)? {
+        return Ok(true);
+    }
+    search_from(known, rules, count, prefix, left, floor, before)
 }
 
 /// The first precedence that orients all rules, where none before the floor does.
@@ -289,16 +323,7 @@ fn search_above(
     if !propagate(&mut known, rules) {
         return Ok(None);
     }
-    let mut patience = PATIENCE;
-    if search_from(
-        &mut known,
-        rules,
-        count,
-        &mut prefix,
-        count,
-        floor,
-        &mut patience,
-    )? {
+    if search_or_fit(&known, rules, count, &mut prefix, count, floor, None)? {
         return Ok(Some(Precedence::new(prefix)));
     }
     Ok(None)

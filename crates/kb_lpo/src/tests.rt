@@ -1,31 +1,30 @@
 // Worked examples, and the search against all precedences of three symbols.
-ghost use Rattle.std.specs.Prelude.{[], ◌∷◌, ◌≡◌, ◌<◌, ◌≤◌, IfOk, length};
+ghost use Rattle.std.specs.Prelude.{◌≡◌, ◌<◌, ◌≤◌, IfOk, length};
 
 use super::*;
 use kb_term::{Memory, Rule, Signature, Symbol, Term, Terms};
 use std::alloc::Global;
 use std::test::Fail;
 
-fn letter(alloc: Global, b: u8) -> Result<Vec<u8>, Memory>
-    ensures { IfOk result (λ name. name.items ≡ b ∷ []) }
+/// The symbols a, b, c, .. with these arities.
+fn signature(alloc: Global, arities: &[u8]) -> Result<Signature, Memory>
+    requires { length arities.now ≤ 24 }
+    ensures { IfOk result (λ sig. length sig ≡ length arities.now) }
 {
-    let mut name = Vec::new(alloc);
-    name.push(b)?;
-    Ok(name)
+    let mut symbols = Vec::new(alloc);
+    for f in 0..arities.len() {
+        let mut name = Vec::new(alloc);
+        name.push(b'a' + f as u8)?;
+        symbols.push((name, arities[f]))?;
+    }
+    Ok(Signature::new(symbols))
 }
 
 /// The signature of f, g and h.
 fn three_symbols(alloc: Global) -> Result<Signature, Memory>
     ensures { IfOk result (λ sig. length sig ≡ 3) }
 {
-    let f = letter(alloc, b'f')?;
-    let g = letter(alloc, b'g')?;
-    let h = letter(alloc, b'h')?;
-    let mut symbols = Vec::new(alloc);
-    symbols.push((f, 1))?;
-    symbols.push((g, 1))?;
-    symbols.push((h, 2))?;
-    Ok(Signature::new(symbols))
+    signature(alloc, &[1, 1, 2])
 }
 
 fn precedence(alloc: Global, symbols: &[u8]) -> Result<Precedence, Memory> {
@@ -198,6 +197,35 @@ fn rules_that_need_f_above_g_and_g_above_f_have_none(rt: HostRuntime) -> Result<
     let mut rules = Vec::new(alloc);
     rules.push(Rule::new(word(alloc, &[0, 0])?, word(alloc, &[1])?))?;
     rules.push(Rule::new(word(alloc, &[1, 0])?, word(alloc, &[0, 1])?))?;
+    assert!(rt; search_lpo(alloc, &sig, &rules)?.is_none());
+    Ok(())
+}
+
+/// The rules by which eleven symbols select from pairs of their own, of which no precedence asks anything.
+fn selectors(alloc: Global) -> Result<Vec<Rule>, Memory> {
+    let mut rules = Vec::new(alloc);
+    for f in 2..13u8 {
+        let pair = binary(alloc, f + 11, Term::Var(0), Term::Var(1))?;
+        rules.push(Rule::new(unary(alloc, f, pair)?, Term::Var(0)))?;
+    }
+    Ok(rules)
+}
+
+#[test]
+fn symbols_that_no_choice_concerns_do_not_hide_a_conflict(rt: HostRuntime) -> Result<(), Fail> {
+    let alloc = rt.alloc();
+    let sig = signature(alloc, &[1; 24])?;
+    let mut rules = selectors(alloc)?;
+    rules.push(Rule::new(word(alloc, &[1, 1])?, word(alloc, &[0, 0])?))?;
+    let found = search_lpo(alloc, &sig, &rules)?;
+    let wanted = precedence(
+        alloc,
+        &[
+            1, 0, 2, 3, 4, 5, 6, 7, 8, 9, 10, 11, 12, 13, 14, 15, 16, 17, 18, 19, 20, 21, 22, 23,
+        ],
+    )?;
+    assert!(rt; is_same_answer(&found, &Some(wanted)));
+    rules.push(Rule::new(word(alloc, &[0, 0, 1])?, word(alloc, &[1, 0, 0])?))?;
     assert!(rt; search_lpo(alloc, &sig, &rules)?.is_none());
     Ok(())
 }

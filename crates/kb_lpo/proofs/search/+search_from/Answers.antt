@@ -1,5 +1,5 @@
 use Rattle.std.proofs.Common.{sym, ◌∙◌, ◌++◌, ◌∷◌, [], ap, subst, arith, ◌≡◌, suc, ◌-◌, Contains, refl, List, ℕ}
-use Rattle.std.specs.Prelude.{None, slice_index_or}
+use Rattle.std.specs.Prelude.{None}
 use Rattle.kb_lpo.specs.Precedences.{arrangements}
 use Rattle.kb_term.specs.First.{IsFirst}
 use Rattle.std.proofs.lemmas.Bool.{false≢true}
@@ -9,15 +9,15 @@ use Rattle.kb_lpo.specs.Precedences.{LpoOrients}
 use Rattle.kb_lpo.proofs.First.{leaf, numbers_push, found_next, none_next, none_refused, listed_or_not, popped, tried}
 use Rattle.kb_lpo.proofs.Ascending.{floor_next, lowest_refused, lowest_within}
 use Rattle.kb_lpo.proofs.search.+search_from.Goals as goal
-use Rattle.kb_lpo.proofs.search.+search_from.Goals.{then-place_next+in_ok-push+in_ok-search_from+else-branch, else-place_next}
+use Rattle.kb_lpo.proofs.search.+search_from.Goals.{search_from-then-place_next+in_ok-push+in_ok-search_or_fit+else-branch, search_from-else-place_next}
 
-pub returns-then-left-eq0 : goal.returns-then-left-eq0
-returns-then-left-eq0 t c =
+pub search_from-returns-then-left-eq0 : goal.search_from-returns-then-left-eq0
+search_from-returns-then-left-eq0 t c =
     let e = ap numbers c.deref.ensures.value in
     leaf c.args.rules.now c.args.count c.args.left (numbers c.args.prefix.now.items) c.orients.result (grind arith) ((λ h. subst (λ z. LpoOrients z c.args.rules.now) e (c.orients.ensures.0 h)), (λ o. c.orients.ensures.1 (subst (λ z. LpoOrients z c.args.rules.now) (sym e) o)))
 
-pub search_from-requires : goal.search_from-requires
-search_from-requires t c =
+pub search_from-search_or_fit-requires : goal.search_from-search_or_fit-requires
+search_from-search_or_fit-requires t c =
     let xs = numbers c.args.prefix.now.items in
     let y = c.loop-y.y in
     let rules = c.args.rules.now in
@@ -30,22 +30,17 @@ search_from-requires t c =
     let e = ap (λ z. z ++ rest) p ∙ append_assoc xs (y ∷ []) rest in
     let d = ap (λ z. z ++ y ∷ rest) s in
     let q = subst (λ z. LpoOrients z rules) e o in
-    subst (Fits c.place_next.new.known) (d ∙ sym e) (c.place_next.ensures.sound rest u (subst (Fits c.narrow.new.known) (sym d) (c.narrow.ensures (xs ++ y ∷ rest) (c.loop-y.invariant.2 (y ∷ rest) q) q).1) (subst (λ z. LpoOrients z rules) (sym d) q)).1 in
+    subst (Fits c.place_next.new.known) (d ∙ sym e) (c.place_next.ensures.sound rest u (subst (Fits c.args.known.now) (sym d) (c.requires.sound (y ∷ rest) q)) (subst (λ z. LpoOrients z rules) (sym d) q)).1 in
     (grind arith, (sound, floor_next rules c.args.count c.args.left (c.args.left - 1) y xs (numbers c.push.new.self.items) (numbers c.args.floor.now) (numbers c.behind-next_floor.result.now) n p (grind arith) (subst (λ z. ¬ Contains z y) s u) c.behind-next_floor.ensures c.requires.bound))
 
-pub returns-then-not-narrow : goal.returns-then-not-narrow
-returns-then-not-narrow t c =
-    let xs = numbers c.args.prefix.now.items in
-    (c.loop-y.invariant.0, λ k d i o. let r = slice_index_or (arrangements c.args.left (outside c.args.count xs)) k d in false≢true (sym c.if-not-narrow.true ∙ (c.narrow.ensures (xs ++ r) (c.loop-y.invariant.2 r o) o).0))
-
-pub loop-y-init : goal.loop-y-init
-loop-y-init t c =
+pub search_from-loop-y-init : goal.search_from-loop-y-init
+search_from-loop-y-init t c =
     let n : suc (c.args.left - 1) ≡ c.args.left = grind arith in
     let xs = numbers c.args.prefix.now.items in
-    (refl, subst (λ z. IsFirst (λ r. LpoOrients (xs ++ r) c.args.rules.now) (tried (c.args.left - 1) xs c.args.count z) None) (sym c.lowest-y.ensures) (lowest_refused c.args.rules.now c.args.count c.args.left (c.args.left - 1) xs (numbers c.args.floor.now) n c.requires.bound), c.requires.sound)
+    (refl, subst (λ z. IsFirst (λ r. LpoOrients (xs ++ r) c.args.rules.now) (tried (c.args.left - 1) xs c.args.count z) None) (sym c.lowest-y.ensures) (lowest_refused c.args.rules.now c.args.count c.args.left (c.args.left - 1) xs (numbers c.args.floor.now) n c.requires.bound))
 
-pub returns-then-branch : goal.returns-then-branch
-returns-then-branch t c =
+pub search_from-returns-then-branch : goal.search_from-returns-then-branch
+search_from-returns-then-branch t c =
     let xs = numbers c.args.prefix.now.items in
     let y = c.loop-y.y in
     let rules = c.args.rules.now in
@@ -53,32 +48,30 @@ returns-then-branch t c =
     let u = c.place_next.ensures.unlisted c.if-place_next.true in
     let p : numbers c.push.new.self.items ≡ xs ++ y ∷ [] = ap numbers c.in_ok-push.ensures.items ∙ numbers_push c.loop-y.prefix.items (record { 0 = y }) ∙ ap (λ z. z ++ y ∷ []) c.loop-y.invariant.0 in
     let n : suc (c.args.left - 1) ≡ c.args.left = grind arith in
-    found_next rules c.args.count (c.args.left - 1) c.args.left y xs (numbers c.push.new.self.items) (numbers c.search_from.new.prefix.items) n p (grind arith) (subst (λ z. ¬ Contains z y) s u) c.loop-y.invariant.1 (subst (λ b. IsSearched rules c.args.count (c.args.left - 1) (numbers c.push.new.self.items) (numbers c.search_from.new.prefix.items) b) c.if-branch.true c.in_ok-search_from.ensures)
+    found_next rules c.args.count (c.args.left - 1) c.args.left y xs (numbers c.push.new.self.items) (numbers c.search_or_fit.new.prefix.items) n p (grind arith) (subst (λ z. ¬ Contains z y) s u) c.loop-y.invariant.1 (subst (λ b. IsSearched rules c.args.count (c.args.left - 1) (numbers c.push.new.self.items) (numbers c.search_or_fit.new.prefix.items) b) c.if-branch.true c.in_ok-search_or_fit.ensures)
 
-pub loop-y-preserved : goal.loop-y-preserved
-loop-y-preserved t c =
+pub search_from-loop-y-preserved : goal.search_from-loop-y-preserved
+search_from-loop-y-preserved t c =
     let xs = numbers c.args.prefix.now.items in
     let y = c.loop-y.y in
     let rules = c.args.rules.now in
     let s : numbers c.deref-in-loop-y.result.now ≡ xs = ap numbers c.deref-in-loop-y.ensures.value ∙ c.loop-y.invariant.0 in
-    let fits : (rest : List ℕ) → LpoOrients (xs ++ rest) rules → Fits c.narrow.new.known (xs ++ rest) = λ rest o. (c.narrow.ensures (xs ++ rest) (c.loop-y.invariant.2 rest o) o).1 in
     elim c.if-place_next.branch [
-      | then-place_next+in_ok-push+in_ok-search_from+else-branch w ↦
+      | search_from-then-place_next+in_ok-push+in_ok-search_or_fit+else-branch w ↦
           let u = c.place_next.ensures.unlisted w.if-place_next.true in
           let p : numbers w.push.new.self.items ≡ xs ++ y ∷ [] = ap numbers w.in_ok-push.ensures.items ∙ numbers_push c.loop-y.prefix.items (record { 0 = y }) ∙ ap (λ z. z ++ y ∷ []) c.loop-y.invariant.0 in
-          let r = subst (λ b. IsSearched rules c.args.count (c.args.left - 1) (numbers w.push.new.self.items) (numbers w.search_from.new.prefix.items) b) w.if-branch.false w.in_ok-search_from.ensures in
-          (ap (λ v. numbers v.items) w.prefix-is ∙ popped xs y w.search_from.new.prefix.items w.pop.new.self.items w.pop.result (r.0 ∙ p) w.pop.ensures.items (λ h. w.pop.ensures.variant.1 (let k = w.search_from.new.prefix.ok in grind (arith, h, k))), none_next rules c.args.count (c.args.left - 1) y xs (numbers w.push.new.self.items) (numbers w.search_from.new.prefix.items) p (subst (λ z. ¬ Contains z y) s u) c.loop-y.invariant.1 r, fits)
-      | else-place_next w ↦ (
+          let r = subst (λ b. IsSearched rules c.args.count (c.args.left - 1) (numbers w.push.new.self.items) (numbers w.search_or_fit.new.prefix.items) b) w.if-branch.false w.in_ok-search_or_fit.ensures in
+          (ap (λ v. numbers v.items) w.prefix-is ∙ popped xs y w.search_or_fit.new.prefix.items w.pop.new.self.items w.pop.result (r.0 ∙ p) w.pop.ensures.items (λ h. w.pop.ensures.variant.1 (let k = w.search_or_fit.new.prefix.ok in grind (arith, h, k))), none_next rules c.args.count (c.args.left - 1) y xs (numbers w.push.new.self.items) (numbers w.search_or_fit.new.prefix.items) p (subst (λ z. ¬ Contains z y) s u) c.loop-y.invariant.1 r)
+      | search_from-else-place_next w ↦ (
         ap (λ v. numbers v.items) w.prefix-is ∙ c.loop-y.invariant.0,
         none_refused rules c.args.count (c.args.left - 1) y xs (listed_or_not xs y) (λ r n o.
             let d = ap (λ z. z ++ y ∷ r) s in
-            false≢true (sym w.if-place_next.false ∙ (c.place_next.ensures.sound r (λ k. n (subst (λ z. Contains z y) s k)) (subst (Fits c.narrow.new.known) (sym d) (fits (y ∷ r) o)) (subst (λ z. LpoOrients z rules) (sym d) o)).0)) c.loop-y.invariant.1,
-        fits,
+            false≢true (sym w.if-place_next.false ∙ (c.place_next.ensures.sound r (λ k. n (subst (λ z. Contains z y) s k)) (subst (Fits c.args.known.now) (sym d) (c.requires.sound (y ∷ r) o)) (subst (λ z. LpoOrients z rules) (sym d) o)).0)) c.loop-y.invariant.1,
       )
     ]
 
-pub returns : goal.returns
-returns t c =
+pub search_from-returns : goal.search_from-returns
+search_from-returns t c =
     let xs = numbers c.args.prefix.now.items in
     let n : suc (c.args.left - 1) ≡ c.args.left = grind arith in
     let low = lowest_within c.args.rules.now c.args.count c.args.left xs (numbers c.args.floor.now) c.requires.bound in

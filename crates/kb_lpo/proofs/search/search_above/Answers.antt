@@ -1,4 +1,4 @@
-use Rattle.std.proofs.Common.{Bool, true, false, ℕ, List, ◌≡◌, [], sym, ◌∙◌, ap, subst, subst₂, ◌++◌, slice_index_or, length}
+use Rattle.std.proofs.Common.{Bool, true, false, ℕ, List, ◌≡◌, [], sym, ◌∙◌, ap, subst, subst₂, ◌++◌}
 use Rattle.std.proofs.lemmas.Bool.{false≢true}
 use Rattle.std.specs.Prelude.{Some, None}
 use Rattle.kb_lpo.specs.Precedences.{precedences}
@@ -9,16 +9,13 @@ use Rattle.kb_term.specs.Rule.{Rule}
 use Rattle.kb_lpo.proofs.First.{whole_found, whole_none}
 use Rattle.kb_lpo.proofs.search.search_above.Goals as goal
 
-pub first_fitting-requires : goal.first_fitting-requires
-first_fitting-requires c = λ rest o. let p = numbers c.new-prefix.result.items ++ rest in (c.force_all.ensures p (c.new-known.ensures p) o).1
-
 -- the try that found nothing has left the prefix empty
 still_empty : (rules : List Rule) (count : ℕ) (xs ys : List ℕ) (b : Bool) → b ≡ false → xs ≡ [] → IsTried rules count count xs ys b → ys ≡ []
 still_empty rules count xs ys true e n h = absurd (false≢true (sym e))
 still_empty rules count xs ys false e n h = h ∙ n
 
-pub search_from-requires : goal.search_from-requires
-search_from-requires c =
+pub search_or_fit-requires : goal.search_or_fit-requires
+search_or_fit-requires c =
     let xs = numbers c.first_fitting.new.prefix.items in
     let n = c.count-count.result in
     let empty : xs ≡ [] = still_empty c.args.rules.now n (numbers c.new-prefix.result.items) xs c.in_ok-first_fitting.field-0 c.if-branch.false (ap numbers c.new-prefix.ensures.items) c.in_ok-first_fitting.ensures in
@@ -40,8 +37,8 @@ returns-then-branch-2 c =
     let n = c.count-count.result in
     let xs = numbers c.first_fitting.new.prefix.items in
     let empty : xs ≡ [] = still_empty rules n (numbers c.new-prefix.result.items) xs c.in_ok-first_fitting.field-0 c.if-branch.false (ap numbers c.new-prefix.ensures.items) c.in_ok-first_fitting.ensures in
-    let s = subst (λ b. IsSearched rules n n xs (numbers c.search_from.new.prefix.items) b) c.if-branch-2.true c.in_ok-search_from.ensures in
-    subst (λ z. IsFirst (λ prec. LpoOrients prec rules) (precedences z) (Some c.new-then-branch-2.result)) c.count-count.ensures (subst (λ z. IsFirst (λ prec. LpoOrients prec rules) (precedences n) (Some z)) (sym c.new-then-branch-2.ensures) (whole_found rules n xs (numbers c.search_from.new.prefix.items) empty s))
+    let s = subst (λ b. IsSearched rules n n xs (numbers c.search_or_fit.new.prefix.items) b) c.if-branch-2.true c.in_ok-search_or_fit.ensures in
+    subst (λ z. IsFirst (λ prec. LpoOrients prec rules) (precedences z) (Some c.new-then-branch-2.result)) c.count-count.ensures (subst (λ z. IsFirst (λ prec. LpoOrients prec rules) (precedences n) (Some z)) (sym c.new-then-branch-2.ensures) (whole_found rules n xs (numbers c.search_or_fit.new.prefix.items) empty s))
 
 pub returns : goal.returns
 returns c =
@@ -49,11 +46,5 @@ returns c =
     let n = c.count-count.result in
     let xs = numbers c.first_fitting.new.prefix.items in
     let empty : xs ≡ [] = still_empty rules n (numbers c.new-prefix.result.items) xs c.in_ok-first_fitting.field-0 c.if-branch.false (ap numbers c.new-prefix.ensures.items) c.in_ok-first_fitting.ensures in
-    let s = subst (λ b. IsSearched rules n n xs (numbers c.search_from.new.prefix.items) b) c.if-branch-2.false c.in_ok-search_from.ensures in
-    subst (λ z. IsFirst (λ prec. LpoOrients prec rules) (precedences z) None) c.count-count.ensures (whole_none rules n xs (numbers c.search_from.new.prefix.items) empty s)
-
-pub returns-then-not-force_all : goal.returns-then-not-force_all
-returns-then-not-force_all c = λ k d i o. let p = slice_index_or (precedences (length c.args.sig.now)) k d in false≢true (sym c.if-not-force_all.true ∙ (c.force_all.ensures p (c.new-known.ensures p) o).0)
-
-pub returns-then-not-propagate : goal.returns-then-not-propagate
-returns-then-not-propagate c = λ k d i o. let p = slice_index_or (precedences (length c.args.sig.now)) k d in false≢true (sym c.if-not-propagate.true ∙ (c.propagate.ensures p (c.force_all.ensures p (c.new-known.ensures p) o).1 o).0)
+    let s = subst (λ b. IsSearched rules n n xs (numbers c.search_or_fit.new.prefix.items) b) c.if-branch-2.false c.in_ok-search_or_fit.ensures in
+    subst (λ z. IsFirst (λ prec. LpoOrients prec rules) (precedences z) None) c.count-count.ensures (whole_none rules n xs (numbers c.search_or_fit.new.prefix.items) empty s)

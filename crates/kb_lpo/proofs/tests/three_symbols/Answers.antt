@@ -1,7 +1,0 @@
-use Rattle.std.proofs.Common.{arith}
-use Rattle.kb_lpo.proofs.ThreeSymbols.{signature_from}
-use Rattle.kb_lpo.proofs.tests.three_symbols.Goals as goal
-
-pub new-requires : goal.new-requires
-new-requires c =
-    signature_from c.in_ok-f.f c.in_ok-g.g c.in_ok-h.h c.push-3.new.self.items c.in_ok-f.ensures c.in_ok-g.ensures c.in_ok-h.ensures (grind (arith, c.in_ok-push.ensures.items, c.in_ok-push-2.ensures.items, c.in_ok-push-3.ensures.items, c.new-symbols.ensures.items))
