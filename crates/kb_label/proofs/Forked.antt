@@ -1,5 +1,5 @@
 -- The names that live after forks: in their order, none a beginning of another, and each of fewer bits than there are names.
-use Rattle.std.specs.Prelude.{ℕ, List, [], ◌∷◌, ◌++◌, Bool, true, false, ◌&&◌, ◌||◌, not, ◌≡◌, ◌⊎◌, refl, length, suc, ◌+◌, ◌<◌, ◌≤◌, Result, Ok, Err, OnOk, OnErr}
+use Rattle.std.specs.Prelude.{List, [], ◌∷◌, ◌++◌, Bool, true, false, ◌&&◌, ◌||◌, not, ◌≡◌, ◌⊎◌, refl, length, suc, ◌+◌, ◌<◌, ◌≤◌, Result, Ok, Err, OnOk, OnErr}
 use Rattle.std.proofs.Common.{ap, ap₂, sym, ◌∙◌, subst, inl, inr, ⊎_elim, arith, length-append}
 use mathlib.Core.Bool.{true≢false}
 use Rattle.std.specs.Ordering.{is_eq}

@@ -1,4 +1,4 @@
-pub mod Bits
+pub mod Words
 pub mod Members
 pub mod Ordered
 pub mod Merged

@@ -6,7 +6,7 @@ use Rattle.std.specs.Ordering.{is_eq}
 use Rattle.std.specs.declared.cmp.Ordering.{Ordering}
 use Rattle.std.specs.declared.cmp.Ordering.TheVariants.{Less, Equal, Greater}
 use Rattle.std.specs.Cmp.{tied_itself}
-use Rattle.kb_label.specs.Names.{Name, child, bits_cmp, name_cmp, name_eq, has, by_order, add, join, meet, minus, relabel}
+use Rattle.kb_label.specs.Names.{Name, bits_cmp, name_cmp, name_eq, has, by_order, add, join, meet, minus}
 use Rattle.kb_label.specs.NameOrder.{bits_cmp-total, bits_cmp-equal, name_cmp-equal, is_eq-equal}
 
 -- ---- names

@@ -1,14 +1,14 @@
 -- Lists of names in their order.
-use Rattle.std.specs.Prelude.{ℕ, List, [], ◌∷◌, Bool, true, false, ◌||◌, not, cond, ◌≡◌, refl, filter, length, suc, ◌+◌}
-use Rattle.std.proofs.Common.{ap, sym, ◌∙◌, subst, arith}
+use Rattle.std.specs.Prelude.{List, [], ◌∷◌, Bool, true, false, ◌||◌, not, cond, ◌≡◌, refl, filter, length, suc}
+use Rattle.std.proofs.Common.{ap, sym, ◌∙◌, subst}
 use mathlib.Core.Bool.{true≢false}
 use Rattle.std.specs.Cmp.{eq_by_cmp_equiv}
 use Rattle.std.specs.Ordering.{ordering_reverse, is_eq}
 use Rattle.std.specs.declared.cmp.Ordering.{Ordering}
 use Rattle.std.specs.declared.cmp.Ordering.TheVariants.{Less, Equal, Greater}
 use Rattle.kb_label.specs.Names.{Name, name_cmp, name_eq, has, by_order, add, join, minus, IsInNameOrder}
-use Rattle.kb_label.specs.NameOrder.{bits_cmp-total, name_cmp-total, name_cmp-same, name_cmp-equal, name_eq-by_cmp}
-use Rattle.kb_label.proofs.Members.{name_eq-refl, name_eq-eq}
+use Rattle.kb_label.specs.NameOrder.{bits_cmp-total, name_cmp-total, name_cmp-same, name_eq-by_cmp}
+use Rattle.kb_label.proofs.Members.{name_eq-eq}
 
 -- the other way round
 pub turned : (p q : Name) → name_cmp p q ≡ Greater → name_cmp q p ≡ Less

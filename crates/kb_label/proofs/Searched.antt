@@ -1,8 +1,7 @@
 -- What a binary search in a list of names answers.
-use Rattle.std.specs.Prelude.{ℕ, List, [], ◌∷◌, ◌++◌, Bool, true, false, ◌||◌, ◌≡◌, refl, length, suc, zero, ◌+◌, ◌<◌, ◌≤◌, insert, is_ok, Result, Ok, Err, IfOk, IfErr}
-use Rattle.std.proofs.Common.{ap, ap₂, add-one, sym, ◌∙◌, subst, arith, get_or}
+use Rattle.std.specs.Prelude.{ℕ, List, [], ◌∷◌, Bool, true, false, ◌||◌, ◌≡◌, refl, length, suc, zero, ◌<◌, ◌≤◌, insert, is_ok, Result, Ok, Err, IfOk, IfErr}
+use Rattle.std.proofs.Common.{ap, ap₂, add-one, sym, ◌∙◌, arith, get_or}
 use mathlib.Core.Bool.{true≢false}
-use native.Mathlib.Numerals.{unary_clauses}
 use Rattle.std.specs.declared.cmp.Ordering.{Ordering}
 use Rattle.std.specs.Ordering.{is_eq, is_lt, ordering_index}
 use Rattle.std.specs.List.Sorted.{IsSorted, IsNonDecreasingBy, IsPartitionPoint, IsBinarySearchResult, IsSearchInRange}

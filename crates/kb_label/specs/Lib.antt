@@ -1,3 +1,4 @@
 pub mod Names
 pub mod Forks
 pub mod NameOrder
+pub mod Packed

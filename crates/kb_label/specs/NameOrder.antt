@@ -1,7 +1,6 @@
 -- The order of names is a total order, and its equality is equality.
 use Rattle.std.specs.Prelude.{◌≡◌, Bool, true, false, [], ◌∷◌, length}
-use Rattle.std.proofs.Common.{refl, sym, ap, ap₂, ◌∙◌}
-use mathlib.Core.Bool.{true≢false}
+use Rattle.std.proofs.Common.{refl, sym, ap, ap₂}
 use Rattle.std.specs.declared.cmp.Ordering.{Ordering}
 use Rattle.std.specs.declared.cmp.Ordering.TheVariants.{Less, Equal, Greater}
 use Rattle.std.specs.Ordering.{ordering_then, is_eq, nat_cmp}

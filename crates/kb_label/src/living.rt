@@ -6,7 +6,7 @@ ghost use Rattle.kb_label.specs.Forks.{IsForked};
 use crate::process::{MAX_BITS, Process};
 use std::alloc::{AllocError, Global};
 
-/// The most processes that may live at once: a fork of the last but one still has a name of at most 255 bits.
+/// The most processes that may live at once: a fork of the last but one still has a name of at most 1,023 bits.
 pub const MAX_LIVING: u32 = MAX_BITS as u32 + 1;
 
 /// A log of forks. Contracts see it as the list of the names that live, in their order.

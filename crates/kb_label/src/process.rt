@@ -1,39 +1,48 @@
 // Names of processes.
-ghost use Rattle.std.specs.Prelude.{◌≡◌, ◌<◌, ◌≤◌, length};
+ghost use Rattle.std.specs.Prelude.{◌≡◌, ◌+◌, ◌-◌, ◌*◌, ◌^◌, ◌<◌, ◌≤◌, ◌↔◌, length, slice_get, IsTrue, Some};
 ghost use Rattle.kb_label.specs.Names.{root, child};
+ghost use Rattle.kb_label.specs.Packed.{digit};
 
 use std::alloc::AllocError;
 use std::cmp::Ordering;
 use std::marker::Model;
 
 /// The most bits that a name may have.
-pub const MAX_BITS: usize = 255;
+pub const MAX_BITS: usize = 1023;
 
-/// The name of a process: a string of at most 255 bits. It is kept in place, so a copy takes no memory.
+// The bits of a word.
+const WORD_BITS: usize = 64;
+
+// The words of a name: room for one bit more than the most.
+const WORDS: usize = 16;
+
+/// The name of a process: a string of at most 1,023 bits. It is kept in place, so a copy takes no memory.
 ///
 /// The first process has the empty name; a fork of a process adds a 0 and a 1 at the end of its name. Names are
-/// ordered by their length, and those of one length by the first bit that differs, 0 before 1.
+/// ordered by their length, and those of one length by the first bit that differs, 0 before 1. The bits are packed into
+/// words, the first bit highest, so that names of one length are ordered as their words are.
 #[derive(Debug)]
 pub struct Process {
-    bits: [bool; MAX_BITS],
+    words: [u64; WORDS],
     len: u16,
 }
 
 impl Model for Process {
-    ghost use Rattle.std.specs.Prelude.{List, Bool, false, take, replicate, length, ◌++◌, ◌-◌, ◌≤◌, ◌≡◌};
-    ghost use Rattle.kb_label.specs.declared.process.TheConstants.{MAX_BITS};
+    ghost use Rattle.std.specs.Prelude.{List, Bool, length, ◌≤◌, ◌≡◌};
+    ghost use Rattle.kb_label.specs.declared.process.TheConstants.{MAX_BITS, WORDS};
+    ghost use Rattle.kb_label.specs.Packed.{name_in, words_of};
 
     ghost Value = { List Bool };
 
-    ghost view = { λ p. take p.len p.bits };
+    ghost view = { λ p. name_in p.words p.len };
 
-    ghost invariant = { λ p. (p.len ≤ MAX_BITS) × (p.bits ≡ take p.len p.bits ++ replicate (MAX_BITS - p.len) false) × (length (take p.len p.bits) ≡ p.len) };
+    ghost invariant = { λ p. (p.len ≤ MAX_BITS) × (p.words ≡ words_of WORDS (name_in p.words p.len)) × (length (name_in p.words p.len) ≡ p.len) };
 
-    ghost inverse = { λ l. record { bits = l ++ replicate (MAX_BITS - length l) false; len = length l } };
+    ghost inverse = { λ l. record { words = words_of WORDS l; len = length l } };
 
-    ghost use Rattle.std.proofs.Common.{ap, sym, ◌∙◌};
+    ghost use Rattle.std.proofs.Common.{sym};
 
-    ghost inverse_ok = { λ a h i. record { bits = (ap (λ n. take a.len a.bits ++ replicate (MAX_BITS - n) false) h.2 ∙ sym h.1) i; len = h.2 i } };
+    ghost inverse_ok = { λ a h i. record { words = sym h.1 i; len = h.2 i } };
 }
 
 impl Process {
@@ -42,17 +51,33 @@ impl Process {
         ensures { result ≡ root }
     {
         Process {
-            bits: [false; MAX_BITS],
+            words: [0; WORDS],
             len: 0,
         }
     }
 
-    /// The bits of the name, the first one first.
-    pub fn bits(&self) -> &[bool]
-        ensures bits { result.now ≡ self.now }
-        ensures short { length self.now ≤ MAX_BITS }
+    /// How many bits the name has, at most `MAX_BITS`.
+    pub fn len(&self) -> usize
+        ensures count { result ≡ length self.now }
+        ensures most { length self.now ≤ MAX_BITS }
     {
-        &self.bits[..self.len as usize]
+        self.len as usize
+    }
+
+    /// Whether this is the first process, whose name has no bit.
+    pub fn is_empty(&self) -> bool
+        ensures { IsTrue result ↔ (self.now ≡ root) }
+    {
+        self.len == 0
+    }
+
+    /// A bit of the name, the first one at 0.
+    pub fn bit(&self, i: usize) -> bool
+        requires { i < length self.now }
+        ensures { slice_get self.now i ≡ Some result }
+    {
+        let word = self.words[i / WORD_BITS];
+        (word >> (WORD_BITS - 1 - i % WORD_BITS)) % 2 == 1
     }
 
     /// The name with one bit more, which a fork gives to one of the two processes in the place of this one.
@@ -61,8 +86,7 @@ impl Process {
         ensures { result ≡ child self.now bit }
     {
         let mut child = *self;
-        child.bits[child.len as usize] = bit;
-        child.len += 1;
+        child.push(bit);
         child
     }
 
@@ -73,10 +97,28 @@ impl Process {
     {
         let mut process = Process::root();
         for bit in bits {
-            process = process.child(*bit);
+            process.push(*bit);
         }
         process
     }
+
+    // Adds a bit at the end of the name.
+    fn push(&mut self, bit: bool)
+        requires { length self.old < MAX_BITS }
+        ensures { self.new ≡ child self.old bit }
+    {
+        let end = self.len as usize;
+        self.words[end / WORD_BITS] += weight(bit, end % WORD_BITS);
+        self.len += 1;
+    }
+}
+
+// What a bit at a place of a word, the highest at 0, adds to the word.
+fn weight(bit: bool, place: usize) -> u64
+    requires { place < 64 }
+    ensures { result ≡ digit bit * 2 ^ (64 - 1 - place) }
+{
+    u64::from(bit) << (WORD_BITS - 1 - place)
 }
 
 impl Clone for Process {
@@ -142,8 +184,9 @@ impl Ord for Process {
     ghost matches_eq = { name_eq-by_cmp };
 
     fn cmp(&self, other: &Process) -> Ordering {
-        self.len
-            .cmp(&other.len)
-            .then_with(|| self.bits().cmp(&other.bits()))
+        match self.len.cmp(&other.len) {
+            Ordering::Equal => self.words.cmp(&other.words),
+            by_length => by_length,
+        }
     }
 }

@@ -51,9 +51,18 @@ fn worked<L: Labels>(
     label.names(log)
 }
 
+fn has_bits(name: &Process, bits: &[bool]) -> bool {
+    for (i, bit) in bits.iter().enumerate() {
+        if i >= name.len() || name.bit(i) != *bit {
+            return false;
+        }
+    }
+    name.len() == bits.len()
+}
+
 fn is_at(names: &[Process], place: usize, bits: &[bool]) -> bool {
     match names.get(place) {
-        Some(name) => name.bits() == bits,
+        Some(name) => has_bits(name, bits),
         None => false,
     }
 }
@@ -127,17 +136,17 @@ fn after_all_forks(alloc: Global) -> Result<(u32, usize), AllocError> {
     let mut log = NameLog::start(alloc)?;
     let mut process = Process::root();
     for _ in 0..MAX_LIVING {
-        if log.is_living(&process) && log.living() < MAX_LIVING && process.bits().len() < MAX_BITS {
+        if log.is_living(&process) && log.living() < MAX_LIVING && process.len() < MAX_BITS {
             log.fork(&process)?;
             process = process.child(true);
         }
     }
-    Ok((log.living(), process.bits().len()))
+    Ok((log.living(), process.len()))
 }
 
 #[test]
 fn as_many_processes_live_as_may(rt: HostRuntime) {
     let (living, bits) = after_all_forks(rt.alloc()).expect(&rt, "memory");
-    assert_eq!(rt; living, 256);
-    assert_eq!(rt; bits, 255);
+    assert_eq!(rt; living, 1024);
+    assert_eq!(rt; bits, 1023);
 }

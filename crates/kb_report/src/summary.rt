@@ -43,11 +43,14 @@ fn bit_digit(bit: bool) -> u8
 fn process_text(alloc: Global, process: &Process) -> Result<Vec<u8>, Memory>
     ensures { IfOk result (λ text. text.items ≡ text_of_process process.now) }
 {
-    let bits = process.bits();
-    if bits.is_empty() {
+    if process.is_empty() {
         return Ok(Vec::from_slice(alloc, b"e")?);
     }
-    Ok(bits.iter().map(|bit| bit_digit(*bit)).collect(alloc)?)
+    let mut text = Vec::new(alloc);
+    for i in 0..process.len() {
+        text.push(bit_digit(process.bit(i)))?;
+    }
+    Ok(text)
 }
 
 fn push_spent(alloc: Global, line: &mut Fields, spent: Spent) -> Result<(), Memory>

@@ -30,7 +30,7 @@ fork_room b p n c0 c1 few room =
     let f : nat_lt 4096 (length b.nodes) ≡ false = grind (arith, nat_tests) in
     (λ i. first_some (None ∷ some_if (e i) Processes ∷ some_if (f i) Nodes ∷ []))
 
-pub fork_crowded : (b : Plain) (p : Name) (n : NodeId) (c0 c1 : Certificate) → length b.living ≡ 256 → limit_of b (Both p n c0 c1) ≡ Some Processes
+pub fork_crowded : (b : Plain) (p : Name) (n : NodeId) (c0 c1 : Certificate) → 256 ≤ length b.living → limit_of b (Both p n c0 c1) ≡ Some Processes
 fork_crowded b p n c0 c1 many =
     let e : nat_le 256 (length b.living) ≡ true = grind (arith, nat_tests) in
     (λ i. first_some (None ∷ some_if (e i) Processes ∷ some_if (nat_lt 4096 (length b.nodes)) Nodes ∷ []))

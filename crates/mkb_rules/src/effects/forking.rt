@@ -16,10 +16,13 @@ use crate::labels::{copy_of, only};
 use crate::nodes::Nodes;
 use crate::state::{Certified, DonePair, GivenUp, State, certificate_place};
 use kb_cert::Certificate;
-use kb_label::{Labels, ListLabels, Living, MAX_BITS, MAX_LIVING, NameLog, Process, Reason};
+use kb_label::{Labels, ListLabels, Living, MAX_BITS, NameLog, Process, Reason};
 use kb_node::{LabelKind, NodeId};
 use kb_term::{Memory, RuleRef};
 use std::alloc::{AllocError, Global};
+
+// The most processes that live on a board, fewer than the log of forks has room for.
+const MOST_LIVING: u32 = 256;
 
 /// Parts of a state after a fork.
 #[derive(Drop)]
@@ -52,7 +55,7 @@ impl State {
         ensures ok { IfOk result (Commits self.old (Both p.now n cert0.now cert1.now) self.new) }
         ensures err { OnErr result (self.new ≡ self.old) }
     {
-        if self.log.living() == MAX_LIVING {
+        if self.log.living() >= MOST_LIVING {
             let names = self.orient_names(alloc, p, n)?;
             return self.give_up(alloc, Reason::Processes, &names);
         }
@@ -71,7 +74,7 @@ impl State {
         requires budget { HasBudget self.old }
         requires lives { IsTrue (has self.old.living p.now) }
         requires there { n.0 < length self.old.nodes }
-        requires room { length self.old.living < MAX_LIVING }
+        requires room { length self.old.living < MOST_LIVING }
         ensures ok { IfOk result (Commits self.old (Both p.now n cert0.now cert1.now) self.new) }
         ensures err { OnErr result (self.new ≡ self.old) }
     {
@@ -111,7 +114,7 @@ impl State {
         cert1: &Certificate,
     ) -> Result<Forked, Memory>
         requires lives { IsTrue (has self.now.living p.now) }
-        requires room { length self.now.living < MAX_LIVING }
+        requires room { length self.now.living < MOST_LIVING }
         ensures parts { IfOk result (IsForkOf self.now p.now cert0.now cert1.now) }
         ensures short { length p.now < MAX_BITS }
     {
@@ -131,10 +134,10 @@ impl State {
     }
 }
 
-// A process that lives beside fewer than 255 others has at most 254 bits.
+// A process that lives beside fewer than 255 others has fewer than 255 bits.
 fn learn_short(log: &NameLog, p: &Process)
     requires lives { IsTrue (has log.now p.now) }
-    requires room { length log.now < MAX_LIVING }
+    requires room { length log.now < MOST_LIVING }
     ensures { length p.now < MAX_BITS }
 {
     let _few = log.living();
@@ -143,7 +146,7 @@ fn learn_short(log: &NameLog, p: &Process)
 // The log after a fork.
 fn forked_log(log: &NameLog, p: &Process) -> Result<NameLog, AllocError>
     requires lives { IsTrue (has log.now p.now) }
-    requires room { length log.now < MAX_LIVING }
+    requires room { length log.now < MOST_LIVING }
     ensures { IfOk result (λ l. l ≡ relabel p.now log.now) }
 {
     let mut copy = log.copy()?;

@@ -1,4 +1,4 @@
-use Rattle.std.proofs.Common.{◌∙◌, sym, ap, inl, inr, arith}
+use Rattle.std.proofs.Common.{sym, inl, inr, arith}
 use Rattle.std.proofs.lemmas.List.{take_rest}
 use Rattle.kb_label.proofs.Merged.{taken-less, taken-equal, taken-greater, joined}
 use Rattle.kb_label.proofs.name_list.merged.Goals as goal

@@ -1,4 +1,4 @@
-use Rattle.std.proofs.Common.{◌∙◌, ap, arith}
+use Rattle.std.proofs.Common.{arith}
 use Rattle.kb_label.specs.Forks.{at_first}
 use Rattle.kb_label.proofs.list_labels.NameLogLiving.start.Goals as goal
 

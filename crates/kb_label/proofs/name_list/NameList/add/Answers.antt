@@ -1,5 +1,3 @@
-use Rattle.std.proofs.Common.{◌∙◌, ap}
-use Rattle.kb_label.specs.Names.{IsInNameOrder}
 use Rattle.kb_label.proofs.Ordered.{ordered-add}
 use Rattle.kb_label.proofs.name_list.NameList.add.Goals as goal
 

@@ -1,7 +1,7 @@
-use Rattle.std.proofs.Common.{◌≡◌, ◌∙◌, ap, rules, List, Bool, not}
+use Rattle.std.proofs.Common.{◌≡◌, ◌∙◌, ap, rules, List, Bool}
 use Rattle.std.specs.Prelude.{filter}
 use Rattle.std.proofs.lemmas.Fn.{filter_same}
-use Rattle.kb_label.specs.Names.{Name, has, IsInNameOrder}
+use Rattle.kb_label.specs.Names.{Name, has}
 use Rattle.kb_label.proofs.Ordered.{ordered-filter}
 use Rattle.kb_label.proofs.name_list.NameList.meet.Goals as goal
 

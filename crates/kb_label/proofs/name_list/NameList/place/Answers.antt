@@ -1,5 +1,5 @@
-use Rattle.std.proofs.Common.{◌≡◌, ◌∙◌, List}
-use Rattle.kb_label.specs.Names.{Name, IsInNameOrder}
+use Rattle.std.proofs.Common.{◌≡◌, ◌∙◌}
+use Rattle.kb_label.specs.Names.{IsInNameOrder}
 use Rattle.kb_label.proofs.Searched.{search-found, search-present, search-absent}
 use Rattle.kb_label.proofs.name_list.NameList.place.Goals as goal
 

@@ -1,8 +1,8 @@
-use Rattle.std.proofs.Common.{◌≡◌, ◌∙◌, ap, refl, sym, rules, List, [], ◌∷◌, Bool, true, false, not}
+use Rattle.std.proofs.Common.{◌≡◌, ◌∙◌, ap, refl, rules, List, [], ◌∷◌, Bool, true, false, not}
 use Rattle.std.specs.Prelude.{filter, ◌||◌}
 use Rattle.std.proofs.lemmas.Fn.{filter_same}
 use Rattle.std.proofs.lemmas.List.Elements.{filter_agree}
-use Rattle.kb_label.specs.Names.{Name, has, name_eq, minus, IsInNameOrder}
+use Rattle.kb_label.specs.Names.{Name, has, name_eq, minus}
 use Rattle.kb_label.proofs.Ordered.{ordered-filter}
 use Rattle.kb_label.proofs.name_list.NameList.remove.Goals as goal
 

@@ -1,0 +1,4 @@
+pub mod Picked
+pub mod Split
+pub mod Relabelled
+pub mod SetIn
