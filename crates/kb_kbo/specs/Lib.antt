@@ -1,0 +1,3 @@
+pub mod KnuthBendix
+pub mod Orders
+pub mod KnuthBendixLaws

@@ -1,0 +1,6 @@
+//! Knuth-Bendix orders: weights with a precedence, their laws and their search.
+#![tactic(auto)]
+
+mod laws;
+
+pub use laws::kbo_is_strict_order;
