@@ -3,4 +3,4 @@
 
 mod laws;
 
-pub use laws::kbo_is_strict_order;
+pub use laws::{kbo_halts, kbo_is_rewrite_order, kbo_is_strict_order};

@@ -1,0 +1,2 @@
+pub mod KboOccurrences
+pub mod KboCases
