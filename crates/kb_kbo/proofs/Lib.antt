@@ -1,2 +1,4 @@
 pub mod KboOccurrences
 pub mod KboCases
+mod KboWeights
+pub mod KboLaws
