@@ -1,6 +1,5 @@
 -- The Knuth-Bendix order is kept under substitutions and contexts; so what rules rewrite by ordered rules is ordered.
-use Rattle.std.proofs.Common.{ℕ, zero, suc, ◌+◌, ◌≤◌, ◌<◌, ◌≡◌, ◌⊎◌, inl, inr, ⊎_elim, refl, sym, ap, subst, subst₂, arith, List, [], ◌∷◌, ◌++◌, Option, Some, None, option_map, option_and_then, Contains}
-use Rattle.std.specs.List.{sum_by}
+use Rattle.std.proofs.Common.{ℕ, zero, suc, ◌≤◌, ◌≡◌, inl, inr, ⊎_elim, refl, sym, ap, subst₂, arith, [], ◌∷◌, Option, Some, None, option_map, option_and_then, Contains}
 use Rattle.std.proofs.lemmas.Bool.{cases_lt}
 use Rattle.std.proofs.lemmas.List.Elements.{All-contains}
 use Rattle.kb_term.specs.Tree.{Tree, variable, apply, Trees, no_trees, more_trees, variables_of, variables_in}
@@ -9,11 +8,11 @@ use Rattle.kb_term.specs.Position.{argument, with_argument, replace_at}
 use Rattle.kb_term.specs.Rule.{Rule}
 use Rattle.kb_term.proofs.Steps.{Step, StepIn, at_root, inside, here, there}
 use Rattle.kb_term.proofs.Bridge.{step_from_position}
-use Rattle.kb_lpo.specs.PathOrderLaws.{IsClosedUnderSubstitutions, IsClosedUnderContexts}
+use Rattle.kb_lpo.specs.PathOrderLaws.{IsClosedUnderContexts}
 use Rattle.kb_kbo.specs.KnuthBendix.{KboOrder, KboGreater, weight, weight_in, HoldsVariables}
 use Rattle.kb_kbo.specs.KnuthBendixLaws.{HasWeights, RewritingDescends}
 use Rattle.kb_kbo.proofs.KboOccurrences.{HoldsAll, occurrences-append}
-use Rattle.kb_kbo.proofs.KboWeights.{weight-instance, growth, growth-holds, holds-instance}
+use Rattle.kb_kbo.proofs.KboWeights.{weight-instance, growth-holds, holds-instance}
 use Rattle.kb_kbo.proofs.KboCases.{FirstGreater, HeadGreater, WeightGreater, greater_holds, greater_weighs, greater_cases, greater_from}
 
 -- a term that holds as many variables, weighs at least as much and is above by its head is above

@@ -1,5 +1,5 @@
 -- How often a number occurs in lists, and sums over lists in which each number occurs no more often.
-use Rattle.std.proofs.Common.{ℕ, zero, suc, ◌+◌, ◌≤◌, ◌≡◌, ⊎_elim, refl, sym, ap, ◌∙◌, subst, arith, List, [], ◌∷◌, ◌++◌, Bool, true, false, cond, ◌==◌, Contains}
+use Rattle.std.proofs.Common.{ℕ, suc, ◌+◌, ◌≤◌, ◌≡◌, ⊎_elim, refl, sym, ap, subst, arith, List, [], ◌∷◌, ◌++◌, Bool, true, false, cond, ◌==◌, Contains}
 use Rattle.std.specs.List.{sum_by}
 use Rattle.std.proofs.lemmas.Bool.{cases_eq, cond-true, cond-false, ne_eqb, eq-eqb}
 use Rattle.std.proofs.lemmas.List.Elements.{Contains-append_right}
@@ -54,8 +54,8 @@ sum-holds f xs [] h = omega arith
 sum-holds f xs (y ∷ ys) h =
     let r = occurrence_split y xs (omega (arith, h y, occurrences-cons y y ys, occurs_once y y refl)) in
     let rest : HoldsAll (r.0 ++ r.1) ys = λ n.
-      let e : occurrences n xs ≡ occurrences n (r.0 ++ y ∷ r.1) = ap (occurrences n) r.2 in
-      omega (arith, h n, e, occurrences-cons n y ys, occurrences-append n r.0 (y ∷ r.1), occurrences-cons n y r.1, occurrences-append n r.0 r.1) in
+    let e : occurrences n xs ≡ occurrences n (r.0 ++ y ∷ r.1) = ap (occurrences n) r.2 in
+    omega (arith, h n, e, occurrences-cons n y ys, occurrences-append n r.0 (y ∷ r.1), occurrences-cons n y r.1, occurrences-append n r.0 r.1) in
     let q = sum-holds f (r.0 ++ r.1) ys rest in
     let e : sum_by f xs ≡ sum_by f (r.0 ++ y ∷ r.1) = ap (sum_by f) r.2 in
     omega (arith, e, sum_by-cons f y ys, sum_by-append f r.0 (y ∷ r.1), sum_by-cons f y r.1, sum_by-append f r.0 r.1)

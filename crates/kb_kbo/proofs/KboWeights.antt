@@ -1,14 +1,14 @@
 -- Weights are at least 1, and those of instances grow by what the substitution gives.
-use Rattle.std.proofs.Common.{ℕ, zero, suc, ◌+◌, ◌-◌, ◌≤◌, ◌≡◌, refl, arith, List, [], ◌∷◌, ◌++◌, All, length, ap, suc-le-suc, ⊎_elim}
+use Rattle.std.proofs.Common.{ℕ, zero, suc, ◌+◌, ◌-◌, ◌≤◌, ◌≡◌, refl, arith, List, [], ◌∷◌, All}
 use Rattle.std.specs.Prelude.{slice_index_or}
 use Rattle.std.specs.List.{sum_by}
-use Rattle.std.proofs.lemmas.List.Sums.{sum_by-cons, sum_by-append}
+use Rattle.std.proofs.lemmas.List.Sums.{sum_by-append}
 use Rattle.std.proofs.lemmas.List.Elements.{All-tail, All-head}
 use Rattle.kb_term.specs.Tree.{Tree, variable, apply, Trees, no_trees, more_trees, variables_of, variables_in, tree_depth, trees_depth}
 use Rattle.kb_term.specs.Substitution.{instance, instances}
 use Rattle.kb_kbo.specs.KnuthBendix.{KboOrder, symbol_weight, weight, weight_in, occurrences, HoldsVariables}
 use Rattle.kb_kbo.specs.KnuthBendixLaws.{HasWeights}
-use Rattle.kb_kbo.proofs.KboOccurrences.{HoldsAll, occurrences-append, sum-holds}
+use Rattle.kb_kbo.proofs.KboOccurrences.{occurrences-append, sum-holds}
 
 weight_at : (ws : List ℕ) (f : ℕ) → All (λ n. 1 ≤ n) ws → 1 ≤ slice_index_or ws f 1
 weight_at [] f h = omega arith
