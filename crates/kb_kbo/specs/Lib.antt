@@ -1,3 +1,4 @@
 pub mod KnuthBendix
 pub mod Orders
 pub mod KnuthBendixLaws
+pub mod Measures
