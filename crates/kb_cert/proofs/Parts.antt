@@ -1,7 +1,7 @@
 -- The first member of the family, part by part.
 use Rattle.std.proofs.Common.{ℕ, zero, suc, ◌≡◌, refl, sym, ap, ap₂, ◌∙◌, subst, arith, List, [], ◌∷◌, ◌++◌, length, map, All, Contains, slice_index_or, append_assoc}
 use Rattle.std.specs.Prelude.{Option, Some, None, option_map}
-use Rattle.std.proofs.lemmas.List.Elements.{All-append}
+use Rattle.std.proofs.lemmas.List.Elements.{All-append, All-contains}
 use Rattle.kb_term.specs.First.{IsFirst}
 use Rattle.kb_term.specs.Rule.{Rule}
 use Rattle.kb_term.specs.Signature.{Signature}
@@ -12,7 +12,8 @@ use Rattle.std.specs.Option.{IfSome}
 use Rattle.std.specs.Bool.{IsTrue}
 use Rattle.kb_cert.specs.CertificateText.{is_certificate}
 use Rattle.kb_cert.proofs.Members.{first_text}
-use Rattle.kb_cert.specs.Family.{family, IsGreater, Orders, IsFirstOrder, IsLowerBound, FirstBoundsMore, NoneForMore}
+use Rattle.kb_cert.proofs.Ordering.{orders_among}
+use Rattle.kb_cert.specs.Family.{family, Orders, IsFirstOrder, IsLowerBound, FirstBoundsMore, NoneForMore}
 use Rattle.kb_cert.specs.declared.certificate.Certificate.{Certificate}
 use Rattle.kb_cert.specs.declared.certificate.Certificate.TheVariants.{Lpo, Linear}
 
@@ -136,10 +137,7 @@ found_text sig rules (Some c) h = first_text sig rules c h
 
 -- what orders all rules orders some of them
 some_ordered : (c : Certificate) (some rules : List Rule) → All (Contains rules) some → Orders c rules → Orders c some
-some_ordered c some rules h o k d p =
-    let r : Rule = slice_index_or some k d in
-    let m = h k d p in
-    subst (λ (z : Rule). IsGreater c z.left z.right) m.2 (o m.0 r m.1)
+some_ordered c some rules h o = orders_among c rules some (λ r i. All-contains (Contains rules) some r h i) o
 
 pub bounds_more : (sig : Signature) → FirstBoundsMore sig
 bounds_more sig some rules start h (o, before, after, e, n) = (before, after, e, λ k d p q. n k d p (some_ordered (slice_index_or before k d) some rules h q))

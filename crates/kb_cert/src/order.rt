@@ -1,8 +1,8 @@
 // The order of a certificate, and the search of the family.
-ghost use Rattle.std.specs.Prelude.{◌≡◌, ◌≤◌, length, option_map, IfOk, IfSome, IsTrue, ◌↔◌};
+ghost use Rattle.std.specs.Prelude.{[], ◌∷◌, ◌≡◌, ◌≤◌, length, option_map, IfOk, IfSome, IsTrue, ◌↔◌};
 ghost use Rattle.kb_linear.specs.Limits.{IsMeasurable, AreMeasurable};
 ghost use Rattle.kb_cert.specs.CertificateText.{is_certificate};
-ghost use Rattle.kb_cert.specs.Family.{IsGreater, Orders, IsFirstOrder, IsLowerBound};
+ghost use Rattle.kb_cert.specs.Family.{Orders, IsFirstOrder, IsLowerBound};
 
 use crate::certificate::Certificate;
 use kb_linear::{Interp, linear_greater, search_linear, search_linear_from};
@@ -14,7 +14,7 @@ use std::alloc::Global;
 fn is_greater(c: &Certificate, rule: &Rule) -> bool
     requires left { IsMeasurable rule.now.left }
     requires right { IsMeasurable rule.now.right }
-    ensures { IsTrue result ↔ IsGreater c.now rule.now.left rule.now.right }
+    ensures { IsTrue result ↔ Orders c.now (rule.now ∷ []) }
 {
     match c {
         Certificate::Lpo(prec) => lpo_greater(prec, rule.left(), rule.right()),
