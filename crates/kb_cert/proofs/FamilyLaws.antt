@@ -154,11 +154,11 @@ pub nothing_orderable : (g : Signature) → IsOrderable g []
 nothing_orderable g = (Lpo (range_with_len 0 (length g)), first_member g, nothing_ordered (Lpo (range_with_len 0 (length g))))
 
 -- rules that are chains of ordered ones are ordered
-pub orders_chained : (g : Signature) (c : Certificate) → Contains (family g) c → (qs rs : List Rule) → All (IsRuleOver g) qs → ((r : Rule) → Contains rs r → IsWellFormed g r.left × ((n : ℕ) × Steps (Step (Contains qs)) (suc n) r.left r.right)) → Orders c qs → Orders c rs
-orders_chained g (Lpo p) m qs rs over chained h = all_from (λ (r : Rule). LpoGreater p r.left r.right) rs (λ r i.
+pub chains_ordered : (g : Signature) (c : Certificate) → Contains (family g) c → (qs rs : List Rule) → All (IsRuleOver g) qs → ((r : Rule) → Contains rs r → IsWellFormed g r.left × ((n : ℕ) × Steps (Step (Contains qs)) (suc n) r.left r.right)) → Orders c qs → Orders c rs
+chains_ordered g (Lpo p) m qs rs over chained h = all_from (λ (r : Rule). LpoGreater p r.left r.right) rs (λ r i.
     let k = (chained r i).1 in
     lpo_from_path p (chain_greater p (Contains qs) (λ q j. path_from_lpo p (All-contains (λ (q : Rule). LpoGreater p q.left q.right) qs q h j)) k.0 r.left r.right k.1))
-orders_chained g (Linear i) m qs rs over chained h = all_from (λ (r : Rule). LinearGreater i r.left r.right) rs (λ r j.
+chains_ordered g (Linear i) m qs rs over chained h = all_from (λ (r : Rule). LinearGreater i r.left r.right) rs (λ r j.
     let k = chained r j in
     chain_linear g i (Contains qs) (member_fits g i m) (λ q o. All-contains (λ (q : Rule). LinearGreater i q.left q.right) qs q h o) (keeps_well g qs over) k.1.0 r.left r.right k.0 k.1.1)
 

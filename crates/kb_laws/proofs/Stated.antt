@@ -12,7 +12,7 @@ use Rattle.kb_term.specs.Signature.{Signature, Problem, IsRuleOver}
 use Rattle.kb_term.proofs.Steps.{Step}
 use Rattle.kb_term.proofs.Bridge.{halts_to, step_from_position, step_to_position, reaches_from, reaches_to}
 use Rattle.kb_cert.specs.declared.certificate.Certificate.{Certificate}
-use Rattle.kb_cert.proofs.FamilyLaws.{ordered_rule, first_member}
+use Rattle.kb_cert.proofs.FamilyLaws.{ordered_rules, first_member}
 use Rattle.kb_laws.specs.Completion.{KbState}
 use Rattle.kb_laws.specs.Confluence.{ChurchRosser}
 use Rattle.kb_laws.specs.Runs.{ReachesByStep, IsEquationOver, IsStateOver, StepKeepsOver, StepKeepsChained, RunIsChained, RunIsOver}
@@ -64,7 +64,7 @@ pub has_member : (signature : Signature) → HasMember signature
 has_member g = (Lpo (range_with_len 0 (length g)), first_member g)
 
 pub member_orders_rules_only : (signature : Signature) (order : Certificate) → MemberOrdersRulesOnly signature order
-member_orders_rules_only g c m rule w h = ordered_rule g c m rule.left rule.right w h
+member_orders_rules_only g c m rules well h = ordered_rules g c m rules well h
 
 pub interpretation_halts : (signature : Signature) (i : Interpretation) → InterpretationHalts signature i
 interpretation_halts g i fit rules over h t w = halts_to rules t (linear_halts g i (Contains rules) fit (λ r j. All-contains (λ (r : Rule). LinearGreater i r.left r.right) rules r h j) (keeps_well g rules over) t w)

@@ -5,17 +5,17 @@ use Rattle.kb_term.specs.Signature.{Signature, IsWellFormed, IsRuleOver}
 use Rattle.kb_term.specs.Proving.{IsTerminating}
 use Rattle.kb_linear.specs.LinearOrder.{Interpretation, IsInterpretationOf}
 use Rattle.kb_linear.specs.Interpretations.{LinearOrients}
-use Rattle.kb_cert.specs.Family.{family, IsGreater, Orders}
+use Rattle.kb_cert.specs.Family.{family, Orders}
 use Rattle.kb_cert.specs.declared.certificate.Certificate.{Certificate}
 
 -- the family has a member
 abbrev pub HasMember : Signature → Type 0
 HasMember signature = (order : Certificate) × Contains (family signature) order
 
--- what a member of the family orders is a rule
+-- what a member of the family orders are rules
 abbrev pub MemberOrdersRulesOnly : Signature → Certificate → Type 0
 MemberOrdersRulesOnly signature order =
-    Contains (family signature) order → (rule : Rule) → IsWellFormed signature rule.right → IsGreater order rule.left rule.right → IsRule rule
+    Contains (family signature) order → (rules : List Rule) → All (λ (rule : Rule). IsWellFormed signature rule.right) rules → Orders order rules → All IsRule rules
 
 -- rules over the signature that a member of the family orders halt on each term over the signature, with a bound on the steps of every chain
 abbrev pub MemberHalts : Signature → Certificate → Type 0

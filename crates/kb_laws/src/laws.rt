@@ -63,7 +63,7 @@ pub fn lone_rule()
     ensures pair { (signature : Signature) (order : Certificate) (rule : Rule) (e : Tree × Tree) → PairRuleIsSystem signature order rule e }
 {}
 
-/// Each signature's family has a member. What a member orders is a rule, and such rules halt: a number bounds the steps of every chain from
+/// Each signature's family has a member. What a member orders are rules, and they halt: a number bounds the steps of every chain from
 /// each term over the signature. So do rules that any linear interpretation of the signature orders.
 pub fn ordered_rules_halt()
     ensures exists { (signature : Signature) → HasMember signature }
