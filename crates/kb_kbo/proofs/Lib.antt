@@ -1,2 +1,3 @@
 pub mod Compared
 pub mod Counts
+pub mod Levels
