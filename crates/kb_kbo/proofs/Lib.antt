@@ -4,3 +4,6 @@ mod KboWeights
 pub mod KboLaws
 mod KboTerms
 pub mod KboHalting
+pub mod Compared
+pub mod Counts
+pub mod Levels

@@ -2,3 +2,4 @@ pub mod KnuthBendix
 pub mod Orders
 pub mod KnuthBendixLaws
 pub mod Measures
+pub mod Asking

@@ -3,6 +3,7 @@
 
 mod kbo;
 mod laws;
+mod level;
 mod order;
 
 pub use kbo::{Kbo, MAX_WEIGHT, MIN_WEIGHT};

@@ -1,5 +1,5 @@
 // The Knuth-Bendix order of a given order: D. E. Knuth and P. B. Bendix, Simple word problems in universal algebras (1970).
-ghost use Rattle.std.specs.Prelude.{ℕ, List, ◌≡◌, ◌↔◌, ◌+◌, ◌*◌, ◌<◌, ◌≤◌, IsTrue, All, map, length, slice_index};
+ghost use Rattle.std.specs.Prelude.{ℕ, List, ◌≡◌, ◌↔◌, ◌+◌, ◌*◌, ◌<◌, ◌≤◌, IsTrue, All, map, length, slice_index, slice_index_or};
 ghost use Rattle.kb_term.specs.Tree.{tree_size, variables_of};
 ghost use Rattle.kb_term.specs.View.{tree_of};
 ghost use Rattle.kb_lpo.specs.Agreeing.{IsAgreement};
@@ -11,6 +11,19 @@ ghost use Rattle.kb_kbo.specs.Measures.{IsWeight, numbers, order_of};
 use crate::kbo::Kbo;
 use kb_term::{Symbol, Term};
 
+/// The weight of the symbol; one without a weight of its own weighs 1.
+fn weight_at(weights: &[u8], f: Symbol) -> u32
+    requires { All IsWeight weights.now }
+    ensures weight { result ≡ slice_index_or weights.now f.0 1 }
+    ensures most { result ≤ 15 }
+{
+    if (f.0 as usize) < weights.len() {
+        u32::from(weights[f.0 as usize])
+    } else {
+        1
+    }
+}
+
 /// The weight of the term.
 pub(crate) fn weight_of(weights: &[u8], t: &Term) -> u32
     requires weights { All IsWeight weights.now }
@@ -21,8 +34,7 @@ pub(crate) fn weight_of(weights: &[u8], t: &Term) -> u32
     match t {
         Term::Var(_) => 1,
         Term::App(f, arguments) => {
-            let f = f.0 as usize;
-            let mut total = if f < weights.len() { u32::from(weights[f]) } else { 1 };
+            let mut total = weight_at(weights, *f);
             let items = arguments.items();
             for j in 0..items.len() {
                 total += weight_of(weights, &items[j]);
@@ -30,6 +42,13 @@ pub(crate) fn weight_of(weights: &[u8], t: &Term) -> u32
             total
         }
     }
+}
+
+/// No occurrences.
+fn no_counts() -> [u16; 64]
+    ensures { (n : ℕ) → slice_index result n ≡ 0 }
+{
+    [0; 64]
 }
 
 /// Adds how often each variable occurs in the term.
@@ -57,9 +76,9 @@ pub(crate) fn holds_variables(s: &Term, t: &Term) -> bool
     requires right { IsMeasurable (tree_of t.now) }
     ensures { IsTrue result ↔ HoldsVariables (tree_of s.now) (tree_of t.now) }
 {
-    let mut left = [0; 64];
+    let mut left = no_counts();
     count_variables(&mut left, s);
-    let mut right = [0; 64];
+    let mut right = no_counts();
     count_variables(&mut right, t);
     for k in 0..64 {
         if left[k] < right[k] {

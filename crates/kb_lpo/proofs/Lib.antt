@@ -7,12 +7,12 @@ pub mod WellFormed
 pub mod Arities
 mod LpoHalting
 pub mod PathOrderLaws
-mod Places
+pub mod Places
 mod Symbols
 mod Exact
 mod Cases
-mod Answering
+pub mod Answering
 pub mod First
-mod Ascending
+pub mod Ascending
 mod Nothing
 mod ThreeSymbols
