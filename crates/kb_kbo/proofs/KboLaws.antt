@@ -1,31 +1,32 @@
 -- The Knuth-Bendix order is kept under substitutions and contexts; so what rules rewrite by ordered rules is ordered.
-use Rattle.std.proofs.Common.{ℕ, zero, suc, ◌≤◌, ◌≡◌, inl, inr, ⊎_elim, refl, sym, ap, subst₂, arith, [], ◌∷◌, Option, Some, None, option_map, option_and_then, Contains}
+use Rattle.std.proofs.Common.{ℕ, zero, suc, ◌≤◌, ◌≡◌, inl, inr, ⊎_elim, refl, sym, ap, subst, subst₂, arith, [], ◌∷◌, Option, Some, None, option_map, option_and_then, Contains}
 use Rattle.std.proofs.lemmas.Bool.{cases_lt}
 use Rattle.std.proofs.lemmas.List.Elements.{All-contains}
 use Rattle.kb_term.specs.Tree.{Tree, variable, apply, Trees, no_trees, more_trees, variables_of, variables_in}
-use Rattle.kb_term.specs.Substitution.{instance, instances}
+use Rattle.kb_term.specs.Substitution.{instance, instances, rename}
 use Rattle.kb_term.specs.Position.{argument, with_argument, replace_at}
 use Rattle.kb_term.specs.Rule.{Rule}
 use Rattle.kb_term.proofs.Steps.{Step, StepIn, at_root, inside, here, there}
+use Rattle.kb_term.proofs.Relation.{Steps}
 use Rattle.kb_term.proofs.Bridge.{step_from_position}
-use Rattle.kb_lpo.specs.PathOrderLaws.{IsClosedUnderContexts}
+use Rattle.kb_lpo.specs.PathOrderLaws.{IsClosedUnderSubstitutions, IsClosedUnderContexts}
 use Rattle.kb_kbo.specs.KnuthBendix.{KboOrder, KboGreater, weight, weight_in, HoldsVariables}
 use Rattle.kb_kbo.specs.KnuthBendixLaws.{HasWeights, RewritingDescends}
 use Rattle.kb_kbo.proofs.KboOccurrences.{HoldsAll, occurrences-append}
-use Rattle.kb_kbo.proofs.KboWeights.{weight-instance, growth-holds, holds-instance}
-use Rattle.kb_kbo.proofs.KboCases.{FirstGreater, HeadGreater, WeightGreater, greater_holds, greater_weighs, greater_cases, greater_from}
+use Rattle.kb_kbo.proofs.KboWeights.{IsHeavy, term_weighs, weight-instance, growth-holds, holds-instance}
+use Rattle.kb_kbo.proofs.KboCases.{FirstGreater, HeadGreater, WeightGreater, greater_holds, greater_weighs, greater_cases, greater_from, kbo_trans}
 
 -- a term that holds as many variables, weighs at least as much and is above by its head is above
 greater_by_head : (order : KboOrder) (s t : Tree) → HoldsVariables s t → weight order t ≤ weight order s → HeadGreater order s t → KboGreater order s t
 greater_by_head order s t h l d = greater_from order s t h (⊎_elim (λ m. inl m) (λ m. inr (omega arith, d)) (cases_lt (weight order t) (weight order s)))
 
-instance_weights : (order : KboOrder) → HasWeights order → (m : ℕ → Tree) (s t : Tree) → HoldsVariables s t → weight order t ≤ weight order s → weight order (instance m t) ≤ weight order (instance m s)
-instance_weights order w m s t h l = omega (arith, weight-instance order w m s, weight-instance order w m t, growth-holds order m s t h)
+instance_weights : (order : KboOrder) (m : ℕ → Tree) → IsHeavy order m → (s t : Tree) → HoldsVariables s t → weight order t ≤ weight order s → weight order (instance m t) ≤ weight order (instance m s)
+instance_weights order m heavy s t h l = omega (arith, weight-instance order m heavy s, weight-instance order m heavy t, growth-holds order m s t h)
 
-instance_greater : (order : KboOrder) → HasWeights order → (m : ℕ → Tree) (s t : Tree) → HoldsVariables s t → WeightGreater order s t → (HeadGreater order s t → HeadGreater order (instance m s) (instance m t)) → KboGreater order (instance m s) (instance m t)
-instance_greater order w m s t h (inl l) head =
-    greater_from order (instance m s) (instance m t) (holds-instance m s t h) (inl (omega (arith, weight-instance order w m s, weight-instance order w m t, growth-holds order m s t h)))
-instance_greater order w m s t h (inr (e, d)) head = greater_by_head order (instance m s) (instance m t) (holds-instance m s t h) (instance_weights order w m s t h (omega arith)) (head d)
+instance_greater : (order : KboOrder) (m : ℕ → Tree) → IsHeavy order m → (s t : Tree) → HoldsVariables s t → WeightGreater order s t → (HeadGreater order s t → HeadGreater order (instance m s) (instance m t)) → KboGreater order (instance m s) (instance m t)
+instance_greater order m heavy s t h (inl l) head =
+    greater_from order (instance m s) (instance m t) (holds-instance m s t h) (inl (omega (arith, weight-instance order m heavy s, weight-instance order m heavy t, growth-holds order m s t h)))
+instance_greater order m heavy s t h (inr (e, d)) head = greater_by_head order (instance m s) (instance m t) (holds-instance m s t h) (instance_weights order m heavy s t h (omega arith)) (head d)
 
 instance_head : (order : KboOrder) (m : ℕ → Tree) (f : ℕ) (ss : Trees) (t : Tree) → ((ts : Trees) → FirstGreater order ss ts → FirstGreater order (instances m ss) (instances m ts)) → HeadGreater order (apply f ss) t → HeadGreater order (apply f (instances m ss)) (instance m t)
 instance_head order m f ss (variable n) first d = absurd d
@@ -33,16 +34,23 @@ instance_head order m f ss (apply g ts) first (inl a) = inl a
 instance_head order m f ss (apply g ts) first (inr (e, d)) = inr (e, first ts d)
 
 mutual
-  -- the order is kept under substitutions
-  pub kbo-instance : (order : KboOrder) → HasWeights order → (m : ℕ → Tree) (s t : Tree) → KboGreater order s t → KboGreater order (instance m s) (instance m t)
-  kbo-instance order w m (variable n) t g = instance_greater order w m (variable n) t (greater_holds g) (greater_cases g) (λ d. absurd d)
-  kbo-instance order w m (apply f ss) t g = instance_greater order w m (apply f ss) t (greater_holds g) (greater_cases g) (instance_head order m f ss t (first-instance order w m ss))
+  greater-instance : (order : KboOrder) (m : ℕ → Tree) → IsHeavy order m → (s t : Tree) → KboGreater order s t → KboGreater order (instance m s) (instance m t)
+  greater-instance order m heavy (variable n) t g = instance_greater order m heavy (variable n) t (greater_holds g) (greater_cases g) (λ d. absurd d)
+  greater-instance order m heavy (apply f ss) t g = instance_greater order m heavy (apply f ss) t (greater_holds g) (greater_cases g) (instance_head order m f ss t (first-instance order m heavy ss))
 
-  first-instance : (order : KboOrder) → HasWeights order → (m : ℕ → Tree) (ss ts : Trees) → FirstGreater order ss ts → FirstGreater order (instances m ss) (instances m ts)
-  first-instance order w m no_trees ts d = absurd d
-  first-instance order w m (more_trees s ss) no_trees d = absurd d
-  first-instance order w m (more_trees s ss) (more_trees t ts) (inl g) = inl (kbo-instance order w m s t g)
-  first-instance order w m (more_trees s ss) (more_trees t ts) (inr d) = inr (ap (instance m) d.0, first-instance order w m ss ts d.1)
+  first-instance : (order : KboOrder) (m : ℕ → Tree) → IsHeavy order m → (ss ts : Trees) → FirstGreater order ss ts → FirstGreater order (instances m ss) (instances m ts)
+  first-instance order m heavy no_trees ts d = absurd d
+  first-instance order m heavy (more_trees s ss) no_trees d = absurd d
+  first-instance order m heavy (more_trees s ss) (more_trees t ts) (inl g) = inl (greater-instance order m heavy s t g)
+  first-instance order m heavy (more_trees s ss) (more_trees t ts) (inr d) = inr (ap (instance m) d.0, first-instance order m heavy ss ts d.1)
+
+-- the order is kept under substitutions
+pub kbo-instance : (order : KboOrder) → HasWeights order → IsClosedUnderSubstitutions (KboGreater order)
+kbo-instance order w m s t g = greater-instance order m (λ n. term_weighs order w (m n)) s t g
+
+-- and under renamings, whatever the weights are
+pub kbo-rename : (order : KboOrder) (f : ℕ → ℕ) (s t : Tree) → KboGreater order s t → KboGreater order (rename f s) (rename f t)
+kbo-rename order f s t g = greater-instance order (λ x. variable (f x)) (λ n. omega arith) s t g
 
 -- what the arguments of a rewritten list are
 record Rewritten (order : KboOrder) (ts us : Trees) : Type 0 where
@@ -101,6 +109,11 @@ mutual
   step_in_greater : (order : KboOrder) → HasWeights order → (rules : Rule → Type 0) → ((r : Rule) → rules r → KboGreater order r.left r.right) → {ts us : Trees} → StepIn rules ts us → Rewritten order ts us
   step_in_greater order w rules all (here {t = t} {u = u} {ts = ts} h) = rewritten_here order t u ts (step_greater order w rules all h)
   step_in_greater order w rules all (there {t = t} {ts = ts} {us = us} h) = rewritten_there order t ts us (step_in_greater order w rules all h)
+
+-- and so is each chain with at least one step
+pub kbo_chain : (order : KboOrder) → HasWeights order → (rules : Rule → Type 0) → ((r : Rule) → rules r → KboGreater order r.left r.right) → (n : ℕ) (s t : Tree) → Steps (Step rules) (suc n) s t → KboGreater order s t
+kbo_chain order w rules all zero s t (u, h, e) = subst (KboGreater order s) e (step_greater order w rules all h)
+kbo_chain order w rules all (suc n) s t (u, h, c) = kbo_trans order s u t (step_greater order w rules all h) (kbo_chain order w rules all n u t c)
 
 pub kbo_step : (order : KboOrder) → RewritingDescends order
 kbo_step order w rules all s t h = step_greater order w (Contains rules) (λ r i. All-contains (λ (r : Rule). KboGreater order r.left r.right) rules r all i) (step_from_position (Contains rules) s t h)

@@ -36,14 +36,18 @@ mutual
 abbrev pub growth : KboOrder → (ℕ → Tree) → ℕ → ℕ
 growth order m n = weight order (m n) - 1
 
-mutual
-  pub weight-instance : (order : KboOrder) → HasWeights order → (m : ℕ → Tree) (t : Tree) → weight order (instance m t) ≡ weight order t + sum_by (growth order m) (variables_of t)
-  weight-instance order h m (variable n) = omega (arith, term_weighs order h (m n))
-  weight-instance order h m (apply f ts) = omega (arith, weight-instances order h m ts)
+-- each variable gets a term that weighs at least 1
+abbrev pub IsHeavy : KboOrder → (ℕ → Tree) → Type 0
+IsHeavy order m = (n : ℕ) → 1 ≤ weight order (m n)
 
-  weight-instances : (order : KboOrder) → HasWeights order → (m : ℕ → Tree) (ts : Trees) → weight_in order (instances m ts) ≡ weight_in order ts + sum_by (growth order m) (variables_in ts)
-  weight-instances order h m no_trees = refl
-  weight-instances order h m (more_trees t ts) = omega (arith, weight-instance order h m t, weight-instances order h m ts, sum_by-append (growth order m) (variables_of t) (variables_in ts))
+mutual
+  pub weight-instance : (order : KboOrder) (m : ℕ → Tree) → IsHeavy order m → (t : Tree) → weight order (instance m t) ≡ weight order t + sum_by (growth order m) (variables_of t)
+  weight-instance order m h (variable n) = omega (arith, h n)
+  weight-instance order m h (apply f ts) = omega (arith, weight-instances order m h ts)
+
+  weight-instances : (order : KboOrder) (m : ℕ → Tree) → IsHeavy order m → (ts : Trees) → weight_in order (instances m ts) ≡ weight_in order ts + sum_by (growth order m) (variables_in ts)
+  weight-instances order m h no_trees = refl
+  weight-instances order m h (more_trees t ts) = omega (arith, weight-instance order m h t, weight-instances order m h ts, sum_by-append (growth order m) (variables_of t) (variables_in ts))
 
 -- how often a variable occurs in the term that another one gets
 abbrev pub copies : (ℕ → Tree) → ℕ → ℕ → ℕ

@@ -4,6 +4,7 @@ mod KboWeights
 pub mod KboLaws
 mod KboTerms
 pub mod KboHalting
+pub mod KboMembers
 pub mod Compared
 pub mod Counts
 pub mod Levels
