@@ -5,17 +5,19 @@ use Rattle.kb_term.specs.Rule.{Rule}
 use Rattle.kb_term.specs.Signature.{Signature}
 use Rattle.kb_lpo.specs.Precedences.{precedences, LpoOrients}
 use Rattle.kb_linear.specs.Interpretations.{interpretations, LinearOrients}
+use Rattle.kb_kbo.specs.Orders.{kbo_orders, KboOrients}
 use Rattle.kb_cert.specs.declared.certificate.Certificate.{Certificate}
-use Rattle.kb_cert.specs.declared.certificate.Certificate.TheVariants.{Lpo, Linear}
+use Rattle.kb_cert.specs.declared.certificate.Certificate.TheVariants.{Lpo, Linear, Kbo}
 
 -- the orders that are tried, in their order
 abbrev pub family : Signature → List Certificate
-family signature = map Lpo (precedences (length signature)) ++ map Linear (interpretations signature)
+family signature = map Lpo (precedences (length signature)) ++ (map Linear (interpretations signature) ++ map Kbo (kbo_orders signature))
 
 -- the member orders the rules: it makes left greater than right in each of them
 abbrev pub Orders : Certificate → List Rule → Type 0
 Orders (Lpo prec) rules = LpoOrients prec rules
 Orders (Linear i) rules = LinearOrients i rules
+Orders (Kbo order) rules = KboOrients order rules
 
 -- some member orders the rules
 abbrev pub IsOrderable : Signature → List Rule → Type 0
