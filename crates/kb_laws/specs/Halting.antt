@@ -1,12 +1,16 @@
 -- What the orders of the family order halts.
-use Rattle.std.specs.Prelude.{List, All, Contains}
+use Rattle.std.specs.Prelude.{List, ◌<◌, length, All, Contains}
+use Rattle.kb_term.specs.Tree.{Tree}
 use Rattle.kb_term.specs.Rule.{Rule, IsRule}
 use Rattle.kb_term.specs.Signature.{Signature, IsWellFormed, IsRuleOver}
-use Rattle.kb_term.specs.Proving.{IsTerminating}
+use Rattle.kb_term.specs.Proving.{IsChain, IsTerminating}
 use Rattle.kb_linear.specs.LinearOrder.{Interpretation, IsInterpretationOf}
 use Rattle.kb_linear.specs.Interpretations.{LinearOrients}
+use Rattle.kb_kbo.specs.KnuthBendix.{KboOrder}
+use Rattle.kb_kbo.specs.KnuthBendixLaws.{HasLighter}
 use Rattle.kb_cert.specs.Family.{family, Orders}
 use Rattle.kb_cert.specs.declared.certificate.Certificate.{Certificate}
+use Rattle.kb_cert.specs.declared.certificate.Certificate.TheVariants.{Kbo}
 
 -- the family has a member
 abbrev pub HasMember : Signature → Type 0
@@ -26,3 +30,14 @@ MemberHalts signature order =
 abbrev pub InterpretationHalts : Signature → Interpretation → Type 0
 InterpretationHalts signature i =
     IsInterpretationOf signature i → (rules : List Rule) → All (IsRuleOver signature) rules → LinearOrients i rules → IsTerminating signature rules
+
+-- some list has all terms over the variables of a term that a Knuth-Bendix order of the family makes no heavier than it
+abbrev pub LighterAreFew : Signature → KboOrder → Type 0
+LighterAreFew signature order = Contains (family signature) (Kbo order) → (t : Tree) → (terms : List Tree) × HasLighter signature order t terms
+
+-- a chain by rules that the order orders has fewer steps than there are such terms of its first one
+abbrev pub ChainsAreShort : Signature → KboOrder → Type 0
+ChainsAreShort signature order =
+    Contains (family signature) (Kbo order) → (rules : List Rule) → All (IsRuleOver signature) rules → Orders (Kbo order) rules
+    → (t : Tree) → IsWellFormed signature t → (terms : List Tree) → HasLighter signature order t terms
+    → (path : List Tree) (u : Tree) → IsChain rules path t u → length path < length terms
