@@ -7,11 +7,11 @@ pub mod WellFormed
 pub mod Arities
 mod LpoHalting
 pub mod PathOrderLaws
-mod Places
+pub mod Places
 mod Exact
 mod Cases
-mod Answering
+pub mod Answering
 mod Rows
 pub mod First
-mod Ascending
+pub mod Ascending
 pub mod Letters

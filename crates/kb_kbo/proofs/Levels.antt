@@ -1,0 +1,56 @@
+-- What comparisons ask, and the table of all rules.
+use Rattle.std.proofs.Common.{ℕ, zero, suc, ◌≡◌, ◌<◌, ◌≤◌, ◌+◌, ◌⊎◌, inl, inr, refl, sym, ap, ◌∙◌, subst, subst₂, arith, List, [], ◌∷◌, ◌++◌, length, get_or, map, All}
+use Rattle.std.specs.Prelude.{Vec, slice_index_or}
+use Rattle.std.specs.declared.alloc.Global.{Global}
+use Rattle.std.proofs.lemmas.List.{append_assoc}
+use Rattle.std.proofs.lemmas.List.Elements.{All-append}
+use Rattle.kb_term.specs.Tree.{Tree, Trees, variable, apply, no_trees, more_trees, trees_of, tree_size, trees_size}
+use Rattle.kb_term.specs.Rule.{Rule}
+use Rattle.kb_kbo.specs.KnuthBendix.{KboOrder, KboGreater, HoldsVariables, weight, weight_in, symbol_weight}
+use Rattle.kb_kbo.specs.Measures.{order_of}
+use Rattle.kb_kbo.specs.Orders.{KboOrients}
+use Rattle.kb_kbo.specs.Asking.{value_of, Asks, AsksAtTie, AreAsked, IsTable}
+use Rattle.kb_kbo.specs.declared.level.Level.{Level}
+use Rattle.kb_kbo.proofs.Compared.{greater_weighs}
+
+-- a symbol without a weight of its own weighs 1
+pub symbol_light : (weights : List ℕ) (f : ℕ) → length weights ≤ f → slice_index_or weights f 1 ≡ 1
+symbol_light [] f h = refl
+symbol_light (w ∷ weights) zero h = absurd (omega arith)
+symbol_light (w ∷ weights) (suc f) h = symbol_light weights f (omega arith)
+
+-- where each symbol weighs 1, a term weighs its size
+mutual
+  pub weight_plain : (t : Tree) → weight (order_of [] []) t ≡ tree_size t
+  weight_plain (variable n) = refl
+  weight_plain (apply f ts) = let h = weight_plains ts in omega arith
+
+  pub weight_plains : (ts : Trees) → weight_in (order_of [] []) ts ≡ trees_size ts
+  weight_plains no_trees = refl
+  weight_plains (more_trees t ts) = let h = weight_plain t in let k = weight_plains ts in omega arith
+
+-- a comparison of two terms asks what an order asks that has the first above the second
+pub level_asks : (order : KboOrder) (level : Level) (levels : List Level) (s t : Tree) → value_of level.left (symbol_weight order) + weight order t ≡ value_of level.right (symbol_weight order) + weight order s → KboGreater order s t
+    → (weight order s ≡ weight order t → AsksAtTie order level.tie (Asks order levels)) → Asks order (level ∷ levels)
+level_asks order level levels s t e l h = (omega (arith, e, greater_weighs order l), λ q. h (omega (arith, e, q)))
+
+-- one level more
+pub asked_one : (old new : List Level) (level : Level) (s t : Tree) → new ≡ old ++ level ∷ [] → ((order : KboOrder) → length order.weights ≤ 8 → KboGreater order s t → Asks order (level ∷ [])) → AreAsked old new s t
+asked_one old new level s t e h = (level ∷ [], e, h)
+
+pub asked_next : (old mid new : List Level) (level : Level) (s t u v : Tree) → mid ≡ old ++ level ∷ [] → AreAsked mid new u v
+    → ((order : KboOrder) → length order.weights ≤ 8 → KboGreater order s t → (more : List Level) → (KboGreater order u v → Asks order more) → Asks order (level ∷ more)) → AreAsked old new s t
+asked_next old mid new level s t u v e (more, d, k) h = (level ∷ more, d ∙ ap (λ z. z ++ more) e ∙ append_assoc old (level ∷ []) more, λ order l g. h order l g more (k order l))
+
+-- one rule more
+pub table_more : (rules : List Rule) (table new : List (Vec Level Global)) (levels : Vec Level Global) (empty : List Level) (i : ℕ) (rule : Rule) (s t : Tree) → new ≡ table ++ levels ∷ [] → IsTable rules table → i < length rules → rule ≡ get_or rules i rule → s ≡ rule.left → t ≡ rule.right
+    → empty ≡ [] → AreAsked empty levels.items s t → IsTable rules new
+table_more rules table new levels empty i rule s t e h l r p q n (more, d, k) = λ order m o.
+    let g : KboGreater order rule.left rule.right = subst (λ (z : Rule). KboGreater order z.left z.right) (sym r) (o i rule l) in
+    let f : levels.items ≡ more = d ∙ ap (λ z. z ++ more) n in
+    let a : Asks order levels.items = subst (Asks order) (sym f) (k order m (subst₂ (KboGreater order) (sym p) (sym q) g)) in
+    subst (All (λ (z : Vec Level Global). Asks order z.items)) (sym e) (All-append (λ (z : Vec Level Global). Asks order z.items) table (levels ∷ []) (h order m o) (one order levels a))
+  where
+    one : (order : KboOrder) (z : Vec Level Global) → Asks order z.items → All (λ (y : Vec Level Global). Asks order y.items) (z ∷ [])
+    one order z a zero y b = a
+    one order z a (suc j) y b = absurd (omega arith)

@@ -1,0 +1,5 @@
+pub mod KnuthBendix
+pub mod Orders
+pub mod KnuthBendixLaws
+pub mod Measures
+pub mod Asking
