@@ -1,5 +1,6 @@
 // What rules need of weights and of a precedence.
-ghost use Rattle.std.specs.Prelude.{ℕ, ◌≡◌, ◌<◌, ◌≤◌, IsTrue, All, Vec};
+ghost use Rattle.std.specs.Prelude.{ℕ, List, ◌∷◌, ◌≡◌, ◌<◌, ◌≤◌, IsTrue, All, Vec, MatchOption};
+ghost use Rattle.kb_kbo.specs.declared.level.Level.{Level};
 ghost use Rattle.kb_kbo.specs.KnuthBendix.{KboOrder};
 ghost use Rattle.kb_kbo.specs.Asking.{Asks, AreAskedAll};
 ghost use Rattle.kb_kbo.specs.Search.{Fits, IsBetween, IsMet};
@@ -19,24 +20,32 @@ pub(crate) enum Demand {
     Refused,
 }
 
+/// What the comparison decides with these weights of the first 8 symbols; none where the next one decides.
+fn outcome(level: &Level, weights: &[u8; 8]) -> Option<Demand>
+    ensures { (order : KboOrder) (levels : List Level) → IsBetween order weights.now weights.now → Asks order (level.now ∷ levels) → MatchOption result (Asks order levels) (IsMet order) }
+{
+    let left = level.left.value(weights);
+    let right = level.right.value(weights);
+    if left < right {
+        return Some(Demand::Refused);
+    }
+    if left > right {
+        return Some(Demand::Nothing);
+    }
+    match level.tie {
+        Tie::Refused => Some(Demand::Refused),
+        Tie::Above(f, g) => Some(Demand::Above(f, g)),
+        Tie::Next => None,
+    }
+}
+
 /// What the comparisons need of the precedence with these weights of the first 8 symbols.
-pub(crate) fn demand_of(levels: &[Level], weights: &[u8; 8]) -> Demand
+fn demand_of(levels: &[Level], weights: &[u8; 8]) -> Demand
     ensures { (order : KboOrder) → IsBetween order weights.now weights.now → Asks order levels.now → IsMet order result }
 {
     for i in 0..levels.len() {
-        let level = &levels[i];
-        let left = level.left.value(weights);
-        let right = level.right.value(weights);
-        if left < right {
-            return Demand::Refused;
-        }
-        if left > right {
-            return Demand::Nothing;
-        }
-        match level.tie {
-            Tie::Refused => return Demand::Refused,
-            Tie::Above(f, g) => return Demand::Above(f, g),
-            Tie::Next => {}
+        if let Some(demand) = outcome(&levels[i], weights) {
+            return demand;
         }
     }
     Demand::Nothing
