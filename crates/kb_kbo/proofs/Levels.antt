@@ -18,12 +18,6 @@ use Rattle.std.proofs.Math.Nat.{mul-le-mul_left}
 use Rattle.std.proofs.Math.Seq.{drop-cons}
 use Rattle.kb_kbo.proofs.Compared.{greater_weighs}
 
--- a symbol without a weight of its own weighs 1
-pub symbol_light : (weights : List ℕ) (f : ℕ) → length weights ≤ f → slice_index_or weights f 1 ≡ 1
-symbol_light [] f h = refl
-symbol_light (w ∷ weights) zero h = absurd (omega arith)
-symbol_light (w ∷ weights) (suc f) h = symbol_light weights f (omega arith)
-
 -- where each symbol weighs 1, a term weighs its size
 mutual
   pub weight_plain : (t : Tree) → weight (order_of [] []) t ≡ tree_size t
