@@ -2,7 +2,8 @@
 use Rattle.std.proofs.Common.{ℕ, zero, suc, ◌≡◌, ◌<◌, ◌≤◌, ◌+◌, ◌++◌, ◌⊎◌, inl, inr, ⊎_elim, List, [], ◌∷◌, length, refl, sym, ap, ◌∙◌, subst, arith, map, flat_map, Bool, true, false, Contains, cond, All, get_or, ◌==◌}
 use Rattle.std.specs.Prelude.{Some, None, Option, replicate, slice_index_or, nat_le, option_map}
 use Rattle.std.specs.List.{AllZip}
-use Rattle.std.proofs.lemmas.Bool.{cases_lt, cases_eq, le-leb}
+use Rattle.std.specs.Option.{option_to_list, IsSome}
+use Rattle.std.proofs.lemmas.Bool.{cases_lt, cases_eq, le-leb, false≢true}
 use Rattle.std.proofs.lemmas.Bool.Decides.{leb_tells}
 use Rattle.std.proofs.lemmas.List.{append_assoc, length-append}
 use Rattle.std.proofs.lemmas.List.Elements.{All-append, Contains-append_cases, Contains-append_right}
@@ -12,6 +13,7 @@ use Rattle.kb_term.specs.Rule.{Rule}
 use Rattle.kb_term.specs.Signature.{Signature}
 use Rattle.kb_term.proofs.Steps.{contains_cases, contains_behind, contains_first}
 use Rattle.kb_lpo.specs.Precedences.{precedences}
+use Rattle.kb_lpo.proofs.First.{snoc_inj}
 use Rattle.kb_linear.specs.Interpretations.{choices}
 use Rattle.kb_linear.specs.Numbers.{IsLess}
 use Rattle.kb_linear.proofs.Sorted.{IsSorted, IsListLess, AreSorted, sorted_flat_map, sorted_map, sorted_choices, sorted_after, contains_at, contains_map_back, contains_flat_map_back, contains_map, contains_flat_map, choices_from, choices_to}
@@ -308,3 +310,12 @@ whole_weighed sig rules k left empty now found h e d n s =
     go : (found : Option (List ℕ)) → IsWeighed rules (length sig) (length sig) [] now found → IsFirstKbo sig rules (option_map (λ p. order_of now p) found)
     go None s = subst (λ os. IsFirst (λ order. KboOrients order rules) os None) (sym (few_orders sig h)) s.1
     go (Some p) s = subst (λ os. IsFirst (λ order. KboOrients order rules) os (Some (order_of now p))) (sym (few_orders sig h)) s
+
+pub all_one : (P : ℕ → Type 0) (x : ℕ) → P x → All P (x ∷ [])
+all_one P x p zero d l = p
+all_one P x p (suc k) d l = absurd (omega arith)
+
+-- without its last weight the list is as before
+pub popped : (xs : List ℕ) (y : ℕ) (old new : List ℕ) (o : Option ℕ) → old ≡ xs ++ y ∷ [] → old ≡ new ++ option_to_list o → (0 < length old → IsSome o) → new ≡ xs
+popped xs y old new (Some f) e d v = snoc_inj new xs f y (sym d ∙ e)
+popped xs y old new None e d v = absurd (false≢true (v (let l = length-append xs (y ∷ []) in let q = ap length e in omega (arith, l, q))))
