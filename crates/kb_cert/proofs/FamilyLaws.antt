@@ -1,27 +1,35 @@
 -- The members of the family: their interpretations are positive, and what they order is a rule.
-use Rattle.std.proofs.Common.{ℕ, Option, Some, None, zero-lt-suc, suc-le-suc, zero, suc, ◌+◌, ◌*◌, ◌≡◌, ◌≤◌, ◌⊎◌, inl, inr, refl, ap, ap₂, subst, arith, List, [], ◌∷◌, map, All, Contains, length, cond, ◌==◌, replicate, ⊎_elim, flat_map, filter, not, sym, ◌∙◌, ◌<◌}
+use Rattle.std.proofs.Common.{ℕ, Option, Some, None, zero-lt-suc, suc-le-suc, zero, suc, ◌+◌, ◌*◌, ◌≡◌, ◌≤◌, ◌⊎◌, inl, inr, refl, ap, ap₂, subst, arith, List, [], ◌∷◌, ◌++◌, map, All, Contains, length, cond, ◌==◌, replicate, ⊎_elim, flat_map, filter, not, sym, ◌∙◌, ◌<◌}
 use Rattle.std.specs.List.{AllZip, range_with_len}
-use Rattle.std.proofs.lemmas.List.Elements.{All-contains, Contains-append_cases, Contains-append_left}
+use Rattle.std.proofs.lemmas.List.Elements.{All-contains, All-weaker, Contains-append_cases, Contains-append_left}
 use Rattle.std.proofs.lemmas.Bool.{cases_eq, cond-true, cond-false, ne_eqb, eq-eqb}
 use Rattle.kb_term.specs.Tree.{Tree, variable, apply, Trees, no_trees, more_trees, list_of, variables_of}
 use Rattle.kb_term.specs.Rule.{Rule, IsRule}
 use Rattle.kb_term.specs.Signature.{Signature, SymbolEntry, IsWellFormed, AreWellFormed, IsRuleOver}
 use Rattle.kb_term.specs.Proving.{IsTerminating}
 use Rattle.kb_linear.specs.LinearOrder.{Interpretation, linear_value, weighted_sum, LinearGreater, IsInterpretationOf}
-use Rattle.kb_linear.specs.Interpretations.{choices, rows, interpretations_to, interpretations_up_to, top_constant, interpretations}
+use Rattle.kb_linear.specs.Interpretations.{choices, rows, interpretations_to, interpretations_up_to, top_constant, interpretations, LinearOrients}
 use Rattle.kb_lpo.specs.Precedences.{arrangements, precedences}
-use Rattle.kb_cert.specs.Family.{family, IsGreater, Orders, IsOrderable}
+use Rattle.kb_kbo.specs.KnuthBendix.{KboOrder, KboGreater}
+use Rattle.kb_kbo.specs.KnuthBendixLaws.{HasWeights}
+use Rattle.kb_kbo.specs.Orders.{kbo_orders}
+use Rattle.kb_kbo.proofs.KboLaws.{kbo_chain}
+use Rattle.kb_kbo.proofs.KboHalting.{kbo_rule, terminating_by_kbo}
+use Rattle.kb_kbo.proofs.KboMembers.{order_weighs}
+use Rattle.kb_cert.specs.Family.{family, Orders, IsOrderable}
+use Rattle.kb_cert.proofs.Ordering.{nothing_ordered, all_from}
 use Rattle.kb_cert.specs.declared.certificate.Certificate.{Certificate}
-use Rattle.kb_cert.specs.declared.certificate.Certificate.TheVariants.{Lpo, Linear}
-use Rattle.kb_term.proofs.Steps.{Occurs, OccursIn, occurs_from, occurs_to, contains_cases, contains_behind, contains_first}
-use Rattle.kb_term.specs.Substitution.{rename}
+use Rattle.kb_cert.specs.declared.certificate.Certificate.TheVariants.{Lpo, Linear, Kbo}
+use Rattle.kb_term.proofs.Steps.{Step, Occurs, OccursIn, occurs_from, occurs_to, contains_cases, contains_behind, contains_first}
+use Rattle.kb_term.proofs.Relation.{Steps}
 use Rattle.kb_term.proofs.Bridge.{halts_to}
-use Rattle.kb_lpo.proofs.Lpo.{path_from_lpo, lpo_from_path}
 use Rattle.kb_lpo.proofs.Arities.{keeps_well}
-use Rattle.kb_lpo.proofs.PathOrderLaws.{terminating_by_lpo}
-use Rattle.kb_lpo.proofs.LpoLaws.{path-instance, lesser_variables, no_lesser}
+use Rattle.kb_lpo.proofs.PathOrderLaws.{lpo_rule, terminating_by_lpo}
+use Rattle.kb_lpo.specs.PathOrder.{LpoGreater}
+use Rattle.kb_lpo.proofs.Lpo.{path_from_lpo, lpo_from_path}
+use Rattle.kb_lpo.proofs.LpoLaws.{chain_greater}
 use Rattle.kb_linear.proofs.Sorted.{contains_map_back, contains_flat_map_back, choices_from, contains_map}
-use Rattle.kb_linear.proofs.LinearHalting.{row_of, Fits, row_fits, value-instance, linear_halts}
+use Rattle.kb_linear.proofs.LinearHalting.{row_of, Fits, row_fits, linear_halts, chain_linear}
 
 coefficients_fit : (n : ℕ) (cs : List ℕ) → AllZip (λ xs y. Contains xs y) (replicate n (1 ∷ 2 ∷ [])) cs → Fits n (0, cs)
 coefficients_fit zero [] h = (refl, λ k d l. absurd (omega arith))
@@ -58,9 +66,27 @@ interpretation_up_to g (Some top) i c = interpretation_to g top i c
 pub interpretation_fits : (g : Signature) (i : Interpretation) → Contains (interpretations g) i → IsInterpretationOf g i
 interpretation_fits g i c = interpretation_up_to g (top_constant g) i c
 
+no_member : {X : Type 0} (f : X → Certificate) (xs : List X) (c : Certificate) → ((x : X) → ¬ (f x ≡ c)) → ¬ Contains (map f xs) c
+no_member f xs c differs i = let r = contains_map_back f xs c i in differs r.0 r.2
+
+-- where a member stands in the family
+member_cases : (g : Signature) (c : Certificate) → Contains (family g) c → Contains (map Lpo (precedences (length g))) c ⊎ (Contains (map Linear (interpretations g)) c ⊎ Contains (map Kbo (kbo_orders g)) c)
+member_cases g c m =
+    ⊎_elim (λ i. inl i) (λ i. inr (Contains-append_cases (map Linear (interpretations g)) (map Kbo (kbo_orders g)) c i)) (Contains-append_cases (map Lpo (precedences (length g))) (map Linear (interpretations g) ++ map Kbo (kbo_orders g)) c m)
+
 pub member_fits : (g : Signature) (i : Interpretation) → Contains (family g) (Linear i) → IsInterpretationOf g i
-member_fits g i c = ⊎_elim (λ d. let r = contains_map_back Lpo (precedences (length g)) (Linear i) d in absurd (cc)) (λ d. let r = contains_map_back Linear (interpretations g) (Linear i) d in let e : r.0 ≡ i = cc in interpretation_fits g i (subst (Contains (interpretations g)) e r.1))
-    (Contains-append_cases (map Lpo (precedences (length g))) (map Linear (interpretations g)) (Linear i) c)
+member_fits g i m =
+    ⊎_elim (λ d. absurd (no_member Lpo (precedences (length g)) (Linear i) (λ x e. cc) d))
+    (λ d. ⊎_elim (λ b. let r = contains_map_back Linear (interpretations g) (Linear i) b in let e : r.0 ≡ i = cc in interpretation_fits g i (subst (Contains (interpretations g)) e r.1))
+    (λ b. absurd (no_member Kbo (kbo_orders g) (Linear i) (λ x e. cc) b)) d)
+    (member_cases g (Linear i) m)
+
+pub member_weighs : (g : Signature) (o : KboOrder) → Contains (family g) (Kbo o) → HasWeights o
+member_weighs g o m =
+    ⊎_elim (λ d. absurd (no_member Lpo (precedences (length g)) (Kbo o) (λ x e. cc) d))
+    (λ d. ⊎_elim (λ b. absurd (no_member Linear (interpretations g) (Kbo o) (λ x e. cc) b))
+    (λ b. let r = contains_map_back Kbo (kbo_orders g) (Kbo o) b in let e : r.0 ≡ o = cc in order_weighs g o (subst (Contains (kbo_orders g)) e r.1)) d)
+    (member_cases g (Kbo o) m)
 
 -- the value of a term hangs on its variables, and is at least that of each
 mutual
@@ -110,13 +136,21 @@ linear_variables g i fit s t w h x c = ⊎_elim (λ d. d) (λ n. absurd (go n)) 
         let k = h big in
         omega arith
 
--- what a member of the family orders is a rule
-pub ordered_rule : (g : Signature) (c : Certificate) → Contains (family g) c → (s t : Tree) → IsWellFormed g t → IsGreater c s t → IsRule (record { left = s; right = t })
-ordered_rule g (Lpo p) m s t w h = record { no_variable = λ n e. no_lesser e (path_from_lpo p h); holds_variables = λ x c. occurs_to x s (lesser_variables x (path_from_lpo p h) (occurs_from x t c)) }
-ordered_rule g (Linear i) m s t w h = record {
-  no_variable = λ n e. let k = h (λ z. 0) in let q : linear_value i (λ z. 0) s ≡ 0 = ap (linear_value i (λ z. 0)) e in omega arith;
-  holds_variables = linear_variables g i (member_fits g i m) s t w h;
+linear_rule : (g : Signature) (i : Interpretation) → IsInterpretationOf g i → (r : Rule) → IsWellFormed g r.right → LinearGreater i r.left r.right → IsRule r
+linear_rule g i fit r w h = record {
+  no_variable = λ n e. let k = h (λ z. 0) in let q : linear_value i (λ z. 0) r.left ≡ 0 = ap (linear_value i (λ z. 0)) e in omega arith;
+  holds_variables = linear_variables g i fit r.left r.right w h;
 }
+
+-- what an interpretation of the signature orders are rules
+pub linear_rules : (g : Signature) (i : Interpretation) → IsInterpretationOf g i → (rules : List Rule) → All (λ (r : Rule). IsWellFormed g r.right) rules → LinearOrients i rules → All IsRule rules
+linear_rules g i fit rules well h = λ k d l. linear_rule g i fit _ (well k d l) (h k d l)
+
+-- so is what a member of the family orders
+pub ordered_rules : (g : Signature) (c : Certificate) → Contains (family g) c → (rules : List Rule) → All (λ (r : Rule). IsWellFormed g r.right) rules → Orders c rules → All IsRule rules
+ordered_rules g (Lpo p) m rules well h = All-weaker (λ (r : Rule). LpoGreater p r.left r.right) IsRule (lpo_rule p) rules h
+ordered_rules g (Linear i) m rules well h = linear_rules g i (member_fits g i m) rules well h
+ordered_rules g (Kbo o) m rules well h = All-weaker (λ (r : Rule). KboGreater o r.left r.right) IsRule (kbo_rule o (member_weighs g o m)) rules h
 
 -- the numbers from n on, without a lesser one, are all
 filter_range : (x n k : ℕ) → x < n → filter (λ y. not (y == x)) (range_with_len n k) ≡ range_with_len n k
@@ -139,17 +173,25 @@ arranged (suc k) n =
 
 -- the family has a member for each signature
 pub first_member : (g : Signature) → Contains (family g) (Lpo (range_with_len 0 (length g)))
-first_member g = Contains-append_left (map Lpo (precedences (length g))) (map Linear (interpretations g)) (Lpo (range_with_len 0 (length g))) (contains_map Lpo (precedences (length g)) (range_with_len 0 (length g)) (arranged (length g) 0))
+first_member g = Contains-append_left (map Lpo (precedences (length g))) (map Linear (interpretations g) ++ map Kbo (kbo_orders g)) (Lpo (range_with_len 0 (length g))) (contains_map Lpo (precedences (length g)) (range_with_len 0 (length g)) (arranged (length g) 0))
 
 pub nothing_orderable : (g : Signature) → IsOrderable g []
-nothing_orderable g = (Lpo (range_with_len 0 (length g)), first_member g, λ k d l. absurd (omega arith))
+nothing_orderable g = (Lpo (range_with_len 0 (length g)), first_member g, nothing_ordered (Lpo (range_with_len 0 (length g))))
 
--- a member orders variants alike
-pub greater_renamed : (c : Certificate) (f : ℕ → ℕ) (s t : Tree) → IsGreater c s t → IsGreater c (rename f s) (rename f t)
-greater_renamed (Lpo p) f s t h = lpo_from_path p (path-instance p (λ x. variable (f x)) (path_from_lpo p h))
-greater_renamed (Linear i) f s t h = λ a. let q = h (λ x. linear_value i a (variable (f x))) in omega (arith, value-instance i a (λ x. variable (f x)) s, value-instance i a (λ x. variable (f x)) t)
+-- rules that are chains of ordered ones are ordered
+pub chains_ordered : (g : Signature) (c : Certificate) → Contains (family g) c → (qs rs : List Rule) → All (IsRuleOver g) qs → ((r : Rule) → Contains rs r → IsWellFormed g r.left × ((n : ℕ) × Steps (Step (Contains qs)) (suc n) r.left r.right)) → Orders c qs → Orders c rs
+chains_ordered g (Lpo p) m qs rs over chained h = all_from (λ (r : Rule). LpoGreater p r.left r.right) rs (λ r i.
+    let k = (chained r i).1 in
+    lpo_from_path p (chain_greater p (Contains qs) (λ q j. path_from_lpo p (All-contains (λ (q : Rule). LpoGreater p q.left q.right) qs q h j)) k.0 r.left r.right k.1))
+chains_ordered g (Linear i) m qs rs over chained h = all_from (λ (r : Rule). LinearGreater i r.left r.right) rs (λ r j.
+    let k = chained r j in
+    chain_linear g i (Contains qs) (member_fits g i m) (λ q o. All-contains (λ (q : Rule). LinearGreater i q.left q.right) qs q h o) (keeps_well g qs over) k.1.0 r.left r.right k.0 k.1.1)
+chains_ordered g (Kbo o) m qs rs over chained h = all_from (λ (r : Rule). KboGreater o r.left r.right) rs (λ r i.
+    let k = (chained r i).1 in
+    kbo_chain o (member_weighs g o m) (Contains qs) (λ q j. All-contains (λ (q : Rule). KboGreater o q.left q.right) qs q h j) k.0 r.left r.right k.1)
 
 -- what a member of the family orders is terminating
 pub terminating_by_member : (g : Signature) (c : Certificate) → Contains (family g) c → (rules : List Rule) → All (IsRuleOver g) rules → Orders c rules → IsTerminating g rules
 terminating_by_member g (Lpo p) m rules over h = terminating_by_lpo p g rules over h
 terminating_by_member g (Linear n) m rules over h = λ t w. halts_to rules t (linear_halts g n (Contains rules) (member_fits g n m) (λ r j. All-contains (λ r. LinearGreater n r.left r.right) rules r h j) (keeps_well g rules over) t w)
+terminating_by_member g (Kbo o) m rules over h = terminating_by_kbo g o (member_weighs g o m) rules over h

@@ -1,3 +1,4 @@
+pub mod Ordering
 mod OrderRows
 pub mod Parts
 pub mod Texts

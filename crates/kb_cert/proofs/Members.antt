@@ -1,9 +1,9 @@
 -- The members of the family have texts: they have exactly the symbols of the signature, and numbers within the limits.
-use Rattle.std.proofs.Common.{ℕ, zero, suc, ◌≤◌, ◌≡◌, ⊎_elim, refl, sym, ap, ap₂, ◌∙◌, subst, arith, List, [], ◌∷◌, length, map, filter, Contains, Bool, true, false, ◌==◌, cond, IsTrue}
+use Rattle.std.proofs.Common.{ℕ, zero, suc, ◌≤◌, ◌≡◌, ⊎_elim, refl, sym, ap, ap₂, ◌∙◌, subst, arith, List, [], ◌∷◌, ◌++◌, All, length, map, filter, Contains, Bool, true, false, ◌==◌, cond, IsTrue}
 use Rattle.std.specs.Prelude.{not, ◌&&◌, nat_eq, nat_le, nat_lt, replicate, Some}
 use Rattle.std.specs.List.{list_all, range_with_len}
 use Rattle.std.proofs.lemmas.Bool.{le-leb, lt-ltb, eq-eqb}
-use Rattle.std.proofs.lemmas.List.Elements.{Contains-append_cases, Contains-append_right}
+use Rattle.std.proofs.lemmas.List.Elements.{All-contains, Contains-append_cases, Contains-append_right}
 use Rattle.kb_term.proofs.Steps.{contains_cases, contains_behind, contains_first}
 use Rattle.kb_term.specs.Pair.{distinct}
 use Rattle.kb_term.specs.Rule.{Rule}
@@ -16,10 +16,13 @@ use Rattle.kb_linear.proofs.Sorted.{contains_map_back, contains_flat_map_back, c
 use Rattle.kb_linear.proofs.Within.{within_lengths}
 use Rattle.kb_linear.proofs.Members.{IsTried, first_tried, others_tried, length-replicate}
 use Rattle.kb_linear.proofs.Ready.{tried_to_three}
+use Rattle.kb_kbo.specs.KnuthBendix.{KboOrder}
+use Rattle.kb_kbo.specs.Orders.{kbo_orders}
+use Rattle.kb_kbo.proofs.KboMembers.{IsSmallWeight, order_tried}
 use Rattle.kb_cert.specs.Family.{family, IsFirstOrder}
 use Rattle.kb_cert.specs.CertificateText.{is_certificate, is_precedence, are_rows, is_between}
 use Rattle.kb_cert.specs.declared.certificate.Certificate.{Certificate}
-use Rattle.kb_cert.specs.declared.certificate.Certificate.TheVariants.{Lpo, Linear}
+use Rattle.kb_cert.specs.declared.certificate.Certificate.TheVariants.{Lpo, Linear, Kbo}
 
 contains_filter : (p : ℕ → Bool) (xs : List ℕ) (y : ℕ) → Contains (filter p xs) y → Contains xs y × (p y ≡ true)
 contains_filter p [] y c = absurd (omega arith)
@@ -87,12 +90,30 @@ rows_text (f ∷ sig) top (row ∷ i) l t =
     let rest = rows_text sig top i l (others_tried f sig top row i t) in
     λ k. (c k && m k && w k) && rest k
 
+weights_text : (ws : List ℕ) → All IsSmallWeight ws → list_all (is_between 1 15) ws ≡ true
+weights_text ws h = all_true (is_between 1 15) ws (λ n c.
+    let w = All-contains IsSmallWeight ws n h c in
+    let l : nat_le 1 n ≡ true = le-leb 1 n w.0 in
+    let m : nat_le n 15 ≡ true = le-leb n 15 (let q = w.1 in omega arith) in
+    λ i. l i && m i)
+
+kbo_text : (sig : Signature) (order : KboOrder) → Contains (kbo_orders sig) order → IsTrue (is_certificate sig (Kbo order))
+kbo_text sig order c =
+    let t = order_tried sig order c in
+    let l : nat_eq (length order.weights) (length sig) ≡ true = eq-eqb (length order.weights) (length sig) t.count in
+    let w = weights_text order.weights t.weights in
+    let p = precedence_text sig order.precedence t.precedence in
+    λ i. (l i && w i) && p i
+
 -- each member of the family has a text
 pub member_text : (sig : Signature) (c : Certificate) → Contains (family sig) c → IsTrue (is_certificate sig c)
-member_text sig c m =
-    ⊎_elim (λ d. let r = contains_map_back Lpo (precedences (length sig)) c d in subst (λ z. IsTrue (is_certificate sig z)) r.2 (precedence_text sig r.0 r.1))
+member_text sig c m = ⊎_elim
+    (λ d. let r = contains_map_back Lpo (precedences (length sig)) c d in subst (λ z. IsTrue (is_certificate sig z)) r.2 (precedence_text sig r.0 r.1))
+    (λ b. ⊎_elim
     (λ d. let r = contains_map_back Linear (interpretations sig) c d in let t = tried_to_three sig r.0 r.1 in subst (λ z. IsTrue (is_certificate sig z)) r.2 (rows_text sig t.0 r.0 t.1 t.2))
-    (Contains-append_cases (map Lpo (precedences (length sig))) (map Linear (interpretations sig)) c m)
+    (λ d. let r = contains_map_back Kbo (kbo_orders sig) c d in subst (λ z. IsTrue (is_certificate sig z)) r.2 (kbo_text sig r.0 r.1))
+    (Contains-append_cases (map Linear (interpretations sig)) (map Kbo (kbo_orders sig)) c b))
+    (Contains-append_cases (map Lpo (precedences (length sig))) (map Linear (interpretations sig) ++ map Kbo (kbo_orders sig)) c m)
 
 pub first_contained : (sig : Signature) (rules : List Rule) (c : Certificate) → IsFirstOrder sig rules (Some c) → Contains (family sig) c
 first_contained sig rules c (h, before, after, e, n) = subst (λ z. Contains z c) (sym e) (Contains-append_right before (c ∷ after) c (contains_first c after))

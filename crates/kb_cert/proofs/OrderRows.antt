@@ -1,13 +1,15 @@
 -- The orders on small terms.
-use Rattle.std.specs.Prelude.{ℕ, zero, suc, [], ◌∷◌, ◌≡◌, Contains, length, codes, take}
+use Rattle.std.specs.Prelude.{ℕ, List, zero, suc, [], ◌∷◌, ◌≡◌, Contains, length, codes, take}
 use Rattle.std.proofs.Common.{refl, arith}
 use Rattle.kb_term.specs.Tree.{variable}
 use Rattle.kb_term.specs.Signature.{Signature}
 use Rattle.kb_lpo.specs.PathOrder.{LpoGreater, variable_within, symbol_greater, arguments_greater}
 use Rattle.kb_linear.specs.LinearOrder.{LinearGreater}
+use Rattle.kb_kbo.specs.KnuthBendix.{KboOrder}
+use Rattle.kb_kbo.specs.Orders.{kbo_orders}
 use Rattle.kb_cert.specs.Family.{family, Orders}
 use Rattle.kb_lpo.specs.Precedences.{precedences}
-use Rattle.kb_cert.specs.declared.certificate.Certificate.TheVariants.{Lpo, Linear}
+use Rattle.kb_cert.specs.declared.certificate.Certificate.TheVariants.{Lpo, Linear, Kbo}
 use Rattle.kb_term.proofs.PairRows.{one}
 use Rattle.kb_term.proofs.Trees.{apply≢variable, each-more, each-none}
 
@@ -39,8 +41,8 @@ linear-gf-fg a = omega arith
 abbrev pub f1-g1 : Signature
 f1-g1 = record { name = codes "f"; arity = 1 } ∷ record { name = codes "g"; arity = 1 } ∷ []
 
--- two precedences and 64 interpretations
-pub family-length : length (family f1-g1) ≡ 66
+-- two precedences, 64 interpretations and 18 Knuth-Bendix orders
+pub family-length : length (family f1-g1) ≡ 84
 family-length = refl
 
 pub family-first : take 4 (family f1-g1) ≡ Lpo (0 ∷ 1 ∷ []) ∷ Lpo (1 ∷ 0 ∷ []) ∷ Linear ((0, 1 ∷ []) ∷ (0, 1 ∷ []) ∷ []) ∷ Linear ((0, 1 ∷ []) ∷ (0, 2 ∷ []) ∷ []) ∷ []
@@ -49,8 +51,15 @@ family-first = refl
 pub precedences-3 : precedences 3 ≡ (0 ∷ 1 ∷ 2 ∷ []) ∷ (0 ∷ 2 ∷ 1 ∷ []) ∷ (1 ∷ 0 ∷ 2 ∷ []) ∷ (1 ∷ 2 ∷ 0 ∷ []) ∷ (2 ∷ 0 ∷ 1 ∷ []) ∷ (2 ∷ 1 ∷ 0 ∷ []) ∷ []
 precedences-3 = refl
 
--- the empty signature has the empty precedence and the empty interpretation
-pub family-empty : family [] ≡ Lpo [] ∷ Linear [] ∷ []
+-- the weights count up from the last symbol, and each list of weights stands with each precedence
+abbrev kbo : List ℕ → List ℕ → KboOrder
+kbo weights precedence = record { weights = weights; precedence = precedence }
+
+pub kbo-first : take 3 (kbo_orders f1-g1) ≡ kbo (1 ∷ 1 ∷ []) (0 ∷ 1 ∷ []) ∷ kbo (1 ∷ 1 ∷ []) (1 ∷ 0 ∷ []) ∷ kbo (1 ∷ 2 ∷ []) (0 ∷ 1 ∷ []) ∷ []
+kbo-first = refl
+
+-- the empty signature has the empty precedence, the empty interpretation and the order of no weights
+pub family-empty : family [] ≡ Lpo [] ∷ Linear [] ∷ Kbo (kbo [] []) ∷ []
 family-empty = refl
 
 -- of the family, LINEAR 1,2 0,2 orders f(f(x)) -> g(x) and g(f(x)) -> f(g(x)); it is number 27

@@ -4,7 +4,7 @@ use Rattle.std.specs.List.{list_all, join_with_byte}
 use Rattle.kb_term.specs.Signature.{SymbolEntry, Signature}
 use Rattle.kb_term.specs.Pair.{distinct}
 use Rattle.kb_cert.specs.declared.certificate.Certificate.{Certificate}
-use Rattle.kb_cert.specs.declared.certificate.Certificate.TheVariants.{Lpo, Linear}
+use Rattle.kb_cert.specs.declared.certificate.Certificate.TheVariants.{Lpo, Linear, Kbo}
 
 -- the names of the symbols
 abbrev pub names_of : Signature → List (List ℕ)
@@ -22,6 +22,7 @@ interp_text row = join_with_byte 44 (decimal row.0 ∷ map decimal row.1)
 abbrev pub cert_fields : List (List ℕ) → Certificate → List (List ℕ)
 cert_fields names (Lpo symbols) = codes "LPO" ∷ map (name_at names) symbols
 cert_fields names (Linear rows) = codes "LINEAR" ∷ map interp_text rows
+cert_fields names (Kbo order) = codes "KBO" ∷ join_with_byte 44 (map decimal order.weights) ∷ map (name_at names) order.precedence
 
 -- the fields parted by spaces
 abbrev pub cert_text : Signature → Certificate → List ℕ
@@ -45,10 +46,15 @@ are_rows [] (row ∷ rows) = false
 are_rows (f ∷ signature) [] = false
 are_rows (f ∷ signature) (row ∷ rows) = is_row f.arity row && are_rows signature rows
 
+-- a weight from 1 to 15 for each symbol
+abbrev pub are_weights : Signature → List ℕ → Bool
+are_weights signature weights = nat_eq (length weights) (length signature) && list_all (is_between 1 15) weights
+
 -- exactly the symbols of the signature with their arities, and numbers within the limits
 abbrev pub is_certificate : Signature → Certificate → Bool
 is_certificate signature (Lpo symbols) = is_precedence signature symbols
 is_certificate signature (Linear rows) = are_rows signature rows
+is_certificate signature (Kbo order) = are_weights signature order.weights && is_precedence signature order.precedence
 
 abbrev pub CertSpelled : Signature → List ℕ → Certificate → Type 0
 CertSpelled signature bytes c = IsTrue (is_certificate signature c) × (bytes ≡ cert_text signature c)

@@ -1,28 +1,23 @@
 -- The family of orders of a signature, and its first member that orients given rules.
 use Rattle.std.specs.Prelude.{List, ◌∷◌, map, length, ◌++◌, ◌≡◌, Contains, All, Option, Some, None}
 use Rattle.kb_term.specs.First.{IsFirst}
-use Rattle.kb_term.specs.Tree.{Tree}
 use Rattle.kb_term.specs.Rule.{Rule}
 use Rattle.kb_term.specs.Signature.{Signature}
-use Rattle.kb_lpo.specs.PathOrder.{LpoGreater}
-use Rattle.kb_lpo.specs.Precedences.{precedences}
-use Rattle.kb_linear.specs.LinearOrder.{LinearGreater}
-use Rattle.kb_linear.specs.Interpretations.{interpretations}
+use Rattle.kb_lpo.specs.Precedences.{precedences, LpoOrients}
+use Rattle.kb_linear.specs.Interpretations.{interpretations, LinearOrients}
+use Rattle.kb_kbo.specs.Orders.{kbo_orders, KboOrients}
 use Rattle.kb_cert.specs.declared.certificate.Certificate.{Certificate}
-use Rattle.kb_cert.specs.declared.certificate.Certificate.TheVariants.{Lpo, Linear}
+use Rattle.kb_cert.specs.declared.certificate.Certificate.TheVariants.{Lpo, Linear, Kbo}
 
 -- the orders that are tried, in their order
 abbrev pub family : Signature → List Certificate
-family signature = map Lpo (precedences (length signature)) ++ map Linear (interpretations signature)
+family signature = map Lpo (precedences (length signature)) ++ (map Linear (interpretations signature) ++ map Kbo (kbo_orders signature))
 
--- the member makes s greater than t
-abbrev pub IsGreater : Certificate → Tree → Tree → Type 0
-IsGreater (Lpo prec) s t = LpoGreater prec s t
-IsGreater (Linear i) s t = LinearGreater i s t
-
--- the member makes left greater than right in each rule
+-- the member orders the rules: it makes left greater than right in each of them
 abbrev pub Orders : Certificate → List Rule → Type 0
-Orders c rules = All (λ (rule : Rule). IsGreater c rule.left rule.right) rules
+Orders (Lpo prec) rules = LpoOrients prec rules
+Orders (Linear i) rules = LinearOrients i rules
+Orders (Kbo order) rules = KboOrients order rules
 
 -- some member orders the rules
 abbrev pub IsOrderable : Signature → List Rule → Type 0

@@ -1,6 +1,7 @@
 // Certificates of termination.
 ghost use Rattle.std.specs.Prelude.{◌≡◌};
 
+use kb_kbo::Kbo;
 use kb_linear::Interp;
 use kb_lpo::Precedence;
 use std::alloc::AllocError;
@@ -10,6 +11,7 @@ use std::alloc::AllocError;
 pub enum Certificate {
     Lpo(Precedence),
     Linear(Interp),
+    Kbo(Kbo),
 }
 
 impl Clone for Certificate {
@@ -19,6 +21,7 @@ impl Clone for Certificate {
         match self {
             Certificate::Lpo(prec) => Ok(Certificate::Lpo(prec.clone()?)),
             Certificate::Linear(i) => Ok(Certificate::Linear(i.clone()?)),
+            Certificate::Kbo(order) => Ok(Certificate::Kbo(order.clone()?)),
         }
     }
 }

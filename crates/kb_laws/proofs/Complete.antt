@@ -1,17 +1,14 @@
 -- What a complete state of a run gives: a terminating, confluent system that proves what the problem proves.
 use Rattle.std.proofs.Common.{ℕ, ◌≡◌, ◌↔◌, inl, inr, refl, sym, ◌∙◌, subst, arith, List, [], ◌∷◌, ◌++◌, All, Contains, ⊎_elim}
-use Rattle.std.proofs.lemmas.List.Elements.{All-contains, Contains-get_or}
+use Rattle.std.proofs.lemmas.List.Elements.{All-contains, All-head, All-cons}
 use Rattle.kb_term.specs.Tree.{Tree, variable, apply, Trees, no_trees, more_trees}
 use Rattle.kb_term.specs.Substitution.{instance, instances, rename}
 use Rattle.kb_term.specs.Rule.{Rule, IsRule, IsVariantRule}
 use Rattle.kb_term.specs.Signature.{Signature, Problem, HasArity, IsWellFormed, AreWellFormed}
 use Rattle.kb_term.specs.Proving.{RewritesAt, IsPath, Proves, equations_of, IsTerminating, IsConfluent, IsJoinable}
 use Rattle.kb_term.specs.Proving as Proving
-use Rattle.kb_lpo.specs.PathOrder.{LpoGreater}
-use Rattle.kb_linear.specs.LinearOrder.{LinearGreater}
 use Rattle.kb_cert.specs.Family.{Orders, family}
 use Rattle.kb_cert.specs.declared.certificate.Certificate.{Certificate}
-use Rattle.kb_cert.specs.declared.certificate.Certificate.TheVariants.{Lpo, Linear}
 use Rattle.kb_term.specs.Pair.{IsSameEquation}
 use Rattle.kb_laws.specs.Complete.{IsCompleteSystem}
 use Rattle.kb_laws.specs.Completion.{KbState, KbStep, deduce, orient, delete, simplify, compose, collapse, IsSameState, Has, Keeps, Gains, KbFollows, kb_start, IsKbRun}
@@ -20,19 +17,14 @@ use Rattle.kb_term.proofs.Steps.{Occurs, OccursIn, occurs_from, occurs_to, Step,
 use Rattle.kb_term.proofs.Bridge.{step_from_position, joinable_from}
 use Rattle.kb_laws.proofs.Cleaning.{length-instances}
 use Rattle.kb_laws.proofs.Conversion.{Equal, Either, equal_trans, equal_sym, reaches_made_up, equal_rule}
-use Rattle.kb_lpo.proofs.Lpo.{path_from_lpo, lpo_from_path}
-use Rattle.kb_lpo.proofs.LpoLaws.{chain_greater}
-use Rattle.kb_linear.proofs.LinearHalting.{chain_linear}
 use Rattle.kb_laws.proofs.CompletionLaws.{same_equation_itself, variant_itself, has_equation, has_rule, kb_run_keeps, Members, proves_to, in_equations_of}
-use Rattle.kb_cert.proofs.FamilyLaws.{ordered_rule, member_fits, terminating_by_member}
+pub use Rattle.kb_cert.proofs.Ordering.{all_from}
+use Rattle.kb_cert.proofs.FamilyLaws.{ordered_rules, chains_ordered, terminating_by_member}
 use Rattle.kb_laws.specs.Overlaps.{OverlapsJoin}
 use Rattle.kb_term.specs.Signature.{IsRuleOver}
 use Rattle.kb_lpo.proofs.Arities.{keeps_well}
 use Rattle.kb_laws.proofs.ConfluenceLaws.{confluent_by_overlaps, joinable_by_confluence}
 use Rattle.kb_laws.proofs.RunLaws.{AreChains, run_chained}
-
-pub all_from : {X : Type 0} (P : X → Type 0) (xs : List X) → ((x : X) → Contains xs x → P x) → All P xs
-all_from P xs h = λ k d l. h _ (Contains-get_or xs k d l)
 
 -- renamed terms
 mutual
@@ -139,7 +131,8 @@ step_sound g a b (deduce u s t w h k ge kr kc) z = record {
 step_sound g a b (orient s t o l gr gc) z =
     let w : AreSidesWell g (s, t) = has_well g a.equations z.equations (s, t) ((l.0 (s, t)).0 (inr (same_equation_itself (s, t)))) in
     let x : Rule = record { left = s; right = t } in
-    let r : IsRuleOver g x = record { is_rule = ordered_rule g o.0 o.1 s t w.1 (o.2 0 x (omega arith)); left = w.0; right = w.1 } in
+    let well : All (λ (r : Rule). IsWellFormed g r.right) (x ∷ a.constraints) = All-cons (λ (r : Rule). IsWellFormed g r.right) x a.constraints w.1 (all_from (λ (r : Rule). IsWellFormed g r.right) a.constraints (λ r i. (z.constraints r i).right)) in
+    let r : IsRuleOver g x = record { is_rule = All-head IsRule x a.constraints (ordered_rules g o.0 o.1 (x ∷ a.constraints) well o.2); left = w.0; right = w.1 } in
     record {
       equations = λ d i. has_well g a.equations z.equations d ((l.0 d).0 (inl (has_equation b.equations d i)));
       rules = gained_over g a.rules b.rules x (has_over g a.rules z.rules) r gr;
@@ -211,12 +204,8 @@ run_sound problem states run well a i = follows_sound problem.signature states (
 
 -- a member that orders the constraint rules orders the rules
 pub orders_chained : (g : Signature) (c : Certificate) → Contains (family g) c → (a : KbState) → IsSoundState g a → AreChains a → Orders c a.constraints → Orders c a.rules
-orders_chained g (Lpo p) m a z chained h = all_from (λ (r : Rule). LpoGreater p r.left r.right) a.rules (λ r i.
-    let k = chained r i in
-    lpo_from_path p (chain_greater p (Contains a.constraints) (λ q j. path_from_lpo p (All-contains (λ (q : Rule). LpoGreater p q.left q.right) a.constraints q h j)) k.2.0 r.left r.right (k.0, k.1, k.2.1)))
-orders_chained g (Linear n) m a z chained h = all_from (λ (r : Rule). LinearGreater n r.left r.right) a.rules (λ r i.
-    let k = chained r i in
-    chain_linear g n (Contains a.constraints) (member_fits g n m) (λ q j. All-contains (λ (q : Rule). LinearGreater n q.left q.right) a.constraints q h j) (keeps_well g a.constraints (all_from (IsRuleOver g) a.constraints z.constraints)) k.2.0 r.left r.right (z.rules r i).left (k.0, k.1, k.2.1))
+orders_chained g c m a z chained h =
+    chains_ordered g c m a.constraints a.rules (all_from (IsRuleOver g) a.constraints z.constraints) (λ r i. let k = chained r i in ((z.rules r i).left, (k.2.0, (k.0, k.1, k.2.1)))) h
 
 -- joinable terms are proved equal
 pub proved_by_joining : (rules : List Rule) (s t : Tree) → IsJoinable rules s t → Proves (equations_of rules) s t

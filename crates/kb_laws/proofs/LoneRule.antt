@@ -1,22 +1,22 @@
 -- One rule that doesn't overlap itself is a complete system for its equation.
 use Rattle.std.proofs.Common.{ℕ, zero, suc, ◌≡◌, ◌∙◌, inl, inr, refl, sym, subst, subst₂, arith, List, [], ◌∷◌, All, Some, None, slice_get, Bool, true, false, cond, ⊎_elim}
+use Rattle.std.proofs.lemmas.List.Elements.{All-head}
 use Rattle.kb_term.specs.Tree.{Tree, tree_eq}
 use Rattle.kb_term.specs.Substitution.{IsRenaming}
 use Rattle.kb_term.specs.Pair.{Pair, numbered, canonical, place_in, variables_of_pair, IsVariantEquation, IsSameEquation}
 use Rattle.kb_term.proofs.Variants.{variants_from_numbered, numbered_renamed}
 use Rattle.kb_term.proofs.OwnPair.{numbered_apart}
 use Rattle.kb_term.proofs.CanonicalPairs.{lesser_cases, canonical_from_same, same_from_canonical}
-use Rattle.kb_term.specs.Rule.{Rule, rule_of}
-use Rattle.kb_term.specs.Signature.{Signature, IsRuleOver}
+use Rattle.kb_term.specs.Rule.{Rule, IsRule, rule_of}
+use Rattle.kb_term.specs.Signature.{Signature, IsWellFormed, IsRuleOver}
 use Rattle.kb_term.specs.Proving.{Proves, equations_of}
 use Rattle.kb_term.proofs.Steps.{contains_cases, contains_first}
 use Rattle.kb_cert.specs.declared.certificate.Certificate.{Certificate}
-use Rattle.kb_cert.proofs.FamilyLaws.{terminating_by_member, ordered_rule}
+use Rattle.kb_cert.proofs.FamilyLaws.{terminating_by_member, ordered_rules}
 use Rattle.kb_overlap.specs.Overlap.{IsOverlapList}
 use Rattle.kb_laws.specs.Overlaps.{OverlapsJoin}
 use Rattle.kb_laws.specs.Runs.{ProveSame}
 use Rattle.kb_laws.specs.Complete.{LoneRuleIsSystem, PairRuleIsSystem}
-use Rattle.kb_cert.specs.Family.{Orders, IsGreater}
 use Rattle.kb_laws.proofs.Conversion.{Equal, equal_same, equal_rule, equal_made_up}
 use Rattle.kb_laws.proofs.CompletionLaws.{Members, proves_from, proves_to}
 use Rattle.kb_laws.proofs.ConfluenceLaws.{confluent_by_overlaps, joinable_by_confluence}
@@ -49,15 +49,15 @@ same_proves d e same s t p =
 pub lone_rule_is_system : (signature : Signature) (order : Certificate) (rule : Rule) (e : Tree × Tree) → LoneRuleIsSystem signature order rule e
 lone_rule_is_system g c rule e h same =
     let rules : List Rule = rule ∷ [] in
-    let one : IsRuleOver g rule = record { is_rule = ordered_rule g c h.member rule.left rule.right h.over.1 h.ordered; left = h.over.0; right = h.over.1 } in
+    let is_rule = ordered_rules g c h.member rules (all_from (λ (r : Rule). IsWellFormed g r.right) rules (λ r i. ⊎_elim (λ q. subst (λ (x : Rule). IsWellFormed g x.right) q h.over.1) (λ k. absurd (omega arith)) (contains_cases rule [] r i))) h.ordered in
+    let one : IsRuleOver g rule = record { is_rule = All-head IsRule rule [] is_rule; left = h.over.0; right = h.over.1 } in
     let over : All (IsRuleOver g) rules = all_from (IsRuleOver g) rules (λ r i. ⊎_elim (λ q. subst (IsRuleOver g) q one) (λ k. absurd (omega arith)) (contains_cases rule [] r i)) in
-    let ordered : Orders c rules = all_from (λ (r : Rule). IsGreater c r.left r.right) rules (λ r i. ⊎_elim (λ q. subst (λ (x : Rule). IsGreater c x.left x.right) q h.ordered) (λ k. absurd (omega arith)) (contains_cases rule [] r i)) in
-    let halting = terminating_by_member g c h.member rules over ordered in
+    let halting = terminating_by_member g c h.member rules over h.ordered in
     let conf = confluent_by_overlaps g rules over halting (lone_joins rule h.no_overlap) in
     let keeps : ProveSame (e ∷ []) (equations_of rules) = λ s t. (same_proves e (rule.left, rule.right) same s t, same_proves (rule.left, rule.right) e (same_turned e (rule.left, rule.right) same) s t) in
     record {
       over = over;
-      ordered = ordered;
+      ordered = h.ordered;
       terminating = halting;
       confluent = conf;
       proves_same = keeps;

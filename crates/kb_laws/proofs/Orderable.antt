@@ -1,25 +1,20 @@
 -- Each signature has a precedence, and the constraint rules of a run stay orderable.
-use Rattle.std.proofs.Common.{subst, subst₂, arith, List, [], ◌∷◌, Contains, ⊎_elim}
-use Rattle.std.proofs.lemmas.List.Elements.{All-contains}
+use Rattle.std.proofs.Common.{subst, arith, List, [], ◌∷◌, Contains, ⊎_elim}
 use Rattle.kb_term.specs.Rule.{Rule, IsVariantRule}
 use Rattle.kb_term.specs.Signature.{Signature, Problem}
 use Rattle.kb_term.specs.Proving.{IsPath}
-use Rattle.kb_cert.specs.Family.{IsGreater, Orders, IsOrderable}
-use Rattle.kb_cert.specs.declared.certificate.Certificate.{Certificate}
+use Rattle.kb_cert.specs.Family.{IsOrderable}
 use Rattle.kb_laws.specs.Completion.{KbState, KbStep, deduce, orient, delete, simplify, compose, collapse, Has, Keeps, KbFollows, kb_start, IsKbRun}
 use Rattle.kb_term.proofs.Steps.{contains_cases, contains_behind, contains_first}
 use Rattle.kb_laws.proofs.CompletionLaws.{has_rule}
-use Rattle.kb_cert.proofs.FamilyLaws.{nothing_orderable, greater_renamed}
-use Rattle.kb_laws.proofs.Complete.{all_from}
+use Rattle.kb_cert.proofs.FamilyLaws.{nothing_orderable}
+use Rattle.kb_cert.proofs.Ordering.{IsRenamedOf, orders_renamed}
 
-orders_variants : (c : Certificate) (qs rs : List Rule) → ((r : Rule) → Contains rs r → Has IsVariantRule qs r) → Orders c qs → Orders c rs
-orders_variants c qs rs h o = all_from (λ (r : Rule). IsGreater c r.left r.right) rs (λ r i. go r (h r i))
-  where
-    go : (r : Rule) → Has IsVariantRule qs r → IsGreater c r.left r.right
-    go r (q, j, (f, back, n, k)) = subst₂ (IsGreater c) n.there k.there (greater_renamed c f q.left q.right (All-contains (λ (q : Rule). IsGreater c q.left q.right) qs q o j))
+renamed_of : (qs : List Rule) (r : Rule) → Has IsVariantRule qs r → IsRenamedOf qs r
+renamed_of qs r (q, i, (f, back, n, k)) = (q, i, f, n.there, k.there)
 
 pub orderable_variants : (g : Signature) (qs rs : List Rule) → ((r : Rule) → Contains rs r → Has IsVariantRule qs r) → IsOrderable g qs → IsOrderable g rs
-orderable_variants g qs rs h (c, m, o) = (c, m, orders_variants c qs rs h o)
+orderable_variants g qs rs h (c, m, o) = (c, m, orders_renamed c qs rs (λ r i. renamed_of qs r (h r i)) o)
 
 kept_orderable : (g : Signature) (a b : KbState) → Keeps IsVariantRule a.constraints b.constraints → IsOrderable g a.constraints → IsOrderable g b.constraints
 kept_orderable g a b k o = orderable_variants g a.constraints b.constraints (λ r i. (k r).1 (has_rule b.constraints r i)) o

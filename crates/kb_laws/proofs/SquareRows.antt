@@ -12,8 +12,8 @@ use Rattle.kb_term.proofs.Trees.{apply-inj, more_trees-inj}
 use Rattle.kb_unify.specs.Unifier.{IsUnifier, IsUnifiable, IsInstanceOfSubstitution}
 use Rattle.kb_overlap.specs.Overlap.{Overlap, IsOverlapList, IsRenamedApart, HasNoOverlapAt}
 use Rattle.kb_overlap.proofs.OverlapRows.{ff-a, ff-overlaps}
-use Rattle.kb_lpo.specs.PathOrder.{symbol_greater, argument_equal}
-use Rattle.kb_cert.specs.Family.{IsGreater, Orders}
+use Rattle.kb_lpo.specs.PathOrder.{LpoGreater, symbol_greater, argument_equal}
+use Rattle.kb_cert.specs.Family.{Orders}
 use Rattle.kb_cert.proofs.FamilyLaws.{first_member}
 use Rattle.kb_laws.specs.Completion.{KbState, KbStep, deduce, orient, Has, Gains, Loses, Keeps, IsKbRun, kb_start}
 use Rattle.kb_laws.specs.Overlaps.{OverlapsJoin}
@@ -55,14 +55,14 @@ gains_second {X} Same w x y = (there, back)
     back (z, c, s) = ⊎_elim (λ q. inl (w, contains_first w [], subst (λ v. Same v y) (sym q) s)) (λ k. last z k s) (contains_cases w (x ∷ []) z c)
 
 -- f(f(x)) > a and f(a) > a
-ff-greater : IsGreater square_order ff-a.left ff-a.right
+ff-greater : LpoGreater (0 ∷ 1 ∷ []) ff-a.left ff-a.right
 ff-greater = symbol_greater (λ u c. absurd (omega arith)) (omega arith)
 
-fa-greater : IsGreater square_order fa-a.left fa-a.right
+fa-greater : LpoGreater (0 ∷ 1 ∷ []) fa-a.left fa-a.right
 fa-greater = argument_equal (contains_first (none 1) [])
 
 ordered : Orders square_order square_rules
-ordered = all_two (λ (r : Rule). IsGreater square_order r.left r.right) ff-a fa-a ff-greater fa-greater
+ordered = all_two (λ (r : Rule). LpoGreater (0 ∷ 1 ∷ []) r.left r.right) ff-a fa-a ff-greater fa-greater
 
 -- f(f(x)) = a becomes a rule; its overlap with itself gives f(a) = a, which becomes the second rule
 abbrev oriented : KbState
@@ -81,7 +81,7 @@ loses_one : {X : Type 0} (Same : X → X → Type 0) (x : X) → Loses Same (x �
 loses_one Same x = (gains_one Same x, λ h. absurd (let c = h.1 in omega arith))
 
 orient-ff : KbStep square_signature (kb_start square_problem) oriented
-orient-ff = orient ff-a.left (none 1) (square_order, first_member square_signature, all_one (λ (r : Rule). IsGreater square_order r.left r.right) ff-a ff-greater)
+orient-ff = orient ff-a.left (none 1) (square_order, first_member square_signature, all_one (λ (r : Rule). LpoGreater (0 ∷ 1 ∷ []) r.left r.right) ff-a ff-greater)
     (loses_one IsSameEquation equation) (gains_one IsVariantRule ff-a) (gains_one IsVariantRule ff-a)
 
 -- f(f(f(x))) rewrites to f(a) below the root, and to a at the root
@@ -92,7 +92,7 @@ deduce-fa = deduce (one 0 (one 0 (one 0 (variable 0)))) (one 0 (none 1)) (none 1
     (gains_one IsSameEquation fa-equation) (keeps IsVariantRule (ff-a ∷ [])) (keeps IsVariantRule (ff-a ∷ []))
 
 orient-fa : KbStep square_signature deduced completed
-orient-fa = orient (one 0 (none 1)) (none 1) (square_order, first_member square_signature, all_two (λ (r : Rule). IsGreater square_order r.left r.right) fa-a ff-a fa-greater ff-greater)
+orient-fa = orient (one 0 (none 1)) (none 1) (square_order, first_member square_signature, all_two (λ (r : Rule). LpoGreater (0 ∷ 1 ∷ []) r.left r.right) fa-a ff-a fa-greater ff-greater)
     (loses_one IsSameEquation fa-equation) (gains_second IsVariantRule ff-a fa-a) (gains_second IsVariantRule ff-a fa-a)
 
 run : IsKbRun square_problem (completed ∷ [])

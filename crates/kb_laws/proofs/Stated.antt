@@ -12,12 +12,14 @@ use Rattle.kb_term.specs.Signature.{Signature, Problem, IsRuleOver}
 use Rattle.kb_term.proofs.Steps.{Step}
 use Rattle.kb_term.proofs.Bridge.{halts_to, step_from_position, step_to_position, reaches_from, reaches_to}
 use Rattle.kb_cert.specs.declared.certificate.Certificate.{Certificate}
-use Rattle.kb_cert.proofs.FamilyLaws.{ordered_rule, first_member}
+use Rattle.kb_kbo.specs.KnuthBendix.{KboOrder}
+use Rattle.kb_kbo.proofs.KboHalting.{lighter_few, chains_short}
+use Rattle.kb_cert.proofs.FamilyLaws.{ordered_rules, first_member, member_weighs}
 use Rattle.kb_laws.specs.Completion.{KbState}
 use Rattle.kb_laws.specs.Confluence.{ChurchRosser}
 use Rattle.kb_laws.specs.Runs.{ReachesByStep, IsEquationOver, IsStateOver, StepKeepsOver, StepKeepsChained, RunIsChained, RunIsOver}
 use Rattle.kb_laws.specs.Complete.{CompleteStateIsSystem}
-use Rattle.kb_laws.specs.Halting.{HasMember, MemberOrdersRulesOnly, InterpretationHalts}
+use Rattle.kb_laws.specs.Halting.{HasMember, MemberOrdersRulesOnly, InterpretationHalts, LighterAreFew, ChainsAreShort}
 use Rattle.kb_laws.proofs.ConfluenceLaws.{joinable_by_confluence}
 use Rattle.kb_laws.proofs.RunLaws.{Chain, step_chained, run_chained}
 use Rattle.kb_laws.proofs.Complete.{IsSoundState, step_sound, run_sound, complete_state, proved_by_joining, all_from}
@@ -64,7 +66,13 @@ pub has_member : (signature : Signature) → HasMember signature
 has_member g = (Lpo (range_with_len 0 (length g)), first_member g)
 
 pub member_orders_rules_only : (signature : Signature) (order : Certificate) → MemberOrdersRulesOnly signature order
-member_orders_rules_only g c m rule w h = ordered_rule g c m rule.left rule.right w h
+member_orders_rules_only g c m rules well h = ordered_rules g c m rules well h
 
 pub interpretation_halts : (signature : Signature) (i : Interpretation) → InterpretationHalts signature i
 interpretation_halts g i fit rules over h t w = halts_to rules t (linear_halts g i (Contains rules) fit (λ r j. All-contains (λ (r : Rule). LinearGreater i r.left r.right) rules r h j) (keeps_well g rules over) t w)
+
+pub lighter_are_few : (signature : Signature) (order : KboOrder) → LighterAreFew signature order
+lighter_are_few g o m t = lighter_few g o (member_weighs g o m) t
+
+pub chains_are_short : (signature : Signature) (order : KboOrder) → ChainsAreShort signature order
+chains_are_short g o m rules over h = chains_short g o (member_weighs g o m) rules over h

@@ -6,10 +6,10 @@ use Rattle.kb_term.specs.Rule.{Rule, IsVariantRule}
 use Rattle.kb_term.specs.Signature.{Signature}
 use Rattle.kb_term.proofs.PairRows.{one}
 use Rattle.kb_term.proofs.Steps.{contains_cases, contains_first}
-use Rattle.kb_lpo.specs.PathOrder.{argument_equal}
+use Rattle.kb_lpo.specs.PathOrder.{LpoGreater, argument_equal}
 use Rattle.kb_cert.specs.declared.certificate.Certificate.{Certificate}
 use Rattle.kb_cert.specs.declared.certificate.Certificate.TheVariants.{Lpo}
-use Rattle.kb_cert.specs.Family.{IsGreater, Orders}
+use Rattle.kb_cert.specs.Family.{Orders}
 use Rattle.kb_cert.proofs.FamilyLaws.{first_member}
 use Rattle.kb_laws.specs.Completion.{KbState, KbStep, orient, Has, Gains, IsKbRun, kb_start}
 use Rattle.kb_laws.specs.Runs.{IsEquationOver}
@@ -34,8 +34,11 @@ f-order = Lpo (0 ∷ [])
 pub all_one : {X : Type 0} (P : X → Type 0) (x : X) → P x → All P (x ∷ [])
 all_one P x h = all_from P (x ∷ []) (λ y i. ⊎_elim (λ q. subst P q h) (λ k. absurd (omega arith)) (contains_cases x [] y i))
 
+f-ordered : Orders f-order (f-rule ∷ [])
+f-ordered = all_one (λ (r : Rule). LpoGreater (0 ∷ []) r.left r.right) f-rule (argument_equal (contains_first (variable 0) []))
+
 f-lone : IsLoneRule f-only f-order f-rule
-f-lone = record { over = ((refl, (tt, tt)), tt); member = first_member f-only; ordered = argument_equal (contains_first (variable 0) []); no_overlap = refl }
+f-lone = record { over = ((refl, (tt, tt)), tt); member = first_member f-only; ordered = f-ordered; no_overlap = refl }
 
 -- the rule is a complete system for x = f(x)
 pub f-system : IsCompleteSystem (problem_of f-only (variable 0, one 0 (variable 0))) f-order (f-rule ∷ [])
@@ -54,9 +57,6 @@ gains_one {X} Same x y = (there, back)
 
 abbrev f-state : KbState
 f-state = record { equations = []; rules = f-rule ∷ []; constraints = f-rule ∷ [] }
-
-f-ordered : Orders f-order (f-rule ∷ [])
-f-ordered = all_one (λ (r : Rule). IsGreater f-order r.left r.right) f-rule (argument_equal (contains_first (variable 0) []))
 
 f-step : KbStep f-only (kb_start (problem_of f-only f-equation)) f-state
 f-step = orient (one 0 (variable 0)) (variable 0) (f-order, first_member f-only, f-ordered)

@@ -5,7 +5,7 @@ use Rattle.kb_term.specs.Pair.{Pair, canonical_pair, IsSameEquation}
 use Rattle.kb_term.specs.Rule.{Rule, rule_of}
 use Rattle.kb_term.specs.Signature.{Signature, Problem, IsWellFormed, IsRuleOver}
 use Rattle.kb_term.specs.Proving.{IsTerminating, IsConfluent, IsJoinable, Proves, equations_of}
-use Rattle.kb_cert.specs.Family.{family, IsGreater, Orders}
+use Rattle.kb_cert.specs.Family.{family, Orders}
 use Rattle.kb_cert.specs.declared.certificate.Certificate.{Certificate}
 use Rattle.kb_overlap.specs.Overlap.{IsOverlapList}
 use Rattle.kb_laws.specs.Completion.{KbState, IsKbRun}
@@ -40,7 +40,7 @@ CompleteStateIsSystem problem states order state = IsCompleteState problem state
 pub record IsLoneRule (signature : Signature) (order : Certificate) (rule : Rule) : Type 0 where
   pub over : IsEquationOver signature (rule.left, rule.right)
   pub member : Contains (family signature) order
-  pub ordered : IsGreater order rule.left rule.right
+  pub ordered : Orders order (rule ∷ [])
   pub no_overlap : IsOverlapList rule rule true []
 
 -- the problem of one equation

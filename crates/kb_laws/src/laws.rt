@@ -3,9 +3,10 @@ ghost use Rattle.std.specs.Prelude.{List};
 ghost use Rattle.kb_term.specs.Tree.{Tree};
 ghost use Rattle.kb_term.specs.Rule.{Rule};
 ghost use Rattle.kb_term.specs.Signature.{Signature, Problem};
+ghost use Rattle.kb_kbo.specs.KnuthBendix.{KboOrder};
 ghost use Rattle.kb_cert.specs.declared.certificate.Certificate.{Certificate};
 ghost use Rattle.kb_linear.specs.LinearOrder.{Interpretation};
-ghost use Rattle.kb_laws.specs.Halting.{HasMember, MemberOrdersRulesOnly, MemberHalts, InterpretationHalts};
+ghost use Rattle.kb_laws.specs.Halting.{HasMember, MemberOrdersRulesOnly, MemberHalts, InterpretationHalts, LighterAreFew, ChainsAreShort};
 ghost use Rattle.kb_laws.specs.Completion.{KbState};
 ghost use Rattle.kb_laws.specs.Confluence.{CriticalPairLemma, ClosedOverlapsJoin, NewmansLemma, ConfluentByOverlaps, ChurchRosser};
 ghost use Rattle.kb_laws.specs.Runs.{StepKeepsProved, StepKeepsOver, StepKeepsChained, StepKeepsOrderable, RunKeepsProved, RunIsChained, RunIsOver, RunIsOrderable};
@@ -63,13 +64,16 @@ pub fn lone_rule()
     ensures pair { (signature : Signature) (order : Certificate) (rule : Rule) (e : Tree × Tree) → PairRuleIsSystem signature order rule e }
 {}
 
-/// Each signature's family has a member. What a member orders is a rule, and such rules halt: a number bounds the steps of every chain from
-/// each term over the signature. So do rules that any linear interpretation of the signature orders.
+/// Each signature's family has a member. What a member orders are rules, and they halt: a number bounds the steps of every chain from
+/// each term over the signature. So do rules that any linear interpretation of the signature orders. By a Knuth-Bendix order of the family a
+/// chain has fewer steps than there are terms over the variables of its first one that are no heavier, and these are finitely many.
 pub fn ordered_rules_halt()
     ensures exists { (signature : Signature) → HasMember signature }
     ensures rules { (signature : Signature) (order : Certificate) → MemberOrdersRulesOnly signature order }
     ensures halts { (signature : Signature) (order : Certificate) → MemberHalts signature order }
     ensures linear { (signature : Signature) (i : Interpretation) → InterpretationHalts signature i }
+    ensures few { (signature : Signature) (order : KboOrder) → LighterAreFew signature order }
+    ensures short { (signature : Signature) (order : KboOrder) → ChainsAreShort signature order }
 {}
 
 /// What these laws ask can be met where rules overlap: f(f(x)) -> a and f(a) -> a, ordered by the path order with f above a, are a complete
