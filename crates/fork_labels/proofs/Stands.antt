@@ -1,6 +1,6 @@
 -- For which names a label stands after each operation.
 use Rattle.std.proofs.Common.{◌≡◌, ℕ, ◌+◌, ◌-◌, ◌<◌, ◌≤◌, List, [], ◌∷◌, ◌++◌, length, Bool, true, false, ◌&&◌, ◌||◌, not, take, drop, set, get_or, filter, replicate, cond, zero, suc, refl, sym, ap, ap₂, ◌∙◌, arith, length-append, length-set}
-use Rattle.std.proofs.lemmas.List.{take_all, drop_all, get_or_past, replicate_more, length-replicate, get_or-replicate}
+use Rattle.std.proofs.lemmas.List.{drop_more, take_all, drop_all, get_or_past, replicate_more, length-replicate, get_or-replicate}
 use mathlib.Core.Bool.{true≢false}
 use Rattle.std.specs.declared.cmp.Ordering.{Ordering}
 use Rattle.std.specs.declared.cmp.Ordering.TheVariants.{Less, Equal, Greater}
@@ -32,6 +32,23 @@ at_end-late fs bs h = ap (with_forks (take (length fs + 1) bs)) (drop_all (lengt
 pub at_end-early : (fs : List ℕ) (bs : List Bool) → length bs ≤ length fs + 1 → at_end fs bs ≡ with_forks bs (drop (length bs - 1) fs)
 unfolding at_end
 at_end-early fs bs h = ap (λ l. with_forks l (drop (length bs - 1) fs)) (take_all (length fs + 1) bs h)
+
+pub late : (fs gs : List ℕ) (bs cs made : List Bool) → gs ≡ fs → cs ≡ bs → length gs < length bs → made ≡ take (length gs + 1) cs → made ≡ at_end fs bs
+late fs gs bs cs made e f h m = m ∙ (λ i. take (length (e i) + 1) (f i)) ∙ sym (at_end-late fs bs (omega (arith, h, ap length e)))
+
+pub early : (fs gs : List ℕ) (bs cs made : List Bool) (k : ℕ) → gs ≡ fs → cs ≡ bs → k ≡ length bs → k ≤ length gs → made ≡ with_forks cs (drop (k - 1) gs) → made ≡ at_end fs bs
+early fs gs bs cs made k e f n h m = m ∙ (λ i. with_forks (f i) (drop (n i - 1) (e i))) ∙ sym (at_end-early fs bs (omega (arith, h, n, ap length e)))
+
+-- a step of the loop over the forks, and its end
+pub fork_step : (bs made : List Bool) (fs : List ℕ) (i : ℕ) (b : Bool) → i < length fs → made ≡ bs ++ b ∷ [] → b ≡ get_or bs (get_or fs i 0) false → with_forks made (drop (i + 1) fs) ≡ with_forks bs (drop i fs)
+unfolding with_forks with_fork
+fork_step bs made fs i b h e f =
+    (λ j. with_forks ((e ∙ ap (λ x. bs ++ x ∷ []) f) j) (drop (i + 1) fs))
+    ∙ ap (with_forks bs) (sym (drop_more fs i 0 h))
+
+pub fork_done : (bs : List Bool) (fs : List ℕ) (i : ℕ) → length fs ≤ i → with_forks bs (drop i fs) ≡ bs
+unfolding with_forks
+fork_done bs fs i h = ap (with_forks bs) (drop_all i fs h)
 
 -- ---- has
 

@@ -1,7 +1,7 @@
 // Labels that are sets of places.
 ghost use Rattle.std.specs.Prelude.{◌≡◌, ◌+◌, ◌<◌, ◌≤◌, List, ℕ, [], length, drop, IsTrue, OnOk, OnErr};
 ghost use Rattle.kb_label.specs.Names.{add, has, join, meet, minus};
-ghost use Rattle.fork_labels.specs.Places.{at_end, living_of, stands_for, with_forks, IsUnder};
+ghost use Rattle.fork_labels.specs.Places.{at_end, living_of, stands_for, with_forks, IsLog, IsUnder};
 ghost use Rattle.fork_labels.specs.Sets.{result_of};
 
 use crate::fork_log::ForkLog;
@@ -36,6 +36,8 @@ impl ForkLabels {
     fn at_end(&self, log: &ForkLog) -> PlaceSet
         ensures set { result ≡ at_end log.now self.now }
         ensures count { length result ≡ length log.now + 1 }
+        ensures log { IsLog log.now }
+        ensures some { 0 < length self.now }
     {
         let forks = log.forks();
         let len = self.places.len();
@@ -52,6 +54,9 @@ impl ForkLabels {
     fn combine(&mut self, log: &ForkLog, op: Operation, other: &ForkLabels)
         ensures made { self.new ≡ result_of op (at_end log.now self.old) (at_end log.now other.now) }
         ensures under { IsUnder log.now self.new }
+        ensures log { IsLog log.now }
+        ensures first { 0 < length self.old }
+        ensures second { 0 < length other.now }
     {
         let mut places = self.at_end(log);
         places.combine(op, &other.at_end(log));
