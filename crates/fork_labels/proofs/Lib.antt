@@ -2,3 +2,5 @@ pub mod Picked
 pub mod Split
 pub mod Relabelled
 pub mod SetIn
+pub mod Stands
+pub mod Logs

@@ -29,3 +29,8 @@ result_of op (b ∷ bs) (c ∷ cs) = in_result op b c ∷ result_of op bs cs
 abbrev pub digit : Bool → ℕ
 digit true = 1
 digit false = 0
+
+-- whether no place is in the set
+abbrev pub none_in : List Bool → Bool
+none_in [] = true
+none_in (b ∷ bs) = not b && none_in bs

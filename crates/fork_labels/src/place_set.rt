@@ -1,7 +1,7 @@
 // Sets of places.
 ghost use Rattle.std.specs.Prelude.{◌≡◌, ◌≢◌, ◌+◌, ◌<◌, ◌≤◌, ◌==◌, ℕ, length, take, false, true, Bool, ◌∷◌, [], ◌++◌, slice_index, slice_index_or, slice_set};
 ghost use Rattle.std.specs.Int.{bit_at};
-ghost use Rattle.fork_labels.specs.Sets.{digit, in_result, result_of};
+ghost use Rattle.fork_labels.specs.Sets.{digit, in_result, none_in, result_of};
 
 use std::marker::Model;
 
@@ -80,6 +80,18 @@ impl PlaceSet {
         ensures { result ≡ slice_index_or self.now s false }
     {
         s < self.len as usize && (self.words[s / WORD_BITS] >> (s % WORD_BITS)) % 2 == 1
+    }
+
+    /// Whether no place is in the set.
+    pub(crate) fn is_none(&self) -> bool
+        ensures { result ≡ none_in self.now }
+    {
+        for s in 0..self.len() {
+            if self.has(s) {
+                return false;
+            }
+        }
+        true
     }
 
     /// Puts a place into the set.
