@@ -1,7 +1,7 @@
 -- A certificate by the first word of its text.
-use Rattle.std.proofs.Common.{ℕ, zero, suc, ◌≡◌, refl, sym, ap, ap₂, ◌∙◌, subst, arith, List, [], ◌∷◌, ◌++◌, length, map, take, drop, get_or, take-append-drop, true, false}
+use Rattle.std.proofs.Common.{ℕ, zero, suc, ◌≡◌, refl, sym, ap, ap₂, ◌∙◌, subst, arith, List, [], ◌∷◌, ◌++◌, length, map, take, drop, get_or, take-append-drop, true}
 use Rattle.std.specs.Prelude.{Option, Some, None, MatchOption, codes, nat_eq}
-use Rattle.std.specs.Cmp.Lexicographic.{same_text, other_text}
+use Rattle.std.specs.Cmp.Lexicographic.{same_text}
 use lib.Pointwise.{pointwise}
 use Rattle.kb_term.specs.Signature.{Signature}
 use Rattle.kb_cert.specs.CertificateText.{each_behind, names_of, name_at, interp_text, CertSpelled, weight_fields}
@@ -79,12 +79,3 @@ kbo_unread sig line text read e r h (Linear rows) s = linear_or_kbo line (each_b
 kbo_unread sig line text read e r h (Kbo order) s =
     let n = subst (λ z. MatchOption z ((order : KboOrder) → ¬ IsOrderText sig text order) (IsOrderText sig text)) r h in
     n order (record { order_is = s.0; spelling = sym (after 3 (codes "KBO") text (each_behind 32 (order_fields sig order)) refl (sym e ∙ kbo_text sig order line s)) })
-
-take_front : (word xs : List ℕ) → take (length word) (word ++ xs) ≡ word
-take_front [] xs = refl
-take_front (w ∷ word) xs = ap (w ∷◌) (take_front word xs)
-
-pub no_word : (sig : Signature) (line : List ℕ) → pointwise nat_eq (take 3 line) (codes "LPO") ≡ false → pointwise nat_eq (take 6 line) (codes "LINEAR") ≡ false → pointwise nat_eq (take 3 line) (codes "KBO") ≡ false → (c : Certificate) → ¬ CertSpelled sig line c
-no_word sig line e d k (Lpo symbols) s = other_text (take 3 line) (codes "LPO") (sym e) (ap (take 3) (lpo_text sig symbols line s) ∙ take_front (codes "LPO") (each_behind 32 (map (name_at (names_of sig)) symbols)))
-no_word sig line e d k (Linear rows) s = other_text (take 6 line) (codes "LINEAR") (sym d) (ap (take 6) (linear_text sig rows line s) ∙ take_front (codes "LINEAR") (each_behind 32 (map interp_text rows)))
-no_word sig line e d k (Kbo order) s = other_text (take 3 line) (codes "KBO") (sym k) (ap (take 3) (kbo_text sig order line s) ∙ take_front (codes "KBO") (each_behind 32 (order_fields sig order)))

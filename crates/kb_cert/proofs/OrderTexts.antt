@@ -1,13 +1,12 @@
 -- Reading weights with a precedence.
-use Rattle.std.proofs.Common.{ℕ, zero, suc, ◌-◌, ◌≤◌, ◌<◌, ◌≡◌, refl, sym, ap, ap₂, ◌∙◌, subst, arith, List, [], ◌∷◌, ◌++◌, length, map, All, Bool, true, false, zero-lt-suc, IsTrue}
-use Rattle.std.specs.Prelude.{decimal, nat_eq, nat_lt, ◌&&◌}
+use Rattle.std.proofs.Common.{ℕ, ◌-◌, ◌≤◌, ◌<◌, ◌≡◌, sym, ap, ap₂, ◌∙◌, subst, arith, List, [], ◌∷◌, ◌++◌, length, map, All, Bool, true, false, zero-lt-suc}
+use Rattle.std.specs.Prelude.{decimal, nat_eq, ◌&&◌}
 use Rattle.std.specs.List.{list_all, join_with_byte}
 use Rattle.std.proofs.lemmas.Bool.{eqb-true, eq-eqb}
-use Rattle.kb_term.specs.Pair.{distinct}
 use Rattle.kb_term.specs.Signature.{Signature}
 use Rattle.kb_kbo.specs.KnuthBendix.{KboOrder}
-use Rattle.kb_kbo.specs.Measures.{IsWeight, order_of}
-use Rattle.kb_cert.specs.CertificateText.{each_behind, names_of, name_at, is_between, are_weights, is_precedence, weight_fields}
+use Rattle.kb_kbo.specs.Measures.{order_of}
+use Rattle.kb_cert.specs.CertificateText.{each_behind, names_of, name_at, is_between, are_weights, is_precedence}
 use Rattle.kb_cert.specs.Reading.{IsFree, IsFieldEnd, AreNumbers, SpellsNumbers, IsWeightsText, IsPrecedenceText, IsOrderText}
 use Rattle.kb_cert.proofs.Texts.{join_with_byte-behind}
 use Rattle.kb_cert.proofs.Fields.{all_more, all_rest, both_true, one_cut, behind_at_end, first_piece, number_free}
@@ -73,33 +72,3 @@ order_no_weights sig count text field rest l c f t h order o = h order.weights (
 
 pub order_no_precedence : (sig : Signature) (count : ℕ) (text field rest : List ℕ) → 0 < count → count ≡ length sig → IsFieldEnd 32 field rest → text ≡ 32 ∷ (field ++ rest) → ((symbols : List ℕ) → ¬ IsPrecedenceText sig rest symbols) → (order : KboOrder) → ¬ IsOrderText sig text order
 order_no_precedence sig count text field rest l c f t h order o = h order.precedence (order_parts sig count text field rest order.weights order.precedence l c f t o).1
-
--- with a symbol the text begins with a space
-pub order_begins : (sig : Signature) (text : List ℕ) → 0 < length sig → ((tail : List ℕ) → ¬ (text ≡ 32 ∷ tail)) → (order : KboOrder) → ¬ IsOrderText sig text order
-order_begins sig text l h order o = go order.weights order.precedence o
-  where
-    go : (weights symbols : List ℕ) → IsOrderText sig text (order_of weights symbols) → ⊥
-    go [] symbols o = let k = tested sig [] symbols o.order_is in omega (arith, k.0)
-    go (x ∷ xs) symbols o = h (join_with_byte 44 (decimal x ∷ map decimal xs) ++ each_behind 32 (map (name_at (names_of sig)) symbols)) (sym o.spelling)
-
--- with no symbol the text is empty
-pub order_empty : (sig : Signature) (text weights symbols : List ℕ) → length sig ≡ 0 → text ≡ [] → weights ≡ [] → symbols ≡ [] → IsOrderText sig text (order_of weights symbols)
-order_empty (e ∷ sig) text weights symbols l t w p = absurd (omega arith)
-order_empty [] text weights symbols l t w p = subst (λ z. IsOrderText [] text (order_of z symbols)) (sym w) (subst (λ z. IsOrderText [] text (order_of [] z)) (sym p) (record { order_is = refl; spelling = sym t }))
-
-pub order_nothing : (sig : Signature) (text : List ℕ) → length sig ≡ 0 → ¬ (text ≡ []) → (order : KboOrder) → ¬ IsOrderText sig text order
-order_nothing (e ∷ sig) text l n order o = omega arith
-order_nothing [] text l n order o = go order.weights order.precedence o
-  where
-    go : (weights symbols : List ℕ) → IsOrderText [] text (order_of weights symbols) → ⊥
-    go (x ∷ xs) symbols o = let k = tested [] (x ∷ xs) symbols o.order_is in omega (arith, k.0)
-    go [] (x ∷ xs) o =
-        let k = tested [] [] (x ∷ xs) o.order_is in
-        let b = both_true (nat_eq (length (x ∷ xs)) 0 && nat_eq (length (distinct (x ∷ xs))) 0) (list_all (λ f. nat_lt f 0) (x ∷ xs)) k.2 in
-        let l = eqb-true (length (x ∷ xs)) 0 (both_true (nat_eq (length (x ∷ xs)) 0) (nat_eq (length (distinct (x ∷ xs))) 0) b.0).0 in
-        omega (arith, l)
-    go [] [] o = n (sym o.spelling)
-
--- the weights that are read are weights
-pub weights_small : (count : ℕ) (text weights : List ℕ) → IsWeightsText count text weights → All IsWeight weights
-weights_small count text weights w = w.each

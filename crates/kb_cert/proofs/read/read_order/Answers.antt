@@ -1,4 +1,4 @@
-use Rattle.std.proofs.Common.{arith, sym, ◌≡◌, ◌<◌, List, ℕ, subst, length}
+use Rattle.std.proofs.Common.{arith, sym, ◌<◌, List, ℕ, subst}
 use Rattle.std.specs.Prelude.{MatchOption, Vec}
 use Rattle.std.specs.declared.alloc.Global.{Global}
 use Rattle.kb_cert.specs.Reading.{IsWeightsText, IsPrecedenceText, IsOrderText}
