@@ -9,3 +9,4 @@ pub mod RowLaws
 pub mod Different
 pub mod CertLaws
 pub mod FamilyLaws
+pub mod OrderTexts

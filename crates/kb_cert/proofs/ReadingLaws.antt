@@ -4,7 +4,7 @@ use Rattle.std.specs.Prelude.{decimal}
 use Rattle.kb_term.specs.Signature.{Signature, IsSignature}
 use Rattle.kb_term.specs.declared.term.Symbol.{Symbol}
 use Rattle.kb_cert.specs.CertificateText.{names_of, name_at}
-use Rattle.kb_cert.specs.Reading.{IsFree, IsFieldEnd, AreNames, SpellsNames, AreCoefficients, SpellsCoefficients}
+use Rattle.kb_cert.specs.Reading.{IsFree, IsFieldEnd, AreNames, SpellsNames, AreNumbers, SpellsNumbers}
 use Rattle.kb_cert.proofs.Fields.{pieces_more, pieces_less, names_free, number_free}
 
 pub names_step : (sig : Signature) (count : ℕ) (text field rest : List ℕ) (old now new : List Symbol) (f : Symbol) (found : Bool) → IsSignature sig → IsFieldEnd 32 field rest → text ≡ 32 ∷ (field ++ rest) → 0 < count → (f.0 < length sig) × (name_at (names_of sig) f.0 ≡ field) → now ≡ old ++ f ∷ []
@@ -20,18 +20,18 @@ names_none sig count text field rest s e t c n symbols a =
     let r = pieces_less 32 (name_at (names_of sig)) (λ g. g < length sig) count text field rest symbols (names_free sig s) e t c a in
     n r.0 r.1 r.2
 
-coefficient_free : (n : ℕ) → (1 ≤ n) × (n ≤ 3) → IsFree 44 (decimal n)
-coefficient_free n h = number_free 44 n (omega arith) (let q = h.1 in omega arith)
+positive_free : (most n : ℕ) → most ≤ 15 → (1 ≤ n) × (n ≤ most) → IsFree 44 (decimal n)
+positive_free most n m h = number_free 44 n (omega arith) (let q = h.1 in omega arith)
 
-pub coefficients_step : (count : ℕ) (text field rest old now new : List ℕ) (n : ℕ) (found : Bool) → IsFieldEnd 44 field rest → text ≡ 44 ∷ (field ++ rest) → 0 < count → ((1 ≤ n) × (n ≤ 3)) × (decimal n ≡ field) → now ≡ old ++ n ∷ []
-    → SpellsCoefficients (count - 1) rest now new found → SpellsCoefficients count text old new found
-coefficients_step count text field rest old now new n true e t c w d (more, p, a) =
-    (n ∷ more, p ∙ ap (λ z. z ++ more) d ∙ append_assoc old (n ∷ []) more, pieces_more 44 decimal (λ n. (1 ≤ n) × (n ≤ 3)) count text field rest n more t w.1 w.0 c a)
-coefficients_step count text field rest old now new n false e t c w d h = λ coefficients a.
-    let r = pieces_less 44 decimal (λ n. (1 ≤ n) × (n ≤ 3)) count text field rest coefficients coefficient_free e t c a in
+pub numbers_step : (most count : ℕ) (text field rest old now new : List ℕ) (n : ℕ) (found : Bool) → most ≤ 15 → IsFieldEnd 44 field rest → text ≡ 44 ∷ (field ++ rest) → 0 < count → ((1 ≤ n) × (n ≤ most)) × (decimal n ≡ field) → now ≡ old ++ n ∷ []
+    → SpellsNumbers most (count - 1) rest now new found → SpellsNumbers most count text old new found
+numbers_step most count text field rest old now new n true m e t c w d (more, p, a) =
+    (n ∷ more, p ∙ ap (λ z. z ++ more) d ∙ append_assoc old (n ∷ []) more, pieces_more 44 decimal (λ n. (1 ≤ n) × (n ≤ most)) count text field rest n more t w.1 w.0 c a)
+numbers_step most count text field rest old now new n false m e t c w d h = λ numbers a.
+    let r = pieces_less 44 decimal (λ n. (1 ≤ n) × (n ≤ most)) count text field rest numbers (λ n. positive_free most n m) e t c a in
     h r.3 r.4
 
-pub coefficients_none : (count : ℕ) (text field rest : List ℕ) → IsFieldEnd 44 field rest → text ≡ 44 ∷ (field ++ rest) → 0 < count → ((n : ℕ) → (1 ≤ n) × (n ≤ 3) → ¬ (decimal n ≡ field)) → (coefficients : List ℕ) → ¬ AreCoefficients count text coefficients
-coefficients_none count text field rest e t c n coefficients a =
-    let r = pieces_less 44 decimal (λ n. (1 ≤ n) × (n ≤ 3)) count text field rest coefficients coefficient_free e t c a in
+pub numbers_none : (most count : ℕ) (text field rest : List ℕ) → most ≤ 15 → IsFieldEnd 44 field rest → text ≡ 44 ∷ (field ++ rest) → 0 < count → ((n : ℕ) → (1 ≤ n) × (n ≤ most) → ¬ (decimal n ≡ field)) → (numbers : List ℕ) → ¬ AreNumbers most count text numbers
+numbers_none most count text field rest m e t c n numbers a =
+    let r = pieces_less 44 decimal (λ n. (1 ≤ n) × (n ≤ most)) count text field rest numbers (λ n. positive_free most n m) e t c a in
     n r.0 r.1 r.2

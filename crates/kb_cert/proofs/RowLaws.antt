@@ -7,26 +7,26 @@ use Rattle.std.proofs.lemmas.Bool.{false≢true, leb-true, le-leb, eqb-true, eq-
 use Rattle.kb_term.specs.Signature.{Signature, SymbolEntry, HasArity}
 use Rattle.kb_linear.specs.Limits.{interpretation_of, IsSmall}
 use Rattle.kb_cert.specs.CertificateText.{each_behind, interp_text, is_between, is_row, are_rows}
-use Rattle.kb_cert.specs.Reading.{IsFree, IsFieldEnd, AreCoefficients, SpellsCoefficients, IsRowText, AreRows, SpellsRows}
+use Rattle.kb_cert.specs.Reading.{IsFree, IsFieldEnd, AreNumbers, SpellsNumbers, IsRowText, AreRows, SpellsRows}
 use Rattle.kb_cert.proofs.Texts.{join_with_byte-behind}
 use Rattle.kb_cert.proofs.Fields.{all_more, all_rest, both_true, one_cut, behind_at_end, first_piece, number_free}
 
--- numbers from 1 to 3, by the test and one by one
-between_from : (cs : List ℕ) → list_all (is_between 1 3) cs ≡ true → All (λ n. (1 ≤ n) × (n ≤ 3)) cs
-between_from [] h k d p = absurd (omega arith)
-between_from (c ∷ cs) h zero d p =
-    let r = both_true (is_between 1 3 c) (list_all (is_between 1 3) cs) h in
-    let s = both_true (nat_le 1 c) (nat_le c 3) r.0 in
-    (leb-true 1 c s.0, leb-true c 3 s.1)
-between_from (c ∷ cs) h (suc k) d p = between_from cs (both_true (is_between 1 3 c) (list_all (is_between 1 3) cs) h).1 k d (omega arith)
+-- numbers from 1 to the greatest, by the test and one by one
+pub between_from : (most : ℕ) (cs : List ℕ) → list_all (is_between 1 most) cs ≡ true → All (λ n. (1 ≤ n) × (n ≤ most)) cs
+between_from most [] h k d p = absurd (omega arith)
+between_from most (c ∷ cs) h zero d p =
+    let r = both_true (is_between 1 most c) (list_all (is_between 1 most) cs) h in
+    let s = both_true (nat_le 1 c) (nat_le c most) r.0 in
+    (leb-true 1 c s.0, leb-true c most s.1)
+between_from most (c ∷ cs) h (suc k) d p = between_from most cs (both_true (is_between 1 most c) (list_all (is_between 1 most) cs) h).1 k d (omega arith)
 
-between_to : (cs : List ℕ) → All (λ n. (1 ≤ n) × (n ≤ 3)) cs → list_all (is_between 1 3) cs ≡ true
-between_to [] h = refl
-between_to (c ∷ cs) h =
+pub between_to : (most : ℕ) (cs : List ℕ) → All (λ n. (1 ≤ n) × (n ≤ most)) cs → list_all (is_between 1 most) cs ≡ true
+between_to most [] h = refl
+between_to most (c ∷ cs) h =
     let q = h 0 c (zero-lt-suc _) in
     let l : nat_le 1 c ≡ true = le-leb 1 c q.0 in
-    let m : nat_le c 3 ≡ true = le-leb c 3 q.1 in
-    let r = between_to cs (all_rest (λ n. (1 ≤ n) × (n ≤ 3)) c cs h) in
+    let m : nat_le c most ≡ true = le-leb c most q.1 in
+    let r = between_to most cs (all_rest (λ n. (1 ≤ n) × (n ≤ most)) c cs h) in
     λ i. (l i && m i) && r i
 
 -- what the test of a row says
@@ -39,23 +39,23 @@ row_from : (arity : ℕ) (row : ℕ × List ℕ) → is_row arity row ≡ true �
 row_from arity row h =
     let r = both_true (nat_le row.0 15 && nat_eq (length row.1) arity) (list_all (is_between 1 3) row.1) h in
     let s = both_true (nat_le row.0 15) (nat_eq (length row.1) arity) r.0 in
-    record { constant = leb-true row.0 15 s.0; count = eqb-true (length row.1) arity s.1; each = between_from row.1 r.1 }
+    record { constant = leb-true row.0 15 s.0; count = eqb-true (length row.1) arity s.1; each = between_from 3 row.1 r.1 }
 
 row_to : (arity : ℕ) (row : ℕ × List ℕ) → IsRow arity row → is_row arity row ≡ true
 row_to arity row r =
     let l : nat_le row.0 15 ≡ true = le-leb row.0 15 r.constant in
     let m : nat_eq (length row.1) arity ≡ true = eq-eqb (length row.1) arity r.count in
-    let w = between_to row.1 r.each in
+    let w = between_to 3 row.1 r.each in
     λ i. (l i && m i) && w i
 
 -- the constant is the first field, and the coefficients are the rest
-pub row_read : (arity : ℕ) (text field rest : List ℕ) (constant : ℕ) (coefficients : List ℕ) → text ≡ field ++ rest → (constant ≤ 15) × (decimal constant ≡ field) → AreCoefficients arity rest coefficients → IsRowText arity text (constant, coefficients)
+pub row_read : (arity : ℕ) (text field rest : List ℕ) (constant : ℕ) (coefficients : List ℕ) → text ≡ field ++ rest → (constant ≤ 15) × (decimal constant ≡ field) → AreNumbers 3 arity rest coefficients → IsRowText arity text (constant, coefficients)
 row_read arity text field rest constant coefficients t c a = record {
   row_is = row_to arity (constant, coefficients) (record { constant = c.0; count = a.count_is; each = a.each });
   spelling = join_with_byte-behind 44 (decimal constant) (map decimal coefficients) ∙ ap₂ (λ x y. x ++ y) c.1 a.spelling ∙ sym t;
 }
 
-pub row_parts : (arity : ℕ) (text field rest : List ℕ) (row : ℕ × List ℕ) → text ≡ field ++ rest → IsFieldEnd 44 field rest → IsRowText arity text row → (row.0 ≤ 15) × (decimal row.0 ≡ field) × AreCoefficients arity rest row.1
+pub row_parts : (arity : ℕ) (text field rest : List ℕ) (row : ℕ × List ℕ) → text ≡ field ++ rest → IsFieldEnd 44 field rest → IsRowText arity text row → (row.0 ≤ 15) × (decimal row.0 ≡ field) × AreNumbers 3 arity rest row.1
 row_parts arity text field rest row t e r =
     let s = row_from arity row r.row_is in
     let p = one_cut 44 (decimal row.0) field (each_behind 44 (map decimal row.1)) rest (number_free 44 row.0 (omega arith) s.constant) e.free (behind_at_end 44 (map decimal row.1)) e.at_end
@@ -63,11 +63,11 @@ row_parts arity text field rest row t e r =
     (s.constant, p.0, record { count_is = s.count; each = s.each; spelling = p.1 })
 
 -- what is read of the coefficients says what the text is
-pub row_found : (arity : ℕ) (text field rest : List ℕ) (constant : ℕ) (old new : List ℕ) → text ≡ field ++ rest → (constant ≤ 15) × (decimal constant ≡ field) → old ≡ [] → SpellsCoefficients arity rest old new true → IsRowText arity text (constant, new)
+pub row_found : (arity : ℕ) (text field rest : List ℕ) (constant : ℕ) (old new : List ℕ) → text ≡ field ++ rest → (constant ≤ 15) × (decimal constant ≡ field) → old ≡ [] → SpellsNumbers 3 arity rest old new true → IsRowText arity text (constant, new)
 row_found arity text field rest constant old new t c o (more, d, a) =
-    row_read arity text field rest constant new t c (subst (AreCoefficients arity rest) (sym (d ∙ ap (λ z. z ++ more) o)) a)
+    row_read arity text field rest constant new t c (subst (AreNumbers 3 arity rest) (sym (d ∙ ap (λ z. z ++ more) o)) a)
 
-pub row_none : (arity : ℕ) (text field rest : List ℕ) (old new : List ℕ) → text ≡ field ++ rest → IsFieldEnd 44 field rest → SpellsCoefficients arity rest old new false → (row : ℕ × List ℕ) → ¬ IsRowText arity text row
+pub row_none : (arity : ℕ) (text field rest : List ℕ) (old new : List ℕ) → text ≡ field ++ rest → IsFieldEnd 44 field rest → SpellsNumbers 3 arity rest old new false → (row : ℕ × List ℕ) → ¬ IsRowText arity text row
 row_none arity text field rest old new t e h row r = h row.1 (row_parts arity text field rest row t e r).2
 
 pub row_no_constant : (arity : ℕ) (text field rest : List ℕ) → text ≡ field ++ rest → IsFieldEnd 44 field rest → ((n : ℕ) → n ≤ 15 → ¬ (decimal n ≡ field)) → (row : ℕ × List ℕ) → ¬ IsRowText arity text row
@@ -80,22 +80,22 @@ cut_parts text front back k f b = sym (take-append-drop k text) ∙ ap₂ (λ x 
 pub end_parts : (b : ℕ) (text front back : List ℕ) (k : ℕ) → front ≡ take k text → back ≡ drop k text → IsFieldEnd b (take k text) (drop k text) → IsFieldEnd b front back
 end_parts b text front back k f d e = subst (λ z. IsFieldEnd b z back) (sym f) (subst (λ z. IsFieldEnd b (take k text) z) (sym d) e)
 
-free_append : (b : ℕ) (xs ys : List ℕ) → IsFree b xs → IsFree b ys → IsFree b (xs ++ ys)
+pub free_append : (b : ℕ) (xs ys : List ℕ) → IsFree b xs → IsFree b ys → IsFree b (xs ++ ys)
 free_append b [] ys f g = g
 free_append b (x ∷ xs) ys f g = all_more (λ z. ¬ (z ≡ b)) x (xs ++ ys) (f 0 x (zero-lt-suc _)) (free_append b xs ys (all_rest (λ z. ¬ (z ≡ b)) x xs f) g)
 
-coefficients_free : (cs : List ℕ) → All (λ n. (1 ≤ n) × (n ≤ 3)) cs → IsFree 32 (each_behind 44 (map decimal cs))
-coefficients_free [] h = λ k d p. absurd (omega arith)
-coefficients_free (c ∷ cs) h =
+pub numbers_free : (most : ℕ) (cs : List ℕ) → most ≤ 15 → All (λ n. (1 ≤ n) × (n ≤ most)) cs → IsFree 32 (each_behind 44 (map decimal cs))
+numbers_free most [] m h = λ k d p. absurd (omega arith)
+numbers_free most (c ∷ cs) m h =
     let q = h 0 c (zero-lt-suc _) in
     all_more (λ z. ¬ (z ≡ 32)) 44 (decimal c ++ each_behind 44 (map decimal cs)) (λ e. omega arith)
-    (free_append 32 (decimal c) (each_behind 44 (map decimal cs)) (number_free 32 c (omega arith) (omega (arith, q.1))) (coefficients_free cs (all_rest (λ n. (1 ≤ n) × (n ≤ 3)) c cs h)))
+    (free_append 32 (decimal c) (each_behind 44 (map decimal cs)) (number_free 32 c (omega arith) (omega (arith, q.1))) (numbers_free most cs m (all_rest (λ n. (1 ≤ n) × (n ≤ most)) c cs h)))
 
 row_free : (arity : ℕ) (row : ℕ × List ℕ) → is_row arity row ≡ true → IsFree 32 (interp_text row)
 row_free arity row h =
     let s = row_from arity row h in
     subst (IsFree 32) (sym (join_with_byte-behind 44 (decimal row.0) (map decimal row.1)))
-    (free_append 32 (decimal row.0) (each_behind 44 (map decimal row.1)) (number_free 32 row.0 (omega arith) s.constant) (coefficients_free row.1 s.each))
+    (free_append 32 (decimal row.0) (each_behind 44 (map decimal row.1)) (number_free 32 row.0 (omega arith) s.constant) (numbers_free 3 row.1 (omega arith) s.each))
 
 -- the symbols from f on begin with the symbol f
 pub from_symbol : (sig : Signature) (f n : ℕ) → HasArity sig f n → (e : SymbolEntry) × (drop f sig ≡ e ∷ drop (f + 1) sig) × (e.arity ≡ n)

@@ -1,5 +1,5 @@
 -- The text of a certificate.
-use Rattle.std.specs.Prelude.{◌≡◌, ℕ, List, [], ◌∷◌, map, flat_map, length, get_or, Bool, true, false, ◌&&◌, nat_eq, nat_le, nat_lt, codes, decimal, IsTrue}
+use Rattle.std.specs.Prelude.{◌≡◌, ℕ, List, [], ◌∷◌, ◌++◌, map, flat_map, length, get_or, Bool, true, false, ◌&&◌, nat_eq, nat_le, nat_lt, codes, decimal, IsTrue}
 use Rattle.std.specs.List.{list_all, join_with_byte}
 use Rattle.kb_term.specs.Signature.{SymbolEntry, Signature}
 use Rattle.kb_term.specs.Pair.{distinct}
@@ -18,11 +18,16 @@ name_at names f = get_or names f []
 abbrev pub interp_text : ℕ × List ℕ → List ℕ
 interp_text row = join_with_byte 44 (decimal row.0 ∷ map decimal row.1)
 
--- LPO and every symbol's name, the greatest first; or LINEAR and each symbol's numbers
+-- the weights parted by commas, as one field; no field where there are none
+abbrev pub weight_fields : List ℕ → List (List ℕ)
+weight_fields [] = []
+weight_fields (w ∷ ws) = join_with_byte 44 (decimal w ∷ map decimal ws) ∷ []
+
+-- LPO and every symbol's name, the greatest first; or LINEAR and each symbol's numbers; or KBO, the weights by symbol number, and every symbol's name, the greatest first
 abbrev pub cert_fields : List (List ℕ) → Certificate → List (List ℕ)
 cert_fields names (Lpo symbols) = codes "LPO" ∷ map (name_at names) symbols
 cert_fields names (Linear rows) = codes "LINEAR" ∷ map interp_text rows
-cert_fields names (Kbo order) = codes "KBO" ∷ join_with_byte 44 (map decimal order.weights) ∷ map (name_at names) order.precedence
+cert_fields names (Kbo order) = codes "KBO" ∷ (weight_fields order.weights ++ map (name_at names) order.precedence)
 
 -- the fields parted by spaces
 abbrev pub cert_text : Signature → Certificate → List ℕ

@@ -1,10 +1,12 @@
 -- What is read of a text, field by field.
-use Rattle.std.specs.Prelude.{ℕ, ◌≤◌, ◌<◌, ◌≡◌, List, [], ◌∷◌, ◌++◌, Bool, true, false, length, map, All, Contains, IsTrue, Vec, decimal}
+use Rattle.std.specs.Prelude.{ℕ, ◌≤◌, ◌<◌, ◌≡◌, List, [], ◌∷◌, ◌++◌, Bool, true, false, length, map, All, Contains, IsTrue, Vec, decimal, ◌&&◌}
 use Rattle.std.specs.declared.alloc.Global.{Global}
 use Rattle.kb_term.specs.Signature.{Signature}
 use Rattle.kb_term.specs.declared.term.Symbol.{Symbol}
 use Rattle.kb_linear.specs.Limits.{interpretation_of}
-use Rattle.kb_cert.specs.CertificateText.{each_behind, names_of, name_at, interp_text, is_row, are_rows, is_precedence}
+use Rattle.kb_cert.specs.CertificateText.{each_behind, names_of, name_at, interp_text, is_row, are_rows, is_precedence, are_weights, weight_fields}
+use Rattle.std.specs.List.{join_with_byte}
+use Rattle.kb_kbo.specs.KnuthBendix.{KboOrder}
 
 -- the byte isn't in the text
 abbrev pub IsFree : ℕ → List ℕ → Type 0
@@ -45,13 +47,25 @@ pub record IsPrecedenceText (signature : Signature) (text symbols : List ℕ) : 
   pub precedence_is : IsTrue (is_precedence signature symbols)
   pub spelling : each_behind 32 (map (name_at (names_of signature)) symbols) ≡ text
 
--- so many coefficients from 1 to 3, each behind a comma
-abbrev pub AreCoefficients : ℕ → List ℕ → List ℕ → Type 0
-AreCoefficients = ArePieces 44 decimal (λ n. (1 ≤ n) × (n ≤ 3))
+-- so many numbers from 1 to the greatest, each behind a comma
+abbrev pub AreNumbers : ℕ → ℕ → List ℕ → List ℕ → Type 0
+AreNumbers most = ArePieces 44 decimal (λ n. (1 ≤ n) × (n ≤ most))
 
-abbrev pub SpellsCoefficients : ℕ → List ℕ → List ℕ → List ℕ → Bool → Type 0
-SpellsCoefficients count text old new true = (more : List ℕ) × (new ≡ old ++ more) × AreCoefficients count text more
-SpellsCoefficients count text old new false = (coefficients : List ℕ) → ¬ AreCoefficients count text coefficients
+-- the numbers are added, or the text is no so many numbers
+abbrev pub SpellsNumbers : ℕ → ℕ → List ℕ → List ℕ → List ℕ → Bool → Type 0
+SpellsNumbers most count text old new true = (more : List ℕ) × (new ≡ old ++ more) × AreNumbers most count text more
+SpellsNumbers most count text old new false = (numbers : List ℕ) → ¬ AreNumbers most count text numbers
+
+-- so many weights from 1 to 15, parted by commas
+pub record IsWeightsText (count : ℕ) (text weights : List ℕ) : Type 0 where
+  pub count_is : length weights ≡ count
+  pub each : All (λ n. (1 ≤ n) × (n ≤ 15)) weights
+  pub spelling : join_with_byte 44 (map decimal weights) ≡ text
+
+-- the weights of the signature's symbols behind a space, and every symbol once, by its name
+pub record IsOrderText (signature : Signature) (text : List ℕ) (order : KboOrder) : Type 0 where
+  pub order_is : IsTrue (are_weights signature order.weights && is_precedence signature order.precedence)
+  pub spelling : each_behind 32 (weight_fields order.weights ++ map (name_at (names_of signature)) order.precedence) ≡ text
 
 -- a constant and so many coefficients, parted by commas
 pub record IsRowText (arity : ℕ) (text : List ℕ) (row : ℕ × List ℕ) : Type 0 where

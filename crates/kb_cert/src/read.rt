@@ -3,15 +3,20 @@ ghost use Rattle.std.specs.Prelude.{◌≡◌, ◌∷◌, ◌≤◌, ◌<◌, �
 ghost use Rattle.kb_term.specs.Signature.{SymbolEntry, IsSignature};
 ghost use Rattle.kb_term.specs.declared.term.Symbol.{Symbol};
 ghost use Rattle.kb_linear.specs.Limits.{interpretation_of};
+ghost use Rattle.kb_kbo.specs.KnuthBendix.{KboOrder};
 ghost use Rattle.kb_cert.specs.declared.certificate.Certificate.{Certificate};
 ghost use Rattle.kb_cert.specs.CertificateText.{CertSpelled, names_of, name_at};
-ghost use Rattle.kb_cert.specs.Reading.{IsFieldEnd, SpellsNames, SpellsCoefficients, IsRowText, SpellsRows, AreDifferent, IsPrecedenceText, AreRows};
+ghost use Rattle.kb_cert.specs.Reading.{IsFieldEnd, SpellsNames, SpellsNumbers, IsRowText, SpellsRows, AreDifferent, IsPrecedenceText, AreRows, IsWeightsText, IsOrderText};
 
 use crate::certificate::Certificate;
+use kb_kbo::{Kbo, MAX_WEIGHT};
 use kb_linear::Interp;
 use kb_lpo::Precedence;
 use kb_term::{Memory, Signature, Symbol};
 use std::alloc::Global;
+
+/// The greatest coefficient of a text.
+const MAX_COEFFICIENT: u8 = 3;
 
 /// Where the field ends that the text begins with: at the first such byte, or at the text's end.
 fn field_end(text: &[u8], b: u8) -> usize
@@ -112,19 +117,26 @@ fn read_symbols(
     }
 }
 
-/// The number from 1 to 3 that the text is in decimal digits.
-fn read_coefficient(text: &[u8]) -> Option<u8>
-    ensures { MatchOption result ((n : ℕ) → (1 ≤ n) × (n ≤ 3) → ¬ (decimal n ≡ text.now)) (λ n. ((1 ≤ n) × (n ≤ 3)) × (decimal n ≡ text.now)) }
+/// The number from 1 to the greatest that the text is in decimal digits.
+fn read_positive(text: &[u8], most: u8) -> Option<u8>
+    requires { most ≤ 15 }
+    ensures { MatchOption result ((n : ℕ) → (1 ≤ n) × (n ≤ most) → ¬ (decimal n ≡ text.now)) (λ n. ((1 ≤ n) × (n ≤ most)) × (decimal n ≡ text.now)) }
 {
     match read_number(text) {
-        Some(n) if n >= 1 && n <= 3 => Some(n),
+        Some(n) if n >= 1 && n <= most => Some(n),
         _ => None,
     }
 }
 
-/// Adds the coefficients that the text is, so many, each behind a comma; false where it is none.
-fn read_coefficients(text: &[u8], count: usize, coefficients: &mut Vec<u8>) -> Result<bool, Memory>
-    ensures { IfOk result (λ found. SpellsCoefficients count text.now coefficients.old.items coefficients.new.items found) }
+/// Adds the numbers from 1 to the greatest that the text is, so many, each behind a comma; false where it is none.
+fn read_numbers(
+    text: &[u8],
+    most: u8,
+    count: usize,
+    numbers: &mut Vec<u8>,
+) -> Result<bool, Memory>
+    requires { most ≤ 15 }
+    ensures { IfOk result (λ found. SpellsNumbers most count text.now numbers.old.items numbers.new.items found) }
 {
     if count == 0 {
         return Ok(text.is_empty());
@@ -132,10 +144,10 @@ fn read_coefficients(text: &[u8], count: usize, coefficients: &mut Vec<u8>) -> R
     let Some((field, rest)) = split_field(text, b',') else {
         return Ok(false);
     };
-    match read_coefficient(field) {
+    match read_positive(field, most) {
         Some(n) => {
-            coefficients.push(n)?;
-            let found = read_coefficients(rest, count - 1, coefficients)?;
+            numbers.push(n)?;
+            let found = read_numbers(rest, most, count - 1, numbers)?;
             Ok(found)
         }
         None => Ok(false),
@@ -150,7 +162,7 @@ fn read_row(alloc: Global, text: &[u8], arity: u8) -> Result<Option<(u8, Vec<u8>
     match read_number(field) {
         Some(constant) => {
             let mut coefficients = Vec::new(alloc);
-            if read_coefficients(rest, arity as usize, &mut coefficients)? {
+            if read_numbers(rest, MAX_COEFFICIENT, arity as usize, &mut coefficients)? {
                 Ok(Some((constant, coefficients)))
             } else {
                 Ok(None)
@@ -247,6 +259,49 @@ fn read_interpretation(
     }
 }
 
+/// The weights that the text is, so many, parted by commas.
+fn read_weights(alloc: Global, text: &[u8], count: usize) -> Result<Option<Vec<u8>>, Memory>
+    requires { 0 < count }
+    ensures { IfOk result (λ read. MatchOption read ((weights : List ℕ) → ¬ IsWeightsText count text.now weights) (λ weights. IsWeightsText count text.now weights.items)) }
+{
+    let (field, rest) = text.split_at(field_end(text, b','));
+    match read_positive(field, MAX_WEIGHT) {
+        Some(first) => {
+            let mut weights = Vec::new(alloc);
+            weights.push(first)?;
+            if read_numbers(rest, MAX_WEIGHT, count - 1, &mut weights)? {
+                Ok(Some(weights))
+            } else {
+                Ok(None)
+            }
+        }
+        None => Ok(None),
+    }
+}
+
+fn read_order(alloc: Global, sig: &Signature, text: &[u8]) -> Result<Option<Kbo>, Memory>
+    requires { length sig.now ≤ 24 }
+    ensures { IfOk result (λ read. MatchOption read ((order : KboOrder) → ¬ IsOrderText sig.now text.now order) (IsOrderText sig.now text.now)) }
+{
+    if sig.count() == 0 {
+        if !text.is_empty() {
+            return Ok(None);
+        }
+        let precedence = Precedence::new(Vec::new(alloc));
+        return Ok(Some(Kbo::new(Vec::new(alloc), precedence)));
+    }
+    let Some((field, rest)) = split_field(text, b' ') else {
+        return Ok(None);
+    };
+    match read_weights(alloc, field, sig.count())? {
+        Some(weights) => match read_precedence(alloc, sig, rest)? {
+            Some(precedence) => Ok(Some(Kbo::new(weights, precedence))),
+            None => Ok(None),
+        },
+        None => Ok(None),
+    }
+}
+
 /// The certificate that a line without its line feed spells; none where it spells no certificate of the signature within the limits.
 pub fn read_cert(alloc: Global, sig: &Signature, line: &[u8]) -> Result<Option<Certificate>, Memory>
     requires { length sig.now ≤ 24 }
@@ -261,6 +316,12 @@ pub fn read_cert(alloc: Global, sig: &Signature, line: &[u8]) -> Result<Option<C
     if let Some(text) = line.strip_prefix(b"LINEAR".as_slice()) {
         return match read_interpretation(alloc, sig, text)? {
             Some(i) => Ok(Some(Certificate::Linear(i))),
+            None => Ok(None),
+        };
+    }
+    if let Some(text) = line.strip_prefix(b"KBO".as_slice()) {
+        return match read_order(alloc, sig, text)? {
+            Some(order) => Ok(Some(Certificate::Kbo(order))),
             None => Ok(None),
         };
     }

@@ -3,11 +3,11 @@ ghost use Rattle.std.specs.Prelude.{◌≡◌, ◌++◌, ℕ, OnOk, IfOk, IsTrue
 ghost use Rattle.kb_term.specs.Signature.{SymbolEntry};
 ghost use Rattle.kb_term.specs.declared.term.Symbol.{Symbol};
 ghost use Rattle.kb_linear.specs.Limits.{interpretation_of};
-ghost use Rattle.kb_cert.specs.CertificateText.{cert_text as text_of, is_certificate, each_behind, name_at, interp_text};
+ghost use Rattle.kb_cert.specs.CertificateText.{cert_text as text_of, is_certificate, each_behind, name_at, interp_text, weight_fields};
 
 use crate::certificate::Certificate;
 use kb_term::{Memory, Signature, Symbol};
-use std::alloc::{AllocError, Global};
+use std::alloc::Global;
 
 fn push_number(alloc: Global, out: &mut Vec<u8>, n: u8) -> Result<(), Memory>
     ensures { OnOk result (out.new.items ≡ out.old.items ++ decimal n) }
@@ -17,15 +17,34 @@ fn push_number(alloc: Global, out: &mut Vec<u8>, n: u8) -> Result<(), Memory>
     Ok(())
 }
 
+/// Adds the numbers, parted by commas.
+fn push_numbers(alloc: Global, out: &mut Vec<u8>, first: u8, others: &[u8]) -> Result<(), Memory>
+    ensures { OnOk result (out.new.items ≡ out.old.items ++ interp_text (first, others.now)) }
+{
+    push_number(alloc, out, first)?;
+    for n in others {
+        out.push(b',')?;
+        push_number(alloc, out, *n)?;
+    }
+    Ok(())
+}
+
 /// Adds the constant and the coefficients, parted by commas.
 fn push_row(alloc: Global, out: &mut Vec<u8>, row: &(u8, Vec<u8>)) -> Result<(), Memory>
     ensures { OnOk result (out.new.items ≡ out.old.items ++ interp_text (row.now.0, row.now.1.items)) }
 {
-    push_number(alloc, out, row.0)?;
-    for coefficient in &row.1 {
-        out.push(b',')?;
-        push_number(alloc, out, *coefficient)?;
+    push_numbers(alloc, out, row.0, &row.1)
+}
+
+/// Adds the weights behind a space, parted by commas; nothing where there are none.
+fn push_weights(alloc: Global, out: &mut Vec<u8>, weights: &[u8]) -> Result<(), Memory>
+    ensures { OnOk result (out.new.items ≡ out.old.items ++ each_behind 32 (weight_fields weights.now)) }
+{
+    if weights.is_empty() {
+        return Ok(());
     }
+    out.push(b' ')?;
+    push_numbers(alloc, out, weights[0], &weights[1..])?;
     Ok(())
 }
 
@@ -52,8 +71,8 @@ fn push_names(out: &mut Vec<u8>, sig: &Signature, symbols: &[Symbol]) -> Result<
     Ok(())
 }
 
-/// The certificate as one line without its line feed: `LPO` and the symbols' names, the greatest first, or `LINEAR` and each
-/// symbol's constant and coefficients.
+/// The certificate as one line without its line feed: `LPO` and the symbols' names, the greatest first; `LINEAR` and each
+/// symbol's constant and coefficients; or `KBO`, the weights by symbol number, and the symbols' names, the greatest first.
 pub fn cert_text(alloc: Global, c: &Certificate, sig: &Signature) -> Result<Vec<u8>, Memory>
     requires { IsTrue (is_certificate sig.now c.now) }
     ensures { IfOk result (λ text. text.items ≡ text_of sig.now c.now) }
@@ -69,6 +88,11 @@ pub fn cert_text(alloc: Global, c: &Certificate, sig: &Signature) -> Result<Vec<
             push_rows(alloc, &mut out, i.rows())?;
             Ok(out)
         }
-        Certificate::Kbo(_order) => Err(AllocError.into()),
+        Certificate::Kbo(order) => {
+            let mut out = Vec::from_slice(alloc, b"KBO")?;
+            push_weights(alloc, &mut out, order.weights())?;
+            push_names(&mut out, sig, order.precedence().symbols())?;
+            Ok(out)
+        }
     }
 }

@@ -1,6 +1,6 @@
 -- What comparisons ask, and the table of all rules.
-use Rattle.std.proofs.Common.{ℕ, zero, suc, ◌≡◌, ◌<◌, ◌≤◌, ◌+◌, ◌⊎◌, inl, inr, refl, sym, ap, ◌∙◌, subst, subst₂, arith, List, [], ◌∷◌, ◌++◌, length, get_or, map, All}
-use Rattle.std.specs.Prelude.{Vec, slice_index_or}
+use Rattle.std.proofs.Common.{ℕ, zero, suc, ◌≡◌, ◌<◌, ◌≤◌, ◌+◌, ◌⊎◌, inl, inr, refl, sym, ap, ◌∙◌, subst, subst₂, arith, List, [], ◌∷◌, ◌++◌, length, get_or, drop, map, All}
+use Rattle.std.specs.Prelude.{Vec, slice_index_or, slice_index}
 use Rattle.std.specs.declared.alloc.Global.{Global}
 use Rattle.std.proofs.lemmas.List.{append_assoc}
 use Rattle.std.proofs.lemmas.List.Elements.{All-append}
@@ -10,14 +10,13 @@ use Rattle.kb_kbo.specs.KnuthBendix.{KboOrder, KboGreater, HoldsVariables, weigh
 use Rattle.kb_kbo.specs.Measures.{order_of}
 use Rattle.kb_kbo.specs.Orders.{KboOrients}
 use Rattle.kb_kbo.specs.Asking.{value_of, Asks, AsksAtTie, AreAsked, IsTable}
+use Rattle.kb_kbo.specs.Search.{IsBetween}
 use Rattle.kb_kbo.specs.declared.level.Level.{Level}
+use Rattle.kb_kbo.specs.declared.level.Tally.{Tally}
+use Rattle.kb_linear.specs.Forms.{weighted}
+use Rattle.std.proofs.Math.Nat.{mul-le-mul_left}
+use Rattle.std.proofs.Math.Seq.{drop-cons}
 use Rattle.kb_kbo.proofs.Compared.{greater_weighs}
-
--- a symbol without a weight of its own weighs 1
-pub symbol_light : (weights : List ℕ) (f : ℕ) → length weights ≤ f → slice_index_or weights f 1 ≡ 1
-symbol_light [] f h = refl
-symbol_light (w ∷ weights) zero h = absurd (omega arith)
-symbol_light (w ∷ weights) (suc f) h = symbol_light weights f (omega arith)
 
 -- where each symbol weighs 1, a term weighs its size
 mutual
@@ -54,3 +53,23 @@ table_more rules table new levels empty i rule s t e h l r p q n (more, d, k) = 
     one : (order : KboOrder) (z : Vec Level Global) → Asks order z.items → All (λ (y : Vec Level Global). Asks order y.items) (z ∷ [])
     one order z a zero y b = a
     one order z a (suc j) y b = absurd (omega arith)
+
+-- larger weights of the symbols
+pub weighted_le : (cs : List ℕ) (a b : ℕ → ℕ) → ((f : ℕ) → f < length cs → a f ≤ b f) → weighted cs a ≤ weighted cs b
+weighted_le [] a b h = omega arith
+weighted_le (c ∷ cs) a b h = let first = mul-le-mul_left c (h 0 (omega arith)) in omega (arith, first, weighted_le cs (λ f. a (suc f)) (λ f. b (suc f)) (λ f l. h (suc f) (omega arith)))
+
+-- the comparisons from a place on
+pub asked_cons : (order : KboOrder) (levels : List Level) (i : ℕ) (d : Level) → i < length levels → Asks order (drop i levels) → Asks order (get_or levels i d ∷ drop (i + 1) levels)
+asked_cons order levels i d h a =
+    let n : suc i ≡ i + 1 = omega arith in
+    let e : drop i levels ≡ get_or levels i d ∷ drop (i + 1) levels = drop-cons levels i d h ∙ ap (λ (m : ℕ). get_or levels i d ∷ drop m levels) n in
+    subst (Asks order) e a
+
+-- a value that is computed is that of the order
+pub value_is : (order : KboOrder) (weights : List ℕ) (tally : Tally) (value : ℕ) → IsBetween order weights weights → ((a : ℕ → ℕ) → ((f : ℕ) → f < 8 → slice_index weights f ≤ a f) → value ≤ value_of tally a)
+    → ((a : ℕ → ℕ) → ((f : ℕ) → f < 8 → a f ≤ slice_index weights f) → value_of tally a ≤ value) → value ≡ value_of tally (symbol_weight order)
+value_is order weights tally value b l m =
+    let h = l (symbol_weight order) (λ f k. (b f k).0) in
+    let k = m (symbol_weight order) (λ f k. (b f k).1) in
+    omega arith

@@ -8,3 +8,5 @@ pub mod KboMembers
 pub mod Compared
 pub mod Counts
 pub mod Levels
+pub mod Placing
+pub mod Weighing

@@ -3,3 +3,4 @@ pub mod Orders
 pub mod KnuthBendixLaws
 pub mod Measures
 pub mod Asking
+pub mod Search

@@ -66,7 +66,8 @@ impl Tally {
 
     /// What the occurrences weigh together, where each of the first 8 symbols has its weight and all else weighs 1.
     pub(crate) fn value(&self, weights: &[u8; 8]) -> u32
-        ensures { result ≡ value_of self.now (λ f. slice_index weights.now f) }
+        ensures least { (a : ℕ → ℕ) → ((f : ℕ) → f < 8 → slice_index weights.now f ≤ a f) → result ≤ value_of self.now a }
+        ensures most { (a : ℕ → ℕ) → ((f : ℕ) → f < 8 → a f ≤ slice_index weights.now f) → value_of self.now a ≤ result }
     {
         let mut total = u32::from(self.rest);
         for f in 0..8 {

@@ -218,7 +218,7 @@ whole_none rules count start now e s =
     let r = subst (λ z. IsSearched rules count count z now false) e s in
     subst (λ xs. IsFirst (λ prec. LpoOrients prec rules) (arrangements count xs) None) (outside_all (range_with_len 0 count)) r.1
 
-snoc_inj : (xs ys : List ℕ) (x y : ℕ) → xs ++ x ∷ [] ≡ ys ++ y ∷ [] → xs ≡ ys
+pub snoc_inj : (xs ys : List ℕ) (x y : ℕ) → xs ++ x ∷ [] ≡ ys ++ y ∷ [] → xs ≡ ys
 snoc_inj [] [] x y e = refl
 snoc_inj [] (b ∷ ys) x y e = absurd (let l = length-append ys (y ∷ []) in let q : length ([] ++ x ∷ []) ≡ length (b ∷ (ys ++ y ∷ [])) = ap length e in omega (arith, l, q))
 snoc_inj (a ∷ xs) [] x y e = absurd (let l = length-append xs (x ∷ []) in let q : length (a ∷ (xs ++ x ∷ [])) ≡ length ([] ++ y ∷ []) = ap length e in omega (arith, l, q))

@@ -14,5 +14,5 @@ mod Cases
 pub mod Answering
 pub mod First
 pub mod Ascending
-mod Nothing
+pub mod Nothing
 mod ThreeSymbols

@@ -1,9 +1,11 @@
-use Rattle.std.proofs.Common.{sym, ap, ◌∙◌, ◌++◌, map, subst, IsTrue}
-use Rattle.std.specs.Prelude.{codes}
+use Rattle.std.proofs.Common.{sym, ap, ◌∙◌, ◌++◌, append_assoc, map, subst, IsTrue}
+use Rattle.std.specs.Prelude.{codes, ◌∷◌, List, ℕ}
 use Rattle.kb_term.specs.Signature.{SymbolEntry}
 use Rattle.kb_linear.specs.Limits.{interpretation_of}
-use Rattle.kb_cert.specs.CertificateText.{each_behind, cert_text, is_certificate, is_precedence, name_at, interp_text}
+use Rattle.kb_cert.specs.CertificateText.{each_behind, cert_text, is_certificate, is_precedence, are_weights, name_at, interp_text, weight_fields}
 use Rattle.kb_cert.proofs.Texts.{join_with_byte-behind, symbols_within, map_names, symbol_name}
+use Rattle.std.proofs.lemmas.Grind.{flat_map-append}
+use Rattle.kb_cert.proofs.Fields.{both_true}
 use Rattle.kb_cert.proofs.text.cert_text.Goals as goal
 
 pub push_names-requires : goal.push_names-requires
@@ -27,3 +29,26 @@ returns-in_ok-push_rows-in-Linear c =
     ∙ ap (λ z. codes "LINEAR" ++ each_behind 32 (map interp_text z)) c.rows.ensures.rows
     ∙ sym (join_with_byte-behind 32 (codes "LINEAR") (map interp_text c.in-Linear.i))
     ∙ sym (ap (cert_text c.args.sig.now) c.in-Linear.is)
+
+pub push_names-requires-in-Kbo : goal.push_names-requires-in-Kbo
+push_names-requires-in-Kbo c =
+    let sig = c.args.sig.now in
+    let order = c.in-Kbo.order in
+    let h = subst (λ z. IsTrue (is_certificate sig z)) c.in-Kbo.is c.requires in
+    let p = both_true (are_weights sig order.weights) (is_precedence sig order.precedence) h in
+    symbols_within sig c.symbols-in-Kbo.result.now (subst (λ z. IsTrue (is_precedence sig z)) (sym (c.symbols-in-Kbo.ensures ∙ c.precedence.ensures)) p.1)
+
+pub returns-in_ok-push_names-in-Kbo : goal.returns-in_ok-push_names-in-Kbo
+returns-in_ok-push_names-in-Kbo c =
+    let sig = c.args.sig.now in
+    let order = c.in-Kbo.order in
+    let names = map (λ (e : SymbolEntry). e.name) sig in
+    let fields = map (name_at names) order.precedence in
+    c.in_ok-push_names-in-Kbo.ensures
+    ∙ ap (λ z. z ++ each_behind 32 (map (symbol_name sig) c.symbols-in-Kbo.result.now)) (c.in_ok-push_weights-in-Kbo.ensures ∙ ap (λ z. z ++ each_behind 32 (weight_fields c.weights.result.now)) c.in_ok-out-in-Kbo.ensures.items)
+    ∙ ap (λ z. (codes "KBO" ++ each_behind 32 (weight_fields c.weights.result.now)) ++ each_behind 32 z) (map_names names c.symbols-in-Kbo.result.now ∙ ap (map (name_at names)) (c.symbols-in-Kbo.ensures ∙ c.precedence.ensures))
+    ∙ ap (λ z. (codes "KBO" ++ each_behind 32 (weight_fields z)) ++ each_behind 32 fields) c.weights.ensures.weights
+    ∙ append_assoc (codes "KBO") (each_behind 32 (weight_fields order.weights)) (each_behind 32 fields)
+    ∙ ap (λ z. codes "KBO" ++ z) (sym (flat_map-append (λ (piece : List ℕ). 32 ∷ piece) (weight_fields order.weights) fields))
+    ∙ sym (join_with_byte-behind 32 (codes "KBO") (weight_fields order.weights ++ fields))
+    ∙ sym (ap (cert_text sig) c.in-Kbo.is)
