@@ -1,9 +1,13 @@
 -- The first member of a list that fails.
-use Rattle.std.proofs.Common.{ℕ, zero, suc, ◌≡◌, ◌+◌, ◌-◌, ◌<◌, ◌≤◌, ◌∙◌, refl, sym, ap, subst, arith, List, [], ◌∷◌, ◌++◌, All, length, length-append, append_assoc, get_or, take, drop, map}
+use Rattle.std.proofs.Common.{ℕ, suc, ◌≡◌, ◌+◌, ◌<◌, ◌≤◌, ◌∙◌, sym, ap, subst, arith, List, [], ◌∷◌, ◌++◌, All, length, length-append, append_assoc, get_or, take, drop, map}
 use Rattle.std.proofs.lemmas.List.{get_or-map, length-map, take-append-drop, length-take-le, take_more, take_all}
 use Rattle.std.proofs.lemmas.List.Elements.{All-push, All-append}
 use Rattle.std.proofs.Math.Seq.{drop-cons}
-use Rattle.kb_checker.specs.Verdicts.{FailsFirst}
+use Rattle.kb_term.specs.Tree.{variable}
+use Rattle.kb_term.specs.Rule.{Rule}
+use Rattle.kb_cert.specs.Family.{Orders}
+use Rattle.kb_cert.specs.declared.certificate.Certificate.{Certificate}
+use Rattle.kb_checker.specs.Verdicts.{FailsFirst, IsFirstUnordered}
 
 -- one more member is good
 pub good_more : {X : Type 0} (G : X → Type 0) (xs : List X) (k : ℕ) (x : X) → k < length xs → x ≡ get_or xs k x → G x → All G (take k xs) → All G (take (k + 1) xs)
@@ -44,14 +48,17 @@ fails_within G F xs n f = omega (arith, f.4, ap length f.3, length-append f.0 (f
 pub mapped_member : {X Y : Type 0} (f : X → Y) (xs : List X) (k : ℕ) (x : X) → k < length xs → x ≡ get_or xs k x → (k < length (map f xs)) × (f x ≡ get_or (map f xs) k (f x))
 mapped_member f xs k x room is = (omega (arith, length-map xs f), ap f is ∙ sym (get_or-map f xs k x (f x) room))
 
--- the part of a list that has one member
-pub one_member : {X : Type 0} (xs : List X) (k : ℕ) (d : X) → k < length xs → take (k + 1 - k) (drop k xs) ≡ get_or xs k d ∷ []
-one_member xs k d room = let one : k + 1 - k ≡ 1 = omega arith in ap (λ n. take n (drop k xs)) one ∙ ap (take 1) (drop-cons xs k d room)
-
-pub all_one : {X : Type 0} (P : X → Type 0) (x : X) → P x → All P (x ∷ [])
-all_one P x h = All-push P [] x (λ k d l. absurd (omega (arith, l))) h
-
-pub get_same : {X : Type 0} (xs : List X) (k : ℕ) (d : X) → k < length xs → get_or xs k d ≡ get_or xs k (get_or xs k d)
-get_same [] k d h = absurd (omega (arith, h))
-get_same (x ∷ xs) zero d h = refl
-get_same (x ∷ xs) (suc k) d h = get_same xs k d (omega (arith, h))
+-- the rules before the next one are ordered, and with it they aren't
+pub first_unordered : (c : Certificate) (rules : List Rule) (k : ℕ) → k < length rules → Orders c (take k rules) → ¬ Orders c (take (k + 1) rules) → IsFirstUnordered c rules (k + 1)
+first_unordered c rules k room h n = (
+  take k rules,
+  get_or rules k no_rule,
+  drop (suc k) rules,
+  sym (take-append-drop k rules) ∙ ap (take k rules ++◌) (drop-cons rules k no_rule room),
+  omega (arith, length-take-le k rules (omega arith)),
+  h,
+  λ o. n (subst (Orders c) (sym (take_more rules k no_rule room)) o),
+)
+  where
+    no_rule : Rule
+    no_rule = record { left = variable 0; right = variable 0 }

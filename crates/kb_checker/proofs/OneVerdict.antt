@@ -1,13 +1,12 @@
 -- What the checker says of an answer is one.
 use Rattle.std.proofs.Common.{ℕ, zero, suc, ◌+◌, ◌≤◌, ◌<◌, ◌≡◌, ◌⊎◌, inl, inr, refl, sym, ap, ap₂, ◌∙◌, subst, arith, List, [], ◌∷◌, ◌++◌, length, append_assoc, All, Contains, ⊎_elim}
 use Rattle.std.specs.Prelude.{Result, Ok, Err, ◌==◌}
-use Rattle.std.proofs.lemmas.List.Elements.{All-contains, All-head, All-tail, All-cons, Contains-append_cases, Contains-append_right}
-use Rattle.kb_term.proofs.Steps.{contains_first}
+use Rattle.std.proofs.lemmas.List.Elements.{All-contains, All-head, All-tail, All-cons, Contains-append_cases, Contains-append_left, Contains-append_right}
+use Rattle.kb_term.proofs.Steps.{contains_cases, contains_first}
 use Rattle.kb_term.proofs.Subtrees.{some_same}
 use Rattle.kb_term.specs.Tree.{Tree}
 use Rattle.kb_term.specs.Pair.{Pair}
-use Rattle.kb_term.specs.Rule.{Rule}
-use Rattle.kb_term.specs.Signature.{IsEquationWithinLimits}
+use Rattle.kb_term.specs.Rule.{Rule, IsRule}
 use Rattle.kb_term.specs.Substitution.{instance}
 use Rattle.kb_term.specs.declared.limit.Limit.{Limit}
 use Rattle.kb_overlap.specs.Overlap.{Overlap, IsOverlapList, overlap_positions}
@@ -15,18 +14,21 @@ use Rattle.kb_overlap.specs.Trace.{TraceStep, item, IsRightOrigin, IsRightAfter,
 use Rattle.kb_rewrite.specs.NormalForm.{NormalisesTo, Normalised, form, long, large, HoldVariables}
 use Rattle.kb_rewrite.proofs.Determined.{answers_once}
 use Rattle.kb_rewrite.proofs.FirstRedexes.{rule_inside}
+use Rattle.kb_cert.specs.Family.{Orders}
+use Rattle.kb_cert.specs.declared.certificate.Certificate.{Certificate}
+use Rattle.kb_cert.proofs.Ordering.{orders_among}
 use Rattle.kb_laws.specs.Overlaps.{HaveOneNormalForm, OverlapsClose}
 use Rattle.kb_laws.proofs.Renamings.{Back, answer_instance, FormBack, normalises_instance}
 use Rattle.kb_laws.proofs.Twins.{Both, both_append, both_in, Twins, AlikeSides, AreListedAlike, lists_both}
 use Rattle.kb_trace.specs.Steps.{pairs_of, IsFirstBadStep}
 use Rattle.kb_checker.specs.Answers.{Answer, IsAnswer, IsTraced, rules_of}
-use Rattle.kb_checker.specs.Verdicts.{FailsFirst, HasForm, FailToJoin, Closes, FailsToClose, AreOverlapsOf, AreInnerOverlaps, AreOuterOverlaps, FirstUnclosed, IsProved, FailsToProve, IsOriented, PassesSteps, pair_reason, equation_reason, IsVerdict}
+use Rattle.kb_checker.specs.Verdicts.{FailsFirst, HasForm, FailToJoin, Closes, FailsToClose, AreOverlapsOf, AreInnerOverlaps, AreOuterOverlaps, FirstUnclosed, IsProved, FailsToProve, IsFirstUnordered, PassesSteps, pair_reason, equation_reason, IsVerdict}
 use Rattle.kb_checker.specs.declared.joining.Failure.{Failure}
 use Rattle.kb_checker.specs.declared.joining.Failure.TheVariants.{Large, Steps, Different}
 use Rattle.kb_checker.specs.declared.verdict.Reject.TheVariants.{BadStep, Untraced, NotOriented, PairLarge, PairSteps, NotJoined, EquationLarge, EquationSteps, NotProved}
 use Rattle.kb_checker.specs.declared.verdict.Checked.{Checked}
 use Rattle.kb_checker.specs.declared.verdict.Checked.TheVariants.{Accepted, Rejected}
-use Rattle.kb_checker.proofs.Sound.{oriented_rule, all_mapped}
+use Rattle.kb_checker.proofs.Sound.{are_rules}
 
 -- ---- the first member that fails
 
@@ -47,6 +49,27 @@ places {X} (v ∷ before) (w ∷ front) after back x y e =
 
 middle : {X : Type 0} (before after : List X) (x : X) → Contains (before ++ x ∷ after) x
 middle before after x = Contains-append_right before (x ∷ after) x (contains_first x after)
+
+-- a list up to one of its members is among it
+up_to : {X : Type 0} (before after : List X) (x y : X) → Contains (before ++ x ∷ []) y → Contains (before ++ x ∷ after) y
+up_to before after x y c = ⊎_elim (λ i. Contains-append_left before (x ∷ after) y i)
+    (λ i. Contains-append_right before (x ∷ after) y (⊎_elim (λ e. (0, omega arith, e)) (λ k. absurd (omega arith)) (contains_cases x [] y i)))
+    (Contains-append_cases before (x ∷ []) y c)
+
+-- where a part isn't ordered, the whole isn't
+unordered_within : (c : Certificate) (rules before after : List Rule) (rule : Rule) → rules ≡ before ++ rule ∷ after → ¬ Orders c (before ++ rule ∷ []) → ¬ Orders c rules
+unordered_within c rules before after rule e n h = n (orders_among c (before ++ rule ∷ after) (before ++ rule ∷ []) (up_to before after rule) (subst (Orders c) e h))
+
+unordered_never : (c : Certificate) (rules : List Rule) (n : ℕ) → IsFirstUnordered c rules n → ¬ Orders c rules
+unordered_never c rules n (before, rule, after, e, at, h, fails) = unordered_within c rules before after rule e fails
+
+unordered_once : (c : Certificate) (rules : List Rule) (n m : ℕ) → IsFirstUnordered c rules n → IsFirstUnordered c rules m → n ≡ m
+unordered_once c rules n m (before, rule, after, e, at, h, fails) (front, other, back, d, there, k, failed) = ⊎_elim
+    (λ q. at ∙ ap (λ z. z + 1) q.0 ∙ sym there)
+    (λ q. ⊎_elim
+    (λ w. absurd (unordered_within c front before w.0 rule w.1 fails k))
+    (λ w. absurd (unordered_within c before front w.0 other w.1 failed h)) q)
+    (places before front after back rule other (sym e ∙ d))
 
 -- what is good doesn't fail, so all good ones have no first that fails
 none_fails : {X : Type 0} (G F : X → Type 0) → ((x : X) → G x → F x → ⊥) → (xs : List X) (n : ℕ) → FailsFirst G F xs n → All G xs → ⊥
@@ -368,7 +391,7 @@ module _ (a : Answer) (formed : IsAnswer a) where
   FailsCitations x = (n : ℕ) × FailsFirst (IsTraced a.trace) (λ r. ¬ IsTraced a.trace r) a.rules n × (x ≡ Rejected Untraced n)
 
   abbrev FailsOrder : Checked → Type 0
-  FailsOrder x = (n : ℕ) × FailsFirst (IsOriented a) (λ r. ¬ IsOriented a r) (rules_of a.rules) n × (x ≡ Rejected NotOriented n)
+  FailsOrder x = (n : ℕ) × IsFirstUnordered a.cert (rules_of a.rules) n × (x ≡ Rejected NotOriented n)
 
   abbrev FailsOverlaps : Checked → Type 0
   FailsOverlaps x = (f : Failure) × (n : ℕ) × FirstUnclosed (rules_of a.rules) f n × (x ≡ Rejected (pair_reason f) n)
@@ -383,7 +406,7 @@ module _ (a : Answer) (formed : IsAnswer a) where
   FromOverlaps x = FailsOverlaps x ⊎ (OverlapsClose (rules_of a.rules) × FromEquations x)
 
   abbrev FromOrder : Checked → Type 0
-  FromOrder x = FailsOrder x ⊎ (All (IsOriented a) (rules_of a.rules) × FromOverlaps x)
+  FromOrder x = FailsOrder x ⊎ (Orders a.cert (rules_of a.rules) × FromOverlaps x)
 
   abbrev FromCitations : Checked → Type 0
   FromCitations x = FailsCitations x ⊎ (All (IsTraced a.trace) a.rules × FromOrder x)
@@ -403,11 +426,9 @@ module _ (a : Answer) (formed : IsAnswer a) where
   groups (Rejected EquationSteps n) h = inr (h.0.0, inr (h.0.1, inr (h.0.2, inr (h.0.3, inl (Steps, n, h.1, refl)))))
   groups (Rejected NotProved n) h = inr (h.0.0, inr (h.0.1, inr (h.0.2, inr (h.0.3, inl (Different, n, h.1, refl)))))
 
-  -- rules that are oriented hold their variables
-  oriented_hold : All (IsOriented a) (rules_of a.rules) → HoldVariables (rules_of a.rules)
-  oriented_hold orders rule i =
-      let w = All-contains (λ (r : Rule). IsEquationWithinLimits a.problem.signature (r.left, r.right)) (rules_of a.rules) rule (all_mapped (λ (r : Rule × ℕ). r.0) (λ (r : Rule). IsEquationWithinLimits a.problem.signature (r.left, r.right)) a.rules (λ k d l. (formed.rules k d l).sides)) i in
-      (oriented_rule a.problem.signature a.cert formed.cert rule.left rule.right w.right.well_formed (All-contains (IsOriented a) (rules_of a.rules) rule orders i)).holds_variables
+  -- rules that are ordered hold their variables
+  ordered_hold : Orders a.cert (rules_of a.rules) → HoldVariables (rules_of a.rules)
+  ordered_hold orders rule i = (All-contains IsRule (rules_of a.rules) rule (are_rules a formed orders) i).holds_variables
 
   module _ (x y : Checked) where
     in_equations : HoldVariables (rules_of a.rules) → FromEquations x → FromEquations y → x ≡ y
@@ -428,10 +449,10 @@ module _ (a : Answer) (formed : IsAnswer a) where
 
     in_order : FromOrder x → FromOrder y → x ≡ y
     in_order = compare x y
-        (λ h k. h.2 ∙ ap (Rejected NotOriented) (first_once (IsOriented a) (λ r. ¬ IsOriented a r) (λ r. ¬ IsOriented a r) (λ r g n. n g) (λ r g n. n g) (rules_of a.rules) h.0 k.0 h.1 k.1).0 ∙ sym k.2)
-        (λ h p. none_fails (IsOriented a) (λ r. ¬ IsOriented a r) (λ r g n. n g) (rules_of a.rules) h.0 h.1 p)
-        (λ h p. none_fails (IsOriented a) (λ r. ¬ IsOriented a r) (λ r g n. n g) (rules_of a.rules) h.0 h.1 p)
-        (λ p h k. in_overlaps (oriented_hold p) h k)
+        (λ h k. h.2 ∙ ap (Rejected NotOriented) (unordered_once a.cert (rules_of a.rules) h.0 k.0 h.1 k.1) ∙ sym k.2)
+        (λ h p. unordered_never a.cert (rules_of a.rules) h.0 h.1 p)
+        (λ h p. unordered_never a.cert (rules_of a.rules) h.0 h.1 p)
+        (λ p h k. in_overlaps (ordered_hold p) h k)
 
     in_citations : FromCitations x → FromCitations y → x ≡ y
     in_citations = compare x y

@@ -1,22 +1,26 @@
 -- An accepted answer is good.
-use Rattle.std.proofs.Common.{ℕ, ◌≡◌, ap, subst, arith, List, [], ◌∷◌, All, map, length, true, ◌&&◌}
+use Rattle.std.proofs.Common.{ℕ, ◌≤◌, ◌≡◌, subst, arith, List, [], ◌∷◌, All, map, length, true, ◌&&◌}
 use Rattle.std.specs.Prelude.{IsTrue, nat_le, nat_eq}
 use Rattle.std.specs.List.{list_all}
-use Rattle.std.proofs.lemmas.List.Elements.{All-contains}
+use Rattle.std.proofs.lemmas.List.Elements.{All-contains, All-weaker, All-nil, All-cons}
 use Rattle.kb_term.specs.Tree.{Tree}
 use Rattle.kb_term.specs.Rule.{Rule, IsRule}
 use Rattle.kb_term.specs.Signature.{Signature, IsWellFormed, IsRuleOver, IsEquationWithinLimits}
 use Rattle.kb_term.specs.Proving.{Proves, IsTerminating, equations_of}
 use Rattle.kb_term.proofs.Subtrees.{contains_mapped}
-use Rattle.kb_linear.specs.LinearOrder.{Interpretation, linear_value, IsInterpretationOf}
+use Rattle.kb_linear.specs.LinearOrder.{Interpretation, IsInterpretationOf}
+use Rattle.kb_lpo.specs.PathOrder.{LpoGreater}
+use Rattle.kb_kbo.specs.KnuthBendix.{KboOrder, KboGreater}
+use Rattle.kb_kbo.specs.KnuthBendixLaws.{HasWeights}
+use Rattle.kb_kbo.proofs.KboHalting.{kbo_rule, terminating_by_kbo}
 use Rattle.kb_lpo.proofs.PathOrderLaws.{lpo_rule, terminating_by_lpo}
-use Rattle.kb_cert.specs.CertificateText.{is_between, is_row, are_rows, is_certificate}
-use Rattle.kb_cert.specs.Family.{IsGreater, Orders}
+use Rattle.kb_cert.specs.CertificateText.{is_between, is_row, are_rows, are_weights, is_precedence, is_certificate}
+use Rattle.kb_cert.specs.Family.{Orders}
 use Rattle.kb_cert.specs.declared.certificate.Certificate.{Certificate}
-use Rattle.kb_cert.specs.declared.certificate.Certificate.TheVariants.{Lpo, Linear}
+use Rattle.kb_cert.specs.declared.certificate.Certificate.TheVariants.{Lpo, Linear, Kbo}
 use Rattle.kb_cert.proofs.Fields.{both_true}
 use Rattle.kb_cert.proofs.RowLaws.{rows_small}
-use Rattle.kb_cert.proofs.FamilyLaws.{linear_variables}
+use Rattle.kb_cert.proofs.FamilyLaws.{linear_rules}
 use Rattle.kb_laws.proofs.Conversion.{Equal, equal_made_up}
 use Rattle.kb_laws.proofs.CompletionLaws.{Members, proves_from, proves_to, from_equations_of}
 use Rattle.kb_laws.proofs.ConfluenceLaws.{confluent_by_overlaps, joinable_by_confluence}
@@ -24,7 +28,7 @@ use Rattle.kb_laws.proofs.Closing.{closed_joins, joined}
 use Rattle.kb_laws.proofs.Complete.{all_from, proved_by_joining}
 use Rattle.kb_laws.proofs.Stated.{interpretation_halts}
 use Rattle.kb_checker.specs.Answers.{Answer, rules_of, IsAnswer, IsTraced, IsGoodAnswer}
-use Rattle.kb_checker.specs.Verdicts.{IsOriented, IsProved, IsAccepted}
+use Rattle.kb_checker.specs.Verdicts.{IsProved, IsAccepted}
 use Rattle.kb_checker.proofs.Proved.{traced_proved}
 
 -- the rows of a certificate interpret the signature
@@ -39,24 +43,41 @@ rows_fit (f ∷ g) (row ∷ i) h =
     let small = rows_small (f ∷ g) (row ∷ i) h 0 row (omega arith) in
     ((grind (arith, n), λ k d l. (small.coefficients k d l).0), rows_fit g i q.1)
 
--- what a certificate of the signature orients is a rule
-pub oriented_rule : (g : Signature) (c : Certificate) → IsTrue (is_certificate g c) → (s t : Tree) → IsWellFormed g t → IsGreater c s t → IsRule (record { left = s; right = t })
-oriented_rule g (Lpo p) m s t w h = lpo_rule p (record { left = s; right = t }) h
-oriented_rule g (Linear i) m s t w h = record {
-  no_variable = λ n e. let k = h (λ z. 0) in let q : linear_value i (λ z. 0) s ≡ 0 = ap (linear_value i (λ z. 0)) e in omega arith;
-  holds_variables = linear_variables g i (rows_fit g i m) s t w h;
-}
+weights_heavy : (ws : List ℕ) → list_all (is_between 1 15) ws ≡ true → All (λ n. 1 ≤ n) ws
+weights_heavy [] h = All-nil (λ n. 1 ≤ n)
+weights_heavy (w ∷ ws) h =
+    let q = both_true (is_between 1 15 w) (list_all (is_between 1 15) ws) h in
+    let l : nat_le 1 w ≡ true = (both_true (nat_le 1 w) (nat_le w 15) q.0).0 in
+    All-cons (λ n. 1 ≤ n) w ws (grind (arith, l)) (weights_heavy ws q.1)
 
--- and halts
+-- each symbol weighs at least 1 in a certificate
+certificate_weighs : (g : Signature) (o : KboOrder) → is_certificate g (Kbo o) ≡ true → HasWeights o
+certificate_weighs g o h =
+    let q = both_true (are_weights g o.weights) (is_precedence g o.precedence) h in
+    weights_heavy o.weights (both_true (nat_eq (length o.weights) (length g)) (list_all (is_between 1 15) o.weights) q.0).1
+
+-- what a certificate of the signature orders are rules
+pub oriented_rules : (g : Signature) (c : Certificate) → IsTrue (is_certificate g c) → (rules : List Rule) → All (λ (r : Rule). IsWellFormed g r.right) rules → Orders c rules → All IsRule rules
+oriented_rules g (Lpo p) m rules well h = All-weaker (λ (r : Rule). LpoGreater p r.left r.right) IsRule (lpo_rule p) rules h
+oriented_rules g (Linear i) m rules well h = linear_rules g i (rows_fit g i m) rules well h
+oriented_rules g (Kbo o) m rules well h = All-weaker (λ (r : Rule). KboGreater o r.left r.right) IsRule (kbo_rule o (certificate_weighs g o m)) rules h
+
+-- and halt
 oriented_halts : (g : Signature) (c : Certificate) → IsTrue (is_certificate g c) → (rules : List Rule) → All (IsRuleOver g) rules → Orders c rules → IsTerminating g rules
 oriented_halts g (Lpo p) m rules over h = terminating_by_lpo p g rules over h
 oriented_halts g (Linear i) m rules over h = interpretation_halts g i (rows_fit g i m) rules over h
+oriented_halts g (Kbo o) m rules over h = terminating_by_kbo g o (certificate_weighs g o m) rules over h
 
 pub all_mapped : {X Y : Type 0} (f : X → Y) (P : Y → Type 0) (xs : List X) → All (λ x. P (f x)) xs → All P (map f xs)
 all_mapped f P xs h = all_from P (map f xs) (λ y c. let m = contains_mapped f xs y c in subst P m.2 (All-contains (λ x. P (f x)) xs m.0 h m.1))
 
-all_both : {X : Type 0} (P Q R : X → Type 0) (xs : List X) → ((x : X) → P x → Q x → R x) → All P xs → All Q xs → All R xs
-all_both P Q R xs h p q = λ k d l. h _ (p k d l) (q k d l)
+-- the rules of an answer have terms over the signature, and are rules where the certificate orders them
+module _ (a : Answer) (form : IsAnswer a) where
+  sides : All (λ (r : Rule). IsEquationWithinLimits a.problem.signature (r.left, r.right)) (rules_of a.rules)
+  sides = all_mapped (λ (r : Rule × ℕ). r.0) (λ (r : Rule). IsEquationWithinLimits a.problem.signature (r.left, r.right)) a.rules (λ k d l. (form.rules k d l).sides)
+
+  pub are_rules : Orders a.cert (rules_of a.rules) → All IsRule (rules_of a.rules)
+  are_rules h = oriented_rules a.problem.signature a.cert form.cert (rules_of a.rules) (λ k d l. (sides k d l).right.well_formed) h
 
 module _ (a : Answer) (form : IsAnswer a) (h : IsAccepted a) where
   abbrev rules : List Rule
@@ -66,11 +87,7 @@ module _ (a : Answer) (form : IsAnswer a) (h : IsAccepted a) where
   ordered = h.orders
 
   over : All (IsRuleOver a.problem.signature) rules
-  over = all_both (λ (r : Rule). IsEquationWithinLimits a.problem.signature (r.left, r.right)) (IsOriented a) (IsRuleOver a.problem.signature) rules (λ r w o. record {
-    is_rule = oriented_rule a.problem.signature a.cert form.cert r.left r.right w.right.well_formed o;
-    left = w.left.well_formed;
-    right = w.right.well_formed;
-  }) (all_mapped (λ (r : Rule × ℕ). r.0) (λ (r : Rule). IsEquationWithinLimits a.problem.signature (r.left, r.right)) a.rules (λ k d l. (form.rules k d l).sides)) h.orders
+  over = λ k d l. let w = sides a form k d l in record { is_rule = are_rules a form ordered k d l; left = w.left.well_formed; right = w.right.well_formed }
 
   -- the rules prove each equation
   forth : (s t : Tree) → Proves a.problem.equations s t → Proves (equations_of rules) s t

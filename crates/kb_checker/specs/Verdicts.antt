@@ -4,7 +4,8 @@ use Rattle.kb_term.specs.Tree.{Tree}
 use Rattle.kb_term.specs.Rule.{Rule}
 use Rattle.kb_term.specs.declared.limit.Limit.{Limit}
 use Rattle.kb_rewrite.specs.NormalForm.{NormalisesTo, form, long, large}
-use Rattle.kb_cert.specs.Family.{IsGreater}
+use Rattle.kb_cert.specs.Family.{Orders}
+use Rattle.kb_cert.specs.declared.certificate.Certificate.{Certificate}
 use Rattle.kb_overlap.specs.Overlap.{Overlap, IsOverlapList}
 use Rattle.kb_overlap.specs.Trace.{IsRightTrace}
 use Rattle.kb_laws.specs.Overlaps.{HaveOneNormalForm, OverlapsClose}
@@ -85,9 +86,10 @@ FailsToProve rules failure e = FailToJoin rules e.0 e.1 failure
 
 -- ---- the whole
 
--- the certificate orients the rule
-abbrev pub IsOriented : Answer → Rule → Type 0
-IsOriented a rule = IsGreater a.cert rule.left rule.right
+-- the certificate orders the rules before the one with the number n, from 1, and not those up to it
+abbrev pub IsFirstUnordered : Certificate → List Rule → ℕ → Type 0
+IsFirstUnordered c rules n =
+    (before : List Rule) × (rule : Rule) × (after : List Rule) × (rules ≡ before ++ rule ∷ after) × (n ≡ length before + 1) × Orders c before × ¬ Orders c (before ++ rule ∷ [])
 
 -- each trace step is right
 abbrev pub PassesSteps : Answer → Type 0
@@ -97,13 +99,13 @@ PassesSteps a = IsRightTrace a.problem.equations a.trace
 abbrev pub PassesCitations : Answer → Type 0
 PassesCitations a = PassesSteps a × All (IsTraced a.trace) a.rules
 
--- each rule is oriented too
+-- the certificate orders the rules too
 abbrev pub PassesOrder : Answer → Type 0
-PassesOrder a = PassesSteps a × All (IsTraced a.trace) a.rules × All (IsOriented a) (rules_of a.rules)
+PassesOrder a = PassesSteps a × All (IsTraced a.trace) a.rules × Orders a.cert (rules_of a.rules)
 
 -- each overlap closes too
 abbrev pub PassesOverlaps : Answer → Type 0
-PassesOverlaps a = PassesSteps a × All (IsTraced a.trace) a.rules × All (IsOriented a) (rules_of a.rules) × OverlapsClose (rules_of a.rules)
+PassesOverlaps a = PassesSteps a × All (IsTraced a.trace) a.rules × Orders a.cert (rules_of a.rules) × OverlapsClose (rules_of a.rules)
 
 -- the reasons of overlaps and of equations
 abbrev pub pair_reason : Failure → Reject
@@ -120,7 +122,7 @@ equation_reason Different = NotProved
 abbrev pub IsRejected : Answer → Reject → ℕ → Type 0
 IsRejected a BadStep n = IsFirstBadStep a.problem.equations a.trace n
 IsRejected a Untraced n = PassesSteps a × FailsFirst (IsTraced a.trace) (λ r. ¬ IsTraced a.trace r) a.rules n
-IsRejected a NotOriented n = PassesCitations a × FailsFirst (IsOriented a) (λ r. ¬ IsOriented a r) (rules_of a.rules) n
+IsRejected a NotOriented n = PassesCitations a × IsFirstUnordered a.cert (rules_of a.rules) n
 IsRejected a PairLarge n = PassesOrder a × FirstUnclosed (rules_of a.rules) Large n
 IsRejected a PairSteps n = PassesOrder a × FirstUnclosed (rules_of a.rules) Steps n
 IsRejected a NotJoined n = PassesOrder a × FirstUnclosed (rules_of a.rules) Different n
@@ -132,7 +134,7 @@ IsRejected a NotProved n = PassesOverlaps a × FailsFirst (IsProved (rules_of a.
 pub record IsAccepted (a : Answer) : Type 0 where
   pub steps : IsRightTrace a.problem.equations a.trace
   pub citations : All (IsTraced a.trace) a.rules
-  pub orders : All (IsOriented a) (rules_of a.rules)
+  pub orders : Orders a.cert (rules_of a.rules)
   pub overlaps : OverlapsClose (rules_of a.rules)
   pub equations : All (IsProved (rules_of a.rules)) a.problem.equations
 

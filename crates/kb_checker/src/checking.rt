@@ -3,9 +3,9 @@ ghost use Rattle.std.specs.Prelude.{◌≡◌, ◌∷◌, [], ◌≤◌, ◌↔�
 ghost use Rattle.kb_linear.specs.Limits.{AreMeasurable};
 ghost use Rattle.kb_term.specs.Pair.{variables_of_pair};
 ghost use Rattle.kb_term.specs.View.{equations_of_list, pair_of};
-ghost use Rattle.kb_cert.specs.Family.{IsGreater, Orders};
+ghost use Rattle.kb_cert.specs.Family.{Orders};
 ghost use Rattle.kb_checker.specs.Answers.{IsAnswer, IsGoodAnswer, IsTraced, rules_of};
-ghost use Rattle.kb_checker.specs.Verdicts.{FailsFirst, IsProved, FailsToProve, pair_reason, equation_reason, IsVerdict};
+ghost use Rattle.kb_checker.specs.Verdicts.{FailsFirst, IsFirstUnordered, IsProved, FailsToProve, pair_reason, equation_reason, IsVerdict};
 
 use crate::answer::Answer;
 use crate::closing::first_unclosed;
@@ -19,7 +19,7 @@ use std::alloc::Global;
 /// Checks an answer, whoever made it.
 ///
 /// `Accepted` where each trace step is right, each rule has the canonical pair of the step that it cites, the certificate
-/// orients each rule, the terms of each overlap of the rules have one normal form, and so have the sides of each equation.
+/// orders the rules, the terms of each overlap of the rules have one normal form, and so have the sides of each equation.
 /// Then the rules halt on every term over the signature, are confluent, and prove exactly what the equations prove. Else
 /// `Rejected` with the first item that fails, group by group in this order, and its number in its group.
 ///
@@ -123,13 +123,16 @@ fn has_sides(pair: &Pair, first: &Term, second: &Term) -> bool
     *pair.first() == *first && *pair.second() == *second
 }
 
-/// The number, from 1, of the first rule that the certificate doesn't orient.
+/// The number, from 1, of the first rule with which the certificate doesn't order the rules up to it.
 fn first_unoriented(cert: &Certificate, rules: &[Rule]) -> Option<u64>
     requires { AreMeasurable rules.now }
-    ensures { MatchOption result (Orders cert.now rules.now) (FailsFirst (λ r. IsGreater cert.now r.left r.right) (λ r. IsGreater cert.now r.left r.right → ⊥) rules.now) }
+    ensures { MatchOption result (Orders cert.now rules.now) (IsFirstUnordered cert.now rules.now) }
 {
+    if orients(cert, rules) {
+        return None;
+    }
     for k in 0..rules.len() {
-        if !orients(cert, &rules[k..k + 1]) {
+        if !orients(cert, &rules[..k + 1]) {
             return Some((k + 1) as u64);
         }
     }

@@ -11,9 +11,10 @@ use Rattle.kb_term.specs.Rule.{Rule, rule_of}
 use Rattle.kb_term.specs.Signature.{Signature, Problem, IsWellFormed, IsWithinLimits, IsEquationWithinLimits, IsRuleOver}
 use Rattle.kb_term.specs.declared.origin.RuleRef.{RuleRef}
 use Rattle.kb_term.specs.declared.origin.Origin.TheVariants.{Input}
-use Rattle.kb_cert.specs.Family.{Orders, IsGreater, family}
+use Rattle.kb_cert.specs.Family.{Orders, family}
 use Rattle.kb_cert.specs.declared.certificate.Certificate.{Certificate}
 use Rattle.kb_cert.proofs.FamilyLaws.{nothing_orderable}
+use Rattle.kb_cert.proofs.Ordering.{orders_among}
 use Rattle.kb_laws.proofs.Complete.{all_from, run_sound}
 use Rattle.kb_laws.proofs.RunLaws.{run_chained}
 use Rattle.kb_laws.proofs.Orderable.{run_orderable}
@@ -95,7 +96,7 @@ module _ (g : Signature) (b : Plain) (p : Name) (nowhere : (m : ℕ) (j : LabelK
   empty_ordered = record {
     sound = record { equations = λ d i. absurd (no_equation_of d i); rules = λ r i. absurd (no_rule_of rule_kind r i); constraints = λ r i. absurd (no_rule_of constraint_kind r i) };
     chained = λ r i. absurd (no_rule_of rule_kind r i);
-    orderable = ((nothing_orderable g).0, (nothing_orderable g).1, all_from (λ (r : Rule). IsGreater (nothing_orderable g).0 r.left r.right) (state_of b p).constraints (λ r i. absurd (no_rule_of constraint_kind r i)));
+    orderable = ((nothing_orderable g).0, (nothing_orderable g).1, orders_among (nothing_orderable g).0 [] (state_of b p).constraints (λ r i. absurd (no_rule_of constraint_kind r i)) (nothing_orderable g).2);
   }
 
 pub well_inputs : (P : Problem) → IsWithinLimits P → All (λ (d : Tree × Tree). IsWellFormed P.signature d.0 × IsWellFormed P.signature d.1) P.equations
@@ -138,7 +139,7 @@ OrdersWith g b p n d c = Contains (family g) c × Orders c (rules_at b (constrai
 orders_with : (g : Signature) (before b : Plain) (p : Name) (n d : ℕ) (c : Certificate) → before.problem.signature ≡ g → OrientsBy before p n d (Some c) → KeepsPairs before.nodes b.nodes → KeepsConstraints before.nodes b.nodes p → n < length before.nodes → OrdersWith g b p n d c
 orders_with g before b p n d c e first keeps same l = (
   subst {A = Signature} (λ z. Contains (family z) c) e (subst {A = List Certificate} (λ xs. Contains xs c) (sym first.3) (Contains-append_right first.1 (c ∷ first.2) c (contains_first c first.2))),
-  all_from (λ (r : Rule). IsGreater c r.left r.right) (rules_at b (constraints_of b p ++ new ∷ [])) (λ r i. All-contains (λ (r : Rule). IsGreater c r.left r.right) (rules_at before (constraints_of before p ++ new ∷ [])) r first.0 (back r i)),
+  orders_among c (rules_at before (constraints_of before p ++ new ∷ [])) (rules_at b (constraints_of b p ++ new ∷ [])) back first.0,
 )
   where
     new : RuleRef

@@ -3,7 +3,7 @@ use Rattle.std.proofs.Common.{ℕ, zero, suc, ◌≤◌, ◌<◌, ◌≡◌, ◌
 use Rattle.std.specs.Prelude.{⊤, IsFalse, option_map, take}
 use Rattle.std.specs.List.{find}
 use Rattle.std.specs.Option.{option_map_or}
-use Rattle.std.proofs.lemmas.List.Elements.{Contains-append_left, Contains-append_right, All-contains}
+use Rattle.std.proofs.lemmas.List.Elements.{Contains-append_left, Contains-append_right}
 use Rattle.kb_term.proofs.Steps.{contains_first}
 use Rattle.kb_term.specs.Tree.{Tree}
 use Rattle.kb_term.specs.Pair.{Pair}
@@ -12,10 +12,10 @@ use Rattle.kb_term.specs.Signature.{Problem, IsWithinLimits}
 use Rattle.kb_term.specs.Proving as Proving
 use Rattle.kb_term.specs.declared.origin.RuleRef.{RuleRef}
 use Rattle.kb_term.proofs.Bridge.{step_to_position, reaches_to}
-use Rattle.kb_cert.specs.Family.{Orders, IsGreater, family}
+use Rattle.kb_cert.specs.Family.{Orders, family}
 use Rattle.kb_cert.specs.declared.certificate.Certificate.{Certificate}
 use Rattle.kb_cert.proofs.FamilyLaws.{nothing_orderable}
-use Rattle.kb_laws.proofs.Complete.{all_from}
+use Rattle.kb_cert.proofs.Ordering.{nothing_ordered, orders_among}
 use Rattle.kb_label.specs.Names.{Name, root, has, name_eq, child}
 use Rattle.kb_label.specs.declared.verdict.Reason.{Reason}
 use Rattle.kb_label.proofs.Members.{name_eq-eq, name_eq-refl}
@@ -114,13 +114,11 @@ certified_apart p q h (d ∷ ds) = go (name_eq d.name p) refl (certified_apart p
 -- ---- constraints
 
 -- an order of rules orders the constraints that are among them
-orders_among : (c : Certificate) (rules : List Rule) (b : Plain) (p : Name) → Orders c rules → ((a : RuleRef) (r : Rule) → IsOn b.nodes p a.node (constraint_kind a.dir) → Contains (constraints_of b p) a → rule_at b a ≡ Some r → Contains rules r) → Orders c (rules_at b (constraints_of b p))
-orders_among c rules b p h sub = all_from (λ (r : Rule). IsGreater c r.left r.right) (rules_at b (constraints_of b p)) (λ r i.
-    let f = filter_map_in (rule_at b) (constraints_of b p) r i in
-    All-contains (λ (r : Rule). IsGreater c r.left r.right) rules r h (sub f.0 r (constraints_in b p f.0 f.1).0 f.1 f.2))
+orders_constraints : (c : Certificate) (rules : List Rule) (b : Plain) (p : Name) → Orders c rules → ((a : RuleRef) (r : Rule) → IsOn b.nodes p a.node (constraint_kind a.dir) → Contains (constraints_of b p) a → rule_at b a ≡ Some r → Contains rules r) → Orders c (rules_at b (constraints_of b p))
+orders_constraints c rules b p h sub = orders_among c rules (rules_at b (constraints_of b p)) (λ r i. let f = filter_map_in (rule_at b) (constraints_of b p) r i in sub f.0 r (constraints_in b p f.0 f.1).0 f.1 f.2) h
 
 orders_kept : (c : Certificate) (b d : Plain) (p : Name) → KeepsPairs b.nodes d.nodes → KeepsConstraints b.nodes d.nodes p → Orders c (rules_at b (constraints_of b p)) → Orders c (rules_at d (constraints_of d p))
-orders_kept c b d p keeps same h = orders_among c (rules_at b (constraints_of b p)) d p h (λ a r o i e.
+orders_kept c b d p keeps same h = orders_constraints c (rules_at b (constraints_of b p)) d p h (λ a r o i e.
     let u = (same a.node a.dir).0 o in
     in_filter_map (rule_at b) (constraints_of b p) a r (in_constraints b p a u (constraints_in d p a i).1) (rule_back b d a r keeps (on_there b.nodes p a.node (constraint_kind a.dir) u) e))
 
@@ -132,7 +130,7 @@ same_direction (suc d) (suc e) q h = refl
 
 -- who orients has the old constraints and the new rule
 orders_oriented : (c : Certificate) (b d : Plain) (p q : Name) (new : RuleRef) → KeepsPairs b.nodes d.nodes → OrientRoles b.nodes p d.nodes q new → new.node < length b.nodes → Orders c (rules_at b (constraints_of b p ++ new ∷ [])) → Orders c (rules_at d (constraints_of d q))
-orders_oriented c b d p q new keeps roles l h = orders_among c (rules_at b (constraints_of b p ++ new ∷ [])) d q h (λ a r o i e. ⊎_elim
+orders_oriented c b d p q new keeps roles l h = orders_constraints c (rules_at b (constraints_of b p ++ new ∷ [])) d q h (λ a r o i e. ⊎_elim
     (λ u. in_filter_map (rule_at b) (constraints_of b p ++ new ∷ []) a r (Contains-append_left (constraints_of b p) (new ∷ []) a (in_constraints b p a u.0 (constraints_in d q a i).1)) (rule_back b d a r keeps (on_there b.nodes p a.node (constraint_kind a.dir) u.0) e))
     (λ u. in_filter_map (rule_at b) (constraints_of b p ++ new ∷ []) new r (Contains-append_right (constraints_of b p) (new ∷ []) new (contains_first new [])) (rule_back b d new r keeps l (turned a r u.0 u.1 e)))
     ((roles.constraints a.node a.dir).0 o))
@@ -270,7 +268,7 @@ certified_opening P n p lives = at p lives
     at_root : IsCertified (opening P n) root
     at_root =
         let f = first (family P.signature) (nothing_orderable P.signature).0 (nothing_orderable P.signature).1 in
-        record { certificate = f.0; there = f.2; member = f.1; orders = orders_among f.0 [] (opening P n) root (λ k d l. absurd (omega (arith, l))) (λ a r o i e. absurd (none a.node a.dir o)) }
+        record { certificate = f.0; there = f.2; member = f.1; orders = orders_constraints f.0 [] (opening P n) root (nothing_ordered f.0) (λ a r o i e. absurd (none a.node a.dir o)) }
 
     at : (p : Name) → has (root ∷ []) p ≡ true → IsCertified (opening P n) p
     at [] h = at_root

@@ -9,9 +9,10 @@ use Rattle.kb_lpo.specs.PathOrder.{LpoGreater, IsAbove, argument_equal, argument
 use Rattle.kb_rewrite.specs.NormalForm.{NormalisesTo, form, StrategyStep, IsNormal}
 use Rattle.kb_cert.specs.Family.{Orders}
 use Rattle.kb_linear.specs.Interpretations.{interpretations}
+use Rattle.kb_kbo.specs.Orders.{kbo_orders}
 use Rattle.kb_term.specs.Pair.{term_limit}
 use Rattle.kb_cert.specs.declared.certificate.Certificate.{Certificate}
-use Rattle.kb_cert.specs.declared.certificate.Certificate.TheVariants.{Lpo, Linear}
+use Rattle.kb_cert.specs.declared.certificate.Certificate.TheVariants.{Lpo, Linear, Kbo}
 use Rattle.mkb_model.specs.Plain.{Plain}
 use Rattle.mkb_model.specs.Effects.{effect}
 use Rattle.mkb_model.specs.Proposals.{NamedRule, IsClosedOn, HasForm, Proposes}
@@ -123,14 +124,14 @@ forking = (
   (
     all_of_one (λ (r : Rule). LpoGreater (0 ∷ 1 ∷ []) r.left r.right) a_to_b a_above_b,
     [],
-    Lpo (1 ∷ 0 ∷ []) ∷ map Linear (interpretations row3.signature),
+    Lpo (1 ∷ 0 ∷ []) ∷ (map Linear (interpretations row3.signature) ++ map Kbo (kbo_orders row3.signature)),
     refl,
     all_of_none (λ (c : Certificate). ¬ Orders c (a_to_b ∷ [])),
   ),
   (
     all_of_one (λ (r : Rule). LpoGreater (1 ∷ 0 ∷ []) r.left r.right) b_to_a b_above_a,
     Lpo (0 ∷ 1 ∷ []) ∷ [],
-    map Linear (interpretations row3.signature),
+    map Linear (interpretations row3.signature) ++ map Kbo (kbo_orders row3.signature),
     refl,
     all_of_one (λ (c : Certificate). ¬ Orders c (b_to_a ∷ [])) (Lpo (0 ∷ 1 ∷ [])) not_first,
   ),

@@ -1,33 +1,36 @@
 -- In a run of completion, composing gives no trivial rule, and none whose reverse is there.
-use Rattle.std.proofs.Common.{◌≢◌, subst, arith, List, Contains}
-use Rattle.std.proofs.lemmas.List.Elements.{All-contains}
+use Rattle.std.proofs.Common.{ℕ, zero, suc, ◌+◌, ◌≡◌, ◌≤◌, ◌≢◌, refl, sym, subst, arith, List, Contains}
 use Rattle.kb_term.specs.Tree.{Tree}
 use Rattle.kb_term.specs.Rule.{Rule, IsVariantRule, rule_between}
 use Rattle.kb_term.specs.Signature.{Signature, IsWellFormed, IsRuleOver}
-use Rattle.kb_linear.specs.LinearOrder.{LinearGreater}
-use Rattle.kb_lpo.specs.PathOrder.{LpoGreater}
 use Rattle.kb_cert.specs.Family.{Orders, IsOrderable, family}
 use Rattle.kb_laws.specs.Completion.{KbState, Has}
 use Rattle.kb_cert.specs.declared.certificate.Certificate.{Certificate}
-use Rattle.kb_cert.specs.declared.certificate.Certificate.TheVariants.{Lpo, Linear}
+use Rattle.kb_term.proofs.Relation.{Steps}
 use Rattle.kb_term.proofs.Steps.{Step}
-use Rattle.kb_term.proofs.Bridge.{step_from_position}
-use Rattle.kb_lpo.proofs.Lpo.{path_from_lpo}
-use Rattle.kb_lpo.proofs.LpoLaws.{chain_greater}
-use Rattle.kb_lpo.proofs.LpoDecides.{path_irreflexive}
-use Rattle.kb_linear.proofs.LinearHalting.{chain_linear}
-use Rattle.kb_cert.proofs.FamilyLaws.{member_fits}
-use Rattle.kb_lpo.proofs.Arities.{keeps_well}
+use Rattle.kb_term.proofs.Bridge.{step_from_position, halts_from}
+use Rattle.kb_cert.proofs.FamilyLaws.{terminating_by_member}
 use Rattle.kb_laws.proofs.Complete.{IsSoundState, has_over, all_from}
 use Rattle.kb_laws.proofs.RunLaws.{AreChains, Chain, has_chain, step_chain, chain_trans}
 use Rattle.kb_term.specs.Proving as Proving
 
+-- chains one behind the other
+steps_behind : {A : Type 0} (R : A → A → Type 0) (n m : ℕ) (s t u : A) → Steps R n s t → Steps R m t u → (k : ℕ) × (k ≡ n + m) × Steps R k s u
+steps_behind R zero m s t u e d = (m, omega arith, subst (λ x. Steps R m x u) (sym e) d)
+steps_behind R (suc n) m s t u (v, r, c) d = let q = steps_behind R n m v t u c d in (suc q.0, omega (arith, q.1), (v, r, q.2))
+
+-- a loop goes round as often as one likes
+round_again : {A : Type 0} (R : A → A → Type 0) (n : ℕ) (s : A) → Steps R (suc n) s s → (m : ℕ) → (k : ℕ) × (m ≤ k) × Steps R k s s
+round_again R n s c zero = (0, omega arith, refl)
+round_again R n s c (suc m) = let q = round_again R n s c m in let r = steps_behind R (suc n) q.0 s s s c q.2 in (r.0, omega (arith, r.1, q.1), r.2)
+
 -- what a member orders has no chain from a term to itself
 no_loop : (g : Signature) (c : Certificate) → Contains (family g) c → (rules : List Rule) → ((r : Rule) → Contains rules r → IsRuleOver g r) → Orders c rules → (s : Tree) → IsWellFormed g s → ¬ Chain (Step (Contains rules)) s s
-no_loop g (Lpo p) m rules over h s w k = path_irreflexive p s (chain_greater p (Contains rules) (λ q j. path_from_lpo p (All-contains (λ (q : Rule). LpoGreater p q.left q.right) rules q h j)) k.2.0 s s (k.0, k.1, k.2.1))
-no_loop g (Linear i) m rules over h s w k =
-    let l = chain_linear g i (Contains rules) (member_fits g i m) (λ q j. All-contains (λ (q : Rule). LinearGreater i q.left q.right) rules q h j) (keeps_well g rules (all_from (IsRuleOver g) rules over)) k.2.0 s s w (k.0, k.1, k.2.1) (λ x. 0) in
-    omega (arith, l)
+no_loop g c m rules over h s w k =
+    let b = halts_from rules s (terminating_by_member g c m rules (all_from (IsRuleOver g) rules over) h s w) in
+    let q = round_again (Step (Contains rules)) k.2.0 s (k.0, k.1, k.2.1) (suc b.0) in
+    let l = b.1 q.0 s q.2 in
+    omega (arith, q.1, l)
 
 -- a state of a run: its rules are chains of its constraint rules, which some member orders
 pub record IsOrdered (g : Signature) (a : KbState) : Type 0 where
