@@ -92,7 +92,7 @@ fn random_set(alloc: Global, number: u32) -> Result<(Vec<u8>, Vec<Rule>), Memory
     Ok((arities, rules))
 }
 
-// The rule f(g(h(x))) with these symbols, and a bare variable for none.
+// These symbols, each applied to the next, the last to a variable.
 fn word(alloc: Global, symbols: &[u8]) -> Result<Term, Memory> {
     let mut t = Term::Var(0);
     for f in symbols.iter().rev() {
@@ -119,17 +119,21 @@ pub(crate) fn selectors(alloc: Global, pairs: u8) -> Result<Vec<Rule>, Memory>
     Ok(rules)
 }
 
+fn out_of_memory(_: Memory) -> io::Error {
+    io::Error::from(io::ErrorKind::OutOfMemory)
+}
+
 // The nanoseconds of the search, the least of some times, with the checksum of its answer.
 fn timed(rt: &HostRuntime, arities: &[u8], rules: &[Rule]) -> io::Result<(u64, u128)>
     requires { length arities.now ≤ 24 }
 {
     let alloc = rt.alloc();
-    let sig = signature(alloc, arities)?;
+    let sig = signature(alloc, arities).map_err(out_of_memory)?;
     let mut code = 0;
     let mut least = u128::MAX;
     for _ in 0..TIMES {
         let start = Instant::now(rt)?;
-        code = precedence_code(&search_lpo(alloc, &sig, rules)?);
+        code = precedence_code(&search_lpo(alloc, &sig, rules).map_err(out_of_memory)?);
         least = least.min(start.elapsed(rt)?.as_nanos());
     }
     Ok((code, least))
@@ -138,7 +142,7 @@ fn timed(rt: &HostRuntime, arities: &[u8], rules: &[Rule]) -> io::Result<(u64, u
 /// A line for each of so many sets: the checksum of the answer, and the nanoseconds of the search.
 pub(crate) fn print_sets(rt: &HostRuntime, sets: u32) -> io::Result<()> {
     for number in 0..sets {
-        let (arities, rules) = random_set(rt.alloc(), number)?;
+        let (arities, rules) = random_set(rt.alloc(), number).map_err(out_of_memory)?;
         let (code, spent) = timed(rt, &arities, &rules)?;
         println!(rt; "{code} {spent}")?;
     }

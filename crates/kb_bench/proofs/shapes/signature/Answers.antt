@@ -1,5 +1,5 @@
 use Rattle.std.proofs.Common.{arith}
-use Rattle.kb_bench.proofs.Letters.{letters_more}
+use Rattle.kb_lpo.proofs.Letters.{letters_more}
 use Rattle.kb_bench.proofs.shapes.signature.Goals as goal
 
 pub loop-f-preserved : goal.loop-f-preserved

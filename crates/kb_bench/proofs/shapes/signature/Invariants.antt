@@ -1,6 +1,6 @@
 use Rattle.std.proofs.Common.{◌≡◌, ◌+◌, length}
 use Rattle.kb_term.specs.Signature.{IsSignature, symbols_of_list}
-use Rattle.kb_bench.proofs.Letters.{AreBelow}
+use Rattle.kb_lpo.proofs.Letters.{AreBelow}
 use Rattle.kb_bench.proofs.shapes.signature.Given as goal
 
 abbrev pub invariant-loop-f : goal.invariant-loop-f
