@@ -155,7 +155,7 @@ not_true false h = refl
 turned : (p r : Name) → name_eq r p ≡ false → name_eq p r ≡ false
 turned p r h = not_true (name_eq p r) (λ e. true≢false (sym (name_eq-refl p) ∙ ap (λ x. name_eq x p) (name_eq-eq p r e) ∙ h))
 
-has-set_absent : (ns : List Name) (s : ℕ) (r q : Name) → has ns q ≡ false → name_eq q r ≡ false → has (set ns s r) q ≡ false
+pub has-set_absent : (ns : List Name) (s : ℕ) (r q : Name) → has ns q ≡ false → name_eq q r ≡ false → has (set ns s r) q ≡ false
 has-set_absent [] s r q h e = refl
 has-set_absent (p ∷ ns) zero r q h e = or_of_false (name_eq q r) (has ns q) e (neither (name_eq q p) (has ns q) h).1
 has-set_absent (p ∷ ns) (suc s) r q h e = or_of_false (name_eq q p) (has (set ns s r) q) (neither (name_eq q p) (has ns q) h).0 (has-set_absent ns s r q (neither (name_eq q p) (has ns q) h).1 e)
@@ -179,26 +179,32 @@ good-root = record { forked = at_first; distinct = (refl, tt) }
 length-child : (p : Name) (b : Bool) → length (child p b) ≡ length p + 1
 length-child p b = length-append p (b ∷ [])
 
+-- no child of a living process lives
+pub fresh : (ns : List Name) (s : ℕ) → s < length ns → Good ns → (b : Bool) → has ns (child (get_or ns s root) b) ≡ false
+fresh ns s g w b =
+    let p = get_or ns s root in
+    let there : has (join ns []) p ≡ true = has-sorted ns p ∙ has-name_at ns s g in
+    not_true (has ns (child p b)) (λ e.
+        let same : p ≡ child p b = (leaves-forked (join ns []) w.forked).apart p (child p b) there (has-sorted ns (child p b) ∙ e) (begins-more p (b ∷ [])) in
+        let long : length p ≡ length (child p b) = ap length same in
+        omega (arith, long, length-child p b))
+
+pub children_differ : (p : Name) → name_eq (child p true) (child p false) ≡ false
+children_differ p = not_true (name_eq (child p true) (child p false)) (λ e. ends p (name_eq-eq (child p true) (child p false) e))
+  where
+    tail : Name → Name
+    tail [] = []
+    tail (b ∷ p) = p
+    ends : (p : Name) → child p true ≡ child p false → ⊥
+    ends [] e = absurd (cc)
+    ends (b ∷ p) e = ends p (ap tail e)
+
 pub good-split : (ns : List Name) (s : ℕ) → s < length ns → Good ns → Good (split ns s)
 unfolding split
 good-split ns s g w =
     let p = get_or ns s root in
     let there : has (join ns []) p ≡ true = has-sorted ns p ∙ has-name_at ns s g in
-    let leaves = leaves-forked (join ns []) w.forked in
-    let fresh = λ (b : Bool). not_true (has ns (child p b)) (λ e.
-        let same : p ≡ child p b = leaves.apart p (child p b) there (has-sorted ns (child p b) ∙ e) (begins-more p (b ∷ [])) in
-        let long : length p ≡ length (child p b) = ap length same in
-        omega (arith, long, length-child p b)) in
-    let differ : name_eq (child p true) (child p false) ≡ false = not_true (name_eq (child p true) (child p false)) (λ e. ends p (name_eq-eq (child p true) (child p false) e)) in
     record {
       forked = rw (living-split ns s g w.distinct) (at_fork p (join ns []) w.forked there);
-      distinct = distinct-push (set ns s (child p false)) (child p true) (distinct-set ns s (child p false) w.distinct (fresh false)) (has-set_absent ns s (child p false) (child p true) (fresh true) differ);
+      distinct = distinct-push (set ns s (child p false)) (child p true) (distinct-set ns s (child p false) w.distinct (fresh ns s g w false)) (has-set_absent ns s (child p false) (child p true) (fresh ns s g w true) (children_differ p));
     }
-  where
-    ends : (p : Name) → child p true ≡ child p false → ⊥
-    ends [] e = absurd (cc)
-    ends (b ∷ p) e = ends p (ap tail e)
-      where
-        tail : Name → Name
-        tail [] = []
-        tail (b ∷ p) = p
