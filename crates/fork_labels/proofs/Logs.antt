@@ -1,9 +1,7 @@
 -- The start of a log by places, and a fork of it.
-use Rattle.std.proofs.Common.{◌≡◌, ℕ, ◌+◌, ◌^◌, ◌<◌, ◌≤◌, List, [], ◌∷◌, ◌++◌, length, Bool, true, get_or, map, zero, suc, refl, sym, ap, ap₂, subst, ◌∙◌, arith, length-append}
+use Rattle.std.proofs.Common.{◌≡◌, ℕ, ◌+◌, ◌<◌, List, [], ◌∷◌, ◌++◌, length, true, map, refl, sym, ap, subst, ◌∙◌, arith, length-append}
 use Rattle.kb_label.specs.Names.{Name, root, has, join, relabel}
-use Rattle.kb_label.specs.declared.process.TheConstants.{MAX_BITS}
-use Rattle.kb_label.proofs.Forked.{leaves-forked}
-use Rattle.fork_labels.specs.Places.{split, names_after, names_of, living_of, AreThere, IsLog, place_in, forked}
+use Rattle.fork_labels.specs.Places.{names_after, names_of, living_of, AreThere, IsLog, place_in, forked}
 use Rattle.fork_labels.proofs.Picked.{has-sorted}
 use Rattle.fork_labels.proofs.Split.{living-split}
 use Rattle.fork_labels.proofs.Relabelled.{good-log, length-names_of, names_after-append, place_in-there}
@@ -35,8 +33,9 @@ module _ (fs : List ℕ) (p : Name) (l : IsLog fs) (h : has (living_of fs) p ≡
       let s = place_in (names_of fs) p in
       let w = place_in-there (names_of fs) p in_names in
       let inside : s < 1 + length fs = omega (arith, w.0, length-names_of fs) in
-      let long : length gs ≡ length fs + 1 = ap length e ∙ length-append fs (s ∷ []) in
-      (subst IsLog (sym e) (there-append 1 fs s l inside),
-      f ∙ (λ i. map (place_in (names_of (sym e i))) ((n ∙ sym (fork_living gs e)) i)),
-      g ∙ sym (fork_living gs e),
-      omega (arith, long, few, length-living fs l))
+      let long : length gs ≡ length fs + 1 = ap length e ∙ length-append fs (s ∷ []) in (
+        subst IsLog (sym e) (there-append 1 fs s l inside),
+        f ∙ (λ i. map (place_in (names_of (sym e i))) ((n ∙ sym (fork_living gs e)) i)),
+        g ∙ sym (fork_living gs e),
+        omega (arith, long, few, length-living fs l),
+      )

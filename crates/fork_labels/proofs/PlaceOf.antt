@@ -1,16 +1,14 @@
 -- The places of names.
-use Rattle.std.proofs.Common.{◌≡◌, ℕ, ◌+◌, ◌<◌, ◌≤◌, List, [], ◌∷◌, ◌++◌, length, Bool, true, false, ◌||◌, ◌&&◌, not, set, get_or, map, cond, zero, suc, refl, sym, ap, ap₂, ◌∙◌, arith, length-set, Result, Ok, Err}
+use Rattle.std.proofs.Common.{◌≡◌, ℕ, ◌+◌, ◌<◌, ◌≤◌, List, [], ◌∷◌, ◌++◌, length, Bool, true, false, ◌||◌, ◌&&◌, not, set, get_or, map, cond, zero, suc, refl, sym, ap, ap₂, ◌∙◌, arith, length-set}
 use Rattle.std.proofs.lemmas.List.{get_or-map}
 use mathlib.Core.Bool.{true≢false}
-use Rattle.std.specs.List.Sorted.{IsBinarySearchResult, IsSearchInRange}
-use Rattle.kb_label.specs.Names.{Name, root, child, name_cmp, name_eq, has, join, relabel, IsInNameOrder}
-use Rattle.kb_label.specs.NameOrder.{name_cmp-equal}
+use Rattle.kb_label.specs.Names.{Name, root, child, name_eq, has, relabel}
 use Rattle.kb_label.specs.declared.process.TheConstants.{MAX_BITS}
-use Rattle.kb_label.proofs.Members.{name_eq-refl, name_eq-eq}
+use Rattle.kb_label.proofs.Members.{name_eq-refl}
 use Rattle.kb_label.proofs.Sets.{has-relabel}
 use Rattle.kb_label.proofs.Forked.{leaves-forked}
-use Rattle.fork_labels.specs.Places.{split, names_after, names_of, living_of, IsLog, place_in, forked}
-use Rattle.fork_labels.proofs.Picked.{has-sorted, sorted, has-name_at}
+use Rattle.fork_labels.specs.Places.{split, names_of, living_of, IsLog, place_in, forked}
+use Rattle.fork_labels.proofs.Picked.{has-sorted}
 use Rattle.fork_labels.proofs.Split.{Good, fresh, children_differ, has-set_absent}
 use Rattle.fork_labels.proofs.Relabelled.{good-log, length-names_of, names_after-append, place_in-there}
 use Rattle.fork_labels.proofs.Stands.{place_in-absent, length-living}

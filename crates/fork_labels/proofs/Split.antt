@@ -1,8 +1,7 @@
 -- A fork of a place: what it leaves of the names, and of the names at the places of a set.
-use Rattle.std.proofs.Common.{◌≡◌, ℕ, ◌+◌, ◌-◌, ◌<◌, ◌≤◌, List, [], ◌∷◌, ◌++◌, length, Bool, true, false, ◌&&◌, ◌||◌, not, set, get_or, replicate, zero, suc, refl, sym, ap, ap₂, ◌∙◌, arith, length-append, length-set}
+use Rattle.std.proofs.Common.{◌≡◌, ℕ, ◌+◌, ◌<◌, List, [], ◌∷◌, ◌++◌, length, Bool, true, false, ◌&&◌, ◌||◌, not, set, get_or, replicate, zero, suc, refl, sym, ap, ap₂, ◌∙◌, arith, length-append, length-set}
 use Rattle.std.proofs.lemmas.List.{length-replicate, get_or-replicate, replicate_more}
 use mathlib.Core.Bool.{true≢false}
-use Rattle.std.specs.Ordering.{is_eq}
 use Rattle.kb_label.specs.Names.{Name, root, child, name_eq, has, join, minus, add, relabel, IsInNameOrder}
 use Rattle.kb_label.specs.Forks.{IsForked, at_first, at_fork}
 use Rattle.kb_label.proofs.Members.{name_eq-refl, name_eq-eq}
@@ -58,6 +57,7 @@ has-replaced (b ∷ bs) (p ∷ ns) (suc s) r q h g d =
     apart : (e : Bool) → name_eq q (get_or ns s root) ≡ e → name_eq q p ≡ true → name_eq q (get_or ns s root) ≡ false
     apart true k m = absurd (true≢false (sym (has-name_at ns s (omega arith)) ∙ ap (has ns) (sym (name_eq-eq q (get_or ns s root) k) ∙ name_eq-eq q p m) ∙ d.0))
     apart false k m = k
+
     go : (b e f t x : Bool) → (e ≡ true → t ≡ false) → (b && e || (f || not t && x)) ≡ (f || not t && (b && e || x))
     go b true f t x h = rw (h refl) (or_swap (b && true) f x)
     go true false f t x h = refl
@@ -97,10 +97,10 @@ split-relabels bs ns s h g d =
     let is : has l p ≡ get_or bs s false = has-sorted (picked bs ns) p ∙ has-place bs ns s h g d in
     same_names (join (picked (with_fork bs s) (split ns s)) []) (relabel p l) (sorted (picked (with_fork bs s) (split ns s))) (ordered-relabel p l (has l p) refl (sorted (picked bs ns)))
     (λ q.
-        has-sorted (picked (with_fork bs s) (split ns s)) q
-        ∙ has-picked_split bs ns s q h g d
-        ∙ ap (λ x. ((get_or bs s false && name_eq q (child p false)) || (not (name_eq q p) && x)) || (get_or bs s false && name_eq q (child p true))) (sym (has-sorted (picked bs ns) q))
-        ∙ go l p q (get_or bs s false) is)
+    has-sorted (picked (with_fork bs s) (split ns s)) q
+    ∙ has-picked_split bs ns s q h g d
+    ∙ ap (λ x. ((get_or bs s false && name_eq q (child p false)) || (not (name_eq q p) && x)) || (get_or bs s false && name_eq q (child p true))) (sym (has-sorted (picked bs ns) q))
+    ∙ go l p q (get_or bs s false) is)
   where
     in_set : (a b c : Bool) → ((a || b) || c) ≡ (a || (c || b))
     in_set true b c = refl
@@ -108,10 +108,12 @@ split-relabels bs ns s h g d =
     in_set false true false = refl
     in_set false false true = refl
     in_set false false false = refl
+
     out : (e x : Bool) → (e ≡ true → x ≡ false) → (not e && x || false) ≡ x
     out true x h = sym (h refl)
     out false true h = refl
     out false false h = refl
+
     go : (l : List Name) (p q : Name) (b : Bool) → has l p ≡ b → (((b && name_eq q (child p false)) || (not (name_eq q p) && has l q)) || (b && name_eq q (child p true))) ≡ has (relabel p l) q
     go l p q true k = in_set (name_eq q (child p false)) (not (name_eq q p) && has l q) (name_eq q (child p true)) ∙ sym (has-relabel p q l k)
     go l p q false k = out (name_eq q p) (has l q) (λ e. ap (has l) (name_eq-eq q p e) ∙ k) ∙ sym (ap (λ m. has m q) (relabel-absent p l k))
@@ -185,9 +187,9 @@ fresh ns s g w b =
     let p = get_or ns s root in
     let there : has (join ns []) p ≡ true = has-sorted ns p ∙ has-name_at ns s g in
     not_true (has ns (child p b)) (λ e.
-        let same : p ≡ child p b = (leaves-forked (join ns []) w.forked).apart p (child p b) there (has-sorted ns (child p b) ∙ e) (begins-more p (b ∷ [])) in
-        let long : length p ≡ length (child p b) = ap length same in
-        omega (arith, long, length-child p b))
+    let same : p ≡ child p b = (leaves-forked (join ns []) w.forked).apart p (child p b) there (has-sorted ns (child p b) ∙ e) (begins-more p (b ∷ [])) in
+    let long : length p ≡ length (child p b) = ap length same in
+    omega (arith, long, length-child p b))
 
 pub children_differ : (p : Name) → name_eq (child p true) (child p false) ≡ false
 children_differ p = not_true (name_eq (child p true) (child p false)) (λ e. ends p (name_eq-eq (child p true) (child p false) e))
@@ -195,6 +197,7 @@ children_differ p = not_true (name_eq (child p true) (child p false)) (λ e. end
     tail : Name → Name
     tail [] = []
     tail (b ∷ p) = p
+
     ends : (p : Name) → child p true ≡ child p false → ⊥
     ends [] e = absurd (cc)
     ends (b ∷ p) e = ends p (ap tail e)

@@ -1,11 +1,11 @@
 -- For which names a label stands after each operation.
 use Rattle.std.proofs.Common.{◌≡◌, ℕ, ◌+◌, ◌-◌, ◌<◌, ◌≤◌, List, [], ◌∷◌, ◌++◌, length, Bool, true, false, ◌&&◌, ◌||◌, not, take, drop, set, get_or, filter, replicate, cond, zero, suc, refl, sym, ap, ap₂, ◌∙◌, arith, length-append, length-set, length-drop}
-use Rattle.std.proofs.lemmas.List.{drop_more, get_or_append_left, get_or_at, get_or-drop, get_or-take, length-take, take_all, drop_all, get_or_past, replicate_more, length-replicate, get_or-replicate}
+use Rattle.std.proofs.lemmas.List.{drop_more, get_or_append_left, get_or_at, get_or-drop, get_or-take, length-take, take_all, drop_all, get_or_past, replicate_more}
 use mathlib.Core.Bool.{true≢false}
 use Rattle.std.specs.declared.cmp.Ordering.{Ordering}
 use Rattle.std.specs.declared.cmp.Ordering.TheVariants.{Less, Equal, Greater}
-use Rattle.kb_label.specs.Names.{Name, root, name_cmp, name_eq, has, by_order, add, join, meet, minus, is_empty, IsInNameOrder}
-use Rattle.kb_label.proofs.Members.{name_eq-refl, name_eq-eq, has-add, has-filter, has-join, has-meet, has-minus}
+use Rattle.kb_label.specs.Names.{Name, name_cmp, name_eq, has, by_order, add, join, meet, minus, is_empty, IsInNameOrder}
+use Rattle.kb_label.proofs.Members.{has-add, has-filter, has-join, has-meet, has-minus}
 use Rattle.kb_label.proofs.Ordered.{ordered-add, ordered-filter, ordered-join, length-add}
 use Rattle.kb_label.proofs.Sets.{same_names}
 use Rattle.fork_labels.specs.Places.{names_of, living_of, IsLog, AreThere, place_in, with_fork, with_forks, at_end, picked, stands_for}
@@ -221,10 +221,10 @@ module _ (fs : List ℕ) (l : IsLog fs) where
       ap (λ c. join (picked c (names_of fs)) []) (at_end-full fs put full)
       ∙ same_names (join (picked put (names_of fs)) []) (add p (stands_for fs bs)) (sorted (picked put (names_of fs))) (ordered-add p (stands_for fs bs) (sorted (picked (at_end fs bs) (names_of fs))))
       (λ q.
-          has-sorted (picked put (names_of fs)) q
-          ∙ has-set (at_end fs bs) (names_of fs) s q inside w.0
-          ∙ ap₂ (λ r x. name_eq q r || x) w.1 (sym (has-sorted (picked (at_end fs bs) (names_of fs)) q))
-          ∙ sym (has-add p (stands_for fs bs) q))
+      has-sorted (picked put (names_of fs)) q
+      ∙ has-set (at_end fs bs) (names_of fs) s q inside w.0
+      ∙ ap₂ (λ r x. name_eq q r || x) w.1 (sym (has-sorted (picked (at_end fs bs) (names_of fs)) q))
+      ∙ sym (has-add p (stands_for fs bs) q))
 
   same_long : (cs bs : List Bool) → 0 < length cs → 0 < length bs → length (at_end fs cs) ≡ length (at_end fs bs)
   same_long cs bs h g = long cs h ∙ sym (long bs g)
@@ -246,35 +246,35 @@ module _ (fs : List ℕ) (l : IsLog fs) where
   stands-join cs bs h g =
       made Join cs bs (join (stands_for fs cs) (stands_for fs bs)) h g (ordered-join (stands_for fs cs) (stands_for fs bs) (sorted (picked (at_end fs bs) (names_of fs))))
       (λ q.
-          ap (λ c. has (picked c (names_of fs)) q) (joined (at_end fs cs) (at_end fs bs))
-          ∙ has-either (at_end fs cs) (at_end fs bs) (names_of fs) q (same_long cs bs h g)
-          ∙ ap₂ ◌||◌ (sym (has-sorted (picked (at_end fs cs) (names_of fs)) q)) (sym (has-sorted (picked (at_end fs bs) (names_of fs)) q))
-          ∙ sym (has-join (stands_for fs cs) (stands_for fs bs) q))
+      ap (λ c. has (picked c (names_of fs)) q) (joined (at_end fs cs) (at_end fs bs))
+      ∙ has-either (at_end fs cs) (at_end fs bs) (names_of fs) q (same_long cs bs h g)
+      ∙ ap₂ ◌||◌ (sym (has-sorted (picked (at_end fs cs) (names_of fs)) q)) (sym (has-sorted (picked (at_end fs bs) (names_of fs)) q))
+      ∙ sym (has-join (stands_for fs cs) (stands_for fs bs) q))
 
   pub stands-meet : (cs bs : List Bool) → 0 < length cs → 0 < length bs → stands_for fs (result_of Meet (at_end fs cs) (at_end fs bs)) ≡ meet (stands_for fs cs) (stands_for fs bs)
   stands-meet cs bs h g =
       made Meet cs bs (meet (stands_for fs cs) (stands_for fs bs)) h g (ordered-filter (has (stands_for fs bs)) (stands_for fs cs) (sorted (picked (at_end fs cs) (names_of fs))))
       (λ q.
-          ap (λ c. has (picked c (names_of fs)) q) (met (at_end fs cs) (at_end fs bs))
-          ∙ has-both (at_end fs cs) (at_end fs bs) (names_of fs) q (same_long cs bs h g) distinct
-          ∙ ap₂ ◌&&◌ (sym (has-sorted (picked (at_end fs bs) (names_of fs)) q)) (sym (has-sorted (picked (at_end fs cs) (names_of fs)) q))
-          ∙ sym (has-meet (stands_for fs cs) (stands_for fs bs) q))
+      ap (λ c. has (picked c (names_of fs)) q) (met (at_end fs cs) (at_end fs bs))
+      ∙ has-both (at_end fs cs) (at_end fs bs) (names_of fs) q (same_long cs bs h g) distinct
+      ∙ ap₂ ◌&&◌ (sym (has-sorted (picked (at_end fs bs) (names_of fs)) q)) (sym (has-sorted (picked (at_end fs cs) (names_of fs)) q))
+      ∙ sym (has-meet (stands_for fs cs) (stands_for fs bs) q))
 
   pub stands-minus : (cs bs : List Bool) → 0 < length cs → 0 < length bs → stands_for fs (result_of Minus (at_end fs cs) (at_end fs bs)) ≡ minus (stands_for fs cs) (stands_for fs bs)
   stands-minus cs bs h g =
       made Minus cs bs (minus (stands_for fs cs) (stands_for fs bs)) h g (ordered-filter (λ p. not (has (stands_for fs bs) p)) (stands_for fs cs) (sorted (picked (at_end fs cs) (names_of fs))))
       (λ q.
-          ap (λ c. has (picked c (names_of fs)) q) (left (at_end fs cs) (at_end fs bs))
-          ∙ has-alone (at_end fs cs) (at_end fs bs) (names_of fs) q (same_long cs bs h g) distinct
-          ∙ ap₂ (λ x y. not x && y) (sym (has-sorted (picked (at_end fs bs) (names_of fs)) q)) (sym (has-sorted (picked (at_end fs cs) (names_of fs)) q))
-          ∙ sym (has-minus (stands_for fs cs) (stands_for fs bs) q))
+      ap (λ c. has (picked c (names_of fs)) q) (left (at_end fs cs) (at_end fs bs))
+      ∙ has-alone (at_end fs cs) (at_end fs bs) (names_of fs) q (same_long cs bs h g) distinct
+      ∙ ap₂ (λ x y. not x && y) (sym (has-sorted (picked (at_end fs bs) (names_of fs)) q)) (sym (has-sorted (picked (at_end fs cs) (names_of fs)) q))
+      ∙ sym (has-minus (stands_for fs cs) (stands_for fs bs) q))
 
   -- the living names that a label has are those for which it stands
   pub stands-filter : (bs : List Bool) → filter (has (stands_for fs bs)) (living_of fs) ≡ stands_for fs bs
   stands-filter bs =
       same_names (filter (has (stands_for fs bs)) (living_of fs)) (stands_for fs bs) (ordered-filter (has (stands_for fs bs)) (living_of fs) (sorted (names_of fs))) (sorted (picked (at_end fs bs) (names_of fs)))
       (λ q. has-filter (has (stands_for fs bs)) (living_of fs) q ∙ absorbed (has (stands_for fs bs) q) (has (living_of fs) q) (λ e.
-          has-sorted (picked (at_end fs bs) (names_of fs)) q ∙ picked-absent (at_end fs bs) (names_of fs) q (sym (has-sorted (names_of fs) q) ∙ e)))
+      has-sorted (picked (at_end fs bs) (names_of fs)) q ∙ picked-absent (at_end fs bs) (names_of fs) q (sym (has-sorted (names_of fs) q) ∙ e)))
 
   -- as many processes live as there are places
   pub length-living : length (living_of fs) ≡ length fs + 1

@@ -1,4 +1,4 @@
-use Rattle.std.proofs.Common.{length, arith}
+use Rattle.std.proofs.Common.{arith}
 use Rattle.kb_label.proofs.Forked.{leaves-forked}
 use Rattle.fork_labels.specs.Places.{living_of}
 use Rattle.fork_labels.proofs.fork_log.learn_short.Goals as goal

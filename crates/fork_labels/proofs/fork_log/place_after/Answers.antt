@@ -1,5 +1,5 @@
-use Rattle.std.proofs.Common.{◌≡◌, true, false, length, ap, ap₂, sym, subst, ◌∙◌}
-use Rattle.kb_label.specs.Names.{Name, child, name_eq}
+use Rattle.std.proofs.Common.{◌≡◌, true, false, length, ap, sym, subst, ◌∙◌}
+use Rattle.kb_label.specs.Names.{child, name_eq}
 use Rattle.kb_label.proofs.Members.{name_eq-eq}
 use Rattle.fork_labels.specs.Places.{IsLog, living_of, names_of, place_in, forked}
 use Rattle.fork_labels.proofs.PlaceOf.{second_place, first_place, other_place}
@@ -29,5 +29,5 @@ returns-else-eq-2 c =
     let log = subst IsLog c.log.view_is c.log.invariant.0 in
     c.place_of-else-eq-2.ensures.place
     ∙ sym (other_place now p log c.requires.lives q c.requires.name
-        (ap (name_eq q) (sym c.child.ensures) ∙ sym c.eq.ensures ∙ c.if-eq.false)
-        (ap (name_eq q) (sym c.child-else-eq.ensures) ∙ sym c.eq-else-eq.ensures ∙ c.if-eq-2.false))
+    (ap (name_eq q) (sym c.child.ensures) ∙ sym c.eq.ensures ∙ c.if-eq.false)
+    (ap (name_eq q) (sym c.child-else-eq.ensures) ∙ sym c.eq-else-eq.ensures ∙ c.if-eq-2.false))

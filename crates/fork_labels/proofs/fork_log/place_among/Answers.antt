@@ -1,6 +1,5 @@
-use Rattle.std.proofs.Common.{◌≡◌, true, false, sym, refl, ◌∙◌, get_or, Ok, Err}
+use Rattle.std.proofs.Common.{sym, refl, ◌∙◌, get_or, Err}
 use mathlib.Core.Bool.{true≢false}
-use Rattle.kb_label.specs.Names.{has}
 use Rattle.kb_label.specs.NameOrder.{name_cmp-equal}
 use Rattle.kb_label.proofs.Searched.{at-has, search-found}
 use Rattle.fork_labels.proofs.fork_log.place_among.Goals as goal

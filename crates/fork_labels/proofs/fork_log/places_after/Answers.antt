@@ -1,6 +1,6 @@
-use Rattle.std.proofs.Common.{◌≡◌, ◌<◌, List, length, true, get_or, ap, sym, ◌∙◌, arith}
+use Rattle.std.proofs.Common.{◌<◌, List, length, ap, sym, ◌∙◌, arith}
 use Rattle.std.proofs.lemmas.List.{get_or_default}
-use Rattle.kb_label.specs.Names.{Name, root, has, relabel}
+use Rattle.kb_label.specs.Names.{Name, root, has}
 use Rattle.fork_labels.proofs.Picked.{has-name_at}
 use Rattle.fork_labels.proofs.fork_log.places_after.Goals as goal
 

@@ -1,4 +1,4 @@
-use Rattle.std.proofs.Common.{◌≡◌, ℕ, List, length, map, ap, sym, subst, ◌∙◌, arith}
+use Rattle.std.proofs.Common.{ℕ, List, length, map, ap, sym, subst, ◌∙◌, arith}
 use Rattle.kb_label.specs.Names.{IsInNameOrder}
 use Rattle.fork_labels.specs.Places.{names_of, place_in}
 use Rattle.fork_labels.proofs.Picked.{sorted}

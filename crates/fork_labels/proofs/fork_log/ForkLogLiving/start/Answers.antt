@@ -1,4 +1,4 @@
-use Rattle.std.proofs.Common.{◌≡◌, ap}
+use Rattle.std.proofs.Common.{ap}
 use Rattle.fork_labels.specs.Places.{names_after, living_of}
 use Rattle.fork_labels.proofs.Logs.{start_log}
 use Rattle.fork_labels.proofs.fork_log.ForkLogLiving.start.Goals as goal

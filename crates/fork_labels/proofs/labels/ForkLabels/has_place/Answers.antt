@@ -1,4 +1,4 @@
-use Rattle.std.proofs.Common.{◌≡◌, ◌<◌, ◌≤◌, ◌+◌, ◌-◌, List, Bool, false, length, get_or, ap, sym, ◌∙◌, arith}
+use Rattle.std.proofs.Common.{◌<◌, ◌≤◌, List, Bool, false, length, get_or, ap, sym, ◌∙◌, arith}
 use Rattle.std.proofs.lemmas.List.{get_or_past}
 use Rattle.fork_labels.specs.Places.{at_end}
 use Rattle.fork_labels.proofs.Relabelled.{length-at_end}

@@ -1,6 +1,5 @@
-use Rattle.std.proofs.Common.{◌≡◌, ◌<◌, List, Bool, true, ℕ, set, length, ap, ap₂, sym, ◌∙◌, arith}
-use Rattle.kb_label.specs.Names.{has}
-use Rattle.fork_labels.specs.Places.{names_of, place_in, stands_for}
+use Rattle.std.proofs.Common.{List, Bool, true, ℕ, set, ap, ap₂, sym, ◌∙◌, arith}
+use Rattle.fork_labels.specs.Places.{names_of, stands_for}
 use Rattle.fork_labels.proofs.Picked.{has-sorted}
 use Rattle.fork_labels.proofs.Relabelled.{place_in-there, length-names_of}
 use Rattle.fork_labels.proofs.Stands.{stands-add}

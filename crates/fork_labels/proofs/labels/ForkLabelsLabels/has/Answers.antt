@@ -1,4 +1,4 @@
-use Rattle.std.proofs.Common.{◌≡◌, List, Bool, false, ℕ, get_or, ap₂, ◌∙◌}
+use Rattle.std.proofs.Common.{List, false, ℕ, get_or, ap₂, ◌∙◌}
 use Rattle.fork_labels.specs.Places.{at_end}
 use Rattle.fork_labels.proofs.Stands.{has-stands}
 use Rattle.fork_labels.proofs.labels.ForkLabelsLabels.has.Goals as goal
