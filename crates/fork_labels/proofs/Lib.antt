@@ -4,3 +4,4 @@ pub mod Relabelled
 pub mod SetIn
 pub mod Stands
 pub mod Logs
+pub mod PlaceOf

@@ -1,8 +1,8 @@
 -- The names at the places of a set.
-use Rattle.std.proofs.Common.{◌≡◌, ℕ, ◌+◌, ◌-◌, ◌<◌, ◌≤◌, List, [], ◌∷◌, ◌++◌, length, Bool, true, false, ◌&&◌, ◌||◌, not, cond, set, get_or, replicate, zero, suc, refl, sym, ap, ap₂, ◌∙◌, arith, length-append, length-set}
+use Rattle.std.proofs.Common.{◌≡◌, ℕ, ◌<◌, List, [], ◌∷◌, ◌++◌, length, Bool, true, false, ◌&&◌, ◌||◌, not, set, get_or, zero, suc, refl, sym, ap, ap₂, ◌∙◌, arith}
 use mathlib.Core.Bool.{true≢false}
-use Rattle.kb_label.specs.Names.{Name, root, name_eq, has, join, meet, minus, add, IsInNameOrder}
-use Rattle.kb_label.proofs.Members.{name_eq-refl, name_eq-eq, has-add, has-join}
+use Rattle.kb_label.specs.Names.{Name, root, name_eq, has, join, IsInNameOrder}
+use Rattle.kb_label.proofs.Members.{name_eq-refl, name_eq-eq, has-join}
 use Rattle.kb_label.proofs.Ordered.{ordered-join}
 use Rattle.fork_labels.specs.Places.{picked}
 
@@ -52,6 +52,7 @@ picked-absent (b ∷ bs) (p ∷ ns) q h =
     neither : (a b : Bool) → (a || b) ≡ false → (a ≡ false) × (b ≡ false)
     neither true b h = absurd (true≢false h)
     neither false b h = (refl, h)
+
     none : (b : Bool) → (b && false || false) ≡ false
     none true = refl
     none false = refl
@@ -195,6 +196,7 @@ has-place (b ∷ bs) (p ∷ ns) (suc s) h g d =
     other : (e : Bool) → name_eq (get_or ns s root) p ≡ e → name_eq (get_or ns s root) p ≡ false
     other true k = absurd (true≢false (sym (has-name_at ns s (omega arith)) ∙ ap (has ns) (name_eq-eq (get_or ns s root) p k) ∙ d.0))
     other false k = k
+
     none : (b x : Bool) → (b && false || x) ≡ x
     none true x = refl
     none false x = refl

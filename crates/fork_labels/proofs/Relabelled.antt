@@ -1,13 +1,12 @@
 -- Labels of a log, and what a fork does to them.
-use Rattle.std.proofs.Common.{◌≡◌, ℕ, ◌+◌, ◌-◌, ◌<◌, ◌≤◌, List, [], ◌∷◌, ◌++◌, length, Bool, true, false, ◌||◌, take, drop, cond, get_or, zero, suc, refl, sym, ap, ap₂, ◌∙◌, arith, length-append, length-drop}
+use Rattle.std.proofs.Common.{◌≡◌, ℕ, ◌+◌, ◌-◌, ◌<◌, List, [], ◌∷◌, ◌++◌, length, Bool, true, false, ◌||◌, take, drop, cond, get_or, suc, refl, sym, ap, ◌∙◌, arith, length-append, length-drop}
 use Rattle.std.proofs.lemmas.List.{take_all, drop-append-le, length-take}
 use mathlib.Core.Bool.{true≢false}
 use Rattle.kb_label.specs.Names.{Name, root, name_eq, has, join, relabel}
-use Rattle.kb_label.specs.Forks.{IsForked}
 use Rattle.kb_label.proofs.Members.{name_eq-eq}
-use Rattle.fork_labels.specs.Places.{split, names_after, names_of, AreThere, IsLog, IsUnder, place_in, forked, living_of, with_fork, with_forks, at_end, picked, stands_for}
+use Rattle.fork_labels.specs.Places.{split, names_after, names_of, AreThere, IsLog, IsUnder, place_in, with_fork, with_forks, at_end, picked, stands_for}
 use Rattle.fork_labels.specs.ForkLaws.{RelabelsEach, StaysUnder, ComesOfForks}
-use Rattle.fork_labels.proofs.Picked.{AreDistinct, has-sorted}
+use Rattle.fork_labels.proofs.Picked.{has-sorted}
 use Rattle.fork_labels.proofs.Split.{Good, good-root, good-split, length-split, length-with_fork, split-relabels}
 
 pub length-names_after : (fs : List ℕ) (ns : List Name) → length (names_after ns fs) ≡ length ns + length fs

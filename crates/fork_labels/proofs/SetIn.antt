@@ -1,13 +1,11 @@
 -- Sets of places in words.
-use Rattle.std.proofs.Common.{◌≡◌, ◌≢◌, ℕ, ◌+◌, ◌-◌, ◌*◌, ◌/◌, ◌%◌, ◌^◌, ◌<◌, ◌≤◌, List, [], ◌∷◌, ◌++◌, length, Bool, true, false, ◌&&◌, ◌||◌, not, take, set, get_or, map, min, max, eqb, zero, suc, refl, sym, ap, ap₂, subst, ◌∙◌, inl, inr, ◌⊎◌, arith, length-set}
-use Rattle.std.specs.List.{range_with_len}
+use Rattle.std.proofs.Common.{◌≡◌, ◌≢◌, ℕ, ◌+◌, ◌-◌, ◌/◌, ◌%◌, ◌<◌, ◌≤◌, List, [], ◌∷◌, ◌++◌, length, Bool, true, false, ◌&&◌, ◌||◌, not, take, set, get_or, min, max, eqb, zero, suc, refl, sym, ap, ap₂, ◌∙◌, inl, inr, arith, length-set}
 use Rattle.std.specs.Int.{bit_at}
 use Rattle.std.proofs.lemmas.Bool.{cases_eq}
 use Rattle.std.proofs.lemmas.Nat.Bits.{bit_at-lt}
-use Rattle.std.proofs.lemmas.List.{get_or_past, get_or-set_same, get_or-set_other, get_or-take}
+use Rattle.std.proofs.lemmas.List.{get_or-set_same, get_or-set_other}
 use Rattle.std.proofs.lemmas.List.FromFn.{fill_by_all, length-map-range_with_len, get_or-map-range_with_len, take-map-range_with_len, map-range_with_len_more}
 use Rattle.fork_labels.specs.declared.place_set.Operation.{Operation}
-use Rattle.fork_labels.specs.declared.place_set.Operation.TheVariants.{Join, Meet, Minus}
 use Rattle.fork_labels.specs.Sets.{has_place, set_in, in_result, result_of, digit}
 
 pub length-set_in : (ws : List ℕ) (n : ℕ) → length (set_in ws n) ≡ n
@@ -46,12 +44,14 @@ module _ (ws : List ℕ) (s w : ℕ) (b : Bool) (there : s / 64 < length ws) (sa
   pub changed-other : (t : ℕ) → t ≢ s → has_place (set ws (s / 64) w) t ≡ has_place ws t
   unfolding has_place
   changed-other t h =
-      elim (cases_eq (t / 64) (s / 64)) [ inl e ↦
-          ap (λ k. eqb (bit_at (get_or (set ws (s / 64) w) k 0) (t % 64)) 1) e
-          ∙ ap (λ v. eqb (bit_at v (t % 64)) 1) (get_or-set_same ws (s / 64) w 0 there)
-          ∙ ap (λ n. eqb n 1) (others (t % 64) (omega arith) (λ f. h (omega (arith, e, f))))
-          ∙ ap (λ k. eqb (bit_at (get_or ws k 0) (t % 64)) 1) (sym e)
-      | inr ne ↦ ap (λ v. eqb (bit_at v (t % 64)) 1) (get_or-set_other ws (s / 64) (t / 64) w 0 ne) ]
+      elim (cases_eq (t / 64) (s / 64)) [
+        | inl e ↦
+            ap (λ k. eqb (bit_at (get_or (set ws (s / 64) w) k 0) (t % 64)) 1) e
+            ∙ ap (λ v. eqb (bit_at v (t % 64)) 1) (get_or-set_same ws (s / 64) w 0 there)
+            ∙ ap (λ n. eqb n 1) (others (t % 64) (omega arith) (λ f. h (omega (arith, e, f))))
+            ∙ ap (λ k. eqb (bit_at (get_or ws k 0) (t % 64)) 1) (sym e)
+        | inr ne ↦ ap (λ v. eqb (bit_at v (t % 64)) 1) (get_or-set_other ws (s / 64) (t / 64) w 0 ne)
+      ]
 
   -- one place more
   pub pushed : set_in (set ws (s / 64) w) (s + 1) ≡ set_in ws s ++ b ∷ []
@@ -64,12 +64,14 @@ pub inserted : (ws : List ℕ) (n s w : ℕ) → s < n → s / 64 < length ws �
     → set_in (set ws (s / 64) w) n ≡ set (set_in ws n) s true
 inserted ws n s w h there same others =
     set_from (set ws (s / 64) w) n (set (set_in ws n) s true) (length-set (set_in ws n) s true ∙ length-set_in ws n)
-    (λ t k. elim (cases_eq t s) [ inl e ↦
-        ap (λ u. get_or (set (set_in ws n) s true) u false) e
-        ∙ get_or-set_same (set_in ws n) s true false (omega (arith, length-set_in ws n))
-        ∙ sym (changed-same ws s w true there same others)
-        ∙ ap (has_place (set ws (s / 64) w)) (sym e)
-    | inr ne ↦ get_or-set_other (set_in ws n) s t true false ne ∙ get_or-set_in ws n t k ∙ sym (changed-other ws s w true there same others t ne) ])
+    (λ t k. elim (cases_eq t s) [
+      | inl e ↦
+          ap (λ u. get_or (set (set_in ws n) s true) u false) e
+          ∙ get_or-set_same (set_in ws n) s true false (omega (arith, length-set_in ws n))
+          ∙ sym (changed-same ws s w true there same others)
+          ∙ ap (has_place (set ws (s / 64) w)) (sym e)
+      | inr ne ↦ get_or-set_other (set_in ws n) s t true false ne ∙ get_or-set_in ws n t k ∙ sym (changed-other ws s w true there same others t ne)
+    ])
 
 -- ---- operations
 
@@ -91,9 +93,9 @@ combined_sets op ws us vs n few f =
     let same : length (set_in us n) ≡ length (set_in vs n) = length-set_in us n ∙ sym (length-set_in vs n) in
     set_from ws n (result_of op (set_in us n) (set_in vs n)) (length-result_of op (set_in us n) (set_in vs n) same ∙ length-set_in us n)
     (λ s h.
-        get_or-result_of op (set_in us n) (set_in vs n) s same (omega (arith, length-set_in us n))
-        ∙ ap₂ (in_result op) (get_or-set_in us n s h) (get_or-set_in vs n s h)
-        ∙ sym (f (s / 64) (s % 64) (omega arith) (omega arith)))
+    get_or-result_of op (set_in us n) (set_in vs n) s same (omega (arith, length-set_in us n))
+    ∙ ap₂ (in_result op) (get_or-set_in us n s h) (get_or-set_in vs n s h)
+    ∙ sym (f (s / 64) (s % 64) (omega arith) (omega arith)))
 
 either_bit : (x y : ℕ) → x < 2 → y < 2 → eqb (max x y) 1 ≡ (eqb x 1 || eqb y 1)
 either_bit zero zero h g = refl

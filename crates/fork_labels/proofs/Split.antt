@@ -1,8 +1,7 @@
 -- A fork of a place: what it leaves of the names, and of the names at the places of a set.
-use Rattle.std.proofs.Common.{◌≡◌, ℕ, ◌+◌, ◌-◌, ◌<◌, ◌≤◌, List, [], ◌∷◌, ◌++◌, length, Bool, true, false, ◌&&◌, ◌||◌, not, set, get_or, replicate, zero, suc, refl, sym, ap, ap₂, ◌∙◌, arith, length-append, length-set}
+use Rattle.std.proofs.Common.{◌≡◌, ℕ, ◌+◌, ◌<◌, List, [], ◌∷◌, ◌++◌, length, Bool, true, false, ◌&&◌, ◌||◌, not, set, get_or, replicate, zero, suc, refl, sym, ap, ap₂, ◌∙◌, arith, length-append, length-set}
 use Rattle.std.proofs.lemmas.List.{length-replicate, get_or-replicate, replicate_more}
 use mathlib.Core.Bool.{true≢false}
-use Rattle.std.specs.Ordering.{is_eq}
 use Rattle.kb_label.specs.Names.{Name, root, child, name_eq, has, join, minus, add, relabel, IsInNameOrder}
 use Rattle.kb_label.specs.Forks.{IsForked, at_first, at_fork}
 use Rattle.kb_label.proofs.Members.{name_eq-refl, name_eq-eq}
@@ -58,6 +57,7 @@ has-replaced (b ∷ bs) (p ∷ ns) (suc s) r q h g d =
     apart : (e : Bool) → name_eq q (get_or ns s root) ≡ e → name_eq q p ≡ true → name_eq q (get_or ns s root) ≡ false
     apart true k m = absurd (true≢false (sym (has-name_at ns s (omega arith)) ∙ ap (has ns) (sym (name_eq-eq q (get_or ns s root) k) ∙ name_eq-eq q p m) ∙ d.0))
     apart false k m = k
+
     go : (b e f t x : Bool) → (e ≡ true → t ≡ false) → (b && e || (f || not t && x)) ≡ (f || not t && (b && e || x))
     go b true f t x h = rw (h refl) (or_swap (b && true) f x)
     go true false f t x h = refl
@@ -97,10 +97,10 @@ split-relabels bs ns s h g d =
     let is : has l p ≡ get_or bs s false = has-sorted (picked bs ns) p ∙ has-place bs ns s h g d in
     same_names (join (picked (with_fork bs s) (split ns s)) []) (relabel p l) (sorted (picked (with_fork bs s) (split ns s))) (ordered-relabel p l (has l p) refl (sorted (picked bs ns)))
     (λ q.
-        has-sorted (picked (with_fork bs s) (split ns s)) q
-        ∙ has-picked_split bs ns s q h g d
-        ∙ ap (λ x. ((get_or bs s false && name_eq q (child p false)) || (not (name_eq q p) && x)) || (get_or bs s false && name_eq q (child p true))) (sym (has-sorted (picked bs ns) q))
-        ∙ go l p q (get_or bs s false) is)
+    has-sorted (picked (with_fork bs s) (split ns s)) q
+    ∙ has-picked_split bs ns s q h g d
+    ∙ ap (λ x. ((get_or bs s false && name_eq q (child p false)) || (not (name_eq q p) && x)) || (get_or bs s false && name_eq q (child p true))) (sym (has-sorted (picked bs ns) q))
+    ∙ go l p q (get_or bs s false) is)
   where
     in_set : (a b c : Bool) → ((a || b) || c) ≡ (a || (c || b))
     in_set true b c = refl
@@ -108,10 +108,12 @@ split-relabels bs ns s h g d =
     in_set false true false = refl
     in_set false false true = refl
     in_set false false false = refl
+
     out : (e x : Bool) → (e ≡ true → x ≡ false) → (not e && x || false) ≡ x
     out true x h = sym (h refl)
     out false true h = refl
     out false false h = refl
+
     go : (l : List Name) (p q : Name) (b : Bool) → has l p ≡ b → (((b && name_eq q (child p false)) || (not (name_eq q p) && has l q)) || (b && name_eq q (child p true))) ≡ has (relabel p l) q
     go l p q true k = in_set (name_eq q (child p false)) (not (name_eq q p) && has l q) (name_eq q (child p true)) ∙ sym (has-relabel p q l k)
     go l p q false k = out (name_eq q p) (has l q) (λ e. ap (has l) (name_eq-eq q p e) ∙ k) ∙ sym (ap (λ m. has m q) (relabel-absent p l k))
@@ -155,7 +157,7 @@ not_true false h = refl
 turned : (p r : Name) → name_eq r p ≡ false → name_eq p r ≡ false
 turned p r h = not_true (name_eq p r) (λ e. true≢false (sym (name_eq-refl p) ∙ ap (λ x. name_eq x p) (name_eq-eq p r e) ∙ h))
 
-has-set_absent : (ns : List Name) (s : ℕ) (r q : Name) → has ns q ≡ false → name_eq q r ≡ false → has (set ns s r) q ≡ false
+pub has-set_absent : (ns : List Name) (s : ℕ) (r q : Name) → has ns q ≡ false → name_eq q r ≡ false → has (set ns s r) q ≡ false
 has-set_absent [] s r q h e = refl
 has-set_absent (p ∷ ns) zero r q h e = or_of_false (name_eq q r) (has ns q) e (neither (name_eq q p) (has ns q) h).1
 has-set_absent (p ∷ ns) (suc s) r q h e = or_of_false (name_eq q p) (has (set ns s r) q) (neither (name_eq q p) (has ns q) h).0 (has-set_absent ns s r q (neither (name_eq q p) (has ns q) h).1 e)
@@ -179,26 +181,33 @@ good-root = record { forked = at_first; distinct = (refl, tt) }
 length-child : (p : Name) (b : Bool) → length (child p b) ≡ length p + 1
 length-child p b = length-append p (b ∷ [])
 
+-- no child of a living process lives
+pub fresh : (ns : List Name) (s : ℕ) → s < length ns → Good ns → (b : Bool) → has ns (child (get_or ns s root) b) ≡ false
+fresh ns s g w b =
+    let p = get_or ns s root in
+    let there : has (join ns []) p ≡ true = has-sorted ns p ∙ has-name_at ns s g in
+    not_true (has ns (child p b)) (λ e.
+    let same : p ≡ child p b = (leaves-forked (join ns []) w.forked).apart p (child p b) there (has-sorted ns (child p b) ∙ e) (begins-more p (b ∷ [])) in
+    let long : length p ≡ length (child p b) = ap length same in
+    omega (arith, long, length-child p b))
+
+pub children_differ : (p : Name) → name_eq (child p true) (child p false) ≡ false
+children_differ p = not_true (name_eq (child p true) (child p false)) (λ e. ends p (name_eq-eq (child p true) (child p false) e))
+  where
+    tail : Name → Name
+    tail [] = []
+    tail (b ∷ p) = p
+
+    ends : (p : Name) → child p true ≡ child p false → ⊥
+    ends [] e = absurd (cc)
+    ends (b ∷ p) e = ends p (ap tail e)
+
 pub good-split : (ns : List Name) (s : ℕ) → s < length ns → Good ns → Good (split ns s)
 unfolding split
 good-split ns s g w =
     let p = get_or ns s root in
     let there : has (join ns []) p ≡ true = has-sorted ns p ∙ has-name_at ns s g in
-    let leaves = leaves-forked (join ns []) w.forked in
-    let fresh = λ (b : Bool). not_true (has ns (child p b)) (λ e.
-        let same : p ≡ child p b = leaves.apart p (child p b) there (has-sorted ns (child p b) ∙ e) (begins-more p (b ∷ [])) in
-        let long : length p ≡ length (child p b) = ap length same in
-        omega (arith, long, length-child p b)) in
-    let differ : name_eq (child p true) (child p false) ≡ false = not_true (name_eq (child p true) (child p false)) (λ e. ends p (name_eq-eq (child p true) (child p false) e)) in
     record {
       forked = rw (living-split ns s g w.distinct) (at_fork p (join ns []) w.forked there);
-      distinct = distinct-push (set ns s (child p false)) (child p true) (distinct-set ns s (child p false) w.distinct (fresh false)) (has-set_absent ns s (child p false) (child p true) (fresh true) differ);
+      distinct = distinct-push (set ns s (child p false)) (child p true) (distinct-set ns s (child p false) w.distinct (fresh ns s g w false)) (has-set_absent ns s (child p false) (child p true) (fresh ns s g w true) (children_differ p));
     }
-  where
-    ends : (p : Name) → child p true ≡ child p false → ⊥
-    ends [] e = absurd (cc)
-    ends (b ∷ p) e = ends p (ap tail e)
-      where
-        tail : Name → Name
-        tail [] = []
-        tail (b ∷ p) = p

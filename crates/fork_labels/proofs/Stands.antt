@@ -1,11 +1,11 @@
 -- For which names a label stands after each operation.
-use Rattle.std.proofs.Common.{◌≡◌, ℕ, ◌+◌, ◌-◌, ◌<◌, ◌≤◌, List, [], ◌∷◌, ◌++◌, length, Bool, true, false, ◌&&◌, ◌||◌, not, take, drop, set, get_or, filter, replicate, cond, zero, suc, refl, sym, ap, ap₂, ◌∙◌, arith, length-append, length-set}
-use Rattle.std.proofs.lemmas.List.{drop_more, take_all, drop_all, get_or_past, replicate_more, length-replicate, get_or-replicate}
+use Rattle.std.proofs.Common.{◌≡◌, ℕ, ◌+◌, ◌-◌, ◌<◌, ◌≤◌, List, [], ◌∷◌, ◌++◌, length, Bool, true, false, ◌&&◌, ◌||◌, not, take, drop, set, get_or, filter, replicate, cond, zero, suc, refl, sym, ap, ap₂, ◌∙◌, arith, length-append, length-set, length-drop}
+use Rattle.std.proofs.lemmas.List.{drop_more, get_or_append_left, get_or_at, get_or-drop, get_or-take, length-take, take_all, drop_all, get_or_past, replicate_more}
 use mathlib.Core.Bool.{true≢false}
 use Rattle.std.specs.declared.cmp.Ordering.{Ordering}
 use Rattle.std.specs.declared.cmp.Ordering.TheVariants.{Less, Equal, Greater}
-use Rattle.kb_label.specs.Names.{Name, root, name_cmp, name_eq, has, by_order, add, join, meet, minus, is_empty, IsInNameOrder}
-use Rattle.kb_label.proofs.Members.{name_eq-refl, name_eq-eq, has-add, has-filter, has-join, has-meet, has-minus}
+use Rattle.kb_label.specs.Names.{Name, name_cmp, name_eq, has, by_order, add, join, meet, minus, is_empty, IsInNameOrder}
+use Rattle.kb_label.proofs.Members.{has-add, has-filter, has-join, has-meet, has-minus}
 use Rattle.kb_label.proofs.Ordered.{ordered-add, ordered-filter, ordered-join, length-add}
 use Rattle.kb_label.proofs.Sets.{same_names}
 use Rattle.fork_labels.specs.Places.{names_of, living_of, IsLog, AreThere, place_in, with_fork, with_forks, at_end, picked, stands_for}
@@ -39,6 +39,63 @@ late fs gs bs cs made e f h m = m ∙ (λ i. take (length (e i) + 1) (f i)) ∙ 
 pub early : (fs gs : List ℕ) (bs cs made : List Bool) (k : ℕ) → gs ≡ fs → cs ≡ bs → k ≡ length bs → k ≤ length gs → made ≡ with_forks cs (drop (k - 1) gs) → made ≡ at_end fs bs
 early fs gs bs cs made k e f n h m = m ∙ (λ i. with_forks (f i) (drop (n i - 1) (e i))) ∙ sym (at_end-early fs bs (omega (arith, h, n, ap length e)))
 
+-- ---- where a place stems from
+
+with_forks-front : (fs : List ℕ) (bs : List Bool) (t : ℕ) → t < length bs → get_or (with_forks bs fs) t false ≡ get_or bs t false
+unfolding with_forks with_fork
+with_forks-front [] bs t h = refl
+with_forks-front (s ∷ fs) bs t h =
+    with_forks-front fs (bs ++ get_or bs s false ∷ []) t (omega (arith, length-append bs (get_or bs s false ∷ [])))
+    ∙ get_or_append_left bs (get_or bs s false ∷ []) false t h
+
+-- a place that came with a fork is in the set where the place that was split is
+with_forks-climb : (fs : List ℕ) (bs : List Bool) (i : ℕ) → i < length fs → get_or fs i 0 < length bs + i → get_or (with_forks bs fs) (length bs + i) false ≡ get_or (with_forks bs fs) (get_or fs i 0) false
+unfolding with_forks with_fork
+with_forks-climb [] bs i h g = absurd (omega arith)
+with_forks-climb (s ∷ fs) bs zero h g =
+    let more = bs ++ get_or bs s false ∷ [] in
+    let long : length more ≡ length bs + 1 = length-append bs (get_or bs s false ∷ []) in
+    let same : length bs + 0 ≡ length bs = omega arith in
+    let inside : s < length bs = omega arith in
+    ap (λ t. get_or (with_forks more fs) t false) same
+    ∙ with_forks-front fs more (length bs) (omega (arith, long))
+    ∙ get_or_at bs (get_or bs s false) [] false (length bs) refl
+    ∙ sym (get_or_append_left bs (get_or bs s false ∷ []) false s inside)
+    ∙ sym (with_forks-front fs more s (omega (arith, long)))
+with_forks-climb (s ∷ fs) bs (suc i) h g =
+    let more = bs ++ get_or bs s false ∷ [] in
+    let long : length more ≡ length bs + 1 = length-append bs (get_or bs s false ∷ []) in
+    let same : length bs + suc i ≡ length more + i = omega (arith, long) in
+    ap (λ t. get_or (with_forks more fs) t false) same ∙ with_forks-climb fs more i (omega arith) (omega (arith, long, g))
+
+there_at : (n : ℕ) (fs : List ℕ) (i : ℕ) → AreThere n fs → i < length fs → get_or fs i 0 < n + i
+there_at n [] i h g = absurd (omega arith)
+there_at n (s ∷ fs) zero h g = omega (arith, h.0)
+there_at n (s ∷ fs) (suc i) h g = let w = there_at (n + 1) fs i h.1 (omega arith) in omega (arith, w)
+
+pub fork_below : (fs : List ℕ) (t : ℕ) → IsLog fs → 0 < t → t < length fs + 1 → get_or fs (t - 1) 0 < t
+fork_below fs t l h g = let w = there_at 1 fs (t - 1) l (omega arith) in omega (arith, w)
+
+pub climb : (fs : List ℕ) (bs : List Bool) (t : ℕ) → IsLog fs → 0 < length bs → length bs ≤ t → t < length fs + 1 → get_or (at_end fs bs) t false ≡ get_or (at_end fs bs) (get_or fs (t - 1) 0) false
+climb fs bs t l some h g =
+    let k = length bs - 1 in
+    let i = t - length bs in
+    let split : get_or (drop k fs) i 0 ≡ get_or fs (t - 1) 0 = get_or-drop k fs i 0 ∙ ap (λ j. get_or fs j 0) (omega arith) in
+    let place : t ≡ length bs + i = omega arith in
+    let below = fork_below fs t l (omega arith) g in
+    let early = at_end-early fs bs (omega arith) in
+    ap (λ (c : List Bool). get_or c t false) early
+    ∙ ap (λ j. get_or (with_forks bs (drop k fs)) j false) place
+    ∙ with_forks-climb (drop k fs) bs i (omega (arith, length-drop k fs)) (omega (arith, split, below))
+    ∙ ap (λ j. get_or (with_forks bs (drop k fs)) j false) split
+    ∙ ap (λ (c : List Bool). get_or c (get_or fs (t - 1) 0) false) (sym early)
+
+pub climbed : (fs : List ℕ) (bs : List Bool) (t : ℕ) → t < length bs → t < length fs + 1 → get_or (at_end fs bs) t false ≡ get_or bs t false
+unfolding at_end
+climbed fs bs t h g =
+    with_forks-front (drop (length bs - 1) fs) (take (length fs + 1) bs) t (omega (arith, length-take (length fs + 1) bs))
+    ∙ get_or-take (length fs + 1) bs t false g
+
 -- a step of the loop over the forks, and its end
 pub fork_step : (bs made : List Bool) (fs : List ℕ) (i : ℕ) (b : Bool) → i < length fs → made ≡ bs ++ b ∷ [] → b ≡ get_or bs (get_or fs i 0) false → with_forks made (drop (i + 1) fs) ≡ with_forks bs (drop i fs)
 unfolding with_forks with_fork
@@ -52,7 +109,7 @@ fork_done bs fs i h = ap (with_forks bs) (drop_all i fs h)
 
 -- ---- has
 
-place_in-absent : (ns : List Name) (q : Name) → has ns q ≡ false → place_in ns q ≡ length ns
+pub place_in-absent : (ns : List Name) (q : Name) → has ns q ≡ false → place_in ns q ≡ length ns
 place_in-absent [] q h = refl
 place_in-absent (p ∷ ns) q h = go (name_eq q p) refl h (λ k. place_in-absent ns q k)
   where
@@ -164,10 +221,10 @@ module _ (fs : List ℕ) (l : IsLog fs) where
       ap (λ c. join (picked c (names_of fs)) []) (at_end-full fs put full)
       ∙ same_names (join (picked put (names_of fs)) []) (add p (stands_for fs bs)) (sorted (picked put (names_of fs))) (ordered-add p (stands_for fs bs) (sorted (picked (at_end fs bs) (names_of fs))))
       (λ q.
-          has-sorted (picked put (names_of fs)) q
-          ∙ has-set (at_end fs bs) (names_of fs) s q inside w.0
-          ∙ ap₂ (λ r x. name_eq q r || x) w.1 (sym (has-sorted (picked (at_end fs bs) (names_of fs)) q))
-          ∙ sym (has-add p (stands_for fs bs) q))
+      has-sorted (picked put (names_of fs)) q
+      ∙ has-set (at_end fs bs) (names_of fs) s q inside w.0
+      ∙ ap₂ (λ r x. name_eq q r || x) w.1 (sym (has-sorted (picked (at_end fs bs) (names_of fs)) q))
+      ∙ sym (has-add p (stands_for fs bs) q))
 
   same_long : (cs bs : List Bool) → 0 < length cs → 0 < length bs → length (at_end fs cs) ≡ length (at_end fs bs)
   same_long cs bs h g = long cs h ∙ sym (long bs g)
@@ -189,35 +246,35 @@ module _ (fs : List ℕ) (l : IsLog fs) where
   stands-join cs bs h g =
       made Join cs bs (join (stands_for fs cs) (stands_for fs bs)) h g (ordered-join (stands_for fs cs) (stands_for fs bs) (sorted (picked (at_end fs bs) (names_of fs))))
       (λ q.
-          ap (λ c. has (picked c (names_of fs)) q) (joined (at_end fs cs) (at_end fs bs))
-          ∙ has-either (at_end fs cs) (at_end fs bs) (names_of fs) q (same_long cs bs h g)
-          ∙ ap₂ ◌||◌ (sym (has-sorted (picked (at_end fs cs) (names_of fs)) q)) (sym (has-sorted (picked (at_end fs bs) (names_of fs)) q))
-          ∙ sym (has-join (stands_for fs cs) (stands_for fs bs) q))
+      ap (λ c. has (picked c (names_of fs)) q) (joined (at_end fs cs) (at_end fs bs))
+      ∙ has-either (at_end fs cs) (at_end fs bs) (names_of fs) q (same_long cs bs h g)
+      ∙ ap₂ ◌||◌ (sym (has-sorted (picked (at_end fs cs) (names_of fs)) q)) (sym (has-sorted (picked (at_end fs bs) (names_of fs)) q))
+      ∙ sym (has-join (stands_for fs cs) (stands_for fs bs) q))
 
   pub stands-meet : (cs bs : List Bool) → 0 < length cs → 0 < length bs → stands_for fs (result_of Meet (at_end fs cs) (at_end fs bs)) ≡ meet (stands_for fs cs) (stands_for fs bs)
   stands-meet cs bs h g =
       made Meet cs bs (meet (stands_for fs cs) (stands_for fs bs)) h g (ordered-filter (has (stands_for fs bs)) (stands_for fs cs) (sorted (picked (at_end fs cs) (names_of fs))))
       (λ q.
-          ap (λ c. has (picked c (names_of fs)) q) (met (at_end fs cs) (at_end fs bs))
-          ∙ has-both (at_end fs cs) (at_end fs bs) (names_of fs) q (same_long cs bs h g) distinct
-          ∙ ap₂ ◌&&◌ (sym (has-sorted (picked (at_end fs bs) (names_of fs)) q)) (sym (has-sorted (picked (at_end fs cs) (names_of fs)) q))
-          ∙ sym (has-meet (stands_for fs cs) (stands_for fs bs) q))
+      ap (λ c. has (picked c (names_of fs)) q) (met (at_end fs cs) (at_end fs bs))
+      ∙ has-both (at_end fs cs) (at_end fs bs) (names_of fs) q (same_long cs bs h g) distinct
+      ∙ ap₂ ◌&&◌ (sym (has-sorted (picked (at_end fs bs) (names_of fs)) q)) (sym (has-sorted (picked (at_end fs cs) (names_of fs)) q))
+      ∙ sym (has-meet (stands_for fs cs) (stands_for fs bs) q))
 
   pub stands-minus : (cs bs : List Bool) → 0 < length cs → 0 < length bs → stands_for fs (result_of Minus (at_end fs cs) (at_end fs bs)) ≡ minus (stands_for fs cs) (stands_for fs bs)
   stands-minus cs bs h g =
       made Minus cs bs (minus (stands_for fs cs) (stands_for fs bs)) h g (ordered-filter (λ p. not (has (stands_for fs bs) p)) (stands_for fs cs) (sorted (picked (at_end fs cs) (names_of fs))))
       (λ q.
-          ap (λ c. has (picked c (names_of fs)) q) (left (at_end fs cs) (at_end fs bs))
-          ∙ has-alone (at_end fs cs) (at_end fs bs) (names_of fs) q (same_long cs bs h g) distinct
-          ∙ ap₂ (λ x y. not x && y) (sym (has-sorted (picked (at_end fs bs) (names_of fs)) q)) (sym (has-sorted (picked (at_end fs cs) (names_of fs)) q))
-          ∙ sym (has-minus (stands_for fs cs) (stands_for fs bs) q))
+      ap (λ c. has (picked c (names_of fs)) q) (left (at_end fs cs) (at_end fs bs))
+      ∙ has-alone (at_end fs cs) (at_end fs bs) (names_of fs) q (same_long cs bs h g) distinct
+      ∙ ap₂ (λ x y. not x && y) (sym (has-sorted (picked (at_end fs bs) (names_of fs)) q)) (sym (has-sorted (picked (at_end fs cs) (names_of fs)) q))
+      ∙ sym (has-minus (stands_for fs cs) (stands_for fs bs) q))
 
   -- the living names that a label has are those for which it stands
   pub stands-filter : (bs : List Bool) → filter (has (stands_for fs bs)) (living_of fs) ≡ stands_for fs bs
   stands-filter bs =
       same_names (filter (has (stands_for fs bs)) (living_of fs)) (stands_for fs bs) (ordered-filter (has (stands_for fs bs)) (living_of fs) (sorted (names_of fs))) (sorted (picked (at_end fs bs) (names_of fs)))
       (λ q. has-filter (has (stands_for fs bs)) (living_of fs) q ∙ absorbed (has (stands_for fs bs) q) (has (living_of fs) q) (λ e.
-          has-sorted (picked (at_end fs bs) (names_of fs)) q ∙ picked-absent (at_end fs bs) (names_of fs) q (sym (has-sorted (names_of fs) q) ∙ e)))
+      has-sorted (picked (at_end fs bs) (names_of fs)) q ∙ picked-absent (at_end fs bs) (names_of fs) q (sym (has-sorted (names_of fs) q) ∙ e)))
 
   -- as many processes live as there are places
   pub length-living : length (living_of fs) ≡ length fs + 1

@@ -1,6 +1,6 @@
 -- Forks by places, and sets of places. At a fork the first child keeps its parent's place, and the second takes the next
 -- number; so a log is the list of the places that its forks split, the first fork first.
-use Rattle.std.specs.Prelude.{ℕ, ◌+◌, ◌-◌, ◌<◌, ◌≤◌, List, [], ◌∷◌, ◌++◌, length, Bool, true, false, take, drop, if◌then◌else◌, slice_index_or, slice_set, zero, suc}
+use Rattle.std.specs.Prelude.{ℕ, ◌+◌, ◌-◌, ◌<◌, ◌≤◌, List, [], ◌∷◌, ◌++◌, length, Bool, true, false, take, drop, if◌then◌else◌, slice_index_or, slice_set}
 use Rattle.kb_label.specs.Names.{Name, root, child, name_eq, join}
 
 -- ---- names by place

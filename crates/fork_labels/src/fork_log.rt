@@ -1,8 +1,7 @@
 // Logs of forks by places.
-ghost use Rattle.std.specs.Prelude.{◌≡◌, ◌<◌, ◌≤◌, ◌∷◌, [], ◌++◌, length, IsTrue, OnOk, OnErr, IfOk};
-ghost use Rattle.kb_label.specs.Names.{has, relabel};
-ghost use Rattle.kb_label.specs.Forks.{IsForked};
-ghost use Rattle.fork_labels.specs.Places.{forked, living_of, name_at, names_of, place_in, split, IsLog};
+ghost use Rattle.std.specs.Prelude.{◌≡◌, ◌<◌, ◌≤◌, ◌∷◌, [], ◌++◌, ℕ, false, length, map, slice_index, slice_index_or, IsTrue, OnOk, OnErr, IfOk};
+ghost use Rattle.kb_label.specs.Names.{has, relabel, IsInNameOrder};
+ghost use Rattle.fork_labels.specs.Places.{forked, living_of, names_of, place_in, IsLog};
 
 use kb_label::{Living, MAX_BITS, MAX_LIVING, NameLog, Process};
 use std::alloc::{AllocError, Global};
@@ -16,19 +15,19 @@ use std::marker::Model;
 #[derive(Drop)]
 pub struct ForkLog {
     living: NameLog,
-    names: Vec<Process>,
+    places: Vec<u16>,
     forks: Vec<u16>,
 }
 
 impl Model for ForkLog {
-    ghost use Rattle.std.specs.Prelude.{List, ℕ, length, ◌≡◌, ◌<◌};
-    ghost use Rattle.fork_labels.specs.Places.{IsLog, names_of, living_of};
+    ghost use Rattle.std.specs.Prelude.{List, ℕ, length, map, ◌≡◌, ◌<◌};
+    ghost use Rattle.fork_labels.specs.Places.{IsLog, names_of, living_of, place_in};
 
     ghost Value = { List ℕ };
 
     ghost view = { λ log. log.forks.items };
 
-    ghost invariant = { λ log. IsLog log.forks.items × (log.names.items ≡ names_of log.forks.items) × (log.living ≡ living_of log.forks.items) × (length log.forks.items < 1024) };
+    ghost invariant = { λ log. IsLog log.forks.items × (log.places.items ≡ map (place_in (names_of log.forks.items)) (living_of log.forks.items)) × (log.living ≡ living_of log.forks.items) × (length log.forks.items < 1024) };
 }
 
 impl ForkLog {
@@ -43,9 +42,10 @@ impl ForkLog {
 
     /// The place of a process, or the number of places where it doesn't live.
     pub(crate) fn place_of(&self, process: &Process) -> usize
-        ensures { result ≡ place_in (names_of self.now) process.now }
+        ensures place { result ≡ place_in (names_of self.now) process.now }
+        ensures most { result ≤ MAX_LIVING }
     {
-        place_among(self.names.as_slice(), process)
+        place_among(self.living.processes(), self.places.as_slice(), process)
     }
 }
 
@@ -54,11 +54,10 @@ impl Living for ForkLog {
 
     fn start(alloc: Global) -> Result<ForkLog, AllocError> {
         let living = NameLog::start(alloc)?;
-        let mut names = Vec::new(alloc);
-        names.push(Process::root())?;
+        let places = with_place(alloc, &[], 0)?;
         Ok(ForkLog {
             living,
-            names,
+            places,
             forks: Vec::new(alloc),
         })
     }
@@ -71,11 +70,13 @@ impl Living for ForkLog {
         ensures log { OnOk result (self.new ≡ forked self.old process.now) }
         ensures valid { IsLog self.new }
     {
-        let place = place_among(self.names.as_slice(), process);
-        let names = split_names(*self.names.allocator(), self.names.as_slice(), place)?;
+        let place = self.place_of(process);
         let forks = with_place(*self.forks.allocator(), self.forks.as_slice(), place as u16)?;
-        self.living.fork(process)?;
-        self.names = names;
+        let mut living = self.living.copy()?;
+        living.fork(process)?;
+        let places = places_after(self, process, living.processes())?;
+        self.living = living;
+        self.places = places;
         self.forks = forks;
         Ok(())
     }
@@ -94,40 +95,68 @@ impl Living for ForkLog {
 
     fn copy(&self) -> Result<ForkLog, AllocError> {
         let living = self.living.copy()?;
-        let names = self.names.as_slice().to_vec(*self.names.allocator())?;
+        let places = self.places.as_slice().to_vec(*self.places.allocator())?;
         let forks = self.forks.as_slice().to_vec(*self.forks.allocator())?;
         Ok(ForkLog {
             living,
-            names,
+            places,
             forks,
         })
     }
 }
 
-// The place of a name, or the number of places where none has it.
-fn place_among(names: &[Process], process: &Process) -> usize
-    ensures { result ≡ place_in names.now process.now }
+// The place of a name, where the places of the living names stand in their order, or the number of places where it
+// doesn't live. It takes time logarithmic in the names.
+fn place_among(names: &[Process], places: &[u16], process: &Process) -> usize
+    requires in_order { IsInNameOrder names.now }
+    requires same { length places.now ≡ length names.now }
+    ensures found { IsTrue (has names.now process.now) → (i : ℕ) × (i < length names.now) × (slice_index_or names.now i process.now ≡ process.now) × (result ≡ slice_index places.now i) }
+    ensures absent { has names.now process.now ≡ false → result ≡ length names.now }
 {
-    for (s, name) in names.iter().enumerate() {
-        if *process == *name {
-            return s;
-        }
+    match names.binary_search(process) {
+        Ok(i) => places[i] as usize,
+        Err(_) => names.len(),
     }
-    names.len()
 }
 
-// The names by place after a fork.
-#[tactic(auto, unfolding(crate::specs::Places::split))]
-fn split_names(alloc: Global, names: &[Process], s: usize) -> Result<Vec<Process>, AllocError>
-    requires there { s < length names.now }
-    requires short { length (name_at names.now s) < MAX_BITS }
-    ensures { IfOk result (λ children. children.items ≡ split names.now s) }
+// The places of the names that live after a process forked, in their order.
+fn places_after(log: &ForkLog, process: &Process, names: &[Process]) -> Result<Vec<u16>, AllocError>
+    requires lives { IsTrue (has (living_of log.now) process.now) }
+    requires room { length (living_of log.now) < MAX_LIVING }
+    requires names { names.now ≡ relabel process.now (living_of log.now) }
+    ensures { IfOk result (λ places. places.items ≡ map (place_in (names_of (forked log.now process.now))) names.now) }
 {
-    let parent = names[s];
-    let mut children = names.to_vec(alloc)?;
-    children[s] = parent.child(false);
-    children.push(parent.child(true))?;
-    Ok(children)
+    let mut places = Vec::new(*log.forks.allocator());
+    for name in names {
+        places.push(place_after(log, process, name))?;
+    }
+    Ok(places)
+}
+
+// The place of a name that lives after a process forked.
+fn place_after(log: &ForkLog, process: &Process, name: &Process) -> u16
+    requires lives { IsTrue (has (living_of log.now) process.now) }
+    requires room { length (living_of log.now) < MAX_LIVING }
+    requires name { IsTrue (has (relabel process.now (living_of log.now)) name.now) }
+    ensures { result ≡ place_in (names_of (forked log.now process.now)) name.now }
+{
+    learn_short(log, process);
+    if *name == process.child(true) {
+        log.living.living() as u16
+    } else if *name == process.child(false) {
+        log.place_of(process) as u16
+    } else {
+        log.place_of(name) as u16
+    }
+}
+
+// A process that lives beside fewer than 1,023 others has fewer than 1,023 bits.
+fn learn_short(log: &ForkLog, process: &Process)
+    requires lives { IsTrue (has (living_of log.now) process.now) }
+    requires room { length (living_of log.now) < MAX_LIVING }
+    ensures { length process.now < MAX_BITS }
+{
+    let _few = log.living();
 }
 
 // The forks with one more.

@@ -1,5 +1,5 @@
 // Labels that are sets of places.
-ghost use Rattle.std.specs.Prelude.{◌≡◌, ◌+◌, ◌<◌, ◌≤◌, List, ℕ, [], length, drop, IsTrue, OnOk, OnErr};
+ghost use Rattle.std.specs.Prelude.{◌≡◌, ◌+◌, ◌<◌, ◌≤◌, List, ℕ, [], false, length, slice_index_or, IsTrue, OnOk, OnErr};
 ghost use Rattle.kb_label.specs.Names.{add, has, join, meet, minus};
 ghost use Rattle.fork_labels.specs.Places.{at_end, living_of, stands_for, with_forks, IsLog, IsUnder};
 ghost use Rattle.fork_labels.specs.Sets.{result_of};
@@ -50,6 +50,23 @@ impl ForkLabels {
         set
     }
 
+    // Whether the place from which a place stems, among those of the label, is in it.
+    fn has_place(&self, forks: &[u16], place: usize) -> bool
+        requires { IsLog forks.now }
+        ensures place { result ≡ slice_index_or (at_end forks.now self.now) place false }
+        ensures some { 0 < length self.now }
+    {
+        let len = self.places.len();
+        if forks.len() < place {
+            return false;
+        }
+        let mut origin = place;
+        while origin >= len {
+            origin = forks[origin - 1] as usize;
+        }
+        self.places.has(origin)
+    }
+
     // Puts what an operation makes of this label and another in its place.
     fn combine(&mut self, log: &ForkLog, op: Operation, other: &ForkLabels)
         ensures made { self.new ≡ result_of op (at_end log.now self.old) (at_end log.now other.now) }
@@ -79,7 +96,7 @@ impl Labels for ForkLabels {
     }
 
     fn has(&self, log: &ForkLog, process: &Process) -> bool {
-        self.at_end(log).has(log.place_of(process))
+        self.has_place(log.forks(), log.place_of(process))
     }
 
     fn is_empty(&self, log: &ForkLog) -> bool {

@@ -1,6 +1,6 @@
 // Worked examples.
 use crate::{ForkLabels, ForkLog};
-use kb_label::{Labels, Living, MAX_LIVING, Process};
+use kb_label::{Labels, ListLabels, Living, MAX_LIVING, Process};
 use std::alloc::{AllocError, Global};
 
 /// Forks a process, where it lives.
@@ -12,7 +12,12 @@ fn forked<L: Living>(log: &mut L, process: &Process) -> Result<(), AllocError> {
 }
 
 /// Takes a process out of a label.
-fn without(alloc: Global, log: &ForkLog, label: &mut ForkLabels, process: &Process) -> Result<(), AllocError> {
+fn without(
+    alloc: Global,
+    log: &ForkLog,
+    label: &mut ForkLabels,
+    process: &Process,
+) -> Result<(), AllocError> {
     let mut one = ForkLabels::new(alloc);
     if log.is_living(process) {
         one.add(log, process)?;
@@ -74,4 +79,38 @@ fn a_label_follows_the_forks_of_its_log(rt: HostRuntime) {
     assert!(rt; label.has(&log, &one.child(true)));
     assert!(rt; !label.has(&log, &zero.child(false)));
     assert!(rt; !label.is_empty(&log));
+}
+
+/// The names of a log after forks of every second process, and those of a label of its first fork's second child.
+fn forked_often<L: Labels>(
+    alloc: Global,
+    forks: u16,
+) -> Result<(Vec<Process>, Vec<Process>, bool), AllocError> {
+    let mut log = L::Log::start(alloc)?;
+    let mut label = L::new(alloc);
+    let mut process = Process::root();
+    for turn in 0..forks {
+        forked(&mut log, &process)?;
+        let names = log.names()?;
+        if let Some(next) = names.get(names.len() / 2) {
+            process = *next;
+        }
+        if turn % 3 == 0 && log.is_living(&process) {
+            label = L::new(alloc);
+            label.add(&log, &process)?;
+        }
+    }
+    let copy = log.copy()?;
+    Ok((copy.names()?, label.names(&copy)?, label.is_empty(&copy)))
+}
+
+#[test]
+fn names_live_as_in_the_plain_log(rt: HostRuntime) {
+    let (plain, _, _) = forked_often::<ListLabels>(rt.alloc(), 200).expect(&rt, "memory");
+    let (names, label, is_empty) = forked_often::<ForkLabels>(rt.alloc(), 200).expect(
+        &rt, "memory",
+    );
+    assert_eq!(rt; names.len(), 201);
+    assert!(rt; names.as_slice() == plain.as_slice());
+    assert!(rt; label.len() >= 1 && !is_empty);
 }

@@ -1,4 +1,4 @@
-use Rattle.std.proofs.Common.{◌≡◌, ◌-◌, min, arith, eqb, sym, ap, ◌∙◌}
+use Rattle.std.proofs.Common.{◌-◌, min, arith, eqb, sym, ap, ◌∙◌}
 use mir.Syntax.{w64}
 use Rattle.std.specs.Int.{bit_at}
 use Rattle.std.proofs.lemmas.Nat.Bits.{bit_at_or, bit_at_and, bit_at_not}

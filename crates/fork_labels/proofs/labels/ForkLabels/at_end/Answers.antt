@@ -1,4 +1,4 @@
-use Rattle.std.proofs.Common.{◌≡◌, ◌<◌, ◌-◌, length, ap, sym, subst, ◌∙◌, arith, List, Bool}
+use Rattle.std.proofs.Common.{◌<◌, ◌-◌, length, ap, ◌∙◌, arith}
 use Rattle.std.proofs.lemmas.List.{take_rest}
 use Rattle.fork_labels.specs.Places.{with_forks}
 use Rattle.fork_labels.proofs.Relabelled.{length-at_end}

@@ -1,6 +1,4 @@
-use Rattle.std.proofs.Common.{◌≡◌, ◌<◌, ◌≤◌, ◌+◌, length, ap, sym, ◌∙◌, arith}
-use Rattle.fork_labels.proofs.Stands.{length-made}
-use Rattle.fork_labels.specs.Sets.{result_of}
+use Rattle.std.proofs.Common.{length, ap, sym, ◌∙◌, arith}
 use Rattle.fork_labels.proofs.SetIn.{length-result_of}
 use Rattle.fork_labels.proofs.labels.ForkLabels.combine.Goals as goal
 

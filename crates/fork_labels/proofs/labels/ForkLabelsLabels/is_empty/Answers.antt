@@ -1,4 +1,4 @@
-use Rattle.std.proofs.Common.{◌≡◌, ap, ◌∙◌}
+use Rattle.std.proofs.Common.{ap, ◌∙◌}
 use Rattle.fork_labels.specs.Sets.{none_in}
 use Rattle.fork_labels.proofs.Stands.{stands-empty}
 use Rattle.fork_labels.proofs.labels.ForkLabelsLabels.is_empty.Goals as goal

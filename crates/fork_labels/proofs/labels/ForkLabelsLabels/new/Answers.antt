@@ -1,4 +1,4 @@
-use Rattle.std.proofs.Common.{◌≡◌, ap, ◌∙◌}
+use Rattle.std.proofs.Common.{ap, ◌∙◌}
 use Rattle.fork_labels.specs.Places.{stands_for}
 use Rattle.fork_labels.proofs.Stands.{stands-none}
 use Rattle.fork_labels.proofs.labels.ForkLabelsLabels.new.Goals as goal

@@ -1,4 +1,4 @@
-use Rattle.std.proofs.Common.{◌≡◌, List, Bool, length, sym, ap, ap₂, ◌∙◌, arith}
+use Rattle.std.proofs.Common.{◌≡◌, length, ap, ap₂, ◌∙◌, arith}
 use Rattle.fork_labels.specs.Sets.{set_in, result_of}
 use Rattle.fork_labels.proofs.SetIn.{combined_sets, length-set_in}
 use Rattle.fork_labels.proofs.place_set.PlaceSet.combine.Goals as goal

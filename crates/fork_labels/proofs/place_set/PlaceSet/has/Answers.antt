@@ -1,4 +1,4 @@
-use Rattle.std.proofs.Common.{◌≡◌, List, Bool, false, get_or, length, sym, ap, ◌∙◌, arith}
+use Rattle.std.proofs.Common.{List, Bool, false, get_or, sym, ap, ◌∙◌, arith}
 use Rattle.std.proofs.lemmas.Bool.Decides.{nat_tests}
 use Rattle.std.proofs.lemmas.List.{get_or_past}
 use Rattle.fork_labels.specs.Sets.{has_place, set_in}

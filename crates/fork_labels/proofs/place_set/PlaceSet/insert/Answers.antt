@@ -1,5 +1,4 @@
-use Rattle.std.proofs.Common.{◌≡◌, ◌<◌, ◌/◌, List, Bool, true, set, length, sym, ap, ◌∙◌, arith}
-use Rattle.fork_labels.specs.Sets.{set_in}
+use Rattle.std.proofs.Common.{◌<◌, ◌/◌, List, Bool, true, set, length, ap, ◌∙◌, arith}
 use Rattle.fork_labels.proofs.SetIn.{inserted, length-set_in}
 use Rattle.fork_labels.proofs.place_set.PlaceSet.insert.Goals as goal
 

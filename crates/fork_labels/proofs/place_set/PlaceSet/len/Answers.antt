@@ -1,4 +1,4 @@
-use Rattle.std.proofs.Common.{◌≡◌, length, sym, ap, ◌∙◌}
+use Rattle.std.proofs.Common.{length, sym, ap, ◌∙◌}
 use Rattle.fork_labels.proofs.SetIn.{length-set_in}
 use Rattle.fork_labels.proofs.place_set.PlaceSet.len.Goals as goal
 

@@ -1,4 +1,4 @@
-use Rattle.std.proofs.Common.{◌≡◌, ◌<◌, ◌/◌, ◌++◌, ◌∷◌, [], List, Bool, length, sym, ap, ◌∙◌, arith}
+use Rattle.std.proofs.Common.{◌<◌, ◌/◌, ◌++◌, ◌∷◌, [], List, Bool, length, ap, ◌∙◌, arith}
 use Rattle.fork_labels.proofs.SetIn.{pushed, length-set_in}
 use Rattle.fork_labels.proofs.place_set.PlaceSet.push.Goals as goal
 

@@ -1,4 +1,4 @@
-use Rattle.std.proofs.Common.{◌≡◌, List, Bool, take, length, sym, ap, ◌∙◌, arith}
+use Rattle.std.proofs.Common.{List, Bool, take, length, sym, ap, ◌∙◌, arith}
 use Rattle.std.proofs.lemmas.List.{take_all}
 use Rattle.fork_labels.proofs.SetIn.{take-set_in, length-set_in}
 use Rattle.fork_labels.proofs.place_set.PlaceSet.truncate.Goals as goal
