@@ -302,6 +302,11 @@ floor_from_bound sig rules start least (before, after, e, n) = record {
 pub none_first : (sig : Signature) (rules : List Rule) → 8 < length sig → IsFirstKbo sig rules None
 none_first sig rules h = subst (λ os. IsFirst (λ order. KboOrients order rules) os None) (sym (many_orders sig h)) (λ i d l. absurd (omega arith))
 
+pub none_few : (sig : Signature) (rules : List Rule) → length sig ≤ 8 → ((order : KboOrder) → length order.weights ≤ 8 → ¬ KboOrients order rules) → IsFirstKbo sig rules None
+none_few sig rules l h =
+    subst (λ os. IsFirst (λ order. KboOrients order rules) os None) (sym (few_orders sig l))
+    (none_behind rules (length sig) (length sig) [] (λ w p c q o. h (order_of w p) (let e = chosen_length (length sig) w c in omega arith) o))
+
 pub whole_weighed : (sig : Signature) (rules : List Rule) (k left : ℕ) (empty now : List ℕ) (found : Option (List ℕ)) → length sig ≤ 8 → k ≡ length sig → left ≡ length sig → empty ≡ [] → IsWeighed rules k left empty now found → IsFirstKbo sig rules (option_map (λ p. order_of now p) found)
 whole_weighed sig rules k left empty now found h e d n s =
     let r = subst (λ (z : List ℕ). IsWeighed rules (length sig) (length sig) z now found) n (subst (λ (y : ℕ). IsWeighed rules (length sig) y empty now found) d (subst (λ (x : ℕ). IsWeighed rules x left empty now found) e s)) in

@@ -36,7 +36,3 @@ AreAsked old new s t = (more : List Level) × (new ≡ old ++ more) × ((order :
 -- what all lists of comparisons ask
 abbrev pub AreAskedAll : KboOrder → List (Vec Level Global) → Type 0
 AreAskedAll order table = All (λ (levels : Vec Level Global). Asks order levels.items) table
-
--- an order of at most 8 weights that orients the rules is asked for nothing else by the table
-abbrev pub IsTable : List Rule → List (Vec Level Global) → Type 0
-IsTable rules table = (order : KboOrder) → length order.weights ≤ 8 → KboOrients order rules → AreAskedAll order table
