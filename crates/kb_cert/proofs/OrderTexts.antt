@@ -54,7 +54,7 @@ weights_free x xs h =
     (free_append 32 (decimal x) (each_behind 44 (map decimal xs)) (number_free 32 x (omega arith) q.1) (numbers_free 15 xs (omega arith) (all_rest (λ n. (1 ≤ n) × (n ≤ 15)) x xs h)))
 
 -- what the test of weights says
-tested : (sig : Signature) (weights symbols : List ℕ) → (are_weights sig weights && is_precedence sig symbols) ≡ true → (length weights ≡ length sig) × All (λ n. (1 ≤ n) × (n ≤ 15)) weights × (is_precedence sig symbols ≡ true)
+pub tested : (sig : Signature) (weights symbols : List ℕ) → (are_weights sig weights && is_precedence sig symbols) ≡ true → (length weights ≡ length sig) × All (λ n. (1 ≤ n) × (n ≤ 15)) weights × (is_precedence sig symbols ≡ true)
 tested sig weights symbols h =
     let b = both_true (are_weights sig weights) (is_precedence sig symbols) h in
     let w = both_true (nat_eq (length weights) (length sig)) (list_all (is_between 1 15) weights) b.0 in

@@ -18,6 +18,7 @@ use Rattle.kb_cert.specs.CertificateText.{is_between, is_row, are_rows, are_weig
 use Rattle.kb_cert.specs.Family.{Orders}
 use Rattle.kb_cert.specs.declared.certificate.Certificate.{Certificate}
 use Rattle.kb_cert.specs.declared.certificate.Certificate.TheVariants.{Lpo, Linear, Kbo}
+use Rattle.kb_cert.proofs.OrderTexts.{tested}
 use Rattle.kb_cert.proofs.Fields.{both_true}
 use Rattle.kb_cert.proofs.RowLaws.{rows_small}
 use Rattle.kb_cert.proofs.FamilyLaws.{linear_rules}
@@ -43,18 +44,9 @@ rows_fit (f ∷ g) (row ∷ i) h =
     let small = rows_small (f ∷ g) (row ∷ i) h 0 row (omega arith) in
     ((grind (arith, n), λ k d l. (small.coefficients k d l).0), rows_fit g i q.1)
 
-weights_heavy : (ws : List ℕ) → list_all (is_between 1 15) ws ≡ true → All (λ n. 1 ≤ n) ws
-weights_heavy [] h = All-nil (λ n. 1 ≤ n)
-weights_heavy (w ∷ ws) h =
-    let q = both_true (is_between 1 15 w) (list_all (is_between 1 15) ws) h in
-    let l : nat_le 1 w ≡ true = (both_true (nat_le 1 w) (nat_le w 15) q.0).0 in
-    All-cons (λ n. 1 ≤ n) w ws (grind (arith, l)) (weights_heavy ws q.1)
-
 -- each symbol weighs at least 1 in a certificate
-certificate_weighs : (g : Signature) (o : KboOrder) → is_certificate g (Kbo o) ≡ true → HasWeights o
-certificate_weighs g o h =
-    let q = both_true (are_weights g o.weights) (is_precedence g o.precedence) h in
-    weights_heavy o.weights (both_true (nat_eq (length o.weights) (length g)) (list_all (is_between 1 15) o.weights) q.0).1
+certificate_weighs : (g : Signature) (o : KboOrder) → IsTrue (is_certificate g (Kbo o)) → HasWeights o
+certificate_weighs g o h = All-weaker (λ n. (1 ≤ n) × (n ≤ 15)) (λ n. 1 ≤ n) (λ n w. w.0) o.weights (tested g o.weights o.precedence h).1
 
 -- what a certificate of the signature orders are rules
 pub oriented_rules : (g : Signature) (c : Certificate) → IsTrue (is_certificate g c) → (rules : List Rule) → All (λ (r : Rule). IsWellFormed g r.right) rules → Orders c rules → All IsRule rules

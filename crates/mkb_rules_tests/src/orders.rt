@@ -46,6 +46,7 @@ fn is_above(order: &Certificate, first: u8, second: u8) -> bool {
             symbols.symbols() == [Symbol(first), Symbol(second)].as_slice()
         }
         Certificate::Linear(_) => false,
+        Certificate::Kbo(_) => false,
     }
 }
 
