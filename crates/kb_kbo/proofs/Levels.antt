@@ -1,12 +1,12 @@
 -- What comparisons ask, and the table of all rules.
-use Rattle.std.proofs.Common.{ℕ, zero, suc, ◌≡◌, ◌<◌, ◌≤◌, ◌+◌, ◌*◌, ◌⊎◌, inl, inr, refl, sym, ap, ◌∙◌, subst, subst₂, arith, List, [], ◌∷◌, ◌++◌, length, get_or, drop, map, All}
-use Rattle.std.specs.Prelude.{Vec, slice_index_or, slice_index}
+use Rattle.std.proofs.Common.{ℕ, zero, suc, ◌≡◌, ◌<◌, ◌≤◌, ◌+◌, ◌*◌, refl, sym, ap, ◌∙◌, subst, subst₂, arith, List, [], ◌∷◌, ◌++◌, length, get_or, drop}
+use Rattle.std.specs.Prelude.{Vec, slice_index}
 use Rattle.std.specs.declared.alloc.Global.{Global}
 use Rattle.std.proofs.lemmas.List.{append_assoc}
 use Rattle.std.proofs.lemmas.List.Elements.{All-append}
-use Rattle.kb_term.specs.Tree.{Tree, Trees, variable, apply, no_trees, more_trees, trees_of, tree_size, trees_size}
+use Rattle.kb_term.specs.Tree.{Tree, Trees, variable, apply, no_trees, more_trees, tree_size, trees_size}
 use Rattle.kb_term.specs.Rule.{Rule}
-use Rattle.kb_kbo.specs.KnuthBendix.{KboOrder, KboGreater, HoldsVariables, weight, weight_in, symbol_weight}
+use Rattle.kb_kbo.specs.KnuthBendix.{KboOrder, KboGreater, weight, weight_in, symbol_weight}
 use Rattle.kb_kbo.specs.Measures.{order_of}
 use Rattle.kb_kbo.specs.Orders.{KboOrients}
 use Rattle.kb_kbo.specs.Asking.{value_of, Asks, AsksAtTie, AreAsked, AreAskedAll}

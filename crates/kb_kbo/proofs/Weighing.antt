@@ -1,6 +1,6 @@
 -- The first order, weight by weight.
 use Rattle.std.proofs.Common.{ℕ, zero, suc, ◌≡◌, ◌<◌, ◌≤◌, ◌+◌, ◌++◌, ◌⊎◌, inl, inr, ⊎_elim, List, [], ◌∷◌, length, refl, sym, ap, ◌∙◌, subst, arith, map, flat_map, Bool, true, false, Contains, cond, All, get_or, ◌==◌}
-use Rattle.std.specs.Prelude.{Some, None, Option, replicate, slice_index_or, nat_le, option_map}
+use Rattle.std.specs.Prelude.{Some, None, Option, replicate, slice_index_or, option_map}
 use Rattle.std.specs.List.{AllZip}
 use Rattle.std.specs.Option.{option_to_list, IsSome}
 use Rattle.std.proofs.lemmas.Bool.{cases_lt, cases_eq, le-leb, false≢true}
@@ -11,16 +11,15 @@ use Rattle.std.proofs.lemmas.Grind.{flat_map-append}
 use Rattle.kb_term.specs.First.{IsFirst}
 use Rattle.kb_term.specs.Rule.{Rule}
 use Rattle.kb_term.specs.Signature.{Signature}
-use Rattle.kb_term.proofs.Steps.{contains_cases, contains_behind, contains_first}
+use Rattle.kb_term.proofs.Steps.{contains_cases, contains_first}
 use Rattle.kb_lpo.specs.Precedences.{precedences}
 use Rattle.kb_lpo.proofs.First.{snoc_inj}
-use Rattle.kb_linear.specs.Interpretations.{choices}
 use Rattle.kb_linear.specs.Numbers.{IsLess}
 use Rattle.kb_linear.proofs.Sorted.{IsSorted, IsListLess, AreSorted, sorted_flat_map, sorted_map, sorted_choices, sorted_after, contains_at, contains_map_back, contains_flat_map_back, contains_map, contains_flat_map, choices_from, choices_to}
 use Rattle.kb_kbo.specs.KnuthBendix.{KboOrder}
 use Rattle.kb_kbo.specs.Measures.{order_of}
 use Rattle.kb_kbo.specs.Orders.{KboOrients, weightings, kbo_orders, orders_of, IsFirstKbo, IsLowerBound}
-use Rattle.kb_kbo.specs.Search.{orders_behind, IsWeighed, IsFloor, lowest_of, floor_behind, IsBetween}
+use Rattle.kb_kbo.specs.Search.{orders_behind, IsWeighed, IsFloor, lowest_of, floor_behind}
 use Rattle.kb_kbo.proofs.Placing.{append_nil}
 
 -- so many weights from 1 to 3

@@ -1,12 +1,10 @@
 -- What rules ask of weights and of the precedence.
-use Rattle.std.specs.Prelude.{ℕ, ◌+◌, ◌<◌, ◌≤◌, ◌≡◌, List, [], ◌∷◌, ◌++◌, length, All, Vec, slice_index, slice_get, Some, true}
+use Rattle.std.specs.Prelude.{ℕ, ◌+◌, ◌≤◌, ◌≡◌, List, [], ◌∷◌, ◌++◌, length, All, Vec}
 use Rattle.std.specs.declared.alloc.Global.{Global}
 use Rattle.kb_term.specs.Tree.{Tree}
-use Rattle.kb_term.specs.Rule.{Rule}
 use Rattle.kb_lpo.specs.PathOrder.{IsAbove}
 use Rattle.kb_linear.specs.Forms.{weighted}
 use Rattle.kb_kbo.specs.KnuthBendix.{KboOrder, KboGreater, symbol_weight}
-use Rattle.kb_kbo.specs.Orders.{KboOrients}
 use Rattle.kb_kbo.specs.declared.level.Tally.{Tally}
 use Rattle.kb_kbo.specs.declared.level.Level.{Level}
 use Rattle.kb_kbo.specs.declared.level.Tie.{Tie}

@@ -1,11 +1,9 @@
-use Rattle.std.proofs.Common.{ap, sym, ◌∙◌, ◌≡◌, ◌+◌, arith, map, length, subst, []}
+use Rattle.std.proofs.Common.{sym, ◌≡◌, arith, map, subst, []}
 use Rattle.std.proofs.lemmas.Result.{IfOk-weaker}
 use Rattle.std.proofs.lemmas.List.{length-map}
-use Rattle.kb_term.specs.Tree.{trees_of}
 use Rattle.kb_term.specs.View.{tree_of}
 use Rattle.kb_lpo.proofs.Places.{at_from}
 use Rattle.kb_lpo.proofs.Answering.{form, part_smaller}
-use Rattle.kb_kbo.specs.KnuthBendix.{KboOrder}
 use Rattle.kb_kbo.specs.Asking.{AreAsked, Asks, AsksAtTie}
 use Rattle.kb_kbo.proofs.Compared.{arguments_decide, difference_within, difference_above}
 use Rattle.kb_kbo.proofs.Counts.{argument_measurable}

@@ -1,7 +1,5 @@
-use Rattle.std.proofs.Common.{arith, sym, ap, ◌∙◌, ◌≤◌, subst, length}
+use Rattle.std.proofs.Common.{arith, sym, ◌∙◌, subst}
 use Rattle.std.proofs.lemmas.Bool.{false≢true}
-use Rattle.kb_kbo.specs.KnuthBendix.{KboOrder}
-use Rattle.kb_kbo.specs.Orders.{KboOrients}
 use Rattle.kb_kbo.specs.Asking.{Asks, AreAskedAll}
 use Rattle.kb_kbo.specs.Search.{Fits}
 use Rattle.kb_kbo.proofs.Levels.{rule_asks, table_more}

@@ -6,7 +6,6 @@ use Rattle.std.proofs.lemmas.List.Elements.{All-append}
 use Rattle.std.proofs.lemmas.Result.{IfOk-weaker}
 use Rattle.kb_term.specs.First.{IsFirst}
 use Rattle.kb_lpo.specs.Precedences.{precedences}
-use Rattle.kb_kbo.specs.KnuthBendix.{KboOrder}
 use Rattle.kb_kbo.specs.Measures.{IsWeight, order_of}
 use Rattle.kb_kbo.specs.Orders.{KboOrients}
 use Rattle.kb_kbo.specs.Asking.{AreAskedAll}

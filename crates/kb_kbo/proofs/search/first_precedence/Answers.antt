@@ -1,5 +1,5 @@
-use Rattle.std.proofs.Common.{sym, ◌∙◌, ◌++◌, ap, subst, arith, ◌≡◌, List, ℕ, length, slice_index_or, []}
-use Rattle.std.specs.Prelude.{Some, None, All}
+use Rattle.std.proofs.Common.{sym, ◌∙◌, ◌++◌, ap, subst, arith, List, ℕ, length, slice_index_or}
+use Rattle.std.specs.Prelude.{Some}
 use Rattle.std.proofs.lemmas.Bool.{false≢true}
 use Rattle.kb_term.specs.First.{IsFirst}
 use Rattle.kb_lpo.specs.Precedences.{precedences}

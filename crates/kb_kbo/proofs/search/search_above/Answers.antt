@@ -1,9 +1,9 @@
-use Rattle.std.proofs.Common.{sym, ◌∙◌, [], ap, subst, arith, ◌≡◌, ◌+◌, List, ℕ, length, ◌≤◌}
-use Rattle.std.specs.Prelude.{None, Some, MatchOption}
+use Rattle.std.proofs.Common.{sym, [], ap, subst, arith, ◌≡◌, ◌+◌, List, ℕ, length, ◌≤◌}
+use Rattle.std.specs.Prelude.{None, MatchOption}
 use Rattle.kb_kbo.specs.KnuthBendix.{KboOrder}
 use Rattle.kb_kbo.specs.Orders.{KboOrients}
 use Rattle.kb_kbo.specs.Search.{IsAsked, IsFloor, IsWeighed}
-use Rattle.kb_kbo.proofs.Weighing.{none_first, none_few, whole_weighed}
+use Rattle.kb_kbo.proofs.Weighing.{none_few, whole_weighed}
 use Rattle.kb_kbo.proofs.search.search_above.Goals as goal
 
 pub search-requires-clause-floor : goal.search-requires-clause-floor
