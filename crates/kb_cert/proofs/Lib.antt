@@ -10,3 +10,4 @@ pub mod Different
 pub mod CertLaws
 pub mod FamilyLaws
 pub mod OrderTexts
+pub mod FourSymbols

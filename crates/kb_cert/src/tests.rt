@@ -5,6 +5,7 @@ ghost use Rattle.kb_term.specs.View.{tree_of};
 ghost use Rattle.kb_linear.specs.Limits.{IsMeasurable, AreMeasurable};
 
 use super::*;
+use kb_kbo::Kbo;
 use kb_linear::Interp;
 use kb_lpo::Precedence;
 use kb_term::{Memory, Rule, Signature, Symbol, Term, Terms};
@@ -63,16 +64,58 @@ fn precedence(alloc: Global, first: u8, second: u8) -> Result<Certificate, Memor
     Ok(Certificate::Lpo(Precedence::new(symbols)))
 }
 
-/// The members of the family in their order: two precedences and 64 interpretations.
+/// Weights of f and of g, with a precedence.
+fn weighted(
+    alloc: Global,
+    f: u8,
+    g: u8,
+    first: u8,
+    second: u8,
+) -> Result<Certificate, Memory>
+    requires f_least { 1 ≤ f }
+    requires f_most { f ≤ 15 }
+    requires g_least { 1 ≤ g }
+    requires g_most { g ≤ 15 }
+{
+    let mut weights = Vec::new(alloc);
+    weights.push(f)?;
+    weights.push(g)?;
+    let mut symbols = Vec::new(alloc);
+    symbols.push(Symbol(first))?;
+    symbols.push(Symbol(second))?;
+    Ok(Certificate::Kbo(Kbo::new(weights, Precedence::new(symbols))))
+}
+
+/// The members of the family in their order: two precedences, 64 interpretations and 18 Knuth-Bendix orders.
 fn member(alloc: Global, n: u8) -> Result<Certificate, Memory> {
     match n {
         0 => precedence(alloc, 0, 1),
         1 => precedence(alloc, 1, 0),
-        _ => {
+        2..66 => {
             let m = (n - 2) % 64;
             linear(alloc, m / 16, m / 8 % 2 + 1, m / 2 % 4, m % 2 + 1)
         }
+        _ => {
+            let m = (n - 66) % 18;
+            weighted(alloc, m / 6 + 1, m / 2 % 3 + 1, m % 2, 1 - m % 2)
+        }
     }
+}
+
+/// The signature of f and g with one argument and of h and m with eight.
+fn four_symbols(alloc: Global) -> Result<Signature, Memory>
+    ensures { IfOk result (λ sig. length sig ≡ 4) }
+{
+    let f = letter(alloc, b'f')?;
+    let g = letter(alloc, b'g')?;
+    let h = letter(alloc, b'h')?;
+    let m = letter(alloc, b'm')?;
+    let mut symbols = Vec::new(alloc);
+    symbols.push((f, 1))?;
+    symbols.push((g, 1))?;
+    symbols.push((h, 8))?;
+    symbols.push((m, 8))?;
+    Ok(Signature::new(symbols))
 }
 
 /// One more symbol applied to a term of one variable.
@@ -153,7 +196,7 @@ fn first_of_all(
 ) -> Result<Option<Certificate>, Memory>
     requires { AreMeasurable rules.now }
 {
-    for n in 0..66 {
+    for n in 0..84 {
         let c = member(alloc, n)?;
         if orients(&c, rules) {
             return Ok(Some(c));
@@ -167,6 +210,9 @@ fn is_same(a: &Option<Certificate>, b: &Option<Certificate>) -> bool {
         (None, None) => true,
         (Some(Certificate::Lpo(p)), Some(Certificate::Lpo(q))) => p.symbols() == q.symbols(),
         (Some(Certificate::Linear(i)), Some(Certificate::Linear(j))) => i.rows() == j.rows(),
+        (Some(Certificate::Kbo(p)), Some(Certificate::Kbo(q))) => {
+            p.weights() == q.weights() && p.precedence().symbols() == q.precedence().symbols()
+        }
         (_, _) => false,
     }
 }
@@ -257,6 +303,15 @@ fn an_interpretation_is_found_where_no_precedence_orders(rt: HostRuntime) -> Res
 }
 
 #[test]
+fn weights_come_where_nothing_else_orders(rt: HostRuntime) -> Result<(), Fail> {
+    let alloc = rt.alloc();
+    let sig = four_symbols(alloc)?;
+    let rules = two_rules(alloc, 3, 4, 5, 0)?;
+    assert!(rt; first_text(alloc, &sig, &rules)?.as_slice() == b"KBO 1,1,1,1 f g h m".as_slice());
+    Ok(())
+}
+
+#[test]
 fn no_member_orders_a_growing_rule(rt: HostRuntime) -> Result<(), Fail> {
     let alloc = rt.alloc();
     let sig = two_symbols(alloc)?;
@@ -280,6 +335,7 @@ fn certificates_are_read_from_their_texts_alone(rt: HostRuntime) -> Result<(), F
     let sig = two_symbols(alloc)?;
     assert!(rt; is_read(alloc, &sig, b"LPO g f")?);
     assert!(rt; is_read(alloc, &sig, b"LINEAR 15,3 0,1")?);
+    assert!(rt; is_read(alloc, &sig, b"KBO 15,1 g f")?);
     for line in [
         b"LPO g".as_slice(),
         b"LPO g g",
@@ -290,6 +346,14 @@ fn certificates_are_read_from_their_texts_alone(rt: HostRuntime) -> Result<(), F
         b"LINEAR 16,2 0,2",
         b"LINEAR 1,4 0,2",
         b"LINEAR 1,2,2 0,2",
+        b"KBO 0,1 g f",
+        b"KBO 16,1 g f",
+        b"KBO 1 g f",
+        b"KBO 1,1,1 g f",
+        b"KBO 1,1 g",
+        b"KBO 1,1 g g",
+        b"KBO 1,1  g f",
+        b"KBO",
         b"",
     ] {
         assert!(rt; !is_read(alloc, &sig, line)?);

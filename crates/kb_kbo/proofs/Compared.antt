@@ -1,7 +1,7 @@
 -- What the Knuth-Bendix order asks of two terms, and which case decides.
 use Rattle.std.proofs.Common.{ℕ, zero, suc, ◌≡◌, ◌<◌, ◌≤◌, ◌⊎◌, inl, inr, ⊎_elim, refl, sym, ap, ◌∙◌, subst, subst₂, arith, List, [], ◌∷◌, ◌++◌, length}
-use Rattle.std.proofs.lemmas.Bool.{cases_eq, cases_lt}
-use Rattle.kb_term.specs.Tree.{Tree, Trees, variable, apply, list_of, trees_of, no_trees, more_trees}
+use Rattle.std.proofs.lemmas.Bool.{cases_lt}
+use Rattle.kb_term.specs.Tree.{Tree, Trees, variable, apply, list_of, trees_of}
 use Rattle.kb_lpo.specs.PathOrder.{IsAbove}
 use Rattle.kb_lpo.specs.Agreeing.{At, IsAgreement}
 use Rattle.kb_lpo.proofs.Places.{at_same}

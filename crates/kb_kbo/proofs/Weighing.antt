@@ -1,6 +1,6 @@
 -- The first order, weight by weight.
 use Rattle.std.proofs.Common.{ℕ, zero, suc, ◌≡◌, ◌<◌, ◌≤◌, ◌+◌, ◌++◌, ◌⊎◌, inl, inr, ⊎_elim, List, [], ◌∷◌, length, refl, sym, ap, ◌∙◌, subst, arith, map, flat_map, Bool, true, false, Contains, cond, All, get_or, ◌==◌}
-use Rattle.std.specs.Prelude.{Some, None, Option, replicate, slice_index_or, nat_le, option_map}
+use Rattle.std.specs.Prelude.{Some, None, Option, replicate, slice_index_or, option_map}
 use Rattle.std.specs.List.{AllZip}
 use Rattle.std.specs.Option.{option_to_list, IsSome}
 use Rattle.std.proofs.lemmas.Bool.{cases_lt, cases_eq, le-leb, false≢true}
@@ -11,16 +11,15 @@ use Rattle.std.proofs.lemmas.Grind.{flat_map-append}
 use Rattle.kb_term.specs.First.{IsFirst}
 use Rattle.kb_term.specs.Rule.{Rule}
 use Rattle.kb_term.specs.Signature.{Signature}
-use Rattle.kb_term.proofs.Steps.{contains_cases, contains_behind, contains_first}
+use Rattle.kb_term.proofs.Steps.{contains_cases, contains_first}
 use Rattle.kb_lpo.specs.Precedences.{precedences}
 use Rattle.kb_lpo.proofs.First.{snoc_inj}
-use Rattle.kb_linear.specs.Interpretations.{choices}
 use Rattle.kb_linear.specs.Numbers.{IsLess}
 use Rattle.kb_linear.proofs.Sorted.{IsSorted, IsListLess, AreSorted, sorted_flat_map, sorted_map, sorted_choices, sorted_after, contains_at, contains_map_back, contains_flat_map_back, contains_map, contains_flat_map, choices_from, choices_to}
 use Rattle.kb_kbo.specs.KnuthBendix.{KboOrder}
 use Rattle.kb_kbo.specs.Measures.{order_of}
 use Rattle.kb_kbo.specs.Orders.{KboOrients, weightings, kbo_orders, orders_of, IsFirstKbo, IsLowerBound}
-use Rattle.kb_kbo.specs.Search.{orders_behind, IsWeighed, IsFloor, lowest_of, floor_behind, IsBetween}
+use Rattle.kb_kbo.specs.Search.{orders_behind, IsWeighed, IsFloor, lowest_of, floor_behind}
 use Rattle.kb_kbo.proofs.Placing.{append_nil}
 
 -- so many weights from 1 to 3
@@ -301,6 +300,11 @@ floor_from_bound sig rules start least (before, after, e, n) = record {
 -- the first of all orders
 pub none_first : (sig : Signature) (rules : List Rule) → 8 < length sig → IsFirstKbo sig rules None
 none_first sig rules h = subst (λ os. IsFirst (λ order. KboOrients order rules) os None) (sym (many_orders sig h)) (λ i d l. absurd (omega arith))
+
+pub none_few : (sig : Signature) (rules : List Rule) → length sig ≤ 8 → ((order : KboOrder) → length order.weights ≤ 8 → ¬ KboOrients order rules) → IsFirstKbo sig rules None
+none_few sig rules l h =
+    subst (λ os. IsFirst (λ order. KboOrients order rules) os None) (sym (few_orders sig l))
+    (none_behind rules (length sig) (length sig) [] (λ w p c q o. h (order_of w p) (let e = chosen_length (length sig) w c in omega arith) o))
 
 pub whole_weighed : (sig : Signature) (rules : List Rule) (k left : ℕ) (empty now : List ℕ) (found : Option (List ℕ)) → length sig ≤ 8 → k ≡ length sig → left ≡ length sig → empty ≡ [] → IsWeighed rules k left empty now found → IsFirstKbo sig rules (option_map (λ p. order_of now p) found)
 whole_weighed sig rules k left empty now found h e d n s =

@@ -1,12 +1,10 @@
 -- What rules ask of weights and of the precedence.
-use Rattle.std.specs.Prelude.{ℕ, ◌+◌, ◌<◌, ◌≤◌, ◌≡◌, List, [], ◌∷◌, ◌++◌, length, All, Vec, slice_index, slice_get, Some, true}
+use Rattle.std.specs.Prelude.{ℕ, ◌+◌, ◌≤◌, ◌≡◌, List, [], ◌∷◌, ◌++◌, length, All, Vec}
 use Rattle.std.specs.declared.alloc.Global.{Global}
 use Rattle.kb_term.specs.Tree.{Tree}
-use Rattle.kb_term.specs.Rule.{Rule}
 use Rattle.kb_lpo.specs.PathOrder.{IsAbove}
 use Rattle.kb_linear.specs.Forms.{weighted}
 use Rattle.kb_kbo.specs.KnuthBendix.{KboOrder, KboGreater, symbol_weight}
-use Rattle.kb_kbo.specs.Orders.{KboOrients}
 use Rattle.kb_kbo.specs.declared.level.Tally.{Tally}
 use Rattle.kb_kbo.specs.declared.level.Level.{Level}
 use Rattle.kb_kbo.specs.declared.level.Tie.{Tie}
@@ -36,7 +34,3 @@ AreAsked old new s t = (more : List Level) × (new ≡ old ++ more) × ((order :
 -- what all lists of comparisons ask
 abbrev pub AreAskedAll : KboOrder → List (Vec Level Global) → Type 0
 AreAskedAll order table = All (λ (levels : Vec Level Global). Asks order levels.items) table
-
--- an order of at most 8 weights that orients the rules is asked for nothing else by the table
-abbrev pub IsTable : List Rule → List (Vec Level Global) → Type 0
-IsTable rules table = (order : KboOrder) → length order.weights ≤ 8 → KboOrients order rules → AreAskedAll order table

@@ -1,5 +1,5 @@
 -- Laws of the Knuth-Bendix order.
-use Rattle.std.specs.Prelude.{ℕ, ◌≤◌, ◌<◌, ◌≡◌, List, length, All, Contains}
+use Rattle.std.specs.Prelude.{◌≤◌, ◌<◌, List, length, All, Contains}
 use Rattle.kb_term.specs.Tree.{Tree, variables_of}
 use Rattle.kb_term.specs.Rule.{Rule, IsRule}
 use Rattle.kb_term.specs.Signature.{Signature, IsWellFormed, IsRuleOver}

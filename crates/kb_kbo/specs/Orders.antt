@@ -1,5 +1,5 @@
 -- The Knuth-Bendix orders that are tried, and the first one that orients given rules.
-use Rattle.std.specs.Prelude.{ℕ, ◌≤◌, cond, nat_le, List, [], ◌∷◌, ◌++◌, ◌≡◌, map, length, replicate, All, Contains}
+use Rattle.std.specs.Prelude.{ℕ, cond, nat_le, List, [], ◌∷◌, ◌++◌, ◌≡◌, map, length, replicate, All}
 use Rattle.std.specs.List.{flat_map}
 use Rattle.kb_term.specs.Rule.{Rule}
 use Rattle.kb_term.specs.Signature.{Signature}
@@ -7,7 +7,7 @@ use Rattle.kb_term.specs.First.{IsFirst}
 use Rattle.kb_lpo.specs.Precedences.{precedences}
 use Rattle.kb_linear.specs.Interpretations.{choices}
 use Rattle.kb_kbo.specs.KnuthBendix.{KboOrder, KboGreater}
-use Rattle.std.specs.Prelude.{Option, Some, None}
+use Rattle.std.specs.Prelude.{Option}
 
 -- all weights from 1 to 3 of k symbols, in lexicographic order
 abbrev pub weightings : ℕ → List (List ℕ)

@@ -1,5 +1,5 @@
 -- The search for an order: what is known of it, and what is found.
-use Rattle.std.specs.Prelude.{ℕ, ◌<◌, ◌≤◌, ◌+◌, ◌*◌, ◌≡◌, ◌++◌, ◌∷◌, [], cond, ◌==◌, List, Bool, true, false, slice_get, slice_index, Option, Some, None, map, Contains, All}
+use Rattle.std.specs.Prelude.{ℕ, ◌<◌, ◌≤◌, ◌+◌, ◌*◌, ◌≡◌, ◌++◌, ◌∷◌, [], cond, ◌==◌, List, Bool, true, false, slice_get, slice_index, length, Option, Some, None, map, Contains, All}
 use Rattle.std.specs.List.{flat_map}
 use Rattle.kb_term.specs.Rule.{Rule}
 use Rattle.kb_term.specs.First.{IsFirst}
@@ -11,6 +11,8 @@ use Rattle.kb_kbo.specs.KnuthBendix.{KboOrder, symbol_weight}
 use Rattle.kb_kbo.specs.Measures.{order_of}
 use Rattle.kb_kbo.specs.Orders.{KboOrients, weightings}
 use Rattle.kb_kbo.specs.declared.known.Known.{Known}
+use Rattle.kb_kbo.specs.Asking.{AreAskedAll}
+use Rattle.kb_kbo.specs.declared.needs.Asked.{Asked}
 use Rattle.kb_kbo.specs.declared.needs.Demand.{Demand}
 use Rattle.kb_kbo.specs.declared.needs.Demand.TheVariants.{Nothing, Above, Refused}
 
@@ -27,6 +29,10 @@ abbrev pub IsMet : KboOrder → Demand → Type 0
 IsMet order Nothing = Unit {0}
 IsMet order (Above f g) = IsAbove order.precedence f.0 g.0
 IsMet order Refused = ⊥
+
+-- an order of at most 8 weights that orients the rules has what is known, and meets the comparisons
+abbrev pub IsAsked : List Rule → Asked → Type 0
+IsAsked rules asked = (order : KboOrder) → length order.weights ≤ 8 → KboOrients order rules → AreAskedAll order asked.table.items × Fits asked.known order.precedence
 
 -- found: the prefix now ends in the first arrangement of the symbols outside of which Q holds; not found: it is as before, and Q holds of none
 abbrev pub IsPlaced : (List ℕ → Type 0) → ℕ → ℕ → List ℕ → List ℕ → Bool → Type 0

@@ -1,16 +1,15 @@
 // What a rule asks of weights and precedence, read off its sides once: a list of comparisons, one for each level of the
 // lexicographic comparison.
-ghost use Rattle.std.specs.Prelude.{ℕ, List, ◌≡◌, ◌+◌, ◌*◌, ◌<◌, ◌≤◌, All, IfOk, length, slice_index};
+ghost use Rattle.std.specs.Prelude.{ℕ, IsTrue, List, ◌≡◌, ◌+◌, ◌*◌, ◌<◌, ◌≤◌, IfOk, length, slice_index};
 ghost use Rattle.kb_term.specs.Tree.{tree_size};
 ghost use Rattle.kb_term.specs.View.{tree_of};
-ghost use Rattle.kb_linear.specs.Limits.{IsMeasurable, AreMeasurable};
+ghost use Rattle.kb_linear.specs.Limits.{IsMeasurable};
 ghost use Rattle.kb_kbo.specs.KnuthBendix.{KboOrder, weight, symbol_weight};
-ghost use Rattle.kb_kbo.specs.Asking.{value_of, AreAsked, IsTable};
+ghost use Rattle.kb_kbo.specs.Asking.{value_of, AreAsked};
 ghost use Rattle.kb_kbo.specs.declared.level.Tie.{Tie};
 
 use crate::order::{agreement, holds_variables};
-use kb_term::{Memory, Rule, Symbol, Term};
-use std::alloc::Global;
+use kb_term::{Memory, Symbol, Term};
 
 /// How many symbols a signature may have for orders to be tried.
 pub(crate) const MAX_SYMBOLS: usize = 8;
@@ -111,6 +110,21 @@ impl Level {
         Level { left, right, tie }
     }
 
+    /// Whether both sides weigh the same with all weights.
+    pub(crate) fn is_even(&self) -> bool
+        ensures { IsTrue result → (a : ℕ → ℕ) → value_of self.now.left a ≡ value_of self.now.right a }
+    {
+        if self.left.rest != self.right.rest {
+            return false;
+        }
+        for f in 0..8 {
+            if self.left.symbols[f] != self.right.symbols[f] {
+                return false;
+            }
+        }
+        true
+    }
+
     /// A comparison that no order meets.
     fn refused() -> Level
         ensures weights { (a : ℕ → ℕ) → value_of result.left a ≡ value_of result.right a }
@@ -124,8 +138,8 @@ impl Level {
     }
 }
 
-/// Adds the comparisons that decide whether `s` is above `t`.
-fn push_levels(levels: &mut Vec<Level>, s: &Term, t: &Term) -> Result<(), Memory>
+/// Adds the comparisons that decide whether `s` is above `t`; one that always leaves the decision to the next is left out.
+pub(crate) fn push_levels(levels: &mut Vec<Level>, s: &Term, t: &Term) -> Result<(), Memory>
     requires left { IsMeasurable (tree_of s.now) }
     requires right { IsMeasurable (tree_of t.now) }
     ensures { IfOk result (λ _. AreAsked levels.old.items levels.new.items (tree_of s.now) (tree_of t.now)) }
@@ -144,7 +158,11 @@ fn push_levels(levels: &mut Vec<Level>, s: &Term, t: &Term) -> Result<(), Memory
             let ts = back.items();
             let n = agreement(ss, ts);
             if n < ss.len() && n < ts.len() {
-                levels.push(Level::new(s, t, Tie::Next))?;
+                let level = Level::new(s, t, Tie::Next);
+                if level.is_even() {
+                    return push_levels(levels, &ss[n], &ts[n]);
+                }
+                levels.push(level)?;
                 return push_levels(levels, &ss[n], &ts[n]);
             }
             levels.push(Level::new(s, t, Tie::Refused))?;
@@ -155,18 +173,4 @@ fn push_levels(levels: &mut Vec<Level>, s: &Term, t: &Term) -> Result<(), Memory
             Ok(())
         }
     }
-}
-
-/// For each rule the comparisons that decide whether it is oriented.
-pub(crate) fn table_of(alloc: Global, rules: &[Rule]) -> Result<Vec<Vec<Level>>, Memory>
-    requires { AreMeasurable rules.now }
-    ensures { IfOk result (λ table. IsTable rules.now table.items) }
-{
-    let mut table = Vec::with_capacity(alloc, rules.len())?;
-    for rule in rules {
-        let mut levels = Vec::new(alloc);
-        push_levels(&mut levels, rule.left(), rule.right())?;
-        table.push(levels)?;
-    }
-    Ok(table)
 }

@@ -5,13 +5,12 @@ ghost use Rattle.kb_lpo.specs.Precedences.{precedences};
 ghost use Rattle.kb_linear.specs.Limits.{AreMeasurable};
 ghost use Rattle.kb_kbo.specs.Measures.{IsWeight, numbers, order_of};
 ghost use Rattle.kb_kbo.specs.Orders.{KboOrients, IsFirstKbo, IsLowerBound};
-ghost use Rattle.kb_kbo.specs.Asking.{IsTable};
-ghost use Rattle.kb_kbo.specs.Search.{Fits, IsPlaced, IsWeighed, IsFloor, lowest_of, floor_behind};
+ghost use Rattle.kb_kbo.specs.Search.{Fits, IsAsked, IsPlaced, IsWeighed, IsFloor, lowest_of, floor_behind};
 
 use crate::kbo::{Kbo, MIN_WEIGHT};
 use crate::known::Known;
-use crate::level::{Level, MAX_SYMBOLS, table_of};
-use crate::needs::{gather, may_orient};
+use crate::level::MAX_SYMBOLS;
+use crate::needs::{Asked, asked_of, gather, may_orient};
 use crate::order::greater;
 use kb_lpo::Precedence;
 use kb_term::{Memory, Rule, Signature, Symbol};
@@ -109,18 +108,18 @@ fn filled(weights: &[u8], value: u8) -> [u8; 8]
 /// The first precedence with which these weights orient all rules.
 fn first_precedence(
     alloc: Global,
-    table: &[Vec<Level>],
+    asked: &Asked,
     rules: &[Rule],
     weights: &[u8],
 ) -> Result<Option<Precedence>, Memory>
     requires few { length weights.now ≤ 8 }
     requires weights { All IsWeight weights.now }
     requires measurable { AreMeasurable rules.now }
-    requires table { IsTable rules.now table.now }
+    requires asked { IsAsked rules.now asked.now }
     ensures { IfOk result (λ found. IsFirst (λ p. KboOrients (order_of weights.now p) rules.now) (precedences (length weights.now)) found) }
 {
-    let mut known = Known::new();
-    if !gather(table, &filled(weights, MIN_WEIGHT), &mut known) {
+    let mut known = asked.known;
+    if !gather(&asked.table, &filled(weights, MIN_WEIGHT), &mut known) {
         return Ok(None);
     }
     let mut symbols = Vec::new(alloc);
@@ -164,7 +163,7 @@ fn behind(floor: &[u8], weight: u8) -> &[u8]
 /// Puts so many more weights behind those that are given, as in the first order that orients all rules, and answers its
 /// precedence. No order with weights before the floor does, so the search begins there.
 fn search(
-    table: &[Vec<Level>],
+    asked: &Asked,
     rules: &[Rule],
     weights: &mut Vec<u8>,
     left: usize,
@@ -173,24 +172,24 @@ fn search(
     requires few { length weights.old.items + left ≤ 8 }
     requires weights { All IsWeight weights.old.items }
     requires measurable { AreMeasurable rules.now }
-    requires table { IsTable rules.now table.now }
+    requires asked { IsAsked rules.now asked.now }
     requires floor { IsFloor rules.now (length weights.old.items + left) left weights.old.items floor.now }
     ensures found { IfOk result (IsWeighed rules.now (length weights.old.items + left) left weights.old.items weights.new.items) }
     ensures weights { IfOk result (λ _. All IsWeight weights.new.items) }
 {
     if !may_orient(
-        table,
+        &asked.table,
         &filled(weights, MIN_WEIGHT),
         &filled(weights, TOP_WEIGHT),
     ) {
         return Ok(None);
     }
     if left == 0 {
-        return first_precedence(*weights.allocator(), table, rules, weights);
+        return first_precedence(*weights.allocator(), asked, rules, weights);
     }
     for weight in lowest(floor)..TOP_WEIGHT + 1 {
         weights.push(weight)?;
-        if let Some(found) = search(table, rules, weights, left - 1, behind(floor, weight))? {
+        if let Some(found) = search(asked, rules, weights, left - 1, behind(floor, weight))? {
             return Ok(Some(found));
         }
         weights.pop();
@@ -213,9 +212,11 @@ fn search_above(
     if count > MAX_SYMBOLS {
         return Ok(None);
     }
-    let table = table_of(alloc, rules)?;
+    let Some(asked) = asked_of(alloc, rules)? else {
+        return Ok(None);
+    };
     let mut weights = Vec::with_capacity(alloc, count)?;
-    match search(&table, rules, &mut weights, count, floor)? {
+    match search(&asked, rules, &mut weights, count, floor)? {
         Some(precedence) => Ok(Some(Kbo::new(weights, precedence))),
         None => Ok(None),
     }

@@ -1,9 +1,8 @@
-use Rattle.std.proofs.Common.{arith, ap, ◌≡◌, ◌<◌, ℕ, drop, subst, All, ◌+◌}
+use Rattle.std.proofs.Common.{arith, ap, ◌≡◌, ◌<◌, drop, subst, All, ◌+◌}
 use Rattle.kb_term.specs.Tree.{apply, tree_size, trees_of, trees_size, variables_of, variables_in}
 use Rattle.kb_term.specs.View.{tree_of}
 use Rattle.std.specs.Prelude.{map}
 use Rattle.kb_linear.proofs.Values.{application, argument_smaller, terms_more}
-use Rattle.kb_kbo.specs.KnuthBendix.{occurrences}
 use Rattle.kb_kbo.proofs.Counts.{all_first, all_rest, counted_first, occurrences-size}
 use Rattle.kb_kbo.proofs.order.+count_variables.Goals as goal
 

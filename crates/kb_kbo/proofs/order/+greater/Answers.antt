@@ -1,7 +1,7 @@
-use Rattle.std.proofs.Common.{ap, sym, ◌∙◌, ◌≡◌, ◌+◌, arith, map, length, subst, inl, inr}
+use Rattle.std.proofs.Common.{ap, ◌≡◌, arith, map, inl, inr}
 use Rattle.std.proofs.lemmas.Bool.{false≢true}
 use Rattle.std.proofs.lemmas.List.{length-map}
-use Rattle.kb_term.specs.Tree.{trees_of, tree_size, apply}
+use Rattle.kb_term.specs.Tree.{trees_of}
 use Rattle.kb_term.specs.View.{tree_of}
 use Rattle.kb_lpo.proofs.Places.{at_from}
 use Rattle.kb_lpo.proofs.Answering.{answers, fails, form, holds, no, part_smaller, yes}

@@ -1,5 +1,5 @@
 use Rattle.std.proofs.Common.{arith, ap, ◌≡◌}
-use Rattle.kb_term.specs.Tree.{apply, tree_size, trees_of, trees_size}
+use Rattle.kb_term.specs.Tree.{apply, tree_size, trees_of}
 use Rattle.kb_term.specs.View.{tree_of}
 use Rattle.std.specs.Prelude.{map}
 use Rattle.kb_linear.proofs.Values.{application, argument_smaller}

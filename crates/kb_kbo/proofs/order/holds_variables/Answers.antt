@@ -1,8 +1,7 @@
 use Rattle.std.proofs.Common.{arith}
-use Rattle.kb_term.specs.Tree.{variables_of}
 use Rattle.kb_term.specs.View.{tree_of}
 use Rattle.kb_kbo.proofs.Counts.{holds_below}
-use Rattle.kb_lpo.proofs.Answering.{holds, fails}
+use Rattle.kb_lpo.proofs.Answering.{holds}
 use Rattle.kb_kbo.proofs.order.holds_variables.Goals as goal
 
 pub count_variables-requires-clause-room : goal.count_variables-requires-clause-room

@@ -1,4 +1,4 @@
-use Rattle.std.proofs.Common.{map, ◌≤◌}
+use Rattle.std.proofs.Common.{◌≤◌}
 use Rattle.kb_term.specs.Pair.{place_in}
 use Rattle.kb_kbo.specs.Measures.{numbers}
 use Rattle.kb_kbo.proofs.order.is_above.Given as goal

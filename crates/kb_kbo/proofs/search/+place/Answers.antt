@@ -1,9 +1,8 @@
-use Rattle.std.proofs.Common.{sym, ◌∙◌, ◌++◌, ◌∷◌, [], ap, subst, arith, ◌≡◌, suc, ◌-◌, Contains, refl, List, ℕ, length}
+use Rattle.std.proofs.Common.{sym, ◌∙◌, ◌++◌, ◌∷◌, [], ap, subst, arith, ◌≡◌, suc, ◌-◌, Contains, List, ℕ, length}
 use Rattle.std.specs.Prelude.{None}
 use Rattle.kb_lpo.specs.Precedences.{arrangements}
 use Rattle.kb_term.specs.First.{IsFirst}
 use Rattle.std.proofs.lemmas.Bool.{false≢true}
-use Rattle.std.proofs.lemmas.List.{append_assoc}
 use Rattle.kb_lpo.specs.Search.{outside}
 use Rattle.kb_lpo.proofs.First.{numbers_push, listed_or_not, popped, tried}
 use Rattle.kb_kbo.specs.Measures.{numbers, order_of}

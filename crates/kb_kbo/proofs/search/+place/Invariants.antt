@@ -1,4 +1,4 @@
-use Rattle.std.proofs.Common.{List, ℕ, ◌≡◌, ◌++◌, ◌-◌, length}
+use Rattle.std.proofs.Common.{◌≡◌, ◌++◌, ◌-◌, length}
 use Rattle.kb_term.specs.First.{IsFirst}
 use Rattle.std.specs.Prelude.{None}
 use Rattle.kb_lpo.proofs.First.{tried}

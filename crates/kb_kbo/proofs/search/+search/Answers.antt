@@ -6,9 +6,9 @@ use Rattle.std.proofs.lemmas.List.Elements.{All-append}
 use Rattle.std.proofs.lemmas.Result.{IfOk-weaker}
 use Rattle.kb_term.specs.First.{IsFirst}
 use Rattle.kb_lpo.specs.Precedences.{precedences}
-use Rattle.kb_kbo.specs.KnuthBendix.{KboOrder}
 use Rattle.kb_kbo.specs.Measures.{IsWeight, order_of}
 use Rattle.kb_kbo.specs.Orders.{KboOrients}
+use Rattle.kb_kbo.specs.Asking.{AreAskedAll}
 use Rattle.kb_kbo.specs.Search.{IsBetween, IsWeighed, orders_behind}
 use Rattle.kb_kbo.proofs.Weighing.{NoneBelow, all_one, chosen_between, chosen_length, floor_next, leaf_weighed, lowest_least, none_behind, none_lowest, none_more, none_weighed, popped, some_weighed}
 use Rattle.kb_kbo.proofs.search.+search.Goals as goal
@@ -21,10 +21,10 @@ returns-then-not-may_orient-clause-found t c =
         let len : length (ws ++ w) ≤ 8 = omega (arith, length-append ws w, chosen_length c.args.left w ch, c.requires.few) in
         let b : IsBetween order c.filled.result c.filled-2.result = λ f h.
         let e = chosen_between ws c.args.left w f ch in
-        let l = ap (λ z. slice_index_or z f 1) c.deref.ensures.value in
-        let m = ap (λ z. slice_index_or z f 3) c.deref-2.ensures.value in
+        let l = ap (λ z. slice_index_or z f 1) c.deref-2.ensures.value in
+        let m = ap (λ z. slice_index_or z f 3) c.deref-3.ensures.value in
         (omega (arith, e, l, c.filled.ensures f h), omega (arith, e, m, c.filled-2.ensures f h)) in
-        false≢true (sym c.if-not-may_orient.true ∙ c.may_orient.ensures order b (c.requires.table order len o))))
+        false≢true (sym c.if-not-may_orient.true ∙ c.may_orient.ensures order b (subst (AreAskedAll order) (sym c.deref.ensures.value) (c.requires.asked order len o).0))))
 
 pub returns-then-left-eq0-clause-found : goal.returns-then-left-eq0-clause-found
 returns-then-left-eq0-clause-found t c =
@@ -60,7 +60,7 @@ search-requires t c =
       (omega (arith, count, c.requires.few),
       (subst (All IsWeight) (sym pushed) (All-append IsWeight ws (v ∷ []) c.requires.weights (all_one IsWeight v (c.loop-weight.invariant.least, omega (arith, c.loop-weight-test.true)))),
       (c.requires.measurable,
-      (c.requires.table,
+      (c.requires.asked,
       floor_next c.args.rules.now (length ws + c.args.left) (length c.push.new.self.items + (c.args.left - 1)) (c.args.left - 1) c.args.left v ws c.push.new.self.items c.args.floor.now c.behind.result.now n count pushed c.loop-weight.invariant.least (omega (arith, c.loop-weight-test.true)) c.behind.ensures c.requires.floor)))),
     )
 

@@ -1,8 +1,8 @@
-use Rattle.std.proofs.Common.{arith, ap, ◌≡◌, ◌+◌, map, drop, [], ◌≤◌, ◌<◌, ℕ}
+use Rattle.std.proofs.Common.{arith, ap, ◌≡◌, ◌+◌, map, []}
 use Rattle.kb_term.specs.Tree.{apply, tree_size, trees_of, trees_size}
 use Rattle.kb_term.specs.View.{tree_of}
 use Rattle.kb_linear.proofs.Values.{application, argument_smaller, terms_more}
-use Rattle.kb_kbo.specs.KnuthBendix.{KboOrder, weight, weight_in, symbol_weight}
+use Rattle.kb_kbo.specs.KnuthBendix.{weight, weight_in, symbol_weight}
 use Rattle.kb_kbo.specs.Measures.{order_of}
 use Rattle.kb_kbo.specs.Asking.{value_of}
 use Rattle.kb_kbo.proofs.Levels.{weight_plain}

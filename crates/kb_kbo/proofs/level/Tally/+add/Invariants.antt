@@ -1,4 +1,4 @@
-use Rattle.std.proofs.Common.{ℕ, ◌≡◌, ◌+◌, ◌≤◌, length, drop, map}
+use Rattle.std.proofs.Common.{◌≡◌, ◌+◌, ◌≤◌, length, drop, map}
 use Rattle.kb_term.specs.Tree.{tree_size, trees_size, trees_of}
 use Rattle.kb_term.specs.View.{tree_of}
 use Rattle.kb_kbo.specs.KnuthBendix.{KboOrder, weight, weight_in, symbol_weight}

@@ -1,4 +1,4 @@
-use Rattle.std.proofs.Common.{arith, ap, ◌≡◌, ◌+◌, ℕ, drop, get_or, []}
+use Rattle.std.proofs.Common.{arith, ap, ◌≡◌, ◌+◌, drop, get_or, []}
 use Rattle.kb_linear.specs.Forms.{weighted}
 use Rattle.kb_linear.proofs.Values.{numbers_end}
 use Rattle.kb_kbo.proofs.Levels.{weighted_le}

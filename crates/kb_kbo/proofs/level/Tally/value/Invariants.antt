@@ -1,4 +1,4 @@
-use Rattle.std.proofs.Common.{ℕ, ◌≡◌, ◌+◌, ◌*◌, ◌≤◌, drop, get_or}
+use Rattle.std.proofs.Common.{◌≡◌, ◌+◌, ◌*◌, ◌≤◌, drop, get_or}
 use Rattle.kb_linear.specs.Forms.{weighted}
 use Rattle.kb_kbo.specs.Asking.{value_of}
 use Rattle.kb_kbo.proofs.level.Tally.value.Given as goal
