@@ -1,5 +1,6 @@
 // Worked texts, and their alterations.
 use super::*;
+use kb_checker::{Checked, Reject, check};
 use kb_label::{Process, Reason, Verdict};
 use kb_text::TextFault;
 use std::alloc::Global;
@@ -12,6 +13,15 @@ const SQUARE: &[u8] =
 
 const TWO: &[u8] =
     b"MKBTT 1\nSYMBOLS f/1 a/0 b/0 c/0\nEQUATIONS 2\nf(a) = b\nf(a) = c\nRULES 2\nf(a) -> c : 2\nb -> c : 3\nORDER LPO f a b c\nTRACE 3\n1 input 1 : f(a) = b\n2 input 2 : f(a) = c\n3 rewrite 2 side 0 at e by 1 dir 0 : b = c\nEND\n";
+
+// No precedence orders f(g(x)) -> g(f(x)) and g(g(x)) -> f(x), and no interpretation that is tried orders all three rules:
+// the third one asks that f multiplies by 1, and the first that it doesn't.
+const WEIGHED: &[u8] =
+    b"MKBTT 1\nSYMBOLS f/1 g/1 k/1\nEQUATIONS 3\nf(g(x1)) = g(f(x1))\ng(g(x1)) = f(x1)\nk(x1) = f(f(x1))\nRULES 3\nf(g(x1)) -> g(f(x1)) : 1\ng(g(x1)) -> f(x1) : 2\nk(x1) -> f(f(x1)) : 3\nORDER KBO 1,1,3 f g k\nTRACE 3\n1 input 1 : f(g(x1)) = g(f(x1))\n2 input 2 : f(x1) = g(g(x1))\n3 input 3 : f(f(x1)) = k(x1)\nEND\n";
+
+// The same, with weights by which the third rule doesn't descend.
+const TOO_LIGHT: &[u8] =
+    b"MKBTT 1\nSYMBOLS f/1 g/1 k/1\nEQUATIONS 3\nf(g(x1)) = g(f(x1))\ng(g(x1)) = f(x1)\nk(x1) = f(f(x1))\nRULES 3\nf(g(x1)) -> g(f(x1)) : 1\ng(g(x1)) -> f(x1) : 2\nk(x1) -> f(f(x1)) : 3\nORDER KBO 1,1,1 f g k\nTRACE 3\n1 input 1 : f(g(x1)) = g(f(x1))\n2 input 2 : f(x1) = g(g(x1))\n3 input 3 : f(f(x1)) = k(x1)\nEND\n";
 
 /// The text with other bytes in place of those from the place to the next line feed.
 fn altered(alloc: Global, rt: &impl Abort, number: usize, line: &[u8]) -> Vec<u8> {
@@ -61,6 +71,35 @@ fn worked_texts_come_back(rt: HostRuntime) {
     assert!(rt; comes_back(alloc, &rt, EMPTY));
     assert!(rt; comes_back(alloc, &rt, SQUARE));
     assert!(rt; comes_back(alloc, &rt, TWO));
+    assert!(rt; comes_back(alloc, &rt, WEIGHED));
+}
+
+/// What the checker says of the text.
+fn verdict(alloc: Global, rt: &impl Abort, text: &[u8]) -> Checked {
+    let answer = read_answer(alloc, text).expect(rt, "read");
+    check(alloc, &answer).expect(rt, "memory")
+}
+
+#[test]
+fn an_answer_ordered_by_weights_alone_is_accepted(rt: HostRuntime) {
+    let alloc = rt.alloc();
+    assert!(rt; matches!(verdict(alloc, &rt, WEIGHED), Checked::Accepted));
+    assert!(rt;
+        matches!(
+            verdict(alloc, &rt, TOO_LIGHT),
+            Checked::Rejected(Reject::NotOriented, 3)
+        )
+    );
+}
+
+#[test]
+fn an_order_line_has_a_weight_and_a_name_for_each_symbol(rt: HostRuntime) {
+    let alloc = rt.alloc();
+    assert!(rt; bad_at(alloc, &rt, 8, b"ORDER KBO 1,15 f a\n") == 0);
+    assert!(rt; bad_at(alloc, &rt, 8, b"ORDER KBO 0,1 f a\n") == 8);
+    assert!(rt; bad_at(alloc, &rt, 8, b"ORDER KBO 1,16 f a\n") == 8);
+    assert!(rt; bad_at(alloc, &rt, 8, b"ORDER KBO 1,1 f\n") == 8);
+    assert!(rt; bad_at(alloc, &rt, 8, b"ORDER KBO 1,1,1 f a\n") == 8);
 }
 
 #[test]

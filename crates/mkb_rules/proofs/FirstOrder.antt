@@ -1,8 +1,6 @@
 -- The first member of a list that has a property which all have.
-use Rattle.std.proofs.Common.{ℕ, zero, ◌≡◌, ◌<◌, List, [], ◌∷◌, ◌++◌, length, take, Option, Some, None, refl, ap, sym, ◌∙◌, arith}
+use Rattle.std.proofs.Common.{◌≡◌, List, [], ◌∷◌, ◌++◌, take, Some, None, refl, ap, ◌∙◌, arith}
 use Rattle.std.specs.Prelude.{All}
-use Rattle.kb_term.specs.First.{IsFirst}
-use Rattle.kb_term.specs.Rule.{Rule}
 use Rattle.kb_term.specs.Signature.{Signature}
 use Rattle.kb_cert.proofs.Ordering.{nothing_ordered}
 use Rattle.kb_cert.specs.Family.{family, Orders, IsFirstOrder}
