@@ -1,4 +1,4 @@
-use Rattle.std.proofs.Common.{refl, sym, ◌∙◌, ◌++◌, ◌∷◌}
+use Rattle.std.proofs.Common.{sym, ◌∙◌, ◌++◌, ◌∷◌}
 use Rattle.std.proofs.lemmas.Bool.{false≢true}
 use Rattle.kb_lpo.specs.Search.{numbers}
 use Rattle.kb_lpo.proofs.First.{above_rest}
