@@ -8,6 +8,7 @@ pub mod Arities
 mod LpoHalting
 pub mod PathOrderLaws
 pub mod Places
+mod Symbols
 mod Exact
 mod Cases
 pub mod Answering

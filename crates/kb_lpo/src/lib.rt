@@ -6,6 +6,7 @@ mod laws;
 mod needs;
 mod open;
 mod order;
+mod possible;
 mod precedence;
 mod search;
 

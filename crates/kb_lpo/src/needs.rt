@@ -9,6 +9,7 @@ ghost use Rattle.kb_lpo.specs.Search.{Fits};
 
 use crate::known::{Known, either};
 use crate::order::{agreement, is_same, occurs};
+use crate::possible::possible;
 use kb_term::{Symbol, Term};
 
 /// Whether a way asks for no more than is known.
@@ -86,13 +87,25 @@ fn force_witness(known: &Known, ss: &[Term], from: usize, t: &Term, fuel: &mut u
         if is_same(&ss[k], t) {
             return Some(*known);
         }
-        let here = force(known, &ss[k], t, fuel);
+        let here = force_possible(known, &ss[k], t, fuel);
         if adds_nothing(&here, known) {
             return Some(*known);
         }
         shared = either(shared, here);
     }
     shared
+}
+
+/// What is known where `s` is above `t`, which is asked in fewer steps first.
+#[cycle(force)]
+fn force_possible(known: &Known, s: &Term, t: &Term, fuel: &mut u32) -> Option<Known>
+    ensures { (prec : List ℕ) → Fits known.now prec → LpoGreater prec (tree_of s.now) (tree_of t.now) → IsSomeAnd result (λ more. Fits more prec) }
+{
+    if possible(known, s, t) {
+        force(known, s, t, fuel)
+    } else {
+        None
+    }
 }
 
 /// What is known where `f` is above `g` and `s` above each of the terms.

@@ -1,6 +1,6 @@
 // The lexicographic path order under a given precedence.
 ghost use Rattle.std.specs.Prelude.{◌≡◌, ◌↔◌, IsTrue, map, Contains, ◌+◌, ◌<◌, ◌≤◌, length};
-ghost use Rattle.kb_term.specs.Tree.{variables_of};
+ghost use Rattle.kb_term.specs.Tree.{variables_of, symbols_of};
 ghost use Rattle.kb_term.specs.View.{tree_of};
 ghost use Rattle.kb_lpo.specs.PathOrder.{LpoGreater, IsAbove};
 ghost use Rattle.kb_term.specs.declared.term.Symbol.{Symbol};
@@ -21,6 +21,27 @@ pub(crate) fn occurs(t: &Term, x: u16) -> bool
             let items = arguments.items();
             for i in 0..items.len() {
                 if occurs(&items[i], x) {
+                    return true;
+                }
+            }
+            false
+        }
+    }
+}
+
+/// Whether the symbol stands in the term.
+pub(crate) fn has_symbol(t: &Term, f: Symbol) -> bool
+    ensures { IsTrue result ↔ Contains (symbols_of (tree_of t.now)) f.0 }
+{
+    match t {
+        Term::Var(_) => false,
+        Term::App(g, arguments) => {
+            if *g == f {
+                return true;
+            }
+            let items = arguments.items();
+            for i in 0..items.len() {
+                if has_symbol(&items[i], f) {
                     return true;
                 }
             }

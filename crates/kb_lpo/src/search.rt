@@ -11,7 +11,8 @@ ghost use Rattle.kb_lpo.specs.Precedences.{IsLowerBound, LpoOrients};
 use crate::known::Known;
 use crate::needs::force;
 use crate::open::open_pair;
-use crate::order::greater;
+use crate::order::{greater, has_symbol};
+use crate::possible::possible;
 use crate::precedence::Precedence;
 use kb_term::{Memory, Rule, Signature, Symbol};
 use std::alloc::Global;
@@ -19,6 +20,9 @@ use std::alloc::Global;
 /// The steps that a search takes to find what one rule needs before it leaves the rest of it open. Rules that are compared
 /// in more steps have hundreds of ways to be oriented.
 const FUEL: u32 = 1000;
+
+/// The same on the first way through the rules, after which most sets have an answer.
+const FIRST_FUEL: u32 = 30;
 
 /// How many pairs of symbols are decided one after the other at the most: as many as 24 symbols have.
 const PAIRS: u32 = 276;
@@ -35,15 +39,30 @@ fn orients(symbols: &[Symbol], rules: &[Rule]) -> bool
     true
 }
 
-/// Records what each rule needs: false where no precedence that fits orients all.
-fn force_all(known: &mut Known, rules: &[Rule]) -> bool
+/// Records what each rule needs, in so many steps for each: false where no precedence that fits orients all.
+fn force_all(known: &mut Known, rules: &[Rule], fuel: u32) -> bool
     ensures { (prec : List ℕ) → Fits known.old prec → LpoOrients prec rules.now → IsTrue result × Fits known.new prec }
 {
     for i in 0..rules.len() {
-        let mut fuel = FUEL;
-        match force(known, rules[i].left(), rules[i].right(), &mut fuel) {
+        let mut left = fuel;
+        match force(known, rules[i].left(), rules[i].right(), &mut left) {
             Some(more) => *known = more,
             None => return false,
+        }
+    }
+    true
+}
+
+/// Whether the rules are still possible, where `f` was put above other symbols: false where no precedence that fits orients
+/// all. This changes nothing for rules without `f` on the right, so they are left out.
+fn are_possible(known: &Known, rules: &[Rule], f: Symbol) -> bool
+    ensures { (prec : List ℕ) → Fits known.now prec → LpoOrients prec rules.now → IsTrue result }
+{
+    for i in 0..rules.len() {
+        if has_symbol(rules[i].right(), f) {
+            if !possible(known, rules[i].left(), rules[i].right()) {
+                return false;
+            }
         }
     }
     true
@@ -55,7 +74,7 @@ fn propagate(known: &mut Known, rules: &[Rule]) -> bool
 {
     for _ in 0..PAIRS {
         let before = *known;
-        if !force_all(known, rules) {
+        if !force_all(known, rules, FUEL) {
             return false;
         }
         if *known == before {
@@ -181,6 +200,26 @@ fn may_follow(known: &Known, symbols: &[Symbol], f: Symbol, count: u8) -> bool
     true
 }
 
+/// The same, where less is refused in fewer steps: rules that alone are no longer possible.
+fn place_possible(
+    known: &mut Known,
+    rules: &[Rule],
+    symbols: &[Symbol],
+    f: Symbol,
+    count: u8,
+) -> bool
+    ensures unlisted { result ≡ true → ¬ Contains (numbers symbols.now) f.0 }
+    ensures sound { (rest : List ℕ) → ¬ Contains (numbers symbols.now) f.0 → Fits known.old (numbers symbols.now ++ f.0 ∷ rest) → LpoOrients (numbers symbols.now ++ f.0 ∷ rest) rules.now → IsTrue result × Fits known.new (numbers symbols.now ++ f.0 ∷ rest) }
+{
+    if is_listed(symbols, f) {
+        return false;
+    }
+    if !put_next(known, symbols, f, count) {
+        return false;
+    }
+    are_possible(known, rules, f)
+}
+
 /// The table, if `f` may stand behind the listed symbols by it.
 fn fitting(table: &Known, symbols: &[Symbol], f: Symbol, count: u8) -> Option<Known> {
     if may_follow(table, symbols, f, count) {
@@ -209,6 +248,36 @@ fn first_fitting(
         if may_follow(known, prefix, f, count) {
             prefix.push(f)?;
             if first_fitting(known, rules, count, prefix, left - 1)? {
+                return Ok(true);
+            }
+            prefix.pop();
+            return Ok(false);
+        }
+    }
+    Ok(false)
+}
+
+/// Puts the symbols that are left behind those of the prefix, each time the least with which each rule is possible, and
+/// tests this one arrangement. Where it orients all rules it is the first that does; else the prefix is as before.
+fn first_possible(
+    known: &Known,
+    rules: &[Rule],
+    count: u8,
+    prefix: &mut Vec<Symbol>,
+    left: u8,
+) -> Result<bool, Memory>
+    requires { (rest : List ℕ) → LpoOrients (numbers prefix.old.items ++ rest) rules.now → Fits known.now (numbers prefix.old.items ++ rest) }
+    ensures { IfOk result (λ found. IsTried rules.now count left (numbers prefix.old.items) (numbers prefix.new.items) found) }
+{
+    if left == 0 {
+        return Ok(orients(prefix, rules));
+    }
+    for y in 0..count {
+        let f = Symbol(y);
+        let mut more = *known;
+        if place_possible(&mut more, rules, prefix, f, count) {
+            prefix.push(f)?;
+            if first_possible(&more, rules, count, prefix, left - 1)? {
                 return Ok(true);
             }
             prefix.pop();
@@ -313,11 +382,14 @@ fn search_above(
 {
     let count = sig.count() as u8;
     let mut known = Known::new();
-    if !force_all(&mut known, rules) {
+    if !force_all(&mut known, rules, FIRST_FUEL) {
         return Ok(None);
     }
     let mut prefix = Vec::new(alloc);
     if first_fitting(&known, rules, count, &mut prefix, count)? {
+        return Ok(Some(Precedence::new(prefix)));
+    }
+    if first_possible(&known, rules, count, &mut prefix, count)? {
         return Ok(Some(Precedence::new(prefix)));
     }
     if !propagate(&mut known, rules) {

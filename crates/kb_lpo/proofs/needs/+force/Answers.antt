@@ -98,8 +98,8 @@ pub force_each-loop-j-preserved : goal.force_each-loop-j-preserved
 force_each-loop-j-preserved t c =
     λ prec first b. subst (λ (o : Option _). IsSomeAnd o (λ more. Fits more prec)) c.in_ok-more-2.was (c.force.ensures prec (c.loop-j.invariant prec first b) (b c.loop-j.j (tree_of c.index-ts-j.result) (grind arith) (grind arith) (at_from c.args.ts.now c.loop-j.j c.index-ts-j.result (grind arith) c.index-ts-j.is)))
 
-pub force_witness-force-here-requires : goal.force_witness-force-here-requires
-force_witness-force-here-requires t c =
+pub force_witness-force_possible-here-requires : goal.force_witness-force_possible-here-requires
+force_witness-force_possible-here-requires t c =
     let a = member_size c.args.ss.now c.loop-k.k c.index-ss-k-in-loop-k.result (grind arith) c.index-ss-k-in-loop-k.is in
     (omega (arith, c.decreases, a), tt)
 
@@ -114,7 +114,7 @@ force_witness-loop-k-preserved t c =
     (λ behind. inr (omega (arith, m.0), behind))
     (λ here. ⊎_elim
     (λ e. absurd (no c.is_same.ensures c.if-is_same.false (ap tree_of (same_index items k c.index-ss-k.result u (grind arith) c.index-ss-k.is c.index-ss-k-in-loop-k.is) ∙ e)))
-    (λ up. inl (c.either-shared.ensures.second prec (c.force-here.ensures prec fit up)))
+    (λ up. inl (c.either-shared.ensures.second prec (c.force_possible-here.ensures prec fit up)))
     here)
     (witness_here_or_behind prec (tree_of c.args.t.now) (map tree_of items) k (tree_of u) (at_from items k u (grind arith) c.index-ss-k-in-loop-k.is) m.1))
     (c.loop-k.invariant prec fit w)

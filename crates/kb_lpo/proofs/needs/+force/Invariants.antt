@@ -14,13 +14,16 @@ abbrev pub decreases-force_each : goal.decreases-force_each
 decreases-force_each l = 4 * (tree_size (tree_of l.s.now) + trees_size (trees_of (map tree_of l.ts.now))) + 1
 
 abbrev pub decreases-force_witness : goal.decreases-force_witness
-decreases-force_witness l = 4 * (trees_size (trees_of (map tree_of l.ss.now)) + tree_size (tree_of l.t.now)) + 1
+decreases-force_witness l = 4 * (trees_size (trees_of (map tree_of l.ss.now)) + tree_size (tree_of l.t.now)) + 2
+
+abbrev pub decreases-force_possible : goal.decreases-force_possible
+decreases-force_possible l = 4 * (tree_size (tree_of l.s.now) + tree_size (tree_of l.t.now)) + 1
 
 abbrev pub decreases-force_above : goal.decreases-force_above
 decreases-force_above l = 4 * (tree_size (tree_of l.s.now) + trees_size (trees_of (map tree_of l.ts.now))) + 2
 
 abbrev pub decreases-force_below : goal.decreases-force_below
-decreases-force_below l = 4 * (trees_size (trees_of (map tree_of l.ss.now)) + tree_size (tree_of l.t.now)) + 2
+decreases-force_below l = 4 * (trees_size (trees_of (map tree_of l.ss.now)) + tree_size (tree_of l.t.now)) + 3
 
 -- the precedences that have s above each and fitted still fit
 abbrev pub invariant-force_each-loop-j : goal.invariant-force_each-loop-j

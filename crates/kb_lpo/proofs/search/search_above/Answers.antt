@@ -16,12 +16,15 @@ still_empty rules count xs ys false e n h = h ∙ n
 
 pub search_or_fit-requires : goal.search_or_fit-requires
 search_or_fit-requires c =
-    let xs = numbers c.first_fitting.new.prefix.items in
+    let rules = c.args.rules.now in
     let n = c.count-count.result in
-    let empty : xs ≡ [] = still_empty c.args.rules.now n (numbers c.new-prefix.result.items) xs c.in_ok-first_fitting.field-0 c.if-branch.false (ap numbers c.new-prefix.ensures.items) c.in_ok-first_fitting.ensures in
+    let ys = numbers c.first_fitting.new.prefix.items in
+    let xs = numbers c.first_possible.new.prefix.items in
+    let before : ys ≡ [] = still_empty rules n (numbers c.new-prefix.result.items) ys c.in_ok-first_fitting.field-0 c.if-branch.false (ap numbers c.new-prefix.ensures.items) c.in_ok-first_fitting.ensures in
+    let empty : xs ≡ [] = still_empty rules n ys xs c.in_ok-first_possible.field-0 c.if-branch-2.false before c.in_ok-first_possible.ensures in
     record {
       sound = λ rest o. let p = xs ++ rest in (c.propagate.ensures p (c.force_all.ensures p (c.new-known.ensures p) o).1 o).1;
-      bound = subst₂ (λ k xs. IsFloor c.args.rules.now k k xs (numbers c.args.floor.now)) (sym c.count-count.ensures) (sym empty) c.requires.bound;
+      bound = subst₂ (λ k xs. IsFloor rules k k xs (numbers c.args.floor.now)) (sym c.count-count.ensures) (sym empty) c.requires.bound;
     }
 
 pub returns-then-branch : goal.returns-then-branch
@@ -35,16 +38,29 @@ pub returns-then-branch-2 : goal.returns-then-branch-2
 returns-then-branch-2 c =
     let rules = c.args.rules.now in
     let n = c.count-count.result in
-    let xs = numbers c.first_fitting.new.prefix.items in
-    let empty : xs ≡ [] = still_empty rules n (numbers c.new-prefix.result.items) xs c.in_ok-first_fitting.field-0 c.if-branch.false (ap numbers c.new-prefix.ensures.items) c.in_ok-first_fitting.ensures in
-    let s = subst (λ b. IsSearched rules n n xs (numbers c.search_or_fit.new.prefix.items) b) c.if-branch-2.true c.in_ok-search_or_fit.ensures in
-    subst (λ z. IsFirst (λ prec. LpoOrients prec rules) (precedences z) (Some c.new-then-branch-2.result)) c.count-count.ensures (subst (λ z. IsFirst (λ prec. LpoOrients prec rules) (precedences n) (Some z)) (sym c.new-then-branch-2.ensures) (whole_found rules n xs (numbers c.search_or_fit.new.prefix.items) empty s))
+    let ys = numbers c.first_fitting.new.prefix.items in
+    let before : ys ≡ [] = still_empty rules n (numbers c.new-prefix.result.items) ys c.in_ok-first_fitting.field-0 c.if-branch.false (ap numbers c.new-prefix.ensures.items) c.in_ok-first_fitting.ensures in
+    let s = subst (λ b. IsTried rules n n ys (numbers c.first_possible.new.prefix.items) b) c.if-branch-2.true c.in_ok-first_possible.ensures in
+    subst (λ z. IsFirst (λ prec. LpoOrients prec rules) (precedences z) (Some c.new-then-branch-2.result)) c.count-count.ensures (subst (λ z. IsFirst (λ prec. LpoOrients prec rules) (precedences n) (Some z)) (sym c.new-then-branch-2.ensures) (whole_found rules n ys (numbers c.first_possible.new.prefix.items) before s))
+
+pub returns-then-branch-3 : goal.returns-then-branch-3
+returns-then-branch-3 c =
+    let rules = c.args.rules.now in
+    let n = c.count-count.result in
+    let ys = numbers c.first_fitting.new.prefix.items in
+    let xs = numbers c.first_possible.new.prefix.items in
+    let before : ys ≡ [] = still_empty rules n (numbers c.new-prefix.result.items) ys c.in_ok-first_fitting.field-0 c.if-branch.false (ap numbers c.new-prefix.ensures.items) c.in_ok-first_fitting.ensures in
+    let empty : xs ≡ [] = still_empty rules n ys xs c.in_ok-first_possible.field-0 c.if-branch-2.false before c.in_ok-first_possible.ensures in
+    let s = subst (λ b. IsSearched rules n n xs (numbers c.search_or_fit.new.prefix.items) b) c.if-branch-3.true c.in_ok-search_or_fit.ensures in
+    subst (λ z. IsFirst (λ prec. LpoOrients prec rules) (precedences z) (Some c.new-then-branch-3.result)) c.count-count.ensures (subst (λ z. IsFirst (λ prec. LpoOrients prec rules) (precedences n) (Some z)) (sym c.new-then-branch-3.ensures) (whole_found rules n xs (numbers c.search_or_fit.new.prefix.items) empty s))
 
 pub returns : goal.returns
 returns c =
     let rules = c.args.rules.now in
     let n = c.count-count.result in
-    let xs = numbers c.first_fitting.new.prefix.items in
-    let empty : xs ≡ [] = still_empty rules n (numbers c.new-prefix.result.items) xs c.in_ok-first_fitting.field-0 c.if-branch.false (ap numbers c.new-prefix.ensures.items) c.in_ok-first_fitting.ensures in
-    let s = subst (λ b. IsSearched rules n n xs (numbers c.search_or_fit.new.prefix.items) b) c.if-branch-2.false c.in_ok-search_or_fit.ensures in
+    let ys = numbers c.first_fitting.new.prefix.items in
+    let xs = numbers c.first_possible.new.prefix.items in
+    let before : ys ≡ [] = still_empty rules n (numbers c.new-prefix.result.items) ys c.in_ok-first_fitting.field-0 c.if-branch.false (ap numbers c.new-prefix.ensures.items) c.in_ok-first_fitting.ensures in
+    let empty : xs ≡ [] = still_empty rules n ys xs c.in_ok-first_possible.field-0 c.if-branch-2.false before c.in_ok-first_possible.ensures in
+    let s = subst (λ b. IsSearched rules n n xs (numbers c.search_or_fit.new.prefix.items) b) c.if-branch-3.false c.in_ok-search_or_fit.ensures in
     subst (λ z. IsFirst (λ prec. LpoOrients prec rules) (precedences z) None) c.count-count.ensures (whole_none rules n xs (numbers c.search_or_fit.new.prefix.items) empty s)
