@@ -49,8 +49,8 @@ signature-letters a b c d =
     record {
       names = all_more N f (g ∷ h ∷ m ∷ []) (identifier-f, omega arith) (all_more N g (h ∷ m ∷ []) (identifier-g, omega arith) (all_more N h (m ∷ []) (identifier-h, omega arith) (all_more N m [] (identifier-m, omega arith) (nothing_more N))));
       differ = AllPairs-cons R f (g ∷ h ∷ m ∷ []) (all_more (R f) g (h ∷ m ∷ []) (other_name 102 103 (λ e. omega arith)) (all_more (R f) h (m ∷ []) (other_name 102 104 (λ e. omega arith)) (all_more (R f) m [] (other_name 102 109 (λ e. omega arith)) (nothing_more (R f)))))
-      (AllPairs-cons R g (h ∷ m ∷ []) (all_more (R g) h (m ∷ []) (other_name 103 104 (λ e. omega arith)) (all_more (R g) m [] (other_name 103 109 (λ e. omega arith)) (nothing_more (R g))))
-      (AllPairs-cons R h (m ∷ []) (all_more (R h) m [] (other_name 104 109 (λ e. omega arith)) (nothing_more (R h))) (AllPairs-cons R m [] (nothing_more (R m)) (no_pairs R))));
+          (AllPairs-cons R g (h ∷ m ∷ []) (all_more (R g) h (m ∷ []) (other_name 103 104 (λ e. omega arith)) (all_more (R g) m [] (other_name 103 109 (λ e. omega arith)) (nothing_more (R g))))
+          (AllPairs-cons R h (m ∷ []) (all_more (R h) m [] (other_name 104 109 (λ e. omega arith)) (nothing_more (R h))) (AllPairs-cons R m [] (nothing_more (R m)) (no_pairs R))));
     }
 
 pub four_letters : (f g h m : Vec ℕ Global) (a b c d : ℕ) (items : List (Vec ℕ Global × ℕ)) → f.items ≡ 102 ∷ [] → g.items ≡ 103 ∷ [] → h.items ≡ 104 ∷ [] → m.items ≡ 109 ∷ [] → items ≡ (f, a) ∷ (g, b) ∷ (h, c) ∷ (m, d) ∷ [] → IsSignature (symbols_of_list items)

@@ -129,12 +129,7 @@ fn read_positive(text: &[u8], most: u8) -> Option<u8>
 }
 
 /// Adds the numbers from 1 to the greatest that the text is, so many, each behind a comma; false where it is none.
-fn read_numbers(
-    text: &[u8],
-    most: u8,
-    count: usize,
-    numbers: &mut Vec<u8>,
-) -> Result<bool, Memory>
+fn read_numbers(text: &[u8], most: u8, count: usize, numbers: &mut Vec<u8>) -> Result<bool, Memory>
     requires { most ≤ 15 }
     ensures { IfOk result (λ found. SpellsNumbers most count text.now numbers.old.items numbers.new.items found) }
 {

@@ -65,13 +65,7 @@ fn precedence(alloc: Global, first: u8, second: u8) -> Result<Certificate, Memor
 }
 
 /// Weights of f and of g, with a precedence.
-fn weighted(
-    alloc: Global,
-    f: u8,
-    g: u8,
-    first: u8,
-    second: u8,
-) -> Result<Certificate, Memory>
+fn weighted(alloc: Global, f: u8, g: u8, first: u8, second: u8) -> Result<Certificate, Memory>
     requires f_least { 1 ≤ f }
     requires f_most { f ≤ 15 }
     requires g_least { 1 ≤ g }

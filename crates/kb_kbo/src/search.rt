@@ -123,13 +123,7 @@ fn first_precedence(
         return Ok(None);
     }
     let mut symbols = Vec::new(alloc);
-    if place(
-        &known,
-        rules,
-        weights,
-        &mut symbols,
-        weights.len() as u8,
-    )? {
+    if place(&known, rules, weights, &mut symbols, weights.len() as u8)? {
         return Ok(Some(Precedence::new(symbols)));
     }
     Ok(None)

@@ -105,11 +105,7 @@ fn is_plain(found: &Option<Kbo>) -> bool {
 }
 
 /// The first order, found from itself on.
-fn found_again(
-    alloc: Global,
-    sig: &Signature,
-    rules: &[Rule],
-) -> Result<Option<Kbo>, Memory>
+fn found_again(alloc: Global, sig: &Signature, rules: &[Rule]) -> Result<Option<Kbo>, Memory>
     requires few { length sig.now ≤ 24 }
     requires measurable { AreMeasurable rules.now }
 {

@@ -19,11 +19,12 @@ push_levels-requires t c =
     let n = c.agreement-n.result in
     let es = form c.args.s.now f c.in-App-App.front ss c.in-App-App.is-0 c.items-ss.ensures in
     let et = form c.args.t.now g c.in-App-App.back ts c.in-App-App.is-1 c.items-ts.ensures in
-    let a = part_smaller c.args.s.now f c.in-App-App.front ss n c.index-ss-n.result c.in-App-App.is-0 c.items-ss.ensures (grind arith) c.index-ss-n.is in
-    (
+    let a = part_smaller c.args.s.now f c.in-App-App.front ss n c.index-ss-n.result c.in-App-App.is-0 c.items-ss.ensures (grind arith) c.index-ss-n.is in (
       omega (arith, c.decreases, a),
-      (argument_measurable (tree_of c.args.s.now) f.0 ss n c.index-ss-n.result es (grind arith) c.index-ss-n.is c.requires.left,
-      argument_measurable (tree_of c.args.t.now) g.0 ts n c.index-ts-n.result et (grind arith) c.index-ts-n.is c.requires.right),
+      (
+        argument_measurable (tree_of c.args.s.now) f.0 ss n c.index-ss-n.result es (grind arith) c.index-ss-n.is c.requires.left,
+        argument_measurable (tree_of c.args.t.now) g.0 ts n c.index-ts-n.result et (grind arith) c.index-ts-n.is c.requires.right,
+      ),
     )
 
 pub push_levels-requires-then-n-ts : goal.push_levels-requires-then-n-ts
@@ -35,11 +36,12 @@ push_levels-requires-then-n-ts t c =
     let n = c.agreement-n.result in
     let es = form c.args.s.now f c.in-App-App.front ss c.in-App-App.is-0 c.items-ss.ensures in
     let et = form c.args.t.now g c.in-App-App.back ts c.in-App-App.is-1 c.items-ts.ensures in
-    let a = part_smaller c.args.s.now f c.in-App-App.front ss n c.index-ss-n-then-n-ts.result c.in-App-App.is-0 c.items-ss.ensures (grind arith) c.index-ss-n-then-n-ts.is in
-    (
+    let a = part_smaller c.args.s.now f c.in-App-App.front ss n c.index-ss-n-then-n-ts.result c.in-App-App.is-0 c.items-ss.ensures (grind arith) c.index-ss-n-then-n-ts.is in (
       omega (arith, c.decreases, a),
-      (argument_measurable (tree_of c.args.s.now) f.0 ss n c.index-ss-n-then-n-ts.result es (grind arith) c.index-ss-n-then-n-ts.is c.requires.left,
-      argument_measurable (tree_of c.args.t.now) g.0 ts n c.index-ts-n-then-n-ts.result et (grind arith) c.index-ts-n-then-n-ts.is c.requires.right),
+      (
+        argument_measurable (tree_of c.args.s.now) f.0 ss n c.index-ss-n-then-n-ts.result es (grind arith) c.index-ss-n-then-n-ts.is c.requires.left,
+        argument_measurable (tree_of c.args.t.now) g.0 ts n c.index-ts-n-then-n-ts.result et (grind arith) c.index-ts-n-then-n-ts.is c.requires.right,
+      ),
     )
 
 pub returns-then-is_even : goal.returns-then-is_even

@@ -46,12 +46,15 @@ greater-requires t c =
     let n = c.agreement-n.result in
     let es = form c.args.s.now f c.in-App-App.front ss c.in-App-App.is-0 c.items-ss.ensures in
     let et = form c.args.t.now g c.in-App-App.back ts c.in-App-App.is-1 c.items-ts.ensures in
-    let a = part_smaller c.args.s.now f c.in-App-App.front ss n c.index-ss-n.result c.in-App-App.is-0 c.items-ss.ensures (grind arith) c.index-ss-n.is in
-    (
+    let a = part_smaller c.args.s.now f c.in-App-App.front ss n c.index-ss-n.result c.in-App-App.is-0 c.items-ss.ensures (grind arith) c.index-ss-n.is in (
       omega (arith, c.decreases, a),
-      (c.requires.weights,
-      (argument_measurable (tree_of c.args.s.now) f.0 ss n c.index-ss-n.result es (grind arith) c.index-ss-n.is c.requires.left,
-      argument_measurable (tree_of c.args.t.now) g.0 ts n c.index-ts-n.result et (grind arith) c.index-ts-n.is c.requires.right)),
+      (
+        c.requires.weights,
+        (
+          argument_measurable (tree_of c.args.s.now) f.0 ss n c.index-ss-n.result es (grind arith) c.index-ss-n.is c.requires.left,
+          argument_measurable (tree_of c.args.t.now) g.0 ts n c.index-ts-n.result et (grind arith) c.index-ts-n.is c.requires.right,
+        ),
+      ),
     )
 
 pub returns-then-n-ts : goal.returns-then-n-ts

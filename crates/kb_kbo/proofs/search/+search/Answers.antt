@@ -15,16 +15,18 @@ use Rattle.kb_kbo.proofs.search.+search.Goals as goal
 
 pub returns-then-not-may_orient-clause-found : goal.returns-then-not-may_orient-clause-found
 returns-then-not-may_orient-clause-found t c =
-    let ws = c.args.weights.now.items in
-    (refl, none_behind c.args.rules.now (length ws + c.args.left) c.args.left ws (λ w p ch cp o.
-        let order = order_of (ws ++ w) p in
-        let len : length (ws ++ w) ≤ 8 = omega (arith, length-append ws w, chosen_length c.args.left w ch, c.requires.few) in
-        let b : IsBetween order c.filled.result c.filled-2.result = λ f h.
-        let e = chosen_between ws c.args.left w f ch in
-        let l = ap (λ z. slice_index_or z f 1) c.deref-2.ensures.value in
-        let m = ap (λ z. slice_index_or z f 3) c.deref-3.ensures.value in
-        (omega (arith, e, l, c.filled.ensures f h), omega (arith, e, m, c.filled-2.ensures f h)) in
-        false≢true (sym c.if-not-may_orient.true ∙ c.may_orient.ensures order b (subst (AreAskedAll order) (sym c.deref.ensures.value) (c.requires.asked order len o).0))))
+    let ws = c.args.weights.now.items in (
+      refl,
+      none_behind c.args.rules.now (length ws + c.args.left) c.args.left ws (λ w p ch cp o.
+          let order = order_of (ws ++ w) p in
+          let len : length (ws ++ w) ≤ 8 = omega (arith, length-append ws w, chosen_length c.args.left w ch, c.requires.few) in
+          let b : IsBetween order c.filled.result c.filled-2.result = λ f h.
+          let e = chosen_between ws c.args.left w f ch in
+          let l = ap (λ z. slice_index_or z f 1) c.deref-2.ensures.value in
+          let m = ap (λ z. slice_index_or z f 3) c.deref-3.ensures.value in
+          (omega (arith, e, l, c.filled.ensures f h), omega (arith, e, m, c.filled-2.ensures f h)) in
+          false≢true (sym c.if-not-may_orient.true ∙ c.may_orient.ensures order b (subst (AreAskedAll order) (sym c.deref.ensures.value) (c.requires.asked order len o).0))),
+    )
 
 pub returns-then-left-eq0-clause-found : goal.returns-then-left-eq0-clause-found
 returns-then-left-eq0-clause-found t c =
@@ -54,14 +56,21 @@ search-requires t c =
     let v = c.loop-weight.weight in
     let n : suc (c.args.left - 1) ≡ c.args.left = grind arith in
     let pushed : c.push.new.self.items ≡ ws ++ v ∷ [] = c.in_ok-push.ensures.items ∙ ap (λ z. z ++ v ∷ []) c.loop-weight.invariant.weights in
-    let count : length ws + c.args.left ≡ length c.push.new.self.items + (c.args.left - 1) = omega (arith, n, ap length pushed, length-append ws (v ∷ [])) in
-    (
+    let count : length ws + c.args.left ≡ length c.push.new.self.items + (c.args.left - 1) = omega (arith, n, ap length pushed, length-append ws (v ∷ [])) in (
       omega (arith, n, c.decreases),
-      (omega (arith, count, c.requires.few),
-      (subst (All IsWeight) (sym pushed) (All-append IsWeight ws (v ∷ []) c.requires.weights (all_one IsWeight v (c.loop-weight.invariant.least, omega (arith, c.loop-weight-test.true)))),
-      (c.requires.measurable,
-      (c.requires.asked,
-      floor_next c.args.rules.now (length ws + c.args.left) (length c.push.new.self.items + (c.args.left - 1)) (c.args.left - 1) c.args.left v ws c.push.new.self.items c.args.floor.now c.behind.result.now n count pushed c.loop-weight.invariant.least (omega (arith, c.loop-weight-test.true)) c.behind.ensures c.requires.floor)))),
+      (
+        omega (arith, count, c.requires.few),
+        (
+          subst (All IsWeight) (sym pushed) (All-append IsWeight ws (v ∷ []) c.requires.weights (all_one IsWeight v (c.loop-weight.invariant.least, omega (arith, c.loop-weight-test.true)))),
+          (
+            c.requires.measurable,
+            (
+              c.requires.asked,
+              floor_next c.args.rules.now (length ws + c.args.left) (length c.push.new.self.items + (c.args.left - 1)) (c.args.left - 1) c.args.left v ws c.push.new.self.items c.args.floor.now c.behind.result.now n count pushed c.loop-weight.invariant.least (omega (arith, c.loop-weight-test.true)) c.behind.ensures c.requires.floor,
+            ),
+          ),
+        ),
+      ),
     )
 
 pub returns-in-Some-clause-found : goal.returns-in-Some-clause-found
