@@ -73,6 +73,23 @@ fn either(a: Option<Table>, b: Option<Table>) -> Option<Table> {
     }
 }
 
+/// Whether s may be above t under some precedence that fits: an undecided question is answered by yes.
+fn possible(known: &Table, s: &Term, t: &Term) -> bool {
+    let (App(f, ss), App(g, ts)) = (s, t) else {
+        return matches!((s, t), (App(..), Var(x)) if occurs(*x, s));
+    };
+    let each = |us: &[Term]| us.iter().all(|u| possible(known, s, u));
+    let some = |us: &[Term]| us.iter().any(|u| u == t || possible(known, u, t));
+    if f == g {
+        return match (0..ss.len().min(ts.len())).find(|i| ss[*i] != ts[*i]) {
+            Some(i) if possible(known, &ss[i], &ts[i]) => each(&ts[i + 1..]),
+            Some(i) => some(&ss[i + 1..]),
+            None => false,
+        };
+    }
+    if is_from(known, *g, *f) { some(ss) } else { each(ts) }
+}
+
 /// What every precedence that fits and has s above t fulfils; none where there is none.
 fn force(known: &Table, s: &Term, t: &Term, fuel: &mut u32) -> Option<Table> {
     if *fuel == 0 {
@@ -116,6 +133,9 @@ fn force_some(known: &Table, ss: &[Term], t: &Term, fuel: &mut u32) -> Option<Ta
     for u in ss {
         if u == t {
             return Some(*known);
+        }
+        if !possible(known, u, t) {
+            continue;
         }
         let here = force(known, u, t, fuel);
         if here == Some(*known) {
@@ -241,13 +261,44 @@ fn place(
     None
 }
 
+fn has_symbol(t: &Term, f: u8) -> bool {
+    match t {
+        Var(_) => false,
+        App(g, ts) => *g == f || ts.iter().any(|u| has_symbol(u, f)),
+    }
+}
+
+/// Places each time the least symbol with which each rule is possible.
+fn first_possible(known: &Table, count: u8, rules: &[Rule]) -> Vec<u8> {
+    let mut known = *known;
+    let mut prec: Vec<u8> = vec![];
+    while prec.len() < count as usize {
+        let next = (0..count).filter(|f| !prec.contains(f)).find_map(|f| {
+            let behind = |g: &u8| *g != f && !prec.contains(g);
+            if (0..count).filter(behind).any(|g| is_from(&known, g, f)) {
+                return None;
+            }
+            let more = (0..count).filter(behind).fold(known, |known, g| put(&known, f, g));
+            rules.iter().all(|(l, r)| !has_symbol(r, f) || possible(&more, l, r)).then_some((f, more))
+        });
+        let Some((f, more)) = next else { break };
+        known = more;
+        prec.push(f);
+    }
+    prec
+}
+
 fn search_path(count: u8, rules: &[Rule]) -> Option<Vec<u8>> {
     let mut known: Table = std::array::from_fn(|f| 1 << f);
     for (l, r) in rules {
-        known = force(&known, l, r, &mut 1000)?;
+        known = force(&known, l, r, &mut 30)?;
     }
-    let prec = first_fitting(&known, count, &[]);
-    if prec.len() == count as usize && rules.iter().all(|rule| orients(&prec, rule)) {
+    let tested = |prec: Vec<u8>| {
+        let is_whole = prec.len() == count as usize;
+        (is_whole && rules.iter().all(|rule| orients(&prec, rule))).then_some(prec)
+    };
+    let fitting = tested(first_fitting(&known, count, &[]));
+    if let Some(prec) = fitting.or_else(|| tested(first_possible(&known, count, rules))) {
         return Some(prec);
     }
     place(&propagate(&known, rules)?, count, rules, &mut vec![], None)

@@ -173,12 +173,7 @@ fn path_case(
     repeat_lpo(alloc, &sig, &rules, repetitions)
 }
 
-fn selector_case(
-    alloc: Global,
-    arities: &[u8],
-    pairs: u8,
-    repetitions: u32,
-) -> Result<u64, Memory>
+fn selector_case(alloc: Global, arities: &[u8], pairs: u8, repetitions: u32) -> Result<u64, Memory>
     requires few { length arities.now ≤ 24 }
     requires pairs { pairs ≤ 11 }
 {

@@ -108,10 +108,7 @@ pub(crate) fn selectors(alloc: Global, pairs: u8) -> Result<Vec<Rule>, Memory>
 {
     let mut rules = Vec::new(alloc);
     rules.push(Rule::new(word(alloc, &[0, 0])?, word(alloc, &[1, 1])?))?;
-    rules.push(Rule::new(
-        word(alloc, &[1, 1, 0])?,
-        word(alloc, &[0, 1, 1])?,
-    ))?;
+    rules.push(Rule::new(word(alloc, &[1, 1, 0])?, word(alloc, &[0, 1, 1])?))?;
     for n in 0..pairs {
         let pair = binary(alloc, 2 + pairs + n, Term::Var(0), Term::Var(1))?;
         rules.push(Rule::new(unary(alloc, 2 + n, pair)?, Term::Var(0)))?;
