@@ -369,6 +369,137 @@ fn search_linear(arities: &[u8], rules: &[Rule]) -> Option<Vec<Row>> {
     }
 }
 
+// ---- Knuth-Bendix orders
+
+/// What decides a comparison at equal weights: nothing does, or the first symbol has to be above the second, or the next level.
+#[derive(Clone, Copy)]
+enum Tie {
+    Refused,
+    Above(u8, u8),
+    Next,
+}
+
+/// One level of a comparison: how much more often each symbol, and variables in all, occur on the left.
+struct Level {
+    symbols: [i32; 8],
+    variables: i32,
+    tie: Tie,
+}
+
+fn count(t: &Term, by: i32, symbols: &mut [i32; 8], variables: &mut [i32; 64]) {
+    match t {
+        Var(n) => variables[*n as usize] += by,
+        App(f, ts) => {
+            symbols[*f as usize] += by;
+            ts.iter().for_each(|u| count(u, by, symbols, variables));
+        }
+    }
+}
+
+/// The levels of the comparison; none where some variable occurs more often on the right, so that nothing at this level helps.
+fn levels(s: &Term, t: &Term, out: &mut Vec<Option<Level>>) {
+    let mut symbols = [0; 8];
+    let mut variables = [0; 64];
+    count(s, 1, &mut symbols, &mut variables);
+    count(t, -1, &mut symbols, &mut variables);
+    if variables.iter().any(|n| *n < 0) {
+        return out.push(None);
+    }
+    let mut level = Level { symbols, variables: variables.iter().sum(), tie: Tie::Refused };
+    let (App(f, ss), App(g, ts)) = (s, t) else {
+        return out.push(Some(level));
+    };
+    if f != g {
+        level.tie = Tie::Above(*f, *g);
+        return out.push(Some(level));
+    }
+    match (0..ss.len().min(ts.len())).find(|i| ss[*i] != ts[*i]) {
+        Some(i) => {
+            level.tie = Tie::Next;
+            out.push(Some(level));
+            levels(&ss[i], &ts[i], out);
+        }
+        None => out.push(Some(level)),
+    }
+}
+
+/// The sign of the level's difference of weights, each symbol's from least to most, at the most helpful ones.
+fn difference(level: &Level, least: &[i32; 8], most: &[i32; 8]) -> i32 {
+    let each = |f: usize| level.symbols[f] * if level.symbols[f] < 0 { least[f] } else { most[f] };
+    level.variables + (0..8).map(each).sum::<i32>()
+}
+
+/// What the rule needs of the precedence: nothing, one symbol above another, or more than there is.
+fn demand(rule: &[Option<Level>], weights: &[i32; 8]) -> Option<Option<(u8, u8)>> {
+    for level in rule {
+        let level = level.as_ref()?;
+        match (difference(level, weights, weights), level.tie) {
+            (n, _) if n > 0 => return Some(None),
+            (n, _) if n < 0 => return None,
+            (_, Tie::Refused) => return None,
+            (_, Tie::Above(f, g)) => return Some(Some((f, g))),
+            (_, Tie::Next) => {}
+        }
+    }
+    None
+}
+
+/// The first precedence with which these weights orient all rules.
+fn weighed(count: usize, rules: &[Vec<Option<Level>>], weights: &[i32; 8]) -> Option<Vec<u8>> {
+    let mut above = [[false; 8]; 8];
+    for rule in rules {
+        if let Some((f, g)) = demand(rule, weights)? {
+            above[f as usize][g as usize] = true;
+        }
+    }
+    let mut prec: Vec<u8> = vec![];
+    while prec.len() < count {
+        let free = |f: &u8| !prec.contains(f);
+        let next = (0..count as u8).filter(free).find(|f| {
+            !(0..count as u8).filter(free).any(|g| above[g as usize][*f as usize])
+        })?;
+        prec.push(next);
+    }
+    Some(prec)
+}
+
+fn search_weights(
+    count: usize,
+    rules: &[Vec<Option<Level>>],
+    at: usize,
+    least: &mut [i32; 8],
+    most: &mut [i32; 8],
+) -> Option<Vec<u8>> {
+    let may = |rule: &Vec<Option<Level>>| matches!(&rule[0], Some(l) if difference(l, least, most) >= 0);
+    if !rules.iter().all(may) {
+        return None;
+    }
+    if at == count {
+        return weighed(count, rules, least);
+    }
+    for w in 1..=3 {
+        (least[at], most[at]) = (w, w);
+        if let Some(prec) = search_weights(count, rules, at + 1, least, most) {
+            return Some(prec);
+        }
+    }
+    (least[at], most[at]) = (1, 3);
+    None
+}
+
+/// The first weights from 1 to 3 with a precedence that orient all rules over at most 8 symbols.
+fn search_kbo(count: usize, rules: &[Rule]) -> Option<(Vec<u8>, Vec<u8>)> {
+    let read = |(s, t): &Rule| {
+        let mut out = vec![];
+        levels(s, t, &mut out);
+        out
+    };
+    let table: Vec<_> = rules.iter().map(read).collect();
+    let (mut least, mut most) = ([1; 8], [3; 8]);
+    let prec = search_weights(count, &table, 0, &mut least, &mut most)?;
+    Some((least[..count].iter().map(|w| *w as u8).collect(), prec))
+}
+
 // ---- unification
 
 /// The term that the bindings lead to, as far as it is a bound variable.
@@ -587,6 +718,23 @@ fn linear_rules(arities: &[u8], count: usize, depth: u8, is_turned: bool) -> Vec
     guided_rules(&order, arities, count, depth, is_turned)
 }
 
+/// Weights 1, 2, 3, 1, .. and the precedence that puts every fifth symbol next.
+fn weighted_rules(arities: &[u8], count: usize, depth: u8, is_turned: bool) -> Vec<Rule> {
+    let n = arities.len();
+    let weights: [i32; 8] = std::array::from_fn(|f| f as i32 % 3 + 1);
+    let prec: Vec<u8> = (0..n).map(|f| ((f * 5 + 3) % n) as u8).collect();
+    let order = |s: &Term, t: &Term| {
+        let mut out = vec![];
+        levels(s, t, &mut out);
+        match demand(&out, &weights) {
+            None => false,
+            Some(None) => true,
+            Some(Some((f, g))) => prec.iter().find(|x| **x == f || **x == g) == Some(&f),
+        }
+    };
+    guided_rules(&order, arities, count, depth, is_turned)
+}
+
 fn group_rules() -> Vec<Rule> {
     let m = |a: &Term, b: &Term| App(0, vec![a.clone(), b.clone()]);
     let i = |a: &Term| App(1, vec![a.clone()]);
@@ -709,6 +857,15 @@ fn linear_case(arities: &[u8], rules: Vec<Rule>, repetitions: u32) -> u64 {
     })
 }
 
+fn weighted_case(count: usize, rules: Vec<Rule>, repetitions: u32) -> u64 {
+    repeat(repetitions, &|| match search_kbo(count, &rules) {
+        None => 1,
+        Some((weights, prec)) => {
+            weights.iter().chain(&prec).fold(1, |sum, n| with_next(sum, u64::from(*n)))
+        }
+    })
+}
+
 fn unify_case(s: Term, t: Term, repetitions: u32) -> u64 {
     repeat(repetitions, &|| match unify(std::hint::black_box(&s), &t) {
         Ok(Some(entries)) => std::hint::black_box(&entries).len() as u64 + 1000,
@@ -751,6 +908,7 @@ const GROUP: [u8; 3] = [2, 1, 0];
 const UNARY: [u8; 12] = [1; 12];
 const FIVE: [u8; 5] = [1; 5];
 const EIGHT: [u8; 8] = [1; 8];
+const MIXED: [u8; 8] = [2, 1, 1, 2, 0, 1, 3, 0];
 const WIDE: [u8; 24] =
     [2, 3, 2, 0, 1, 2, 3, 1, 3, 0, 0, 3, 2, 1, 1, 3, 2, 2, 1, 1, 1, 1, 2, 3];
 
@@ -970,6 +1128,11 @@ fn main() {
         "linear_unary" => linear_case(&FIVE, linear_rules(&FIVE, 20, 5, false), times),
         "linear_unary_none" => linear_case(&FIVE, linear_rules(&FIVE, 20, 5, true), times),
         "linear_unary_eight" => linear_case(&EIGHT, linear_rules(&EIGHT, 20, 5, false), times),
+        "kbo_group" => weighted_case(3, group_rules(), times),
+        "kbo_eight" => weighted_case(8, weighted_rules(&MIXED, 60, 4, false), times),
+        "kbo_eight_none" => weighted_case(8, weighted_rules(&MIXED, 60, 4, true), times),
+        "kbo_words" => weighted_case(8, weighted_rules(&EIGHT, 60, 5, false), times),
+        "kbo_words_none" => weighted_case(8, weighted_rules(&EIGHT, 60, 5, true), times),
         "unify_tree" => unify_case(
             App(2, vec![full_tree(8, 0, 1, 0)]),
             App(2, vec![full_tree(8, 0, 5, 1)]),

@@ -49,6 +49,11 @@ linear_group 1000
 linear_unary 100
 linear_unary_none 20
 linear_unary_eight 100
+kbo_group 1000
+kbo_eight 100
+kbo_eight_none 100
+kbo_words 100
+kbo_words_none 100
 unify_tree 10000
 unify_comb 10000
 unify_doubling 10000

@@ -3,8 +3,11 @@ ghost use Rattle.std.specs.Prelude.{◌≡◌, ◌<◌, ◌≤◌, length, IfOk}
 ghost use Rattle.std.specs.Bool.{OnTrue};
 ghost use Rattle.kb_term.specs.View.{tree_of};
 ghost use Rattle.kb_linear.specs.Limits.{IsMeasurable, AreMeasurable};
+ghost use Rattle.kb_kbo.specs.Measures.{IsWeight};
+ghost use Rattle.std.specs.Prelude.{All};
 
 use crate::shapes::{binary, unary};
+use kb_kbo::{Kbo, kbo_greater};
 use kb_linear::{Interp, linear_greater};
 use kb_lpo::{Precedence, lpo_greater};
 use kb_term::{Memory, Rule, Symbol, Term, Terms, has_variables_below, term_limit};
@@ -81,11 +84,24 @@ fn alternating(alloc: Global, count: usize) -> Result<Interp, Memory>
     Ok(Interp::new(rows))
 }
 
+// Weights 1, 2, 3, 1, .. of so many symbols.
+fn rising_weights(alloc: Global, count: usize) -> Result<Vec<u8>, Memory>
+    requires { count ≤ 24 }
+    ensures { IfOk result (λ weights. All IsWeight weights.items) }
+{
+    let mut weights = Vec::new(alloc);
+    for f in 0..count {
+        weights.push(f as u8 % 3 + 1)?;
+    }
+    Ok(weights)
+}
+
 // An order that chooses the rules of a case.
 #[derive(Drop)]
 enum Guide {
     Path(Precedence),
     Linear(Interp),
+    Weights(Kbo),
 }
 
 fn is_above(guide: &Guide, s: &Term, t: &Term) -> bool
@@ -95,6 +111,7 @@ fn is_above(guide: &Guide, s: &Term, t: &Term) -> bool
     match guide {
         Guide::Path(prec) => lpo_greater(prec, s, t),
         Guide::Linear(interp) => linear_greater(interp, s, t),
+        Guide::Weights(order) => kbo_greater(order, s, t),
     }
 }
 
@@ -177,6 +194,22 @@ pub fn linear_rules(
     ensures { IfOk result (λ rules. AreMeasurable rules.items) }
 {
     let guide = Guide::Linear(alternating(alloc, arities.len())?);
+    guided_rules(alloc, &guide, arities, count, depth, is_turned)
+}
+
+/// So many rules that one Knuth-Bendix order orients, of terms at most so deep. Where asked, two of them are turned round.
+pub fn weighted_rules(
+    alloc: Global,
+    arities: &[u8],
+    count: usize,
+    depth: u8,
+    is_turned: bool,
+) -> Result<Vec<Rule>, Memory>
+    requires { length arities.now ≤ 24 }
+    ensures { IfOk result (λ rules. AreMeasurable rules.items) }
+{
+    let weights = rising_weights(alloc, arities.len())?;
+    let guide = Guide::Weights(Kbo::new(weights, every_fifth(alloc, arities.len())?));
     guided_rules(alloc, &guide, arities, count, depth, is_turned)
 }
 

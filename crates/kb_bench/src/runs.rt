@@ -4,9 +4,10 @@ ghost use Rattle.kb_linear.specs.Limits.{AreMeasurable};
 
 use crate::reading;
 use crate::rewriting::{product_case, tree_case};
-use crate::rules::{group_rules, linear_rules, path_rules};
+use crate::rules::{group_rules, linear_rules, path_rules, weighted_rules};
 use crate::sets::selectors;
 use crate::shapes::{comb, eight_doubles, eight_variables, full_tree, signature, unary};
+use kb_kbo::{Kbo, search_kbo};
 use kb_linear::{Interp, search_linear};
 use kb_lpo::{Precedence, search_lpo};
 use kb_term::{Memory, Rule, Signature, Term, has_variables_below};
@@ -26,6 +27,11 @@ pub enum Case {
     LinearUnary,
     LinearUnaryNone,
     LinearUnaryEight,
+    KboGroup,
+    KboEight,
+    KboEightNone,
+    KboWords,
+    KboWordsNone,
     UnifyTree,
     UnifyComb,
     UnifyDoubling,
@@ -48,6 +54,11 @@ pub(crate) fn case_named(name: &str) -> Option<Case> {
         "linear_unary" => Some(Case::LinearUnary),
         "linear_unary_none" => Some(Case::LinearUnaryNone),
         "linear_unary_eight" => Some(Case::LinearUnaryEight),
+        "kbo_group" => Some(Case::KboGroup),
+        "kbo_eight" => Some(Case::KboEight),
+        "kbo_eight_none" => Some(Case::KboEightNone),
+        "kbo_words" => Some(Case::KboWords),
+        "kbo_words_none" => Some(Case::KboWordsNone),
         "unify_tree" => Some(Case::UnifyTree),
         "unify_comb" => Some(Case::UnifyComb),
         "unify_doubling" => Some(Case::UnifyDoubling),
@@ -66,6 +77,8 @@ const UNARY: [u8; 12] = [1; 12];
 const FIVE: [u8; 5] = [1; 5];
 
 const EIGHT: [u8; 8] = [1; 8];
+
+const MIXED: [u8; 8] = [2, 1, 1, 2, 0, 1, 3, 0];
 
 const FOURTEEN: [u8; 14] = [1; 14];
 
@@ -99,6 +112,19 @@ fn interpretation_code(found: &Option<Interp>) -> u64 {
             for coefficient in &row.1 {
                 sum = with_next(sum, u64::from(*coefficient));
             }
+        }
+    }
+    sum
+}
+
+fn order_code(found: &Option<Kbo>) -> u64 {
+    let mut sum = 1;
+    if let Some(order) = found {
+        for weight in order.weights() {
+            sum = with_next(sum, u64::from(*weight));
+        }
+        for f in order.precedence().symbols() {
+            sum = with_next(sum, u64::from(f.0));
         }
     }
     sum
@@ -151,6 +177,22 @@ fn repeat_linear(
     Ok(sum)
 }
 
+fn repeat_kbo(
+    alloc: Global,
+    sig: &Signature,
+    rules: &[Rule],
+    repetitions: u32,
+) -> Result<u64, Memory>
+    requires few { length sig.now ≤ 24 }
+    requires measurable { AreMeasurable rules.now }
+{
+    let mut sum = 0;
+    for _ in 0..repetitions {
+        sum = with_next(sum, order_code(&search_kbo(alloc, sig, rules)?));
+    }
+    Ok(sum)
+}
+
 fn repeat_unify(alloc: Global, s: &Term, t: &Term, repetitions: u32) -> Result<u64, Memory> {
     let mut sum = 0;
     for _ in 0..repetitions {
@@ -194,6 +236,20 @@ fn linear_case(
     repeat_linear(alloc, &sig, &rules, repetitions)
 }
 
+fn weighted_case(
+    alloc: Global,
+    arities: &[u8],
+    depth: u8,
+    is_turned: bool,
+    repetitions: u32,
+) -> Result<u64, Memory>
+    requires { length arities.now ≤ 24 }
+{
+    let sig = signature(alloc, arities)?;
+    let rules = weighted_rules(alloc, arities, 60, depth, is_turned)?;
+    repeat_kbo(alloc, &sig, &rules, repetitions)
+}
+
 /// The answers of so many runs of the case in one number.
 pub(crate) fn checksum(alloc: Global, case: Case, repetitions: u32) -> Result<u64, Memory> {
     match case {
@@ -213,6 +269,14 @@ pub(crate) fn checksum(alloc: Global, case: Case, repetitions: u32) -> Result<u6
         Case::LinearUnary => linear_case(alloc, &FIVE, false, repetitions),
         Case::LinearUnaryNone => linear_case(alloc, &FIVE, true, repetitions),
         Case::LinearUnaryEight => linear_case(alloc, &EIGHT, false, repetitions),
+        Case::KboGroup => {
+            let sig = signature(alloc, &GROUP)?;
+            repeat_kbo(alloc, &sig, &group_rules(alloc)?, repetitions)
+        }
+        Case::KboEight => weighted_case(alloc, &MIXED, 4, false, repetitions),
+        Case::KboEightNone => weighted_case(alloc, &MIXED, 4, true, repetitions),
+        Case::KboWords => weighted_case(alloc, &EIGHT, 5, false, repetitions),
+        Case::KboWordsNone => weighted_case(alloc, &EIGHT, 5, true, repetitions),
         Case::UnifyTree => {
             let s = unary(alloc, 2, full_tree(alloc, 8, 0, 1, 0)?)?;
             let t = unary(alloc, 2, full_tree(alloc, 8, 0, 5, 1)?)?;
