@@ -5,3 +5,4 @@ pub mod SetIn
 pub mod Stands
 pub mod Logs
 pub mod PlaceOf
+pub mod Inserted
