@@ -6,3 +6,4 @@ pub mod Stands
 pub mod Logs
 pub mod PlaceOf
 pub mod Inserted
+pub mod Clear
