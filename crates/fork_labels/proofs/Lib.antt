@@ -7,3 +7,4 @@ pub mod Logs
 pub mod PlaceOf
 pub mod Inserted
 pub mod Clear
+pub mod NamesAt

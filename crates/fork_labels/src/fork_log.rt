@@ -1,8 +1,9 @@
 // Logs of forks by places.
-ghost use Rattle.std.specs.Prelude.{◌≡◌, ◌<◌, ◌≤◌, ◌∷◌, [], ◌++◌, ℕ, false, length, map, slice_index, slice_index_or, IsTrue, OnOk, OnErr, IfOk};
+ghost use Rattle.std.specs.Prelude.{◌≡◌, ◌<◌, ◌≤◌, ◌∷◌, [], ◌++◌, ℕ, false, filter, length, map, slice_index, slice_index_or, IsTrue, OnOk, OnErr, IfOk};
 ghost use Rattle.kb_label.specs.Names.{has, relabel, IsInNameOrder};
-ghost use Rattle.fork_labels.specs.Places.{forked, living_of, names_of, place_in, IsLog};
+ghost use Rattle.fork_labels.specs.Places.{forked, living_of, names_of, picked, place_in, IsLog};
 
+use crate::place_set::PlaceSet;
 use kb_label::{Living, MAX_BITS, MAX_LIVING, NameLog, Process};
 use std::alloc::{AllocError, Global};
 use std::marker::Model;
@@ -38,6 +39,14 @@ impl ForkLog {
         ensures few { length self.now < MAX_LIVING }
     {
         self.forks.as_slice()
+    }
+
+    /// The names of the processes whose places are in a set.
+    pub(crate) fn names_at(&self, set: &PlaceSet) -> Result<Vec<Process>, AllocError>
+        ensures { IfOk result (λ names. names.items ≡ filter (λ q. slice_index_or set.now (place_in (names_of self.now) q) false) (living_of self.now)) }
+    {
+        let alloc = *self.places.allocator();
+        names_among(alloc, self.living.processes(), self.places.as_slice(), set)
     }
 
     /// The place of a process, or the number of places where it doesn't live.
@@ -103,6 +112,25 @@ impl Living for ForkLog {
             forks,
         })
     }
+}
+
+// The names whose places are in a set, where the places of the names stand in their order.
+fn names_among(
+    alloc: Global,
+    names: &[Process],
+    places: &[u16],
+    set: &PlaceSet,
+) -> Result<Vec<Process>, AllocError>
+    requires same { length places.now ≡ length names.now }
+    ensures { IfOk result (λ kept. kept.items ≡ picked (map (λ s. slice_index_or set.now s false) places.now) names.now) }
+{
+    let mut kept = Vec::new(alloc);
+    for (i, name) in names.iter().enumerate() {
+        if set.has(places[i] as usize) {
+            kept.push(*name)?;
+        }
+    }
+    Ok(kept)
 }
 
 // The place of a name, where the places of the living names stand in their order, or the number of places where it

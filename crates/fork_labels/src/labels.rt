@@ -147,10 +147,7 @@ impl Labels for ForkLabels {
     }
 
     fn names(&self, log: &ForkLog) -> Result<Vec<Process>, AllocError> {
-        let mut names = log.names()?;
-        let places = self.at_end(log);
-        names.retain(|name| places.has(log.place_of(name)));
-        Ok(names)
+        log.names_at(&self.at_end(log))
     }
 }
 
