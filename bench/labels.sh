@@ -10,11 +10,10 @@ subprocess.run(sys.argv[1:], stdout=subprocess.DEVNULL, check=True)
 print(resource.getrusage(resource.RUSAGE_CHILDREN).ru_utime)' "$@"
 }
 
-for form in list fork; do
-    for case in "log 10" "has 1000" "join 10000" "minus 10000"; do
-        set -- $case
-        none=$(seconds "$program" "$form" "$1" 0)
-        all=$(seconds "$program" "$form" "$1" "$2")
-        printf '%s %s %s %s\n' "$form" "$1" "$2" "$(python3 -c "print(round($all - $none, 4))")"
-    done
+for case in "list log 10" "list has 1000" "list join 10000" "list minus 10000" \
+    "fork log 10" "fork has 1000" "fork join 1000000" "fork minus 1000000"; do
+    set -- $case
+    none=$(seconds "$program" "$1" "$2" 0)
+    all=$(seconds "$program" "$1" "$2" "$3")
+    printf '%s %s %s %s\n' "$1" "$2" "$3" "$(python3 -c "print(round($all - $none, 4))")"
 done

@@ -5,3 +5,6 @@ pub mod SetIn
 pub mod Stands
 pub mod Logs
 pub mod PlaceOf
+pub mod Inserted
+pub mod Clear
+pub mod NamesAt

@@ -1,11 +1,10 @@
 -- The places of names.
-use Rattle.std.proofs.Common.{◌≡◌, ℕ, ◌+◌, ◌<◌, ◌≤◌, List, [], ◌∷◌, ◌++◌, length, Bool, true, false, ◌||◌, ◌&&◌, not, set, get_or, map, cond, zero, suc, refl, sym, ap, ap₂, ◌∙◌, arith, length-set}
+use Rattle.std.proofs.Common.{◌≡◌, ℕ, ◌+◌, ◌<◌, ◌≤◌, List, [], ◌∷◌, ◌++◌, length, Bool, true, false, ◌||◌, set, get_or, map, cond, zero, suc, refl, sym, ap, ap₂, ◌∙◌, arith, length-set}
 use Rattle.std.proofs.lemmas.List.{get_or-map}
 use mathlib.Core.Bool.{true≢false}
-use Rattle.kb_label.specs.Names.{Name, root, child, name_eq, has, relabel}
+use Rattle.kb_label.specs.Names.{Name, root, child, name_eq, has}
 use Rattle.kb_label.specs.declared.process.TheConstants.{MAX_BITS}
-use Rattle.kb_label.proofs.Members.{name_eq-refl}
-use Rattle.kb_label.proofs.Sets.{has-relabel}
+use Rattle.kb_label.proofs.Members.{name_eq-refl, name_eq-eq}
 use Rattle.kb_label.proofs.Forked.{leaves-forked}
 use Rattle.fork_labels.specs.Places.{split, names_of, living_of, IsLog, place_in, forked}
 use Rattle.fork_labels.proofs.Picked.{has-sorted}
@@ -108,19 +107,21 @@ module _ (fs : List ℕ) (p : Name) (l : IsLog fs) (h : has (living_of fs) p ≡
       ∙ place_in-front (set (names_of fs) (place_in (names_of fs) p) (child p false)) (child p true ∷ []) (child p false) (has-new (names_of fs) (place_in (names_of fs) p) (child p false) here.0)
       ∙ place_in-new (names_of fs) (place_in (names_of fs) p) (child p false) (new false) here.0
 
-  pub other_place : (q : Name) → has (relabel p (living_of fs)) q ≡ true → name_eq q (child p true) ≡ false → name_eq q (child p false) ≡ false → place_in (names_of (forked fs p)) q ≡ place_in (names_of fs) q
-  other_place q k a b =
-      let w = split_test (name_eq q (child p false)) (name_eq q (child p true)) (name_eq q p) (has (living_of fs) q) b a (sym (has-relabel p q (living_of fs) h) ∙ k) in
-      let apart : name_eq q (get_or (names_of fs) (place_in (names_of fs) p) root) ≡ false = ap (name_eq q) here.1 ∙ w.0 in
+  -- neither child lived before
+  pub absent_child : (b : Bool) → has (living_of fs) (child p b) ≡ false
+  absent_child b = has-sorted (names_of fs) (child p b) ∙ new b
+
+  -- a name that lived beside the parent keeps its place
+  pub kept_place : (q : Name) → has (living_of fs) q ≡ true → name_eq q p ≡ false → place_in (names_of (forked fs p)) q ≡ place_in (names_of fs) q
+  kept_place q k d =
+      let apart : name_eq q (get_or (names_of fs) (place_in (names_of fs) p) root) ≡ false = ap (name_eq q) here.1 ∙ d in
       ap (λ (m : List Name). place_in m q) after
-      ∙ place_in-front (set (names_of fs) (place_in (names_of fs) p) (child p false)) (child p true ∷ []) q (has-kept (names_of fs) (place_in (names_of fs) p) (child p false) q apart (sym (has-sorted (names_of fs) q) ∙ w.1))
-      ∙ place_in-kept (names_of fs) (place_in (names_of fs) p) (child p false) q b apart
+      ∙ place_in-front (set (names_of fs) (place_in (names_of fs) p) (child p false)) (child p true ∷ []) q (has-kept (names_of fs) (place_in (names_of fs) p) (child p false) q apart (sym (has-sorted (names_of fs) q) ∙ k))
+      ∙ place_in-kept (names_of fs) (place_in (names_of fs) p) (child p false) q (unlike (name_eq q (child p false)) refl) apart
     where
-      split_test : (a b c d : Bool) → a ≡ false → b ≡ false → (a || (b || (not c && d))) ≡ true → (c ≡ false) × (d ≡ true)
-      split_test true b c d e f k = absurd (true≢false e)
-      split_test false true c d e f k = absurd (true≢false f)
-      split_test false false true d e f k = absurd (true≢false (sym k))
-      split_test false false false d e f k = (refl, k)
+      unlike : (b : Bool) → name_eq q (child p false) ≡ b → name_eq q (child p false) ≡ false
+      unlike true e = absurd (true≢false (sym k ∙ ap (has (living_of fs)) (name_eq-eq q (child p false) e) ∙ absent_child false))
+      unlike false e = e
 
   pub short_name : length (living_of fs) < 1024 → length p < MAX_BITS
   short_name few = let short = (leaves-forked (living_of fs) good.forked).short p h in omega (arith, short, few)

@@ -190,6 +190,35 @@ empty-picked (b ∷ bs) [] h = absurd (omega arith)
 empty-picked (true ∷ bs) (p ∷ ns) h = added p (join (picked bs ns) [])
 empty-picked (false ∷ bs) (p ∷ ns) h = empty-picked bs ns (omega arith)
 
+none-push : (bs : List Bool) (b : Bool) → none_in (bs ++ b ∷ []) ≡ (none_in bs && not b)
+none-push [] true = refl
+none-push [] false = refl
+none-push (true ∷ bs) b = refl
+none-push (false ∷ bs) b = none-push bs b
+
+none-get : (bs : List Bool) (s : ℕ) → none_in bs ≡ true → get_or bs s false ≡ false
+none-get [] s e = refl
+none-get (true ∷ bs) s e = absurd (true≢false (sym e))
+none-get (false ∷ bs) zero e = refl
+none-get (false ∷ bs) (suc s) e = none-get bs s e
+
+none-with_fork : (bs : List Bool) (s : ℕ) → none_in (with_fork bs s) ≡ none_in bs
+unfolding with_fork
+none-with_fork bs s = none-push bs (get_or bs s false) ∙ go (none_in bs) (get_or bs s false) (none-get bs s)
+  where
+    go : (n b : Bool) → (n ≡ true → b ≡ false) → (n && not b) ≡ n
+    go true b h = ap not (h refl)
+    go false b h = refl
+
+none-with_forks : (fs : List ℕ) (bs : List Bool) → none_in (with_forks bs fs) ≡ none_in bs
+unfolding with_forks
+none-with_forks [] bs = refl
+none-with_forks (s ∷ fs) bs = none-with_forks fs (with_fork bs s) ∙ none-with_fork bs s
+
+-- forks leave a set empty or not
+pub none-at_end : (fs : List ℕ) (bs : List Bool) → length bs ≤ length fs + 1 → none_in (at_end fs bs) ≡ none_in bs
+none-at_end fs bs h = ap none_in (at_end-early fs bs h) ∙ none-with_forks (drop (length bs - 1) fs) bs
+
 module _ (fs : List ℕ) (l : IsLog fs) where
   distinct : AreDistinct (names_of fs)
   distinct = (good-log fs l).distinct

@@ -1,8 +1,9 @@
 // Logs of forks by places.
-ghost use Rattle.std.specs.Prelude.{◌≡◌, ◌<◌, ◌≤◌, ◌∷◌, [], ◌++◌, ℕ, false, length, map, slice_index, slice_index_or, IsTrue, OnOk, OnErr, IfOk};
+ghost use Rattle.std.specs.Prelude.{◌≡◌, ◌<◌, ◌≤◌, ◌∷◌, [], ◌++◌, ℕ, false, filter, length, map, slice_index, slice_index_or, IsTrue, OnOk, OnErr, IfOk};
 ghost use Rattle.kb_label.specs.Names.{has, relabel, IsInNameOrder};
-ghost use Rattle.fork_labels.specs.Places.{forked, living_of, names_of, place_in, IsLog};
+ghost use Rattle.fork_labels.specs.Places.{forked, living_of, names_of, picked, place_in, IsLog};
 
+use crate::place_set::PlaceSet;
 use kb_label::{Living, MAX_BITS, MAX_LIVING, NameLog, Process};
 use std::alloc::{AllocError, Global};
 use std::marker::Model;
@@ -38,6 +39,14 @@ impl ForkLog {
         ensures few { length self.now < MAX_LIVING }
     {
         self.forks.as_slice()
+    }
+
+    /// The names of the processes whose places are in a set.
+    pub(crate) fn names_at(&self, set: &PlaceSet) -> Result<Vec<Process>, AllocError>
+        ensures { IfOk result (λ names. names.items ≡ filter (λ q. slice_index_or set.now (place_in (names_of self.now) q) false) (living_of self.now)) }
+    {
+        let alloc = *self.places.allocator();
+        names_among(alloc, self.living.processes(), self.places.as_slice(), set)
     }
 
     /// The place of a process, or the number of places where it doesn't live.
@@ -105,6 +114,25 @@ impl Living for ForkLog {
     }
 }
 
+// The names whose places are in a set, where the places of the names stand in their order.
+fn names_among(
+    alloc: Global,
+    names: &[Process],
+    places: &[u16],
+    set: &PlaceSet,
+) -> Result<Vec<Process>, AllocError>
+    requires same { length places.now ≡ length names.now }
+    ensures { IfOk result (λ kept. kept.items ≡ picked (map (λ s. slice_index_or set.now s false) places.now) names.now) }
+{
+    let mut kept = Vec::new(alloc);
+    for (i, name) in names.iter().enumerate() {
+        if set.has(places[i] as usize) {
+            kept.push(*name)?;
+        }
+    }
+    Ok(kept)
+}
+
 // The place of a name, where the places of the living names stand in their order, or the number of places where it
 // doesn't live. It takes time logarithmic in the names.
 fn place_among(names: &[Process], places: &[u16], process: &Process) -> usize
@@ -119,34 +147,36 @@ fn place_among(names: &[Process], places: &[u16], process: &Process) -> usize
     }
 }
 
-// The places of the names that live after a process forked, in their order.
+// The places of the names that live after a process forked, in their order: its place is the first child's, and the
+// next number the second's. It takes three searches, and moves the places after those that it takes out or puts in.
 fn places_after(log: &ForkLog, process: &Process, names: &[Process]) -> Result<Vec<u16>, AllocError>
     requires lives { IsTrue (has (living_of log.now) process.now) }
     requires room { length (living_of log.now) < MAX_LIVING }
     requires names { names.now ≡ relabel process.now (living_of log.now) }
     ensures { IfOk result (λ places. places.items ≡ map (place_in (names_of (forked log.now process.now))) names.now) }
 {
-    let mut places = Vec::new(*log.forks.allocator());
-    for name in names {
-        places.push(place_after(log, process, name))?;
-    }
+    learn_short(log, process);
+    let parent = index_of(log.living.processes(), process);
+    let first = index_of(names, &process.child(false));
+    let second = index_of(names, &process.child(true));
+    let count = log.living.living() as u16;
+    let mut places = log.places.as_slice().to_vec(*log.places.allocator())?;
+    let place = places.remove(parent);
+    places.insert(first, place)?;
+    places.insert(second, count)?;
     Ok(places)
 }
 
-// The place of a name that lives after a process forked.
-fn place_after(log: &ForkLog, process: &Process, name: &Process) -> u16
-    requires lives { IsTrue (has (living_of log.now) process.now) }
-    requires room { length (living_of log.now) < MAX_LIVING }
-    requires name { IsTrue (has (relabel process.now (living_of log.now)) name.now) }
-    ensures { result ≡ place_in (names_of (forked log.now process.now)) name.now }
+// Where a name stands among the living names, which are in their order.
+fn index_of(names: &[Process], process: &Process) -> usize
+    requires in_order { IsInNameOrder names.now }
+    requires there { IsTrue (has names.now process.now) }
+    ensures within { result < length names.now }
+    ensures at { slice_index_or names.now result process.now ≡ process.now }
 {
-    learn_short(log, process);
-    if *name == process.child(true) {
-        log.living.living() as u16
-    } else if *name == process.child(false) {
-        log.place_of(process) as u16
-    } else {
-        log.place_of(name) as u16
+    match names.binary_search(process) {
+        Ok(i) => i,
+        Err(i) => i,
     }
 }
 

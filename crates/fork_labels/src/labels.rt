@@ -99,8 +99,12 @@ impl Labels for ForkLabels {
         self.has_place(log.forks(), log.place_of(process))
     }
 
+    // The places that came with later forks stem from those of the label.
     fn is_empty(&self, log: &ForkLog) -> bool {
-        self.at_end(log).is_none()
+        if log.forks().len() + 1 < self.places.len() {
+            return self.at_end(log).is_none();
+        }
+        self.places.is_none()
     }
 
     fn add(&mut self, log: &ForkLog, process: &Process) -> Result<(), AllocError>
@@ -143,10 +147,7 @@ impl Labels for ForkLabels {
     }
 
     fn names(&self, log: &ForkLog) -> Result<Vec<Process>, AllocError> {
-        let mut names = log.names()?;
-        let places = self.at_end(log);
-        names.retain(|name| places.has(log.place_of(name)));
-        Ok(names)
+        log.names_at(&self.at_end(log))
     }
 }
 

@@ -1,5 +1,5 @@
 // Sets of places.
-ghost use Rattle.std.specs.Prelude.{◌≡◌, ◌≢◌, ◌+◌, ◌<◌, ◌≤◌, ◌==◌, ℕ, length, take, false, true, Bool, ◌∷◌, [], ◌++◌, slice_index, slice_index_or, slice_set};
+ghost use Rattle.std.specs.Prelude.{◌≡◌, ◌≢◌, ◌+◌, ◌-◌, ◌<◌, ◌≤◌, ◌==◌, ℕ, length, take, false, true, Bool, ◌∷◌, [], ◌++◌, slice_index, slice_index_or, slice_set, IsTrue};
 ghost use Rattle.std.specs.Int.{bit_at};
 ghost use Rattle.fork_labels.specs.Sets.{digit, in_result, none_in, result_of};
 
@@ -37,13 +37,13 @@ pub(crate) struct PlaceSet {
 impl Model for PlaceSet {
     ghost use Rattle.std.specs.Prelude.{List, Bool, ◌≤◌};
     ghost use Rattle.fork_labels.specs.declared.place_set.TheConstants.{MAX_PLACES};
-    ghost use Rattle.fork_labels.specs.Sets.{set_in};
+    ghost use Rattle.fork_labels.specs.Sets.{set_in, IsClearFrom};
 
     ghost Value = { List Bool };
 
     ghost view = { λ set. set_in set.words set.len };
 
-    ghost invariant = { λ set. set.len ≤ MAX_PLACES };
+    ghost invariant = { λ set. (set.len ≤ MAX_PLACES) × IsClearFrom set.words set.len };
 }
 
 impl PlaceSet {
@@ -86,8 +86,8 @@ impl PlaceSet {
     pub(crate) fn is_none(&self) -> bool
         ensures { result ≡ none_in self.now }
     {
-        for s in 0..self.len() {
-            if self.has(s) {
+        for k in 0..WORDS {
+            if has_bit(self.words[k]) {
                 return false;
             }
         }
@@ -114,12 +114,23 @@ impl PlaceSet {
         self.len += 1;
     }
 
-    /// Keeps the first places alone.
+    /// The last place goes.
+    pub(crate) fn pop(&mut self)
+        requires { 0 < length self.old }
+        ensures { self.new ≡ take (length self.old - 1) self.old }
+    {
+        let s = self.len as usize - 1;
+        let word = self.words[s / WORD_BITS];
+        self.words[s / WORD_BITS] = with_bit(word, s % WORD_BITS, false);
+        self.len -= 1;
+    }
+
+    /// Keeps the first places alone, with a step for each one that goes.
     pub(crate) fn truncate(&mut self, len: usize)
         ensures { self.new ≡ take len self.old }
     {
-        if len < self.len as usize {
-            self.len = len as u16;
+        while len < self.len as usize {
+            self.pop();
         }
     }
 
@@ -143,6 +154,14 @@ fn with_bit(word: u64, i: usize, bit: bool) -> u64
     } else {
         word & !(1u64 << i)
     }
+}
+
+// Whether the word has a bit that is set.
+fn has_bit(word: u64) -> bool
+    ensures some { IsTrue result → (j : ℕ) × (j < 64) × (bit_at word j ≡ 1) }
+    ensures none { result ≡ false → word ≡ 0 }
+{
+    word != 0
 }
 
 // What an operation makes of two words.
