@@ -82,7 +82,8 @@ fn gather(branch: &Branch, stack: &Pending, keys: &mut Vec<u32>) -> Result<(), M
             if next(stack).is_none() {
                 keys.push(*key)?;
             }
-            gather(rest, stack, keys)
+            gather(rest, stack, keys)?;
+            Ok(())
         }
         Branch::Node(mark, inner, rest) => {
             if let Some((t, below)) = next(stack) {
@@ -97,7 +98,8 @@ fn gather(branch: &Branch, stack: &Pending, keys: &mut Vec<u32>) -> Result<(), M
                     }
                 }
             }
-            gather(rest, stack, keys)
+            gather(rest, stack, keys)?;
+            Ok(())
         }
     }
 }
