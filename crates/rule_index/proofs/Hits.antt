@@ -133,3 +133,10 @@ hits_fit b t k = (
       (f.0, subst (λ (ms : List Mark). HasEntry b k ms) f.1 d.1, f.2),
   λ (l, h, fit). hits_from b (t ∷ []) k (marks_of l) h (leads_from_fit l t fit),
 )
+
+-- what a walk adds in two parts
+pub added_both : (old mid new here there all : List ℕ) → new ≡ mid ++ there → mid ≡ old ++ here → all ≡ here ++ there → new ≡ old ++ all
+added_both old mid new here there all a b d = a ∙ ap (λ (x : List ℕ). x ++ there) b ∙ append_assoc old here there ∙ ap (λ (x : List ℕ). old ++ x) (sym d)
+
+pub added_rest : (old mid new there all : List ℕ) → new ≡ mid ++ there → mid ≡ old → all ≡ there → new ≡ old ++ all
+added_rest old mid new there all a b d = a ∙ ap (λ (x : List ℕ). x ++ there) b ∙ ap (λ (x : List ℕ). old ++ x) (sym d)
