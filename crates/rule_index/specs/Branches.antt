@@ -24,3 +24,7 @@ IsAdded marks key old new = (k : ℕ) (ms : List Mark) → HasEntry new k ms ↔
 -- what was there stays, but for the marks with the key
 abbrev pub IsRemoved : ℕ → Branch → Branch → Type 0
 IsRemoved key old new = (k : ℕ) (ms : List Mark) → HasEntry new k ms ↔ (HasEntry old k ms × ¬ (k ≡ key))
+
+-- nothing comes in and nothing goes
+abbrev pub IsSame : Branch → Branch → Type 0
+IsSame old new = (k : ℕ) (ms : List Mark) → HasEntry new k ms ↔ HasEntry old k ms

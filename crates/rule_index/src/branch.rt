@@ -1,6 +1,6 @@
 // Branches of the tree.
 ghost use Rattle.std.specs.Prelude.{ℕ, ◌≡◌, List, IfOk, OnOk, OnErr, IsTrue, ◌↔◌};
-ghost use Rattle.rule_index.specs.Branches.{HasEntry, IsChain, IsAdded, IsRemoved, IsKeyThere};
+ghost use Rattle.rule_index.specs.Branches.{HasEntry, IsChain, IsAdded, IsRemoved, IsKeyThere, IsSame};
 
 use crate::mark::Mark;
 use kb_term::Memory;
@@ -34,7 +34,12 @@ fn chain(alloc: Global, marks: &[Mark], key: u32) -> Result<Branch, Memory>
 }
 
 /// Adds the marks with the key.
-pub(crate) fn insert(alloc: Global, branch: &mut Branch, marks: &[Mark], key: u32) -> Result<(), Memory>
+pub(crate) fn insert(
+    alloc: Global,
+    branch: &mut Branch,
+    marks: &[Mark],
+    key: u32,
+) -> Result<(), Memory>
     ensures ok { OnOk result (IsAdded marks.now key branch.old branch.new) }
     ensures err { OnErr result (branch.new ≡ branch.old) }
 {
@@ -74,7 +79,20 @@ pub(crate) fn remove_key(branch: &mut Branch, key: u32) -> bool
         Branch::Node(_, inner, rest) => {
             let within = remove_key(inner, key);
             let beside = remove_key(rest, key);
+            prune(branch);
             within || beside
+        }
+    }
+}
+
+/// Takes a mark out behind which nothing is left.
+fn prune(branch: &mut Branch)
+    ensures { IsSame branch.old branch.new }
+{
+    if let Branch::Node(_, inner, rest) = branch {
+        if let Branch::End = **inner {
+            let kept = mem::replace(&mut **rest, Branch::End);
+            *branch = kept;
         }
     }
 }

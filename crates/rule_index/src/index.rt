@@ -3,7 +3,8 @@ ghost use Rattle.std.specs.Prelude.{ℕ, ◌≡◌, ◌++◌, ◌↔◌, IsTrue,
 ghost use Rattle.std.specs.List.Sorted.{IsStrictlyIncreasing};
 ghost use Rattle.kb_term.specs.Tree.{Tree};
 ghost use Rattle.kb_term.specs.View.{tree_of};
-ghost use Rattle.kb_match.specs.Fitting.{Fits};
+ghost use Rattle.kb_term.specs.Substitution.{Matches};
+ghost use Rattle.rule_index.specs.Marks.{marks_of};
 ghost use Rattle.rule_index.specs.Pending.{pending};
 ghost use Rattle.rule_index.specs.Walk.{hits};
 
@@ -62,10 +63,15 @@ impl RuleIndex {
     /// Want of memory.
     pub fn candidates(&self, t: &Term) -> Result<Vec<u32>, Memory>
         ensures keys { IfOk result (λ keys. (key : ℕ) → Contains keys.items key ↔ IsCandidate self.now (tree_of t.now) key) }
+        ensures matches { IfOk result (λ keys. (key : ℕ) (left : Tree) → Holds self.now key (marks_of left) → Matches left (tree_of t.now) → Contains keys.items key) }
         ensures rising { IfOk result (λ keys. IsStrictlyIncreasing keys.items) }
     {
         let mut keys = Vec::new(self.alloc);
-        gather(&self.root, &Pending::Terms(std::slice::from_ref(t), &Pending::Nothing), &mut keys)?;
+        gather(
+            &self.root,
+            &Pending::Terms(std::slice::from_ref(t), &Pending::Nothing),
+            &mut keys,
+        )?;
         keys.sort_unstable();
         keys.dedup();
         Ok(keys)

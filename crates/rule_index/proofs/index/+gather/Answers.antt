@@ -22,7 +22,7 @@ returns-in_ok-gather-in-Node t c =
           let us = pending w.in-Some.below in
           let d : ts ≡ tree_of w.in-Some.t.now ∷ us = cc w.in-Some.ensures in
           let e : c.match-next.keys.items ≡ c.args.keys.now.items ++ hits c.in-Node.inner.value us =
-              ap (λ v. v.items) w.keys-is ∙ w.in_ok-gather-in-Any-default.ensures ∙ ap (λ (b : Branch). c.args.keys.now.items ++ hits b us) w.deref-in-Any-default.ensures in
+          ap (λ v. v.items) w.keys-is ∙ w.in_ok-gather-in-Any-default.ensures ∙ ap (λ (b : Branch). c.args.keys.now.items ++ hits b us) w.deref-in-Any-default.ensures in
           added_both _ _ _ _ _ _ behind e (hits_any _ _ _ _ _ _ _ _ _ c.in-Node.is w.in-Any-default.is-0 d)
       | in-Some+in-Apply-Var w ↦
           let us = pending w.in-Some.below in
@@ -34,9 +34,9 @@ returns-in_ok-gather-in-Node t c =
           let listed : map tree_of w.items-arguments.result.now ≡ list_of (trees_of w.in-Apply-App.arguments) = w.items-arguments.ensures ∙ sym (list_of-trees w.in-Apply-App.arguments) in
           let many : w.in-Apply-App.count ≡ length (list_of (trees_of w.in-Apply-App.arguments)) = w.if-count-arguments.true ∙ sym (arguments-length w.items-arguments.result.now) ∙ ap length listed in
           let e : c.match-next.keys.items ≡ c.args.keys.now.items ++ hits c.in-Node.inner.value (list_of (trees_of w.in-Apply-App.arguments) ++ us) =
-              ap (λ v. v.items) w.keys-is ∙ w.in_ok-gather-in-Apply-App.ensures
-              ∙ ap (λ (b : Branch). c.args.keys.now.items ++ hits b (map tree_of w.items-arguments.result.now ++ us)) w.deref-then-count-arguments.ensures
-              ∙ ap (λ (vs : List Tree). c.args.keys.now.items ++ hits c.in-Node.inner.value (vs ++ us)) listed in
+          ap (λ v. v.items) w.keys-is ∙ w.in_ok-gather-in-Apply-App.ensures
+          ∙ ap (λ (b : Branch). c.args.keys.now.items ++ hits b (map tree_of w.items-arguments.result.now ++ us)) w.deref-then-count-arguments.ensures
+          ∙ ap (λ (vs : List Tree). c.args.keys.now.items ++ hits c.in-Node.inner.value (vs ++ us)) listed in
           added_both _ _ _ _ _ _ behind e (hits_inside _ _ _ _ _ _ _ _ _ _ _ _ c.in-Node.is w.in-Apply-App.is-0 (d ∙ ap (λ u. tree_of u ∷ us) w.in-Apply-App.is-1) w.if-f-g.true many)
       | in-Some+in-Apply-App+else-f-g w ↦
           let us = pending w.in-Some.below in
@@ -44,10 +44,10 @@ returns-in_ok-gather-in-Node t c =
           let listed : map tree_of w.items-arguments.result.now ≡ list_of (trees_of w.in-Apply-App.arguments) = w.items-arguments.ensures ∙ sym (list_of-trees w.in-Apply-App.arguments) in
           let many : length w.items-arguments.result.now ≡ length (list_of (trees_of w.in-Apply-App.arguments)) = sym (arguments-length w.items-arguments.result.now) ∙ ap length listed in
           let clash : (¬ (w.in-Apply-App.f ≡ w.in-Apply-App.g.0)) ⊎ (¬ (w.in-Apply-App.count ≡ length (list_of (trees_of w.in-Apply-App.arguments)))) =
-              elim w.else-f-g.branch [
-                | else-f-g-via-then-f-g+else-count-arguments u ↦ inr (λ q. u.if-count-arguments.false (q ∙ sym many))
-                | else-f-g-via-else-f-g u ↦ inl u.if-f-g.false
-              ] in
+          elim w.else-f-g.branch [
+            | else-f-g-via-then-f-g+else-count-arguments u ↦ inr (λ q. u.if-count-arguments.false (q ∙ sym many))
+            | else-f-g-via-else-f-g u ↦ inl u.if-f-g.false
+          ] in
           added_rest _ _ _ _ _ behind (ap (λ v. v.items) w.keys-is) (hits_beside _ _ _ _ _ _ _ _ _ _ _ _ c.in-Node.is w.in-Apply-App.is-0 (d ∙ ap (λ u. tree_of u ∷ us) w.in-Apply-App.is-1) clash)
       | in_default w ↦
           let d : ts ≡ [] = cc w.in_default.ensures in

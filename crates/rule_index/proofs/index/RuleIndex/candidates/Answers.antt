@@ -7,6 +7,7 @@ use Rattle.std.proofs.lemmas.List.Kept.{Contains-dedup_nat, Contains-from_dedup}
 use Rattle.std.proofs.lemmas.List.Sorted.{Contains-permutation, IsPermutation-sym}
 use Rattle.std.proofs.lemmas.Map.Keys.{IsStrictlyIncreasing-dedup}
 use Rattle.kb_term.specs.View.{tree_of}
+use Rattle.kb_match.proofs.FittingLaws.{fits_from_match}
 use Rattle.rule_index.specs.Walk.{hits}
 use Rattle.rule_index.proofs.Hits.{hits_fit}
 use Rattle.rule_index.proofs.index.RuleIndex.candidates.Goals as goal
@@ -21,6 +22,9 @@ returns-clause-keys c key =
       λ h. fit.0 (subst (λ (xs : List ℕ). Contains xs key) all (Contains-permutation _ _ _ (IsPermutation-sym _ _ perm) (Contains-from_dedup eqb _ _ (subst (λ (xs : List ℕ). Contains xs key) last h)))),
       λ h. subst (λ (xs : List ℕ). Contains xs key) (sym last) (Contains-dedup_nat _ _ (Contains-permutation _ _ _ perm (subst (λ (xs : List ℕ). Contains xs key) (sym all) (fit.1 h)))),
     )
+
+pub returns-clause-matches : goal.returns-clause-matches
+returns-clause-matches c key left held m = (returns-clause-keys c key).1 (left, held, fits_from_match left (tree_of c.args.t.now) m)
 
 pub returns-clause-rising : goal.returns-clause-rising
 returns-clause-rising c =
