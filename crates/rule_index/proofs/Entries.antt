@@ -1,9 +1,8 @@
 -- What branches have, case by case.
-use Rattle.std.proofs.Common.{ℕ, ◌≡◌, ◌⊎◌, inl, inr, ⊎_elim, refl, sym, ap, ◌∙◌, subst, List, [], ◌∷◌}
-use Rattle.std.specs.Prelude.{◌↔◌}
+use Rattle.std.proofs.Common.{ℕ, ◌≡◌, ◌⊎◌, inl, inr, ⊎_elim, refl, sym, subst, ◌∷◌}
 use Rattle.rule_index.specs.declared.mark.Mark.{Mark}
-use Rattle.rule_index.specs.declared.branch.Branch.{Branch, End, Key', Node'}
-use Rattle.rule_index.specs.Branches.{HasEntry, IsKeyThere, IsRemoved, IsAdded, IsChain}
+use Rattle.rule_index.specs.declared.branch.Branch.{Branch, Node'}
+use Rattle.rule_index.specs.Branches.{IsKeyThere, IsRemoved}
 
 pub there_inner : (m : Mark) (p : _) (i : Branch) (q : _) (r : Branch) (key : ℕ) → IsKeyThere i key → IsKeyThere (Node' m p i q r) key
 there_inner m p i q r key (ms, h) = (m ∷ ms, inl (ms, refl, h))

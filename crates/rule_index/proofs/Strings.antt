@@ -1,7 +1,7 @@
 -- The marks of arguments, one by one.
 use Rattle.std.proofs.Common.{ℕ, zero, suc, ◌≡◌, ◌<◌, ◌+◌, refl, sym, ap, ◌∙◌, arith, List, [], ◌∷◌, ◌++◌, length, take, get_or, append_assoc}
 use Rattle.std.specs.Prelude.{map}
-use Rattle.kb_term.specs.Tree.{Tree, Trees, apply, list_of, trees_of}
+use Rattle.kb_term.specs.Tree.{Tree, apply, list_of, trees_of}
 use Rattle.kb_term.specs.View.{tree_of}
 use Rattle.kb_term.specs.declared.term.Term.{Term}
 use Rattle.rule_index.specs.declared.mark.Mark.{Mark}

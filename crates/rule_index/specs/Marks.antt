@@ -1,5 +1,5 @@
 -- Left sides as strings of marks.
-use Rattle.std.specs.Prelude.{ℕ, ◌≡◌, List, [], ◌∷◌, ◌++◌, length}
+use Rattle.std.specs.Prelude.{List, [], ◌∷◌, ◌++◌, length}
 use Rattle.kb_term.specs.Tree.{Tree, Trees, variable, apply, no_trees, more_trees, list_of}
 use Rattle.rule_index.specs.declared.mark.Mark.{Mark}
 use Rattle.rule_index.specs.declared.mark.Mark.TheVariants.{Any, Apply}

@@ -1,5 +1,5 @@
 -- Terms that are still to be read.
-use Rattle.std.specs.Prelude.{List, [], ◌∷◌, ◌++◌, map}
+use Rattle.std.specs.Prelude.{List, [], ◌++◌, map}
 use Rattle.kb_term.specs.Tree.{Tree}
 use Rattle.kb_term.specs.View.{tree_of}
 use Rattle.rule_index.specs.declared.pending.Pending.{Pending, Nothing, Terms'}

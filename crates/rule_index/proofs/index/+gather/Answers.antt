@@ -1,11 +1,10 @@
-use Rattle.std.proofs.Common.{ℕ, ◌≡◌, ◌∷◌, [], ◌++◌, refl, sym, ap, ◌∙◌, ◌⊎◌, List, inl, inr, length}
+use Rattle.std.proofs.Common.{◌≡◌, ◌∷◌, [], ◌++◌, sym, ap, ◌∙◌, ◌⊎◌, List, inl, inr, length}
 use Rattle.std.specs.Prelude.{map}
-use Rattle.kb_term.specs.Tree.{Tree, variable, apply, trees_of, list_of}
+use Rattle.kb_term.specs.Tree.{Tree, trees_of, list_of}
 use Rattle.kb_term.specs.View.{tree_of}
 use Rattle.kb_term.proofs.Arguments.{arguments-length}
 use Rattle.rule_index.proofs.Strings.{list_of-trees}
 use Rattle.rule_index.specs.declared.branch.Branch.{Branch}
-use Rattle.rule_index.specs.declared.mark.Mark.TheVariants.{Any, Apply}
 use Rattle.rule_index.specs.Pending.{pending}
 use Rattle.rule_index.specs.Walk.{hits}
 use Rattle.rule_index.proofs.Hits.{hits_none, hits_any, hits_variable, hits_inside, hits_beside, added_both, added_rest}

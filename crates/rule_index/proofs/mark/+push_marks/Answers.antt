@@ -1,4 +1,4 @@
-use Rattle.std.proofs.Common.{arith, ◌≡◌, ◌<◌, ◌+◌, ◌∙◌, ◌++◌, ◌∷◌, [], suc, sym, ap, length, refl, take, List, append_assoc, add-one}
+use Rattle.std.proofs.Common.{arith, ◌≡◌, ◌<◌, ◌+◌, ◌∙◌, ◌++◌, ◌∷◌, [], suc, sym, ap, length, refl, take, List, append_assoc}
 use Rattle.std.specs.Prelude.{map}
 use Rattle.kb_term.specs.Tree.{tree_depth, trees_of, apply}
 use Rattle.kb_term.specs.View.{tree_of}

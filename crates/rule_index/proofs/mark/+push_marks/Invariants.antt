@@ -1,7 +1,6 @@
-use Rattle.std.proofs.Common.{◌≡◌, ◌++◌, ◌∷◌, [], length, take}
+use Rattle.std.proofs.Common.{◌≡◌, ◌++◌, take}
 use Rattle.kb_term.specs.Tree.{tree_depth}
 use Rattle.kb_term.specs.View.{tree_of}
-use Rattle.rule_index.specs.declared.mark.Mark.TheVariants.{Apply}
 use Rattle.rule_index.proofs.Strings.{marks_row}
 use Rattle.rule_index.proofs.mark.+push_marks.Given as goal
 

@@ -1,5 +1,5 @@
-use Rattle.std.proofs.Common.{ℕ, ◌≡◌, ◌∷◌, [], ◌++◌, refl, sym, ap, ◌∙◌, subst, List, eqb}
-use Rattle.std.specs.Prelude.{map, Contains, ◌↔◌, swap}
+use Rattle.std.proofs.Common.{ℕ, ◌≡◌, ◌∷◌, [], ◌++◌, sym, ap, ◌∙◌, subst, List, eqb}
+use Rattle.std.specs.Prelude.{map, Contains}
 use Rattle.std.specs.List.{dedup}
 use Rattle.std.specs.List.Sorted.{IsStrictlyIncreasing, IsPermutation}
 use Rattle.std.proofs.lemmas.List.Filters.{dedup_is}
