@@ -1,5 +1,5 @@
 -- The marks of a left side lead through just the terms that it fits.
-use Rattle.std.proofs.Common.{ℕ, suc, ◌≡◌, refl, sym, ap, ◌∙◌, subst, List, [], ◌∷◌, ◌++◌, length, append_assoc}
+use Rattle.std.proofs.Common.{ℕ, suc, ◌≡◌, refl, sym, ap, ◌∙◌, subst, List, [], ◌∷◌, ◌++◌, length, append_assoc, arith}
 use Rattle.kb_term.specs.Tree.{Tree, Trees, variable, apply, no_trees, more_trees, list_of}
 use Rattle.kb_match.specs.Fitting.{Fits, FitEach}
 use Rattle.rule_index.specs.declared.mark.Mark.{Mark}
@@ -76,3 +76,25 @@ pub fit_from_leads : (marks : List Mark) (t : Tree) → Leads marks (t ∷ []) �
 fit_from_leads marks t h =
     let b : Begins marks t [] = begins t marks [] h in
     (b.0, b.2 ∙ ap (λ (ms : List Mark). marks_of b.0 ++ ms) (nothing_behind b.1 b.4) ∙ append-nil (marks_of b.0), b.3)
+
+mutual
+  leads_back : (l t : Tree) (rest : List Mark) (ts : List Tree) → Leads (marks_of l ++ rest) (t ∷ ts) → Fits l t × Leads rest ts
+  leads_back (variable n) t rest ts h = (tt, h)
+  leads_back (apply f ls) (variable x) rest ts h = absurd h
+  leads_back (apply f ls) (apply g us) rest ts h =
+      let e : FitEach ls us × Leads rest ts = leads_back_each ls us rest ts h.1 h.2 in
+      ((h.0, e.0), e.1)
+
+  leads_back_each : (ls us : Trees) (rest : List Mark) (ts : List Tree) → length (list_of ls) ≡ length (list_of us) → Leads (marks_in ls ++ rest) (list_of us ++ ts) → FitEach ls us × Leads rest ts
+  leads_back_each no_trees no_trees rest ts many h = (tt, h)
+  leads_back_each no_trees (more_trees u us) rest ts many h = absurd (omega (arith, many))
+  leads_back_each (more_trees l ls) no_trees rest ts many h = absurd (omega (arith, many))
+  leads_back_each (more_trees l ls) (more_trees u us) rest ts many h =
+      let w : Leads (marks_of l ++ (marks_in ls ++ rest)) (u ∷ (list_of us ++ ts)) = subst (λ (ms : List Mark). Leads ms (u ∷ (list_of us ++ ts))) (append_assoc (marks_of l) (marks_in ls) rest) h in
+      let a : Fits l u × Leads (marks_in ls ++ rest) (list_of us ++ ts) = leads_back l u (marks_in ls ++ rest) (list_of us ++ ts) w in
+      let b : FitEach ls us × Leads rest ts = leads_back_each ls us rest ts (omega (arith, many)) a.1 in
+      ((a.0, b.0), b.1)
+
+-- a left side whose marks lead through the term fits it
+pub fit_back : (l t : Tree) → Leads (marks_of l) (t ∷ []) → Fits l t
+fit_back l t h = (leads_back l t [] [] (subst (λ (ms : List Mark). Leads ms (t ∷ [])) (sym (append-nil (marks_of l))) h)).0

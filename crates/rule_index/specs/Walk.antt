@@ -15,7 +15,7 @@ Leads (Any ∷ marks) (t ∷ ts) = Leads marks ts
 Leads (Apply f n ∷ marks) (variable x ∷ ts) = ⊥
 Leads (Apply f n ∷ marks) (apply g us ∷ ts) = (f ≡ g) × (n ≡ length (list_of us)) × Leads marks (list_of us ++ ts)
 
--- the keys of the branch's marks that lead through the terms
+-- the keys of the branch's marks that lead through the terms, in the order of the tree; `IsCandidate` says the same without the tree
 abbrev pub hits : Branch → List Tree → List ℕ
 hits End ts = []
 hits (Key' key p rest) [] = key ∷ hits rest []

@@ -3,9 +3,11 @@
 
 mod branch;
 mod index;
+mod laws;
 mod mark;
 mod pending;
 #[cfg(test)]
 mod tests;
 
 pub use index::RuleIndex;
+pub use laws::marks_lead_where_left_sides_fit;

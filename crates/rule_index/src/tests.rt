@@ -61,4 +61,5 @@ fn candidates_come_in_rising_order_and_go_with_their_keys(rt: HostRuntime) {
     assert_eq!(rt; found.as_slice(), [2, 5].as_slice());
     let found = index.candidates(&Term::Var(0)).expect(&rt, "memory");
     assert!(rt; found.is_empty());
+    marks_lead_where_left_sides_fit();
 }
