@@ -15,6 +15,11 @@ use kb_term::{Memory, Rule, Term};
 use std::alloc::Global;
 
 /// Rules by keys, found by the terms that their left sides fit.
+///
+/// A discrimination tree, as W. McCune describes it in 'Experiments with discrimination-tree indexing and path indexing for
+/// term retrieval' (1992): the marks of left sides with a common front share it, and a key stands where its marks end. Any
+/// key of 32 bits will do, and a key may stand for several rules. Calls go as deep as the longest left side has marks, and
+/// beside that one deeper for each other thing at one place.
 #[derive(Drop)]
 pub struct RuleIndex {
     alloc: Global,
@@ -56,11 +61,14 @@ impl RuleIndex {
         remove_key(&mut self.root, key)
     }
 
-    /// The keys whose rules' left sides fit the term, in rising order.
+    /// The keys whose rules' left sides fit the term, each once, in rising order.
+    ///
+    /// A candidate need not match, but each rule whose left side matches the term is among them. It follows the term through
+    /// the tree, so it does not go over the rules.
     ///
     /// # Errors
     ///
-    /// Want of memory.
+    /// Want of memory for the list.
     pub fn candidates(&self, t: &Term) -> Result<Vec<u32>, Memory>
         ensures keys { IfOk result (λ keys. (key : ℕ) → Contains keys.items key ↔ IsCandidate self.now (tree_of t.now) key) }
         ensures matches { IfOk result (λ keys. (key : ℕ) (left : Tree) → Holds self.now key (marks_of left) → Matches left (tree_of t.now) → Contains keys.items key) }
