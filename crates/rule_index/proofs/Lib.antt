@@ -1,0 +1,4 @@
+pub mod Entries
+pub mod Leading
+pub mod Hits
+pub mod Strings

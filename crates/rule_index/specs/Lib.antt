@@ -1,0 +1,5 @@
+pub mod Marks
+pub mod Branches
+pub mod Pending
+pub mod Walk
+pub mod Index
