@@ -1133,6 +1133,9 @@ fn main() {
         "kbo_eight_none" => weighted_case(8, weighted_rules(&MIXED, 60, 4, true), times),
         "kbo_words" => weighted_case(8, weighted_rules(&EIGHT, 60, 5, false), times),
         "kbo_words_none" => weighted_case(8, weighted_rules(&EIGHT, 60, 5, true), times),
+        "linear_unary_eight_none" => {
+            linear_case(&EIGHT, linear_rules(&EIGHT, 20, 5, true), times)
+        }
         "unify_tree" => unify_case(
             App(2, vec![full_tree(8, 0, 1, 0)]),
             App(2, vec![full_tree(8, 0, 5, 1)]),

@@ -49,6 +49,7 @@ linear_group 1000
 linear_unary 100
 linear_unary_none 20
 linear_unary_eight 100
+linear_unary_eight_none 10
 kbo_group 1000
 kbo_eight 100
 kbo_eight_none 100

@@ -27,6 +27,7 @@ pub enum Case {
     LinearUnary,
     LinearUnaryNone,
     LinearUnaryEight,
+    LinearUnaryEightNone,
     KboGroup,
     KboEight,
     KboEightNone,
@@ -54,6 +55,7 @@ pub(crate) fn case_named(name: &str) -> Option<Case> {
         "linear_unary" => Some(Case::LinearUnary),
         "linear_unary_none" => Some(Case::LinearUnaryNone),
         "linear_unary_eight" => Some(Case::LinearUnaryEight),
+        "linear_unary_eight_none" => Some(Case::LinearUnaryEightNone),
         "kbo_group" => Some(Case::KboGroup),
         "kbo_eight" => Some(Case::KboEight),
         "kbo_eight_none" => Some(Case::KboEightNone),
@@ -269,6 +271,7 @@ pub(crate) fn checksum(alloc: Global, case: Case, repetitions: u32) -> Result<u6
         Case::LinearUnary => linear_case(alloc, &FIVE, false, repetitions),
         Case::LinearUnaryNone => linear_case(alloc, &FIVE, true, repetitions),
         Case::LinearUnaryEight => linear_case(alloc, &EIGHT, false, repetitions),
+        Case::LinearUnaryEightNone => linear_case(alloc, &EIGHT, true, repetitions),
         Case::KboGroup => {
             let sig = signature(alloc, &GROUP)?;
             repeat_kbo(alloc, &sig, &group_rules(alloc)?, repetitions)
