@@ -858,7 +858,7 @@ fn linear_case(arities: &[u8], rules: Vec<Rule>, repetitions: u32) -> u64 {
 }
 
 fn weighted_case(count: usize, rules: Vec<Rule>, repetitions: u32) -> u64 {
-    repeat(repetitions, &|| match search_kbo(count, &rules) {
+    repeat(repetitions, &|| match search_kbo(count, std::hint::black_box(&rules)) {
         None => 1,
         Some((weights, prec)) => {
             weights.iter().chain(&prec).fold(1, |sum, n| with_next(sum, u64::from(*n)))
