@@ -34,7 +34,7 @@ for problem in "$folder"/*.trs; do
         differ=$((differ + 1))
     fi
     awk -v n="$name" -v a="$ours" -v b="$theirs" -v w="$answer" \
-        'BEGIN { printf "%-28s %10.3f %10.3f %8s  %s\n", n, a, b, b > 0.002 ? sprintf("%.1f", a / b) : "-", w }'
+        'BEGIN { printf "%-28s %10.3f %10.3f %8s  %s\n", n, a, b, (b > 0.002) ? sprintf("%.1f", a / b) : "-", w }'
 done
 echo "$same same, $differ differ, $stopped stopped"
 [ "$differ" -eq 0 ]
