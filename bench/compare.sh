@@ -4,7 +4,7 @@
 #
 #   bench/compare.sh ENGINE FOLDER [BUDGET] [SECONDS]
 #
-# ENGINE is a command with its words, as 'fast --kbo 1'; it gets the words `complete --budget BUDGET` behind them, as the program does.
+# ENGINE is a command with its words, as 'fast --kbo 1'; it gets the words `complete --budget BUDGET` behind them; the program gets `--workers 1` as well.
 # Each run of either is stopped after SECONDS (60 where it isn't given); such a problem is listed as stopped and not compared.
 set -u
 top="$(cd "$(dirname "${BASH_SOURCE[0]}")/.." && pwd)"
@@ -21,7 +21,7 @@ differ=0 same=0 stopped=0
 printf '%-28s %10s %10s %8s  %s\n' problem program engine ratio answer
 for problem in "$folder"/*.trs; do
     name="$(basename "$problem" .trs)"
-    ours="$( { time timeout "$seconds" "$program" complete --budget "$budget" <"$problem" >"$work/ours" 2>/dev/null; echo $? >"$work/ours.status"; } 2>&1)"
+    ours="$( { time timeout "$seconds" "$program" complete --workers 1 --budget "$budget" <"$problem" >"$work/ours" 2>/dev/null; echo $? >"$work/ours.status"; } 2>&1)"
     theirs="$( { time timeout "$seconds" "${engine[@]}" complete --budget "$budget" <"$problem" >"$work/theirs" 2>/dev/null; echo $? >"$work/theirs.status"; } 2>&1)"
     if [ "$(cat "$work/ours.status")" = 124 ] || [ "$(cat "$work/theirs.status")" = 124 ]; then
         answer=stopped

@@ -3,11 +3,7 @@ use Rattle.std.proofs.Common.{ℕ, suc, ◌≡◌, ◌+◌, ◌<◌, ◌≤◌, 
 use Rattle.std.proofs.lemmas.List.{get_or-map, length-map, take-append-drop, length-take-le, take_more, take_all}
 use Rattle.std.proofs.lemmas.List.Elements.{All-push, All-append}
 use Rattle.std.proofs.Math.Seq.{drop-cons}
-use Rattle.kb_term.specs.Tree.{variable}
-use Rattle.kb_term.specs.Rule.{Rule}
-use Rattle.kb_cert.specs.Family.{Orders}
-use Rattle.kb_cert.specs.declared.certificate.Certificate.{Certificate}
-use Rattle.kb_checker.specs.Verdicts.{FailsFirst, IsFirstUnordered}
+use Rattle.kb_checker.specs.Verdicts.{FailsFirst}
 
 -- one more member is good
 pub good_more : {X : Type 0} (G : X → Type 0) (xs : List X) (k : ℕ) (x : X) → k < length xs → x ≡ get_or xs k x → G x → All G (take k xs) → All G (take (k + 1) xs)
@@ -47,18 +43,3 @@ fails_within G F xs n f = omega (arith, f.4, ap length f.3, length-append f.0 (f
 -- the member of a mapped list
 pub mapped_member : {X Y : Type 0} (f : X → Y) (xs : List X) (k : ℕ) (x : X) → k < length xs → x ≡ get_or xs k x → (k < length (map f xs)) × (f x ≡ get_or (map f xs) k (f x))
 mapped_member f xs k x room is = (omega (arith, length-map xs f), ap f is ∙ sym (get_or-map f xs k x (f x) room))
-
--- the rules before the next one are ordered, and with it they aren't
-pub first_unordered : (c : Certificate) (rules : List Rule) (k : ℕ) → k < length rules → Orders c (take k rules) → ¬ Orders c (take (k + 1) rules) → IsFirstUnordered c rules (k + 1)
-first_unordered c rules k room h n = (
-  take k rules,
-  get_or rules k no_rule,
-  drop (suc k) rules,
-  sym (take-append-drop k rules) ∙ ap (take k rules ++◌) (drop-cons rules k no_rule room),
-  omega (arith, length-take-le k rules (omega arith)),
-  h,
-  λ o. n (subst (Orders c) (sym (take_more rules k no_rule room)) o),
-)
-  where
-    no_rule : Rule
-    no_rule = record { left = variable 0; right = variable 0 }

@@ -1,8 +1,8 @@
 -- What the checker says of an answer is one.
 use Rattle.std.proofs.Common.{ℕ, zero, suc, ◌+◌, ◌≤◌, ◌<◌, ◌≡◌, ◌⊎◌, inl, inr, refl, sym, ap, ap₂, ◌∙◌, subst, arith, List, [], ◌∷◌, ◌++◌, length, append_assoc, All, Contains, ⊎_elim}
 use Rattle.std.specs.Prelude.{Result, Ok, Err, ◌==◌}
-use Rattle.std.proofs.lemmas.List.Elements.{All-contains, All-head, All-tail, All-cons, Contains-append_cases, Contains-append_left, Contains-append_right}
-use Rattle.kb_term.proofs.Steps.{contains_cases, contains_first}
+use Rattle.std.proofs.lemmas.List.Elements.{All-contains, All-head, All-tail, All-cons, Contains-append_cases, Contains-append_right}
+use Rattle.kb_term.proofs.Steps.{contains_first}
 use Rattle.kb_term.proofs.Subtrees.{some_same}
 use Rattle.kb_term.specs.Tree.{Tree}
 use Rattle.kb_term.specs.Pair.{Pair}
@@ -14,18 +14,16 @@ use Rattle.kb_overlap.specs.Trace.{TraceStep, item, IsRightOrigin, IsRightAfter,
 use Rattle.kb_rewrite.specs.NormalForm.{NormalisesTo, Normalised, form, long, large, HoldVariables}
 use Rattle.kb_rewrite.proofs.Determined.{answers_once}
 use Rattle.kb_rewrite.proofs.FirstRedexes.{rule_inside}
-use Rattle.kb_cert.specs.Family.{Orders}
-use Rattle.kb_cert.specs.declared.certificate.Certificate.{Certificate}
-use Rattle.kb_cert.proofs.Ordering.{orders_among}
 use Rattle.kb_laws.specs.Overlaps.{HaveOneNormalForm, OverlapsClose}
 use Rattle.kb_laws.proofs.Renamings.{Back, answer_instance, FormBack, normalises_instance}
 use Rattle.kb_laws.proofs.Twins.{Both, both_append, both_in, Twins, AlikeSides, AreListedAlike, lists_both}
 use Rattle.kb_trace.specs.Steps.{pairs_of, IsFirstBadStep}
-use Rattle.kb_checker.specs.Answers.{Answer, IsAnswer, IsTraced, rules_of}
-use Rattle.kb_checker.specs.Verdicts.{FailsFirst, HasForm, FailToJoin, Closes, FailsToClose, AreOverlapsOf, AreInnerOverlaps, AreOuterOverlaps, FirstUnclosed, IsProved, FailsToProve, IsFirstUnordered, PassesSteps, pair_reason, equation_reason, IsVerdict}
+use Rattle.kb_checker.specs.Answers.{Answer, IsAnswer, IsTraced, IsOriented, rules_of}
+use Rattle.kb_checker.specs.Verdicts.{FailsFirst, HasForm, FailToJoin, Closes, FailsToClose, AreOverlapsOf, AreInnerOverlaps, AreOuterOverlaps, FirstUnclosed, IsProved, FailsToProve, PassesSteps, PassesCitations, PassesConstraintCitations, PassesConstraints, PassesOrder, PassesOverlaps, pair_reason, equation_reason, IsVerdict}
 use Rattle.kb_checker.specs.declared.joining.Failure.{Failure}
 use Rattle.kb_checker.specs.declared.joining.Failure.TheVariants.{Large, Steps, Different}
-use Rattle.kb_checker.specs.declared.verdict.Reject.TheVariants.{BadStep, Untraced, NotOriented, PairLarge, PairSteps, NotJoined, EquationLarge, EquationSteps, NotProved}
+use Rattle.kb_checker.specs.declared.verdict.Reject.{Reject}
+use Rattle.kb_checker.specs.declared.verdict.Reject.TheVariants.{BadStep, Untraced, UntracedConstraint, ConstraintNotOriented, NotOriented, PairLarge, PairSteps, NotJoined, EquationLarge, EquationSteps, NotProved}
 use Rattle.kb_checker.specs.declared.verdict.Checked.{Checked}
 use Rattle.kb_checker.specs.declared.verdict.Checked.TheVariants.{Accepted, Rejected}
 use Rattle.kb_checker.proofs.Sound.{are_rules}
@@ -49,27 +47,6 @@ places {X} (v ∷ before) (w ∷ front) after back x y e =
 
 middle : {X : Type 0} (before after : List X) (x : X) → Contains (before ++ x ∷ after) x
 middle before after x = Contains-append_right before (x ∷ after) x (contains_first x after)
-
--- a list up to one of its members is among it
-up_to : {X : Type 0} (before after : List X) (x y : X) → Contains (before ++ x ∷ []) y → Contains (before ++ x ∷ after) y
-up_to before after x y c = ⊎_elim (λ i. Contains-append_left before (x ∷ after) y i)
-    (λ i. Contains-append_right before (x ∷ after) y (⊎_elim (λ e. (0, omega arith, e)) (λ k. absurd (omega arith)) (contains_cases x [] y i)))
-    (Contains-append_cases before (x ∷ []) y c)
-
--- where a part isn't ordered, the whole isn't
-unordered_within : (c : Certificate) (rules before after : List Rule) (rule : Rule) → rules ≡ before ++ rule ∷ after → ¬ Orders c (before ++ rule ∷ []) → ¬ Orders c rules
-unordered_within c rules before after rule e n h = n (orders_among c (before ++ rule ∷ after) (before ++ rule ∷ []) (up_to before after rule) (subst (Orders c) e h))
-
-unordered_never : (c : Certificate) (rules : List Rule) (n : ℕ) → IsFirstUnordered c rules n → ¬ Orders c rules
-unordered_never c rules n (before, rule, after, e, at, h, fails) = unordered_within c rules before after rule e fails
-
-unordered_once : (c : Certificate) (rules : List Rule) (n m : ℕ) → IsFirstUnordered c rules n → IsFirstUnordered c rules m → n ≡ m
-unordered_once c rules n m (before, rule, after, e, at, h, fails) (front, other, back, d, there, k, failed) = ⊎_elim
-    (λ q. at ∙ ap (λ z. z + 1) q.0 ∙ sym there)
-    (λ q. ⊎_elim
-    (λ w. absurd (unordered_within c front before w.0 rule w.1 fails k))
-    (λ w. absurd (unordered_within c before front w.0 other w.1 failed h)) q)
-    (places before front after back rule other (sym e ∙ d))
 
 -- what is good doesn't fail, so all good ones have no first that fails
 none_fails : {X : Type 0} (G F : X → Type 0) → ((x : X) → G x → F x → ⊥) → (xs : List X) (n : ℕ) → FailsFirst G F xs n → All G xs → ⊥
@@ -390,8 +367,14 @@ module _ (a : Answer) (formed : IsAnswer a) where
   abbrev FailsCitations : Checked → Type 0
   FailsCitations x = (n : ℕ) × FailsFirst (IsTraced a.trace) (λ r. ¬ IsTraced a.trace r) a.rules n × (x ≡ Rejected Untraced n)
 
+  abbrev FailsConstraintCitations : Checked → Type 0
+  FailsConstraintCitations x = (n : ℕ) × FailsFirst (IsTraced a.trace) (λ r. ¬ IsTraced a.trace r) a.constraints n × (x ≡ Rejected UntracedConstraint n)
+
+  abbrev FailsConstraints : Checked → Type 0
+  FailsConstraints x = (n : ℕ) × FailsFirst (IsOriented a.cert) (λ r. ¬ IsOriented a.cert r) a.constraints n × (x ≡ Rejected ConstraintNotOriented n)
+
   abbrev FailsOrder : Checked → Type 0
-  FailsOrder x = (n : ℕ) × IsFirstUnordered a.cert (rules_of a.rules) n × (x ≡ Rejected NotOriented n)
+  FailsOrder x = (n : ℕ) × FailsFirst (IsOriented a.cert) (λ r. ¬ IsOriented a.cert r) a.rules n × (x ≡ Rejected NotOriented n)
 
   abbrev FailsOverlaps : Checked → Type 0
   FailsOverlaps x = (f : Failure) × (n : ℕ) × FirstUnclosed (rules_of a.rules) f n × (x ≡ Rejected (pair_reason f) n)
@@ -406,28 +389,52 @@ module _ (a : Answer) (formed : IsAnswer a) where
   FromOverlaps x = FailsOverlaps x ⊎ (OverlapsClose (rules_of a.rules) × FromEquations x)
 
   abbrev FromOrder : Checked → Type 0
-  FromOrder x = FailsOrder x ⊎ (Orders a.cert (rules_of a.rules) × FromOverlaps x)
+  FromOrder x = FailsOrder x ⊎ (All (IsOriented a.cert) a.rules × FromOverlaps x)
+
+  abbrev FromConstraints : Checked → Type 0
+  FromConstraints x = FailsConstraints x ⊎ (All (IsOriented a.cert) a.constraints × FromOrder x)
+
+  abbrev FromConstraintCitations : Checked → Type 0
+  FromConstraintCitations x = FailsConstraintCitations x ⊎ (All (IsTraced a.trace) a.constraints × FromConstraints x)
 
   abbrev FromCitations : Checked → Type 0
-  FromCitations x = FailsCitations x ⊎ (All (IsTraced a.trace) a.rules × FromOrder x)
+  FromCitations x = FailsCitations x ⊎ (All (IsTraced a.trace) a.rules × FromConstraintCitations x)
 
   abbrev FromSteps : Checked → Type 0
   FromSteps x = FailsSteps x ⊎ (PassesSteps a × FromCitations x)
 
+  -- what an answer that passes a group has left
+  past_citations : (x : Checked) → PassesCitations a → FromConstraintCitations x → FromSteps x
+  past_citations x p h = inr (p.0, inr (p.1, h))
+
+  past_constraint_citations : (x : Checked) → PassesConstraintCitations a → FromConstraints x → FromSteps x
+  past_constraint_citations x p h = past_citations x p.0 (inr (p.1, h))
+
+  past_constraints : (x : Checked) → PassesConstraints a → FromOrder x → FromSteps x
+  past_constraints x p h = past_constraint_citations x p.0 (inr (p.1, h))
+
+  past_order : (x : Checked) → PassesOrder a → FromOverlaps x → FromSteps x
+  past_order x p h = past_constraints x p.0 (inr (p.1, h))
+
+  past_overlaps : (x : Checked) → PassesOverlaps a → FromEquations x → FromSteps x
+  past_overlaps x p h = past_order x p.0 (inr (p.1, h))
+
   groups : (x : Checked) → IsVerdict a x → FromSteps x
-  groups Accepted h = inr (h.steps, inr (h.citations, inr (h.orders, inr (h.overlaps, inr (h.equations, refl)))))
+  groups Accepted h = past_overlaps Accepted (((((h.steps, h.citations), h.constraint_citations), h.constraints), h.orders), h.overlaps) (inr (h.equations, refl))
   groups (Rejected BadStep n) h = inl (n, h, refl)
   groups (Rejected Untraced n) h = inr (h.0, inl (n, h.1, refl))
-  groups (Rejected NotOriented n) h = inr (h.0.0, inr (h.0.1, inl (n, h.1, refl)))
-  groups (Rejected PairLarge n) h = inr (h.0.0, inr (h.0.1, inr (h.0.2, inl (Large, n, h.1, refl))))
-  groups (Rejected PairSteps n) h = inr (h.0.0, inr (h.0.1, inr (h.0.2, inl (Steps, n, h.1, refl))))
-  groups (Rejected NotJoined n) h = inr (h.0.0, inr (h.0.1, inr (h.0.2, inl (Different, n, h.1, refl))))
-  groups (Rejected EquationLarge n) h = inr (h.0.0, inr (h.0.1, inr (h.0.2, inr (h.0.3, inl (Large, n, h.1, refl)))))
-  groups (Rejected EquationSteps n) h = inr (h.0.0, inr (h.0.1, inr (h.0.2, inr (h.0.3, inl (Steps, n, h.1, refl)))))
-  groups (Rejected NotProved n) h = inr (h.0.0, inr (h.0.1, inr (h.0.2, inr (h.0.3, inl (Different, n, h.1, refl)))))
+  groups (Rejected UntracedConstraint n) h = past_citations _ h.0 (inl (n, h.1, refl))
+  groups (Rejected ConstraintNotOriented n) h = past_constraint_citations _ h.0 (inl (n, h.1, refl))
+  groups (Rejected NotOriented n) h = past_constraints _ h.0 (inl (n, h.1, refl))
+  groups (Rejected PairLarge n) h = past_order _ h.0 (inl (Large, n, h.1, refl))
+  groups (Rejected PairSteps n) h = past_order _ h.0 (inl (Steps, n, h.1, refl))
+  groups (Rejected NotJoined n) h = past_order _ h.0 (inl (Different, n, h.1, refl))
+  groups (Rejected EquationLarge n) h = past_overlaps _ h.0 (inl (Large, n, h.1, refl))
+  groups (Rejected EquationSteps n) h = past_overlaps _ h.0 (inl (Steps, n, h.1, refl))
+  groups (Rejected NotProved n) h = past_overlaps _ h.0 (inl (Different, n, h.1, refl))
 
   -- rules that are ordered hold their variables
-  ordered_hold : Orders a.cert (rules_of a.rules) → HoldVariables (rules_of a.rules)
+  ordered_hold : All (IsOriented a.cert) a.rules → HoldVariables (rules_of a.rules)
   ordered_hold orders rule i = (All-contains IsRule (rules_of a.rules) rule (are_rules a formed orders) i).holds_variables
 
   module _ (x y : Checked) where
@@ -447,19 +454,27 @@ module _ (a : Answer) (formed : IsAnswer a) where
         (λ h p. unclosed_never (rules_of a.rules) hold h.0 h.1 h.2 p)
         (λ p h k. in_equations hold h k)
 
+    -- a group of a list, each of whose members is good or isn't
+    in_members : {A S T : Type 0} (G : A → Type 0) (reason : Reject) (members : List A) → (All G members → S → T → x ≡ y)
+        → ((n : ℕ) × FailsFirst G (λ r. ¬ G r) members n × (x ≡ Rejected reason n)) ⊎ (All G members × S)
+        → ((n : ℕ) × FailsFirst G (λ r. ¬ G r) members n × (y ≡ Rejected reason n)) ⊎ (All G members × T) → x ≡ y
+    in_members G reason members rest = compare x y
+        (λ h k. h.2 ∙ ap (Rejected reason) (first_once G (λ r. ¬ G r) (λ r. ¬ G r) (λ r g n. n g) (λ r g n. n g) members h.0 k.0 h.1 k.1).0 ∙ sym k.2)
+        (λ h p. none_fails G (λ r. ¬ G r) (λ r g n. n g) members h.0 h.1 p)
+        (λ h p. none_fails G (λ r. ¬ G r) (λ r g n. n g) members h.0 h.1 p)
+        rest
+
     in_order : FromOrder x → FromOrder y → x ≡ y
-    in_order = compare x y
-        (λ h k. h.2 ∙ ap (Rejected NotOriented) (unordered_once a.cert (rules_of a.rules) h.0 k.0 h.1 k.1) ∙ sym k.2)
-        (λ h p. unordered_never a.cert (rules_of a.rules) h.0 h.1 p)
-        (λ h p. unordered_never a.cert (rules_of a.rules) h.0 h.1 p)
-        (λ p h k. in_overlaps (ordered_hold p) h k)
+    in_order = in_members (IsOriented a.cert) NotOriented a.rules (λ p. in_overlaps (ordered_hold p))
+
+    in_constraints : FromConstraints x → FromConstraints y → x ≡ y
+    in_constraints = in_members (IsOriented a.cert) ConstraintNotOriented a.constraints (λ p. in_order)
+
+    in_constraint_citations : FromConstraintCitations x → FromConstraintCitations y → x ≡ y
+    in_constraint_citations = in_members (IsTraced a.trace) UntracedConstraint a.constraints (λ p. in_constraints)
 
     in_citations : FromCitations x → FromCitations y → x ≡ y
-    in_citations = compare x y
-        (λ h k. h.2 ∙ ap (Rejected Untraced) (first_once (IsTraced a.trace) (λ r. ¬ IsTraced a.trace r) (λ r. ¬ IsTraced a.trace r) (λ r g n. n g) (λ r g n. n g) a.rules h.0 k.0 h.1 k.1).0 ∙ sym k.2)
-        (λ h p. none_fails (IsTraced a.trace) (λ r. ¬ IsTraced a.trace r) (λ r g n. n g) a.rules h.0 h.1 p)
-        (λ h p. none_fails (IsTraced a.trace) (λ r. ¬ IsTraced a.trace r) (λ r g n. n g) a.rules h.0 h.1 p)
-        (λ p h k. in_order h k)
+    in_citations = in_members (IsTraced a.trace) Untraced a.rules (λ p. in_constraint_citations)
 
     in_steps : FromSteps x → FromSteps y → x ≡ y
     in_steps = compare x y

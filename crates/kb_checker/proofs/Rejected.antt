@@ -1,9 +1,16 @@
--- The reasons of overlaps and of equations.
-use Rattle.std.proofs.Common.{ℕ}
+-- What an option says, and the reasons of overlaps and of equations.
+use Rattle.std.proofs.Common.{ℕ, ◌≡◌, subst, Option, Some, None}
+use Rattle.std.specs.Prelude.{MatchOption}
 use Rattle.kb_checker.specs.Answers.{Answer, rules_of}
 use Rattle.kb_checker.specs.Verdicts.{FailsFirst, FirstUnclosed, IsProved, FailsToProve, PassesOrder, PassesOverlaps, pair_reason, equation_reason, IsRejected}
 use Rattle.kb_checker.specs.declared.joining.Failure.{Failure}
 use Rattle.kb_checker.specs.declared.joining.Failure.TheVariants.{Large, Steps, Different}
+
+pub none_says : {X : Type 0} (o : Option X) (A : Type 0) (B : X → Type 0) → o ≡ None → MatchOption o A B → A
+none_says {X} o A B e h = subst {A = Option X} (λ z. MatchOption z A B) e h
+
+pub some_says : {X : Type 0} (o : Option X) (x : X) (A : Type 0) (B : X → Type 0) → o ≡ Some x → MatchOption o A B → B x
+some_says {X} o x A B e h = subst {A = Option X} (λ z. MatchOption z A B) e h
 
 pub pair_rejected : (a : Answer) (f : Failure) (n : ℕ) → PassesOrder a → FirstUnclosed (rules_of a.rules) f n → IsRejected a (pair_reason f) n
 pair_rejected a Large n p h = (p, h)

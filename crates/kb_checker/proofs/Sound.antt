@@ -2,19 +2,19 @@
 use Rattle.std.proofs.Common.{ℕ, ◌≤◌, ◌≡◌, subst, arith, List, [], ◌∷◌, All, map, length, true, ◌&&◌}
 use Rattle.std.specs.Prelude.{IsTrue, nat_le, nat_eq}
 use Rattle.std.specs.List.{list_all}
-use Rattle.std.proofs.lemmas.List.Elements.{All-contains, All-weaker, All-nil, All-cons}
+use Rattle.std.proofs.lemmas.List.Elements.{All-contains, All-weaker, All-head}
 use Rattle.kb_term.specs.Tree.{Tree}
 use Rattle.kb_term.specs.Rule.{Rule, IsRule}
 use Rattle.kb_term.specs.Signature.{Signature, IsWellFormed, IsRuleOver, IsEquationWithinLimits}
 use Rattle.kb_term.specs.Proving.{Proves, IsTerminating, equations_of}
 use Rattle.kb_term.proofs.Subtrees.{contains_mapped}
-use Rattle.kb_linear.specs.LinearOrder.{Interpretation, IsInterpretationOf}
+use Rattle.kb_linear.specs.LinearOrder.{Interpretation, IsInterpretationOf, LinearGreater}
 use Rattle.kb_lpo.specs.PathOrder.{LpoGreater}
 use Rattle.kb_kbo.specs.KnuthBendix.{KboOrder, KboGreater}
 use Rattle.kb_kbo.specs.KnuthBendixLaws.{HasWeights}
 use Rattle.kb_kbo.proofs.KboHalting.{kbo_rule, terminating_by_kbo}
 use Rattle.kb_lpo.proofs.PathOrderLaws.{lpo_rule, terminating_by_lpo}
-use Rattle.kb_cert.specs.CertificateText.{is_between, is_row, are_rows, are_weights, is_precedence, is_certificate}
+use Rattle.kb_cert.specs.CertificateText.{is_between, is_row, are_rows, is_certificate}
 use Rattle.kb_cert.specs.Family.{Orders}
 use Rattle.kb_cert.specs.declared.certificate.Certificate.{Certificate}
 use Rattle.kb_cert.specs.declared.certificate.Certificate.TheVariants.{Lpo, Linear, Kbo}
@@ -28,7 +28,7 @@ use Rattle.kb_laws.proofs.ConfluenceLaws.{confluent_by_overlaps, joinable_by_con
 use Rattle.kb_laws.proofs.Closing.{closed_joins, joined}
 use Rattle.kb_laws.proofs.Complete.{all_from, proved_by_joining}
 use Rattle.kb_laws.proofs.Stated.{interpretation_halts}
-use Rattle.kb_checker.specs.Answers.{Answer, rules_of, IsAnswer, IsTraced, IsGoodAnswer}
+use Rattle.kb_checker.specs.Answers.{Answer, rules_of, IsAnswer, IsTraced, IsOriented, IsGoodAnswer}
 use Rattle.kb_checker.specs.Verdicts.{IsProved, IsAccepted}
 use Rattle.kb_checker.proofs.Proved.{traced_proved}
 
@@ -63,23 +63,29 @@ oriented_halts g (Kbo o) m rules over h = terminating_by_kbo g o (certificate_we
 pub all_mapped : {X Y : Type 0} (f : X → Y) (P : Y → Type 0) (xs : List X) → All (λ x. P (f x)) xs → All P (map f xs)
 all_mapped f P xs h = all_from P (map f xs) (λ y c. let m = contains_mapped f xs y c in subst P m.2 (All-contains (λ x. P (f x)) xs m.0 h m.1))
 
+-- what the certificate makes greater one by one it orders
+pub all_ordered : (c : Certificate) (rules : List (Rule × ℕ)) → All (IsOriented c) rules → Orders c (rules_of rules)
+all_ordered (Lpo p) rules h = all_mapped (λ (r : Rule × ℕ). r.0) (λ (r : Rule). LpoGreater p r.left r.right) rules (λ k d l. All-head (λ (r : Rule). LpoGreater p r.left r.right) _ [] (h k d l))
+all_ordered (Linear i) rules h = all_mapped (λ (r : Rule × ℕ). r.0) (λ (r : Rule). LinearGreater i r.left r.right) rules (λ k d l. All-head (λ (r : Rule). LinearGreater i r.left r.right) _ [] (h k d l))
+all_ordered (Kbo o) rules h = all_mapped (λ (r : Rule × ℕ). r.0) (λ (r : Rule). KboGreater o r.left r.right) rules (λ k d l. All-head (λ (r : Rule). KboGreater o r.left r.right) _ [] (h k d l))
+
 -- the rules of an answer have terms over the signature, and are rules where the certificate orders them
 module _ (a : Answer) (form : IsAnswer a) where
   sides : All (λ (r : Rule). IsEquationWithinLimits a.problem.signature (r.left, r.right)) (rules_of a.rules)
   sides = all_mapped (λ (r : Rule × ℕ). r.0) (λ (r : Rule). IsEquationWithinLimits a.problem.signature (r.left, r.right)) a.rules (λ k d l. (form.rules k d l).sides)
 
-  pub are_rules : Orders a.cert (rules_of a.rules) → All IsRule (rules_of a.rules)
-  are_rules h = oriented_rules a.problem.signature a.cert form.cert (rules_of a.rules) (λ k d l. (sides k d l).right.well_formed) h
+  pub are_rules : All (IsOriented a.cert) a.rules → All IsRule (rules_of a.rules)
+  are_rules h = oriented_rules a.problem.signature a.cert form.cert (rules_of a.rules) (λ k d l. (sides k d l).right.well_formed) (all_ordered a.cert a.rules h)
 
 module _ (a : Answer) (form : IsAnswer a) (h : IsAccepted a) where
   abbrev rules : List Rule
   rules = rules_of a.rules
 
   ordered : Orders a.cert rules
-  ordered = h.orders
+  ordered = all_ordered a.cert a.rules h.orders
 
   over : All (IsRuleOver a.problem.signature) rules
-  over = λ k d l. let w = sides a form k d l in record { is_rule = are_rules a form ordered k d l; left = w.left.well_formed; right = w.right.well_formed }
+  over = λ k d l. let w = sides a form k d l in record { is_rule = are_rules a form h.orders k d l; left = w.left.well_formed; right = w.right.well_formed }
 
   -- the rules prove each equation
   forth : (s t : Tree) → Proves a.problem.equations s t → Proves (equations_of rules) s t
@@ -109,6 +115,8 @@ module _ (a : Answer) (form : IsAnswer a) (h : IsAccepted a) where
               proves_same = λ s t. (forth s t, back s t);
               decides = λ s t ws wt. ((λ p. joinable_by_confluence g rules over conf s t ws wt (forth s t p)), (λ j. back s t (proved_by_joining rules s t j)));
             };
+        ordered = all_ordered a.cert a.constraints h.constraints;
         right = h.steps;
         traced = h.citations;
+        constraints_traced = h.constraint_citations;
       }

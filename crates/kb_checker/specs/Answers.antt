@@ -1,20 +1,22 @@
 -- Answers, and which are good.
-use Rattle.std.specs.Prelude.{ℕ, ◌≤◌, List, map, length, All, IsTrue}
+use Rattle.std.specs.Prelude.{ℕ, ◌≤◌, List, [], ◌∷◌, map, length, All, IsTrue}
 use Rattle.kb_term.specs.Tree.{tree_size}
 use Rattle.kb_term.specs.FewArguments.{HasFewArguments}
 use Rattle.kb_term.specs.Rule.{Rule}
 use Rattle.kb_term.specs.Signature.{Signature, Problem, IsWithinLimits, IsEquationWithinLimits}
 use Rattle.kb_cert.specs.CertificateText.{is_certificate}
+use Rattle.kb_cert.specs.Family.{Orders}
 use Rattle.kb_cert.specs.declared.certificate.Certificate.{Certificate}
 use Rattle.kb_overlap.specs.Found.{AreVariablesBelow}
 use Rattle.kb_overlap.specs.Trace.{TraceStep, IsRightTrace, IsTracedBy}
 use Rattle.kb_laws.specs.Complete.{IsCompleteSystem}
 use Rattle.kb_trace.specs.TraceText.{is_up_to, IsTraceForm}
 
--- rules for a problem, each with the trace step that it cites, an order, and a trace
+-- rules for a problem and the constraints on its order, each with the trace step that it cites, an order, and a trace
 pub record Answer : Type 0 where
   pub problem : Problem
   pub rules : List (Rule × ℕ)
+  pub constraints : List (Rule × ℕ)
   pub cert : Certificate
   pub trace : List TraceStep
 
@@ -32,6 +34,8 @@ pub record IsAnswer (a : Answer) : Type 0 where
   pub problem : IsWithinLimits a.problem
   pub count : length a.rules ≤ 4096
   pub rules : All (IsRuleForm a.problem.signature) a.rules
+  pub constraint_count : length a.constraints ≤ 4096
+  pub constraints : All (IsRuleForm a.problem.signature) a.constraints
   pub cert : IsTrue (is_certificate a.problem.signature a.cert)
   pub trace : IsTraceForm a.problem.signature a.trace
 
@@ -45,8 +49,14 @@ pub record IsReady (rule : Rule) : Type 0 where
 abbrev pub IsTraced : List TraceStep → Rule × ℕ → Type 0
 IsTraced trace r = IsTracedBy trace r.1 r.0
 
--- the rules are a complete system for the problem by the order, and each is traced by its step of a right trace
+-- the order makes the left side greater than the right side
+abbrev pub IsOriented : Certificate → Rule × ℕ → Type 0
+IsOriented cert r = Orders cert (r.0 ∷ [])
+
+-- the rules are a complete system for the problem by the order, which orders the constraints too; each rule and each constraint is traced by its step of a right trace
 pub record IsGoodAnswer (a : Answer) : Type 0 where
   pub system : IsCompleteSystem a.problem a.cert (rules_of a.rules)
+  pub ordered : Orders a.cert (rules_of a.constraints)
   pub right : IsRightTrace a.problem.equations a.trace
   pub traced : All (IsTraced a.trace) a.rules
+  pub constraints_traced : All (IsTraced a.trace) a.constraints

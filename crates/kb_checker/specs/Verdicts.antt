@@ -4,19 +4,17 @@ use Rattle.kb_term.specs.Tree.{Tree}
 use Rattle.kb_term.specs.Rule.{Rule}
 use Rattle.kb_term.specs.declared.limit.Limit.{Limit}
 use Rattle.kb_rewrite.specs.NormalForm.{NormalisesTo, form, long, large}
-use Rattle.kb_cert.specs.Family.{Orders}
-use Rattle.kb_cert.specs.declared.certificate.Certificate.{Certificate}
 use Rattle.kb_overlap.specs.Overlap.{Overlap, IsOverlapList}
 use Rattle.kb_overlap.specs.Trace.{IsRightTrace}
 use Rattle.kb_laws.specs.Overlaps.{HaveOneNormalForm, OverlapsClose}
 use Rattle.kb_trace.specs.Steps.{IsFirstBadStep}
-use Rattle.kb_checker.specs.Answers.{Answer, rules_of, IsTraced}
+use Rattle.kb_checker.specs.Answers.{Answer, rules_of, IsTraced, IsOriented}
 use Rattle.kb_checker.specs.declared.joining.Failure.{Failure}
 use Rattle.kb_checker.specs.declared.joining.Failure.TheVariants.{Large, Steps, Different}
 use Rattle.kb_checker.specs.declared.closing.Row.{Row}
 use Rattle.kb_checker.specs.declared.closing.Row.TheVariants.{Closed, Open}
 use Rattle.kb_checker.specs.declared.verdict.Reject.{Reject}
-use Rattle.kb_checker.specs.declared.verdict.Reject.TheVariants.{BadStep, Untraced, NotOriented, PairLarge, PairSteps, NotJoined, EquationLarge, EquationSteps, NotProved}
+use Rattle.kb_checker.specs.declared.verdict.Reject.TheVariants.{BadStep, Untraced, UntracedConstraint, ConstraintNotOriented, NotOriented, PairLarge, PairSteps, NotJoined, EquationLarge, EquationSteps, NotProved}
 use Rattle.kb_checker.specs.declared.verdict.Checked.{Checked}
 use Rattle.kb_checker.specs.declared.verdict.Checked.TheVariants.{Accepted, Rejected}
 
@@ -86,11 +84,6 @@ FailsToProve rules failure e = FailToJoin rules e.0 e.1 failure
 
 -- ---- the whole
 
--- the certificate orders the rules before the one with the number n, from 1, and not those up to it
-abbrev pub IsFirstUnordered : Certificate → List Rule → ℕ → Type 0
-IsFirstUnordered c rules n =
-    (before : List Rule) × (rule : Rule) × (after : List Rule) × (rules ≡ before ++ rule ∷ after) × (n ≡ length before + 1) × Orders c before × ¬ Orders c (before ++ rule ∷ [])
-
 -- each trace step is right
 abbrev pub PassesSteps : Answer → Type 0
 PassesSteps a = IsRightTrace a.problem.equations a.trace
@@ -99,13 +92,21 @@ PassesSteps a = IsRightTrace a.problem.equations a.trace
 abbrev pub PassesCitations : Answer → Type 0
 PassesCitations a = PassesSteps a × All (IsTraced a.trace) a.rules
 
--- the certificate orders the rules too
+-- and each constraint's
+abbrev pub PassesConstraintCitations : Answer → Type 0
+PassesConstraintCitations a = PassesCitations a × All (IsTraced a.trace) a.constraints
+
+-- the certificate orders each constraint too
+abbrev pub PassesConstraints : Answer → Type 0
+PassesConstraints a = PassesConstraintCitations a × All (IsOriented a.cert) a.constraints
+
+-- and each rule
 abbrev pub PassesOrder : Answer → Type 0
-PassesOrder a = PassesSteps a × All (IsTraced a.trace) a.rules × Orders a.cert (rules_of a.rules)
+PassesOrder a = PassesConstraints a × All (IsOriented a.cert) a.rules
 
 -- each overlap closes too
 abbrev pub PassesOverlaps : Answer → Type 0
-PassesOverlaps a = PassesSteps a × All (IsTraced a.trace) a.rules × Orders a.cert (rules_of a.rules) × OverlapsClose (rules_of a.rules)
+PassesOverlaps a = PassesOrder a × OverlapsClose (rules_of a.rules)
 
 -- the reasons of overlaps and of equations
 abbrev pub pair_reason : Failure → Reject
@@ -122,7 +123,9 @@ equation_reason Different = NotProved
 abbrev pub IsRejected : Answer → Reject → ℕ → Type 0
 IsRejected a BadStep n = IsFirstBadStep a.problem.equations a.trace n
 IsRejected a Untraced n = PassesSteps a × FailsFirst (IsTraced a.trace) (λ r. ¬ IsTraced a.trace r) a.rules n
-IsRejected a NotOriented n = PassesCitations a × IsFirstUnordered a.cert (rules_of a.rules) n
+IsRejected a UntracedConstraint n = PassesCitations a × FailsFirst (IsTraced a.trace) (λ r. ¬ IsTraced a.trace r) a.constraints n
+IsRejected a ConstraintNotOriented n = PassesConstraintCitations a × FailsFirst (IsOriented a.cert) (λ r. ¬ IsOriented a.cert r) a.constraints n
+IsRejected a NotOriented n = PassesConstraints a × FailsFirst (IsOriented a.cert) (λ r. ¬ IsOriented a.cert r) a.rules n
 IsRejected a PairLarge n = PassesOrder a × FirstUnclosed (rules_of a.rules) Large n
 IsRejected a PairSteps n = PassesOrder a × FirstUnclosed (rules_of a.rules) Steps n
 IsRejected a NotJoined n = PassesOrder a × FirstUnclosed (rules_of a.rules) Different n
@@ -134,7 +137,9 @@ IsRejected a NotProved n = PassesOverlaps a × FailsFirst (IsProved (rules_of a.
 pub record IsAccepted (a : Answer) : Type 0 where
   pub steps : IsRightTrace a.problem.equations a.trace
   pub citations : All (IsTraced a.trace) a.rules
-  pub orders : Orders a.cert (rules_of a.rules)
+  pub constraint_citations : All (IsTraced a.trace) a.constraints
+  pub constraints : All (IsOriented a.cert) a.constraints
+  pub orders : All (IsOriented a.cert) a.rules
   pub overlaps : OverlapsClose (rules_of a.rules)
   pub equations : All (IsProved (rules_of a.rules)) a.problem.equations
 

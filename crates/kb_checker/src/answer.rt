@@ -7,16 +7,21 @@ use kb_term::{Problem, Rule};
 use kb_trace::Trace;
 use std::marker::Model;
 
-/// Rules for a problem, each with the trace step that it cites, the order that shows that they halt, and the trace.
+/// Rules for a problem and the constraints on their order, each with the trace step that it cites; the order, which shows that
+/// the rules halt; and the trace.
 ///
-/// Its parts have the forms that the text of an answer may have: a problem within the limits; at most 4,096 rules, each
-/// within the limits and numbered by first occurrence, which cites a number from 1 to 4,096; an order of the signature with
-/// constants to 15 and coefficients from 1 to 3; at most 4,096 steps, each with a canonical pair within the limits. Whether
-/// it is good is another question.
+/// Constraints are the rules that its run oriented, those too that it simplified away later: the order was chosen for all of
+/// them.
+///
+/// Its parts have the forms that the text of an answer may have: a problem within the limits; at most 4,096 rules and at most
+/// 4,096 constraints, each within the limits and numbered by first occurrence, which cites a number from 1 to 4,096; an order
+/// of the signature with constants to 15 and coefficients from 1 to 3; at most 4,096 steps, each with a canonical pair within
+/// the limits. Whether it is good is another question.
 #[derive(Drop)]
 pub struct Answer {
     problem: Problem,
     rules: Vec<(Rule, u32)>,
+    constraints: Vec<(Rule, u32)>,
     cert: Certificate,
     trace: Trace,
 }
@@ -30,20 +35,27 @@ impl Model for Answer {
 
     ghost coded = { Prim.hlevel (codes, coded_pair, coded_rule, coded_problem) };
 
-    ghost view = { λ a. record { problem = a.problem; rules = a.rules.items; cert = a.cert; trace = a.trace } };
+    ghost view = { λ a. record { problem = a.problem; rules = a.rules.items; constraints = a.constraints.items; cert = a.cert; trace = a.trace } };
 
-    ghost invariant = { λ a. IsAnswer (record { problem = a.problem; rules = a.rules.items; cert = a.cert; trace = a.trace }) };
+    ghost invariant = { λ a. IsAnswer (record { problem = a.problem; rules = a.rules.items; constraints = a.constraints.items; cert = a.cert; trace = a.trace }) };
 }
 
 impl Answer {
     /// The answer of these parts.
-    pub fn new(problem: Problem, rules: Vec<(Rule, u32)>, cert: Certificate, trace: Trace) -> Answer
-        requires { IsAnswer (record { problem = problem; rules = rules.items; cert = cert; trace = trace }) }
-        ensures { result ≡ record { problem = problem; rules = rules.items; cert = cert; trace = trace } }
+    pub fn new(
+        problem: Problem,
+        rules: Vec<(Rule, u32)>,
+        constraints: Vec<(Rule, u32)>,
+        cert: Certificate,
+        trace: Trace,
+    ) -> Answer
+        requires { IsAnswer (record { problem = problem; rules = rules.items; constraints = constraints.items; cert = cert; trace = trace }) }
+        ensures { result ≡ record { problem = problem; rules = rules.items; constraints = constraints.items; cert = cert; trace = trace } }
     {
         Answer {
             problem,
             rules,
+            constraints,
             cert,
             trace,
         }
@@ -64,7 +76,14 @@ impl Answer {
         &self.rules
     }
 
-    /// The order that shows that the rules halt.
+    /// The constraints, each with the trace step that it cites.
+    pub fn constraints(&self) -> &[(Rule, u32)]
+        ensures { result.now ≡ self.now.constraints }
+    {
+        &self.constraints
+    }
+
+    /// The order that shows that the rules halt, and orders the constraints.
     pub fn cert(&self) -> &Certificate
         ensures { result.now ≡ self.now.cert }
     {

@@ -3,9 +3,8 @@ ghost use Rattle.std.specs.Prelude.{◌≡◌, ◌∷◌, [], ◌≤◌, ◌↔�
 ghost use Rattle.kb_linear.specs.Limits.{AreMeasurable};
 ghost use Rattle.kb_term.specs.Pair.{variables_of_pair};
 ghost use Rattle.kb_term.specs.View.{equations_of_list, pair_of};
-ghost use Rattle.kb_cert.specs.Family.{Orders};
-ghost use Rattle.kb_checker.specs.Answers.{IsAnswer, IsGoodAnswer, IsTraced, rules_of};
-ghost use Rattle.kb_checker.specs.Verdicts.{FailsFirst, IsFirstUnordered, IsProved, FailsToProve, pair_reason, equation_reason, IsVerdict};
+ghost use Rattle.kb_checker.specs.Answers.{IsAnswer, IsGoodAnswer, IsTraced, IsOriented, rules_of};
+ghost use Rattle.kb_checker.specs.Verdicts.{FailsFirst, IsProved, FailsToProve, pair_reason, equation_reason, IsVerdict};
 
 use crate::answer::Answer;
 use crate::closing::first_unclosed;
@@ -15,16 +14,18 @@ use kb_cert::{Certificate, orients};
 use kb_term::{Memory, Pair, Rule, Term, canonical};
 use kb_trace::{Step, TraceFault, replay_trace};
 use std::alloc::Global;
+use std::slice;
 
 /// Checks an answer, whoever made it.
 ///
-/// `Accepted` where each trace step is right, each rule has the canonical pair of the step that it cites, the certificate
-/// orders the rules, the terms of each overlap of the rules have one normal form, and so have the sides of each equation.
-/// Then the rules halt on every term over the signature, are confluent, and prove exactly what the equations prove. Else
-/// `Rejected` with the first item that fails, group by group in this order, and its number in its group.
+/// `Accepted` where each trace step is right, each rule and each constraint has the canonical pair of the step that it cites,
+/// the certificate orders the constraints and the rules, the terms of each overlap of the rules have one normal form, and so
+/// have the sides of each equation. Then the rules halt on every term over the signature, are confluent, and prove exactly
+/// what the equations prove. Else `Rejected` with the first item that fails, group by group in this order, and its number in
+/// its group.
 ///
-/// A cited step is found by its number. Apart from normalising it takes time linear in the trace and the rules, and one
-/// unification for each two rules and each position of the outer left side.
+/// A cited step is found by its number. Apart from normalising it takes time linear in the trace, the rules and the
+/// constraints, and one unification for each two rules and each position of the outer left side.
 pub fn check(alloc: Global, a: &Answer) -> Result<Checked, Memory>
     ensures verdict { IfOk result (IsVerdict a.now) }
     ensures good { IfOk result (λ checked. checked ≡ Checked.Accepted → IsGoodAnswer a.now) }
@@ -34,13 +35,20 @@ pub fn check(alloc: Global, a: &Answer) -> Result<Checked, Memory>
         Err(TraceFault::BadStep(n)) => return Ok(Checked::Rejected(Reject::BadStep, n)),
         Err(TraceFault::Memory) => return Err(Memory),
     }
-    if let Some(n) = first_untraced(alloc, a.trace().steps(), a.rules())? {
+    let steps = a.trace().steps();
+    if let Some(n) = first_untraced(alloc, steps, a.rules())? {
         return Ok(Checked::Rejected(Reject::Untraced, n));
     }
-    let rules = rules_alone(alloc, a.rules())?;
-    if let Some(n) = first_unoriented(a.cert(), &rules) {
+    if let Some(n) = first_untraced(alloc, steps, a.constraints())? {
+        return Ok(Checked::Rejected(Reject::UntracedConstraint, n));
+    }
+    if let Some(n) = first_unoriented(a.cert(), a.constraints()) {
+        return Ok(Checked::Rejected(Reject::ConstraintNotOriented, n));
+    }
+    if let Some(n) = first_unoriented(a.cert(), a.rules()) {
         return Ok(Checked::Rejected(Reject::NotOriented, n));
     }
+    let rules = rules_alone(alloc, a.rules())?;
     if let Some((failure, n)) = first_unclosed(alloc, &rules)? {
         return Ok(Checked::Rejected(pair_reject(failure), n));
     }
@@ -81,7 +89,7 @@ fn rules_alone(alloc: Global, rules: &[(Rule, u32)]) -> Result<Vec<Rule>, Memory
     Ok(alone)
 }
 
-/// The number, from 1, of the first rule that hasn't the canonical pair of the step that it cites.
+/// The number, from 1, of the first rule or constraint that hasn't the canonical pair of the step that it cites.
 fn first_untraced(
     alloc: Global,
     trace: &[Step],
@@ -123,16 +131,14 @@ fn has_sides(pair: &Pair, first: &Term, second: &Term) -> bool
     *pair.first() == *first && *pair.second() == *second
 }
 
-/// The number, from 1, of the first rule with which the certificate doesn't order the rules up to it.
-fn first_unoriented(cert: &Certificate, rules: &[Rule]) -> Option<u64>
-    requires { AreMeasurable rules.now }
-    ensures { MatchOption result (Orders cert.now rules.now) (IsFirstUnordered cert.now rules.now) }
+/// The number, from 1, of the first rule or constraint that the certificate doesn't order.
+fn first_unoriented(cert: &Certificate, rules: &[(Rule, u32)]) -> Option<u64>
+    requires { AreMeasurable (rules_of rules.now) }
+    ensures { MatchOption result (All (IsOriented cert.now) rules.now) (FailsFirst (IsOriented cert.now) (λ r. IsOriented cert.now r → ⊥) rules.now) }
 {
-    if orients(cert, rules) {
-        return None;
-    }
     for k in 0..rules.len() {
-        if !orients(cert, &rules[..k + 1]) {
+        let cited = &rules[k];
+        if !orients(cert, slice::from_ref(&cited.0)) {
             return Some((k + 1) as u64);
         }
     }

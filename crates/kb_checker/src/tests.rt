@@ -11,7 +11,13 @@ use std::alloc::Global;
 fn empty_answer(alloc: Global) -> Answer {
     let problem = Problem::new(Signature::new(Vec::new(alloc)), Vec::new(alloc));
     let cert = Certificate::Lpo(Precedence::new(Vec::new(alloc)));
-    Answer::new(problem, Vec::new(alloc), cert, Trace::new(Vec::new(alloc)))
+    Answer::new(
+        problem,
+        Vec::new(alloc),
+        Vec::new(alloc),
+        cert,
+        Trace::new(Vec::new(alloc)),
+    )
 }
 
 #[test]

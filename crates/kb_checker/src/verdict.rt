@@ -7,6 +7,10 @@ pub enum Reject {
     BadStep,
     /// The trace step that the rule cites isn't there or hasn't the rule's canonical pair.
     Untraced,
+    /// The trace step that the constraint cites isn't there or hasn't the constraint's canonical pair.
+    UntracedConstraint,
+    /// The certificate doesn't make the constraint's left side greater than its right side.
+    ConstraintNotOriented,
     /// The certificate doesn't make the rule's left side greater than its right side.
     NotOriented,
     /// The overlap passes a limit, or normalising one of its terms does.

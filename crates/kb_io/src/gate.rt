@@ -1,4 +1,9 @@
 // What a worker asks before its work.
+ghost use Rattle.std.specs.Prelude.{◌≡◌, ◌≢◌, true};
+
+use std::hint::spin_loop;
+use std::sync::atomic::AtomicBool;
+use std::sync::atomic::Ordering::SeqCst;
 
 /// What a worker asks between taking a ticket and working it: may it go on? It carries no promise.
 pub trait Gate: Sync {
@@ -11,7 +16,85 @@ pub trait Gate: Sync {
 pub struct OpenGate;
 
 impl Gate for OpenGate {
-    fn pass(&self, _ticket: u64, _turn: u32) -> bool {
+    fn pass(&self, _ticket: u64, _turn: u32) -> bool
+        ensures passes { result ≡ true }
+    {
+        true
+    }
+}
+
+/// How often a held call looks for the other ticket's flag at most.
+const LOOKS: u32 = 100_000_000;
+
+/// A gate that lets every call pass, but keeps the first call for each of two tickets waiting, for a
+/// bounded number of looks, until the first call for the other one is made. It is for tests that two
+/// workers are between their takes and their works at one time.
+#[derive(Drop)]
+pub struct HoldGate {
+    first: Flag,
+    second: Flag,
+}
+
+// One of the two tickets: whether its first call was made, and whether that call saw the other's flag.
+#[derive(Drop)]
+struct Flag {
+    ticket: u64,
+    raised: AtomicBool,
+    saw: AtomicBool,
+}
+
+impl Flag {
+    fn new(ticket: u64) -> Flag {
+        Flag {
+            ticket,
+            raised: AtomicBool::new(false),
+            saw: AtomicBool::new(false),
+        }
+    }
+
+    // Raises this flag, and looks for the other one. A flag that is up already is not held again.
+    fn hold(&self, other: &Flag) {
+        if self.raised.swap(true, SeqCst) {
+            return;
+        }
+        for _ in 0..LOOKS {
+            if other.raised.load(SeqCst) {
+                self.saw.store(true, SeqCst);
+                return;
+            }
+            spin_loop();
+        }
+    }
+}
+
+impl HoldGate {
+    /// A gate for the tickets of these two numbers.
+    pub fn new(first: u64, second: u64) -> HoldGate
+        requires { first ≢ second }
+    {
+        HoldGate {
+            first: Flag::new(first),
+            second: Flag::new(second),
+        }
+    }
+
+    /// Whether the first call with turn 0 for each of the two tickets saw the other's flag.
+    pub fn met(&self) -> bool {
+        self.first.saw.load(SeqCst) && self.second.saw.load(SeqCst)
+    }
+}
+
+impl Gate for HoldGate {
+    fn pass(&self, ticket: u64, turn: u32) -> bool
+        ensures passes { result ≡ true }
+    {
+        if turn == 0 {
+            if ticket == self.first.ticket {
+                self.first.hold(&self.second);
+            } else if ticket == self.second.ticket {
+                self.second.hold(&self.first);
+            }
+        }
         true
     }
 }

@@ -1,34 +1,38 @@
-// Standard input and output: a few lines over them, which count failures.
-ghost use Rattle.std.specs.Prelude.{None};
+// A source and a sink over a reader and a writer, as standard input and output: a few lines over them, which count failures.
+ghost use Rattle.std.specs.Prelude.{false, None};
 
 use crate::sink::Sink;
 use crate::source::{Failed, Source};
 use std::io::{Read, Write};
-use std::rt::{Stdin, Stdout};
 
-/// Standard input. It doesn't tell its bytes.
+/// A source over a reader. It tells the bytes that the reader has left, where the reader does; standard input doesn't.
 #[derive(Drop)]
-pub struct StdSource {
-    input: Stdin,
+pub struct StdSource<R: Read> {
+    input: R,
     faults: u64,
 }
 
-impl StdSource {
+impl<R: Read> StdSource<R> {
     ghost use Rattle.std.specs.Prelude.{◌≡◌};
-    ghost use Rattle.kb_io.specs.Standard.{input_faults};
+    ghost use Rattle.kb_io.specs.Standard.{input_of, input_faults};
 
-    /// Standard input, which has not failed yet.
-    pub fn new(input: Stdin) -> StdSource
-        ensures { input_faults result ≡ 0 }
+    /// A source over this reader, which has not failed yet.
+    pub fn new(input: R) -> StdSource<R>
+        ensures input { input_of result ≡ input }
+        ensures faults { input_faults result ≡ 0 }
     {
         StdSource { input, faults: 0 }
     }
 }
 
-impl Source for StdSource {
-    ghost left = { λ _. None };
+impl<R: Read> Source for StdSource<R> {
+    ghost left = { λ s. R.remaining s.input };
 
     ghost faults = { λ s. s.faults };
+
+    ghost quiet = { λ _. false };
+
+    ghost most = { λ _. None };
 
     fn read(&mut self, buf: &mut [u8]) -> Result<usize, Failed> {
         match self.input.read(buf) {
@@ -41,29 +45,34 @@ impl Source for StdSource {
     }
 }
 
-/// Standard output. It doesn't tell what was written.
+/// A sink over a writer. It tells what the writer holds, where the writer does; standard output doesn't.
 #[derive(Drop)]
-pub struct StdSink {
-    output: Stdout,
+pub struct StdSink<W: Write> {
+    output: W,
     faults: u64,
 }
 
-impl StdSink {
+impl<W: Write> StdSink<W> {
     ghost use Rattle.std.specs.Prelude.{◌≡◌};
-    ghost use Rattle.kb_io.specs.Standard.{output_faults};
+    ghost use Rattle.kb_io.specs.Standard.{output_of, output_faults};
 
-    /// Standard output, which has not failed yet.
-    pub fn new(output: Stdout) -> StdSink
-        ensures { output_faults result ≡ 0 }
+    /// A sink over this writer, which has not failed yet.
+    pub fn new(output: W) -> StdSink<W>
+        ensures output { output_of result ≡ output }
+        ensures faults { output_faults result ≡ 0 }
     {
         StdSink { output, faults: 0 }
     }
 }
 
-impl Sink for StdSink {
-    ghost written = { λ _. None };
+impl<W: Write> Sink for StdSink<W> {
+    ghost written = { λ s. W.contents s.output };
 
     ghost faults = { λ s. s.faults };
+
+    ghost quiet = { λ _ _. false };
+
+    ghost most = { λ _. None };
 
     fn write(&mut self, piece: &[u8]) -> Result<usize, Failed> {
         match self.output.write(piece) {

@@ -1,27 +1,31 @@
--- A pair is looked up at the places of its hash, one turn after another.
-use Rattle.std.proofs.Common.{◌≡◌, ℕ, suc, zero, ◌+◌, ◌<◌, ◌≤◌, ◌⊎◌, inl, inr, Bool, true, false, cond, List, [], ◌∷◌, ◌++◌, length, get_or, Some, None, Option, refl, sym, ap, ap₂, subst, ◌∙◌, arith, ⊎_elim}
-use Rattle.std.specs.Prelude.{not, ◌&&◌, ◌||◌, ◌==◌, nat_lt, position}
-use Rattle.std.specs.List.{position_or_len, list_any}
+-- A pair is looked up by the cells of its sides.
+use Rattle.std.proofs.Common.{◌≡◌, ℕ, suc, zero, ◌+◌, ◌<◌, ◌≤◌, ◌⊎◌, inl, inr, Bool, true, false, cond, List, [], ◌∷◌, ◌++◌, length, take, get_or, Some, None, Option, refl, sym, ap, ap₂, subst, ◌∙◌, arith, ⊎_elim}
+use Rattle.std.specs.Prelude.{not, ◌&&◌, ◌==◌, nat_lt, position, slice_get, option_map}
+use Rattle.std.specs.List.{position_or_len}
 use Rattle.std.proofs.lemmas.Bool.Decides.{nat_tests}
-use Rattle.std.proofs.lemmas.List.{get_or_default}
+use Rattle.std.proofs.lemmas.List.{take-map}
 use Rattle.std.proofs.lemmas.List.Quantifiers.{position-Some}
+use Rattle.std.proofs.lemmas.List.Folds.{list_any_none}
+use Rattle.std.proofs.lemmas.Option.{slice_get-get_or, slice_get_read, slice_get_within, get_or_from_slice_get, same_Some}
 use mathlib.Core.Bool.{true≢false}
 use Rattle.indexmap.specs.IndexSet.{insert_key}
 use Rattle.std.specs.Ordering.{is_eq, ordering_then}
 use Rattle.std.specs.declared.cmp.Ordering.{Ordering}
 use Rattle.std.specs.declared.cmp.Ordering.TheVariants.{Less, Equal, Greater}
-use Rattle.kb_term.specs.Tree.{tree_cmp}
+use Rattle.kb_term.specs.Tree.{Tree, variable, tree_cmp, tree_size}
 use Rattle.kb_term.specs.TermOrder.{pair_eq, tree_cmp-equal, pair_cmp-total}
 use Rattle.std.specs.Cmp.{tied_itself}
 use Rattle.kb_term.specs.Pair.{Pair, pair_cmp}
-use Rattle.kb_node.specs.Hashing.{pair_hash}
-use Rattle.kb_node.specs.Filed.{IsFiled, place_eq}
-use Rattle.kb_node.specs.Labelled.{pairs_of, HasPair, LacksPair}
-use Rattle.kb_node.specs.declared.place.Place.{Place}
+use Rattle.term_bank.specs.Terms.{term_at}
+use Rattle.term_bank.proofs.Missing.{IsFront}
+use Rattle.kb_node.specs.Banked.{AreSides, LacksSide, IsBanked, sides_eq}
+use Rattle.kb_node.specs.Labelled.{pairs_of, HasPair, LacksPair, AreDistinct}
+use Rattle.kb_node.specs.declared.sides.Sides.{Sides}
 use Rattle.kb_node.specs.declared.node.Node.{Node}
-use Rattle.kb_node.proofs.Filing.{at, pair_at, pairs-length, node_at, filed-push}
+use Rattle.kb_node.proofs.Pairs.{pair_get, pair_read, pairs-length}
+use Rattle.kb_node.proofs.Banking.{sides_at, sides-front, distinct, start_low, banked-take}
 
--- ---- tests of pairs and places
+-- ---- tests of pairs and sides
 
 then_equal : (a b : Ordering) → ordering_then a b ≡ Equal → (a ≡ Equal) × (b ≡ Equal)
 then_equal Less b e = absurd (cc)
@@ -51,19 +55,19 @@ and_both : (a b : Bool) → (a && b) ≡ true → (a ≡ true) × (b ≡ true)
 and_both true b h = (refl, h)
 and_both false b h = absurd (true≢false (sym h))
 
-pub place_eq-same : (p q : Place) → place_eq p q ≡ true → p ≡ q
-place_eq-same p q h =
-    let both = and_both (p.hash == q.hash) (p.turn == q.turn) h in
-    λ i. record { hash = eq-nat p.hash q.hash both.0 i; turn = eq-nat p.turn q.turn both.1 i }
+sides_eq-same : (s t : Sides) → sides_eq s t ≡ true → s ≡ t
+sides_eq-same s t h =
+    let both = and_both (s.first.0 == t.first.0) (s.second.0 == t.second.0) h in
+    λ i. record { first = record { 0 = eq-nat s.first.0 t.first.0 both.0 i }; second = record { 0 = eq-nat s.second.0 t.second.0 both.1 i } }
 
-pub place_eq-refl : (p : Place) → place_eq p p ≡ true
-place_eq-refl p = ap₂ ◌&&◌ (nat-eq p.hash) (nat-eq p.turn)
+sides_eq-refl : (s : Sides) → sides_eq s s ≡ true
+sides_eq-refl s = ap₂ ◌&&◌ (nat-eq s.first.0) (nat-eq s.second.0)
 
 not_true : (b : Bool) → (b ≡ true → ⊥) → b ≡ false
 not_true true h = absurd (h refl)
 not_true false h = refl
 
--- ---- where no place is found
+-- ---- where no key is found
 
 less_after : {X : Type 0} (p : X → Bool) (xs : List X) → nat_lt (1 + position_or_len p xs) (suc (length xs)) ≡ false → nat_lt (position_or_len p xs) (length xs) ≡ false
 less_after p xs g = grind (arith, nat_tests)
@@ -85,10 +89,6 @@ position-None p xs h = all_fail p xs (go (nat_lt (position_or_len p xs) (length 
     go true e = absurd (cc)
     go false e = refl
 
-any_fails : {X : Type 0} (p : X → Bool) (xs : List X) (d : X) → ((i : ℕ) → i < length xs → p (get_or xs i d) ≡ false) → list_any p xs ≡ false
-any_fails p [] d h = refl
-any_fails p (x ∷ xs) d h = ap₂ ◌||◌ (h 0 (omega arith)) (any_fails p xs d (λ i w. h (suc i) (omega arith)))
-
 -- less, equal or greater
 pub compared : (m n : ℕ) → (m < n) ⊎ ((m ≡ n) ⊎ (n < m))
 compared m n = go (nat_lt m n) refl (nat_lt n m) refl
@@ -98,91 +98,114 @@ compared m n = go (nat_lt m n) refl (nat_lt n m) refl
     go false e true g = inr (inr (grind (arith, nat_tests)))
     go false e false g = inr (inl (grind (arith, nat_tests)))
 
--- ---- the search
+-- ---- the nodes of a table
 
-module _ {L : Type 0} (places : List Place) (nodes : List (Node L)) (pair : Pair) where
-  -- earlier turns of the pair's hash belong to other pairs
-  pub record HasPassed (turn : ℕ) : Type 0 where
-    pub low : turn ≤ length nodes
-    pub taken : (t : ℕ) → t < turn → (j : ℕ) × (j < length nodes) × ((d : Place) → get_or places j d ≡ at (pair_hash pair) t) × ((e : Pair) → get_or (pairs_of nodes) j e ≡ pair → ⊥)
+abbrev pub no_sides : Sides
+no_sides = record { first = record { 0 = 0 }; second = record { 0 = 0 } }
 
-  pub passed-none : HasPassed 0
-  passed-none = record { low = omega arith; taken = λ t h. absurd (omega arith) }
+no_pair : Pair
+no_pair = record { first = variable 0; second = variable 0 }
 
-  module _ (f : IsFiled places (pairs_of nodes)) (turn : ℕ) (passed : HasPassed turn) where
-    found_place : (n : ℕ) → Some n ≡ position (place_eq (at (pair_hash pair) turn)) places → (n < length places) × ((d : Place) → get_or places n d ≡ at (pair_hash pair) turn)
-    found_place n h = (
-      (position-Some (place_eq (at (pair_hash pair) turn)) places n (at 0 0) (sym h)).0,
-      λ d. sym (place_eq-same (at (pair_hash pair) turn) (get_or places n d) (position-Some (place_eq (at (pair_hash pair) turn)) places n d (sym h)).1),
-    )
+-- cells have the sides of one pair
+one_pair : (terms : List Tree) (s : Sides) (d e : Pair) → AreSides terms s d → AreSides terms s e → d ≡ e
+one_pair terms s d e g h =
+    λ i. record { first = same_Some d.first e.first (sym g.first ∙ h.first) i; second = same_Some d.second e.second (sym g.second ∙ h.second) i }
 
-    pub found-within : (n : ℕ) → Some n ≡ position (place_eq (at (pair_hash pair) turn)) places → n < length nodes
-    found-within n h = omega (arith, (found_place n h).0, f.count, pairs-length nodes)
+module _ {L : Type 0} (terms : List Tree) (sides : List Sides) (starts : List ℕ) (nodes : List (Node L)) (f : IsBanked terms sides starts (pairs_of nodes)) where
+  pub distinct_nodes : AreDistinct nodes
+  distinct_nodes i j d h k e = f.one_pair i j (get_or nodes i d).pair h (pair_read nodes i d (omega arith)) (pair_read nodes j d k ∙ ap Some (sym e))
 
-    -- a turn is at most the number of its node
-    pub found-low : (n : ℕ) → Some n ≡ position (place_eq (at (pair_hash pair) turn)) places → turn ≤ n
-    found-low n h =
-        let is : turn ≡ (get_or places n (at 0 0)).turn = ap (λ (p : Place). p.turn) (sym ((found_place n h).1 (at 0 0))) in
-        omega (arith, is, f.turns n (at 0 0) (omega (arith, (found_place n h).0, f.count)))
+  -- the sides of a node are there
+  pub key_at : (i : ℕ) (e : Pair) → slice_get (pairs_of nodes) i ≡ Some e → slice_get sides i ≡ Some (get_or sides i no_sides)
+  key_at i e g = slice_get-get_or sides i no_sides (omega (arith, slice_get_within (pairs_of nodes) i e g, f.side_count))
 
-    pub passed-more : (n : ℕ) (node : Node L) → Some n ≡ position (place_eq (at (pair_hash pair) turn)) places → node ≡ get_or nodes n node → (node.pair ≡ pair → ⊥) → HasPassed (turn + 1)
-    passed-more n node h is differs = record {
-      low = omega (arith, found-within n h, found-low n h);
-      taken = λ t w. cases t (nat_lt t turn) refl w;
-    }
+  key_sides : (i : ℕ) (e : Pair) → slice_get (pairs_of nodes) i ≡ Some e → AreSides terms (get_or sides i no_sides) e
+  key_sides i e g = sides_at terms sides starts (pairs_of nodes) f i (get_or sides i no_sides) e (key_at i e g) g
+
+  -- ---- the sizes of a node
+
+  pair_of_node : (n : ℕ) → n < length nodes → (e : Pair) × (slice_get (pairs_of nodes) n ≡ Some e)
+  pair_of_node n l = (get_or (pairs_of nodes) n no_pair, slice_get-get_or (pairs_of nodes) n no_pair (omega (arith, pairs-length nodes)))
+
+  pub cells_there : (n : ℕ) → n < length nodes → ((get_or sides n no_sides).first.0 < length terms) × ((get_or sides n no_sides).second.0 < length terms)
+  cells_there n l =
+      let e = pair_of_node n l in
+      let has = key_sides n e.0 e.1 in
+      (slice_get_within terms (get_or sides n no_sides).first.0 e.0.first has.first, slice_get_within terms (get_or sides n no_sides).second.0 e.0.second has.second)
+
+  module _ (n first second : ℕ) (l : n < length nodes) (g : first ≡ tree_size (term_at terms (get_or sides n no_sides).first.0)) (h : second ≡ tree_size (term_at terms (get_or sides n no_sides).second.0)) where
+    both : (first ≡ tree_size (pair_of_node n l).0.first) × (second ≡ tree_size (pair_of_node n l).0.second)
+    both =
+        let e = pair_of_node n l in
+        let has = key_sides n e.0 e.1 in (
+          g ∙ ap tree_size (get_or_from_slice_get terms (get_or sides n no_sides).first.0 e.0.first (variable 0) has.first),
+          h ∙ ap tree_size (get_or_from_slice_get terms (get_or sides n no_sides).second.0 e.0.second (variable 0) has.second),
+        )
+
+    pub sizes_most : first + second ≤ 1024
+    sizes_most =
+        let e = pair_of_node n l in
+        let within = f.within n e.0 e.1 in
+        omega (arith, both.0, both.1, within.0.size, within.1.size)
+
+    pub sizes_are : option_map (λ (node : Node L). tree_size node.pair.first + tree_size node.pair.second) (slice_get nodes n) ≡ Some (first + second)
+    sizes_are =
+        let e = pair_of_node n l in
+        go (slice_get nodes n) (pair_get nodes n e.0 e.1) ∙ ap₂ (λ j k. Some (j + k)) (sym both.0) (sym both.1)
       where
-        other : (e : Pair) → get_or (pairs_of nodes) n e ≡ pair → ⊥
-        other e g = differs (ap (λ (m : Node L). m.pair) is ∙ sym (pair_at nodes n node e (found-within n h)) ∙ g)
+        go : (o : Option (Node L)) → option_map (λ (node : Node L). node.pair) o ≡ Some (pair_of_node n l).0
+            → option_map (λ (node : Node L). tree_size node.pair.first + tree_size node.pair.second) o ≡ Some (tree_size (pair_of_node n l).0.first + tree_size (pair_of_node n l).0.second)
+        go None e = absurd (cc)
+        go (Some node) e = ap (λ (d : Pair). Some (tree_size d.first + tree_size d.second)) (same_Some node.pair (pair_of_node n l).0 e)
 
-        cases : (t : ℕ) (b : Bool) → nat_lt t turn ≡ b → t < turn + 1 → (j : ℕ) × (j < length nodes) × ((d : Place) → get_or places j d ≡ at (pair_hash pair) t) × ((e : Pair) → get_or (pairs_of nodes) j e ≡ pair → ⊥)
-        cases t true e w = passed.taken t (grind (arith, nat_tests))
-        cases t false e w =
-            let same : turn ≡ t = grind (arith, nat_tests) in
-            (n, found-within n h, λ d. (found_place n h).1 d ∙ ap (at (pair_hash pair)) same, other)
+  -- ---- the first nodes alone
 
-    -- at a free turn the pair isn't there
-    module _ (h : None ≡ position (place_eq (at (pair_hash pair) turn)) places) where
-      free_place : (i : ℕ) (d : Place) → i < length (pairs_of nodes) → get_or places i d ≡ at (pair_hash pair) turn → ⊥
-      free_place i d w e = true≢false (sym (ap (place_eq (at (pair_hash pair) turn)) e ∙ place_eq-refl (at (pair_hash pair) turn)) ∙ position-None (place_eq (at (pair_hash pair) turn)) places (sym h) i d (omega (arith, f.count)))
+  start_at : (n start : ℕ) → n < length nodes → start ≡ get_or starts n start → slice_get starts n ≡ Some start
+  start_at n start l is = slice_get_read starts (length starts) n start refl (omega (arith, f.start_count, pairs-length nodes)) is
 
-      not_there : (i : ℕ) (e : Pair) → i < length (pairs_of nodes) → get_or (pairs_of nodes) i e ≡ pair → ⊥
-      not_there i e w g =
-          ⊎_elim
-          (λ v.
-          let other = passed.taken (get_or places i (at 0 0)).turn v in
-          let one : get_or places other.0 (at 0 0) ≡ get_or places i (at 0 0) = other.2 (at 0 0) ∙ sym mine in
-          ⊎_elim
-          (λ u. f.one_place i other.0 (at 0 0) u (omega (arith, other.1, pairs-length nodes)) (sym one))
-          (λ u. ⊎_elim
-          (λ x. other.3 e (ap (λ j. get_or (pairs_of nodes) j e) (sym x) ∙ g))
-          (λ x. f.one_place other.0 i (at 0 0) x w one)
-          u)
-          (compared i other.0))
-          (λ v. ⊎_elim
-          (λ u. free_place i (at 0 0) w (mine ∙ ap (at (pair_hash pair)) u))
-          (λ u.
-          let before = f.earlier i turn (at 0 0) w u in
-          free_place before.0 (at 0 0) (omega (arith, before.1)) (before.2 ∙ ap (λ x. at x turn) hashed))
-          v)
-          (compared (get_or places i (at 0 0)).turn turn)
-        where
-          hashed : (get_or places i (at 0 0)).hash ≡ pair_hash pair
-          hashed = f.hashes i (at 0 0) e w ∙ ap pair_hash g
+  pub cut_low : (n start : ℕ) → n < length nodes → start ≡ get_or starts n start → start ≤ length terms
+  cut_low n start l is = start_low terms sides starts (pairs_of nodes) f n start (start_at n start l is)
 
-          mine : get_or places i (at 0 0) ≡ at (pair_hash pair) (get_or places i (at 0 0)).turn
-          mine = ap (λ x. at x (get_or places i (at 0 0)).turn) hashed
+  pub first_nodes : (n start : ℕ) → n < length nodes → start ≡ get_or starts n start → IsBanked (take start terms) (take n sides) (take n starts) (pairs_of (take n nodes))
+  first_nodes n start l is =
+      subst (IsBanked (take start terms) (take n sides) (take n starts)) (take-map (λ (node : Node L). node.pair) n nodes)
+      (banked-take terms sides starts (pairs_of nodes) f n start (omega (arith, pairs-length nodes)) (start_at n start l is))
 
-      pub lacks-free : LacksPair nodes pair
-      lacks-free i d w e = not_there i d.pair (omega (arith, pairs-length nodes)) (pair_at nodes i d d.pair w ∙ e)
+  -- ---- the search
 
-      pub filed-free : length nodes < 4096 → IsFiled (insert_key place_eq places (at (pair_hash pair) turn)) (pairs_of nodes ++ pair ∷ [])
-      filed-free room =
-          subst (λ l. IsFiled l (pairs_of nodes ++ pair ∷ [])) (sym fresh)
-          (filed-push places (pairs_of nodes) f (omega (arith, pairs-length nodes)) pair turn (omega (arith, pairs-length nodes, passed.low))
-          (λ t w. let was = passed.taken t w in (was.0, omega (arith, was.1, pairs-length nodes), was.2))
-          free_place not_there)
-        where
-          fresh : insert_key place_eq places (at (pair_hash pair) turn) ≡ places ++ at (pair_hash pair) turn ∷ []
-          fresh =
-              ap (λ b. cond b places (places ++ at (pair_hash pair) turn ∷ []))
-              (any_fails (place_eq (at (pair_hash pair) turn)) places (at 0 0) (λ i w. position-None (place_eq (at (pair_hash pair) turn)) places (sym h) i (at 0 0) w))
+  module _ (pair : Pair) where
+    lacks_if : ((i : ℕ) → slice_get (pairs_of nodes) i ≡ Some pair → ⊥) → LacksPair nodes pair
+    lacks_if h i d l e = h i (pair_read nodes i d l ∙ ap Some e)
+
+    pub lacks_side : LacksSide terms pair → LacksPair nodes pair
+    lacks_side = ⊎_elim
+        (λ l. lacks_if (λ i g. l (get_or sides i no_sides).first.0 (key_sides i pair g).first))
+        (λ l. lacks_if (λ i g. l (get_or sides i no_sides).second.0 (key_sides i pair g).second))
+
+    module _ (s : Sides) (has : AreSides terms s pair) where
+      pub found : (n : ℕ) → Some n ≡ position (sides_eq s) sides → HasPair nodes n pair
+      found n h =
+          let at = position-Some (sides_eq s) sides n no_sides (sym h) in
+          let same = sides_eq-same s (get_or sides n no_sides) at.1 in
+          let there : slice_get (pairs_of nodes) n ≡ Some (get_or (pairs_of nodes) n pair) = slice_get-get_or (pairs_of nodes) n pair (omega (arith, at.0, f.side_count)) in
+          let is = one_pair terms (get_or sides n no_sides) (get_or (pairs_of nodes) n pair) pair (key_sides n (get_or (pairs_of nodes) n pair) there) (subst (λ t. AreSides terms t pair) same has) in
+          pair_get nodes n pair (there ∙ ap Some is)
+
+      pub lacks_none : None ≡ position (sides_eq s) sides → LacksPair nodes pair
+      lacks_none h = lacks_if (λ i g.
+          let t = get_or sides i no_sides in
+          let k = key_sides i pair g in
+          let apart = distinct terms sides starts (pairs_of nodes) f in
+          let first = apart s.first.0 t.first.0 pair.first has.first k.first in
+          let second = apart s.second.0 t.second.0 pair.second has.second k.second in
+          let differs = position-None (sides_eq s) sides (sym h) i no_sides (slice_get_within sides i t (key_at i pair g)) in
+          true≢false (sym (ap₂ ◌&&◌ (ap (λ n. s.first.0 == n) (sym first) ∙ nat-eq s.first.0) (ap (λ n. s.second.0 == n) (sym second) ∙ nat-eq s.second.0)) ∙ differs))
+
+    -- the sides of a pair that no node has are a new key
+    pub new_key : (s : Sides) (new : List Tree) → IsFront terms new → AreSides new s pair → ((i : ℕ) → slice_get (pairs_of nodes) i ≡ Some pair → ⊥) → insert_key sides_eq sides s ≡ sides ++ s ∷ []
+    new_key s new front has lacks = ap (λ b. cond b sides (sides ++ s ∷ [])) (list_any_none (sides_eq s) sides (λ i d l. not_true (sides_eq s (get_or sides i d)) (λ h.
+        let e = get_or (pairs_of nodes) i pair in
+        let there : slice_get (pairs_of nodes) i ≡ Some e = slice_get-get_or (pairs_of nodes) i pair (omega (arith, f.side_count)) in
+        let old = sides_at terms sides starts (pairs_of nodes) f i (get_or sides i d) e (slice_get-get_or sides i d l) there in
+        let mine = subst (λ t. AreSides new t pair) (sides_eq-same s (get_or sides i d) h) has in
+        lacks i (there ∙ ap Some (one_pair new (get_or sides i d) e pair (sides-front terms new (get_or sides i d) e front old) mine)))))

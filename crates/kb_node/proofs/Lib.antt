@@ -1,5 +1,5 @@
-pub mod Hashed
-pub mod Filing
+pub mod Pairs
+pub mod Banking
 pub mod Finding
 pub mod Adding
 pub mod Viewed

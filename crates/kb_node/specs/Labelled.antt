@@ -1,5 +1,5 @@
 -- Nodes with their labels.
-use Rattle.std.specs.Prelude.{◌≡◌, ℕ, Bool, ◌&&◌, List, [], ◌∷◌, ◌++◌, map, Option, Some, All, AllPairs, slice_get, slice_set, option_map}
+use Rattle.std.specs.Prelude.{◌≡◌, ℕ, Bool, ◌&&◌, List, [], ◌∷◌, ◌++◌, map, Some, All, AllPairs, slice_get, slice_set, option_map}
 use Rattle.std.specs.Option.{option_map_or}
 use Rattle.kb_label.specs.Names.{Name, is_empty}
 use Rattle.kb_term.specs.Pair.{Pair}

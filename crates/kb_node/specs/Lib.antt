@@ -1,4 +1,3 @@
-pub mod Hashing
-pub mod Filed
+pub mod Banked
 pub mod Labelled
 pub mod Views

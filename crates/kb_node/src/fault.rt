@@ -9,7 +9,7 @@ pub enum NodeFault {
     /// The pair is new and the table is full.
     #[error("the table of nodes is full")]
     Full,
-    /// Want of memory.
+    /// Want of memory; also where a new pair passes a limit of terms.
     #[error("out of memory")]
     Memory,
 }

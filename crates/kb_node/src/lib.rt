@@ -4,7 +4,7 @@
 mod fault;
 mod job;
 mod node;
-mod place;
+mod sides;
 mod table;
 #[cfg(test)]
 mod tests;

@@ -1,29 +1,36 @@
 // The table of nodes.
-ghost use Rattle.std.specs.Prelude.{◌≡◌, ℕ, [], Some, ◌<◌, ◌≤◌, ◌↔◌, length, take, slice_get, option_map, MatchOption, ◌++◌, IfOk, OnOk, OnErr};
+ghost use Rattle.std.specs.Prelude.{◌≡◌, ℕ, ◌+◌, ◌*◌, [], Some, ◌<◌, ◌≤◌, ◌↔◌, length, take, slice_get, option_map, MatchOption, ◌++◌, IsTrue, IfOk, OnOk, OnErr};
 ghost use Rattle.kb_label.specs.Names.{has};
+ghost use Rattle.kb_term.specs.Tree.{tree_size};
+ghost use Rattle.kb_node.specs.Banked.{IsPairWithin};
 ghost use Rattle.kb_node.specs.Labelled.{label_in, with_label_at, pairs_of, is_dead_under, HasPair, LacksPair, AreDistinct, AddsNode};
 ghost use Rattle.kb_node.specs.Views.{when, equations_of, rules_of, constraints_of};
 
 use crate::fault::NodeFault;
 use crate::node::{LabelKind, Node, NodeId};
-use crate::place::{Place, find_place};
+use crate::sides::{Sides, intern, is_within, sides_in};
 use crate::view::{NodeIds, RuleRefs, View};
 use indexmap::IndexSet;
 use kb_label::{Labels, Process};
-use kb_term::{Memory, Origin, Pair, RuleRef};
+use kb_term::{MAX_SIZE, Memory, Origin, Pair, RuleRef};
 use std::alloc::{AllocError, Global};
 use std::marker::Model;
+use term_bank::Bank;
 
 /// The most nodes that a table may have.
 pub const MAX_NODES: usize = 4096;
 
 /// The nodes, one for each pair, in the order in which they were added. Contracts see it as the list of its nodes.
 ///
-/// A node is found in constant time, expected over the hashes of pairs.
+/// The terms of the pairs stand in a bank, and a node is found by the cells of its sides: in the time that it takes to look
+/// up both sides, expected over hashes.
 #[derive(Drop)]
 pub struct NodeTable<L: Labels> {
     nodes: Vec<Node<L>>,
-    places: IndexSet<Place>,
+    bank: Bank,
+    sides: IndexSet<Sides>,
+    // How many cells the bank had before each node came in.
+    starts: Vec<u32>,
 }
 
 impl<L: Labels> Model for NodeTable<L> {
@@ -37,11 +44,11 @@ impl<L: Labels> Model for NodeTable<L> {
     ghost coded = { Prim.hlevel (codes, coded_pair) };
 
     ghost use Rattle.kb_node.specs.Labelled.{pairs_of};
-    ghost use Rattle.kb_node.specs.Filed.{IsFiled};
+    ghost use Rattle.kb_node.specs.Banked.{IsBanked};
 
     ghost view = { λ t. t.nodes.items };
 
-    ghost invariant = { λ t. IsFiled t.places.keys (pairs_of t.nodes.items) };
+    ghost invariant = { λ t. IsBanked t.bank t.sides.keys t.starts.items (pairs_of t.nodes.items) };
 }
 
 impl<L: Labels> NodeTable<L> {
@@ -51,7 +58,9 @@ impl<L: Labels> NodeTable<L> {
     {
         NodeTable {
             nodes: Vec::new(alloc),
-            places: IndexSet::new(alloc),
+            bank: Bank::new(alloc),
+            sides: IndexSet::new(alloc),
+            starts: Vec::new(alloc),
         }
     }
 
@@ -71,6 +80,16 @@ impl<L: Labels> NodeTable<L> {
     {
         let pair = self.nodes[n.0 as usize].pair.clone()?;
         Ok(pair)
+    }
+
+    /// The sizes of both sides of a node together, at most 1,024. It takes no memory, and constant time.
+    pub fn size(&self, n: NodeId) -> u32
+        requires { n.0 < length self.now }
+        ensures size { option_map (λ node. tree_size node.pair.first + tree_size node.pair.second) (slice_get self.now n.0) ≡ Some result }
+        ensures most { result ≤ 2 * MAX_SIZE }
+    {
+        let sides = self.sides.as_slice()[n.0 as usize];
+        self.bank.size(sides.first) + self.bank.size(sides.second)
     }
 
     /// How the pair of a node was made first.
@@ -114,44 +133,64 @@ impl<L: Labels> NodeTable<L> {
         requires { len ≤ length self.old }
         ensures { self.new ≡ take len self.old }
     {
-        self.nodes.truncate(len as usize);
-        self.places.truncate(len as usize);
+        let len = len as usize;
+        if len < self.nodes.len() {
+            self.bank.cut(self.starts[len]);
+            self.starts.truncate(len);
+            self.sides.truncate(len);
+            self.nodes.truncate(len);
+        }
     }
 
     /// The node that has the pair; none where no node has it. It takes no memory.
     pub fn find(&self, pair: &Pair) -> Option<NodeId>
         ensures { MatchOption result (LacksPair self.now pair.now) (λ n. HasPair self.now n.0 pair.now) }
     {
-        match find_place(self.nodes.as_slice(), &self.places, pair) {
-            Ok(number) => Some(NodeId(number as u16)),
-            Err(_) => None,
-        }
+        let sides = sides_in(&self.bank, pair)?;
+        let number = self.sides.get_index_of(&sides)?;
+        Some(NodeId(number as u16))
     }
 
     /// The node that has the pair, which keeps its origin; else one more node, without labels.
     ///
     /// # Errors
     ///
-    /// `Full` where the pair is new and the table has 4,096 nodes, and want of memory; the table is then as before.
+    /// `Full` where the pair is new and the table has 4,096 nodes, and want of memory; the table is then as before. A new
+    /// pair that passes a limit of terms counts as want of memory, since the bank has cells for others alone.
     pub fn find_or_add(&mut self, pair: Pair, origin: Origin) -> Result<NodeId, NodeFault>
         ensures present { (n : ℕ) → HasPair self.old n pair → (result ≡ Ok (record { 0 = n })) × (self.new ≡ self.old) }
         ensures added { LacksPair self.old pair → IfOk result (λ n. (n.0 ≡ length self.old) × AddsNode L.names_under self.old self.new pair origin) }
         ensures full { (result ≡ Err NodeFault.Full) ↔ (LacksPair self.old pair × (length self.old ≡ MAX_NODES)) }
+        ensures limit { LacksPair self.old pair → length self.old < MAX_NODES → (IsPairWithin pair → ⊥) → result ≡ Err NodeFault.Memory }
         ensures err { OnErr result (self.new ≡ self.old) }
     {
-        let place = match find_place(self.nodes.as_slice(), &self.places, &pair) {
-            Ok(number) => return Ok(NodeId(number as u16)),
-            Err(place) => place,
-        };
-        let number = self.nodes.len();
-        if number == MAX_NODES {
+        if let Some(n) = self.find(&pair) {
+            return Ok(n);
+        }
+        if self.is_full() {
             return Err(NodeFault::Full);
         }
+        if !is_within(&pair) {
+            return Err(NodeFault::Memory);
+        }
         self.nodes.reserve(1)?;
-        self.places.insert(place)?;
+        self.sides.reserve(1)?;
+        self.starts.reserve(1)?;
+        let start = self.bank.used();
+        let sides = intern(&mut self.bank, &pair)?;
+        self.starts.push(start).unwrap();
+        self.sides.insert(sides).unwrap();
+        let number = self.nodes.len();
         let node = Node::unlabelled(*self.nodes.allocator(), pair, origin);
         self.nodes.push(node).unwrap();
         Ok(NodeId(number as u16))
+    }
+
+    // Whether there are as many nodes as a table may have.
+    fn is_full(&self) -> bool
+        ensures { IsTrue result ↔ (length self.now ≡ MAX_NODES) }
+    {
+        self.nodes.len() == MAX_NODES
     }
 
     /// What a process sees of the nodes.

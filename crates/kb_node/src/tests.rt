@@ -77,6 +77,30 @@ fn is_found<L: Labels>(
     Ok(there == pair && matches!(found, Some(NodeId(m)) if m == n))
 }
 
+/// The sizes of both sides of the node of f(f(x)) and x, which is added.
+fn tower_size<L: Labels>(alloc: Global, table: &mut NodeTable<L>) -> Result<u32, NodeFault> {
+    let mut tower = Term::Var(0);
+    for _ in 0..2 {
+        let mut items = Vec::new(alloc);
+        items.push(tower)?;
+        tower = Term::App(Symbol(3), Terms::new(items));
+    }
+    let x = Term::Var(0);
+    if pair_limit(&tower, &x).is_some() {
+        return Err(NodeFault::Memory);
+    }
+    match canonical(alloc, &tower, &x)? {
+        Some(pair) => {
+            let n = table.find_or_add(pair, Origin::Input(9))?;
+            if n.0 as u32 >= table.len() {
+                return Err(NodeFault::Memory);
+            }
+            Ok(table.size(n))
+        }
+        None => Err(NodeFault::Memory),
+    }
+}
+
 /// Whether no node has the pair of constants.
 fn is_missing<L: Labels>(
     alloc: Global,
@@ -172,4 +196,8 @@ fn a_shorter_table_forgets_the_last_nodes(rt: HostRuntime) {
     assert_eq!(rt; table.len(), 1);
     assert!(rt; is_missing(alloc, &table, 9, 1).expect(&rt, "memory"));
     assert!(rt; is_found(alloc, &table, 0, 0, 9).expect(&rt, "memory"));
+    let size = tower_size(alloc, &mut table);
+    assert!(rt; matches!(size, Ok(4)));
+    assert_eq!(rt; table.len(), 2);
+    assert!(rt; is_missing(alloc, &table, 9, 1).expect(&rt, "memory"));
 }

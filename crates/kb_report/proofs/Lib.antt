@@ -1,12 +1,12 @@
 mod AnswerLaws
-mod LinesOfTexts
-mod Fronts
-mod SectionLaws
-mod SystemLines
+pub mod LinesOfTexts
+pub mod Fronts
+pub mod SectionLaws
+pub mod SystemLines
 mod OrderLines
-mod ReadLines
-mod SidesRead
+pub mod ReadLines
+pub mod SidesRead
 mod NamesRead
-mod StepsRead
-mod SystemForm
-mod Reading
+pub mod StepsRead
+pub mod SystemForm
+pub mod Reading

@@ -10,7 +10,7 @@ use Rattle.kb_text.proofs.Cuts.{one_line}
 use Rattle.kb_report.specs.Sections.{OneLine, counted_line, IsLineOf, IsFirstLine, BeginsWithLine, BeginsWith, IsBadFrom}
 use Rattle.kb_report.proofs.SectionLaws.{line_read, line_bad}
 
-no_feed : (xs ys : List ℕ) → IsWithout 10 (xs ++ 10 ∷ ys) → ⊥
+pub no_feed : (xs ys : List ℕ) → IsWithout 10 (xs ++ 10 ∷ ys) → ⊥
 no_feed [] ys h = false≢true (sym h.0)
 no_feed (x ∷ xs) ys h = no_feed xs ys h.1
 

@@ -51,7 +51,7 @@ front_more text rest n at size f e l =
           ∙ ap₂ (λ (x y : List ℕ). x ++ y) (sym (text_of-append f.lines (line ∷ []))) (ap (drop (size + 1)) e ∙ drop-drop (size + 1) at text);
     }
 
-are_without : (ls : Lines) → All (IsWithout 10) ls → AreWithout 10 ls
+pub are_without : (ls : Lines) → All (IsWithout 10) ls → AreWithout 10 ls
 are_without [] a = tt
 are_without (l ∷ ls) a = (All-head (IsWithout 10) l ls a, are_without ls (All-tail (IsWithout 10) l ls a))
 

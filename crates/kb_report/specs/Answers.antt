@@ -1,5 +1,5 @@
 -- The answer text.
-use Rattle.std.specs.Prelude.{◌≡◌, ℕ, List, [], ◌∷◌, ◌++◌, map, flat_map, length, codes, decimal}
+use Rattle.std.specs.Prelude.{◌≡◌, ℕ, List, [], ◌∷◌, ◌++◌, map, flat_map, length, codes, decimal, ⊤}
 use Rattle.kb_term.specs.Tree.{Tree}
 use Rattle.kb_term.specs.Rule.{Rule}
 use Rattle.kb_term.specs.Signature.{SymbolEntry, Signature, Problem, IsSignature}
@@ -10,6 +10,8 @@ use Rattle.kb_cert.specs.CertificateText.{cert_fields}
 use Rattle.kb_cert.specs.declared.certificate.Certificate.{Certificate}
 use Rattle.kb_trace.specs.TraceText.{trace_text}
 use Rattle.kb_checker.specs.Answers.{Answer, IsAnswer}
+use Rattle.kb_report.specs.declared.version.Version.{Version}
+use Rattle.kb_report.specs.declared.version.Version.TheVariants.{First, Second}
 
 -- ---- the lines
 
@@ -30,25 +32,36 @@ equation_lines p = counted (codes "EQUATIONS") (length p.equations) ++ flat_map 
 abbrev pub rule_line : List Name → Rule × ℕ → List ℕ
 rule_line names r = line (infix_text names (codes "->") r.0.left r.0.right ++ codes ":" ∷ decimal r.1 ∷ [])
 
-abbrev pub rule_lines : List Name → List (Rule × ℕ) → List ℕ
-rule_lines names rules = counted (codes "RULES") (length rules) ++ flat_map (rule_line names) rules
+-- how many rules there are behind the word, and each on its line
+abbrev pub rule_lines : List ℕ → List Name → List (Rule × ℕ) → List ℕ
+rule_lines word names rules = counted word (length rules) ++ flat_map (rule_line names) rules
+
+-- the constraints are listed from version 2 on
+abbrev pub constraint_lines : Version → List Name → List (Rule × ℕ) → List ℕ
+constraint_lines First names constraints = []
+constraint_lines Second names constraints = rule_lines (codes "CONSTRAINTS") names constraints
 
 abbrev pub order_line : List Name → Certificate → List ℕ
 order_line names c = line (codes "ORDER" ∷ cert_fields names c)
 
 -- ---- the texts
 
-abbrev pub head_line : List ℕ
-head_line = line (codes "MKBTT" ∷ codes "1" ∷ [])
+-- the number of a version
+abbrev pub version_word : Version → List ℕ
+version_word First = codes "1"
+version_word Second = codes "2"
+
+abbrev pub head_line : Version → List ℕ
+head_line version = line (codes "MKBTT" ∷ version_word version ∷ [])
 
 abbrev pub end_line : List ℕ
 end_line = line (codes "END" ∷ [])
 
--- the text of a system
-abbrev pub system_text : Answer → List ℕ
-system_text a = let names = names_of a.problem.signature in
-    head_line ++ symbols_line a.problem.signature ++ equation_lines a.problem
-    ++ rule_lines names a.rules ++ order_line names a.cert
+-- the text of a system in a version
+abbrev pub system_text : Version → Answer → List ℕ
+system_text version a = let names = names_of a.problem.signature in
+    head_line version ++ symbols_line a.problem.signature ++ equation_lines a.problem
+    ++ rule_lines (codes "RULES") names a.rules ++ constraint_lines version names a.constraints ++ order_line names a.cert
     ++ counted (codes "TRACE") (length a.trace) ++ trace_text a.problem.signature a.trace
     ++ end_line
 
@@ -59,11 +72,23 @@ pub record IsSystem (a : Answer) : Type 0 where
   pub signature : IsSignature a.problem.signature
   pub form : IsAnswer a
 
--- the bytes are the text of the system
+-- the bytes are the text of the system as it is written, in version 2
 pub record AnswerSpelled (bytes : List ℕ) (a : Answer) : Type 0 where
   pub form : IsSystem a
-  pub spelling : bytes ≡ system_text a
+  pub spelling : bytes ≡ system_text Second a
+
+-- version 1 has the systems without constraints, version 2 has all
+abbrev pub IsInVersion : Version → Answer → Type 0
+IsInVersion First a = a.constraints ≡ []
+IsInVersion Second a = ⊤
+
+-- the bytes are the text of the system in one of the versions
+pub record IsTextOf (bytes : List ℕ) (a : Answer) : Type 0 where
+  pub version : Version
+  pub form : IsSystem a
+  pub is_in : IsInVersion version a
+  pub spelling : bytes ≡ system_text version a
 
 -- the texts of systems, which alone are read
 abbrev pub IsSystemText : List ℕ → Type 0
-IsSystemText bytes = (a : Answer) × AnswerSpelled bytes a
+IsSystemText bytes = (a : Answer) × IsTextOf bytes a

@@ -1,5 +1,5 @@
 -- The sections of the text of a system.
-use Rattle.std.specs.Prelude.{ℕ, ◌≡◌, ◌≤◌, List, [], ◌∷◌, ◌++◌, length, map, codes, decimal, All, IsTrue, get_or}
+use Rattle.std.specs.Prelude.{ℕ, ◌≡◌, ◌≤◌, List, [], ◌∷◌, ◌++◌, length, map, codes, decimal, All, IsTrue, get_or, ⊤}
 use Rattle.std.specs.List.{join_with_byte}
 use Rattle.kb_term.specs.Tree.{Tree}
 use Rattle.kb_term.specs.Rule.{Rule}
@@ -12,9 +12,15 @@ use Rattle.kb_overlap.specs.Trace.{TraceStep}
 use Rattle.kb_trace.specs.TraceText.{step_fields, IsStepForm}
 use Rattle.kb_checker.specs.Answers.{IsRuleForm}
 use Rattle.kb_report.specs.Answers.{entry_text}
-use Rattle.kb_report.specs.Sections.{Section, OneLine, Items, IsLineOf}
+use Rattle.kb_report.specs.declared.version.Version.{Version}
+use Rattle.kb_report.specs.declared.version.Version.TheVariants.{First, Second}
+use Rattle.kb_report.specs.Sections.{Section, OneLine, Items, Count, IsLineOf}
 
 -- ---- lines without their line feeds
+
+abbrev pub head_body : Version → List ℕ
+head_body First = codes "MKBTT 1"
+head_body Second = codes "MKBTT 2"
 
 abbrev pub symbols_body : Signature → List ℕ
 symbols_body sig = join_with_byte 32 (codes "SYMBOLS" ∷ map entry_text sig)
@@ -33,6 +39,9 @@ step_body names k s = join_with_byte 32 (step_fields names k s)
 
 -- ---- the sections
 
+abbrev pub Head : Section Version
+Head = OneLine (λ v. ⊤) head_body
+
 -- at most 24 symbols of at most 8 arguments, whose names are different identifiers
 pub record AreSymbols (sig : Signature) : Type 0 where
   pub names : IsSignature sig
@@ -47,6 +56,11 @@ Equations sig = Items (IsEquationWithinLimits sig) (λ k. equation_body (names_o
 
 abbrev pub Rules : Signature → ℕ → Section (List (Rule × ℕ))
 Rules sig = Items (IsRuleForm sig) (λ k. rule_body (names_of sig))
+
+-- how many constraints there are: version 1 has none, and no line for it
+abbrev pub ConstraintCount : Version → Section ℕ
+ConstraintCount First n lines = (n ≡ 0) × (lines ≡ [])
+ConstraintCount Second n lines = Count (codes "CONSTRAINTS ") 4096 n lines
 
 abbrev pub Order : Signature → Section Certificate
 Order sig = OneLine (λ c. IsTrue (is_certificate sig c)) (order_body (names_of sig))
@@ -64,6 +78,9 @@ pub record AreSidesIn (sig : Signature) (fields : List (List ℕ)) (sign : List 
   pub right : get_or fields 2 [] ≡ term_text (names_of sig) e.1
 
 -- the bytes are the line of such a value
+abbrev pub IsHeadLine : List ℕ → Version → Type 0
+IsHeadLine = IsLineOf (λ v. ⊤) head_body
+
 abbrev pub IsSymbolsLine : List ℕ → Signature → Type 0
 IsSymbolsLine = IsLineOf AreSymbols symbols_body
 

@@ -6,6 +6,7 @@ ghost use Rattle.kb_cert.specs.CertificateText.{is_certificate};
 ghost use Rattle.kb_text.specs.Lines.{counted};
 ghost use Rattle.kb_text.specs.Terms.{names_of, infix_text};
 ghost use Rattle.kb_trace.specs.TraceText.{trace_text as text_of_trace};
+ghost use Rattle.kb_report.specs.declared.version.Version.{Version};
 ghost use Rattle.kb_report.specs.Answers.{entry_text, symbols_line, equation_line, equation_lines, rule_line, rule_lines, order_line, system_text as text_of_system};
 
 use kb_cert::{Certificate, cert_text};
@@ -146,15 +147,17 @@ fn push_each_rule(
     Ok(())
 }
 
+// So many rules behind the word, each on its line.
 fn push_rules(
     alloc: Global,
     out: &mut Vec<u8>,
     signature: &Signature,
+    word: &[u8],
     rules: &[(Rule, u32)],
 ) -> Result<(), Memory>
-    ensures { OnOk result (out.new.items ≡ out.old.items ++ rule_lines (names_of signature.now) rules.now) }
+    ensures { OnOk result (out.new.items ≡ out.old.items ++ rule_lines word.now (names_of signature.now) rules.now) }
 {
-    push_counted(alloc, out, b"RULES", rules.len() as u64)?;
+    push_counted(alloc, out, word, rules.len() as u64)?;
     push_each_rule(alloc, out, signature, rules)
 }
 
@@ -187,15 +190,16 @@ fn push_trace(
     Ok(())
 }
 
-/// The text of a system.
+/// The text of a system, in version 2.
 pub(crate) fn system_text(alloc: Global, a: &Answer) -> Result<Vec<u8>, Memory>
-    ensures { IfOk result (λ text. text.items ≡ text_of_system a.now) }
+    ensures { IfOk result (λ text. text.items ≡ text_of_system Version.Second a.now) }
 {
     let signature = a.problem().signature();
-    let mut out = Vec::from_slice(alloc, b"MKBTT 1\n")?;
+    let mut out = Vec::from_slice(alloc, b"MKBTT 2\n")?;
     push_symbols(alloc, &mut out, signature)?;
     push_equations(alloc, &mut out, a.problem())?;
-    push_rules(alloc, &mut out, signature, a.rules())?;
+    push_rules(alloc, &mut out, signature, b"RULES", a.rules())?;
+    push_rules(alloc, &mut out, signature, b"CONSTRAINTS", a.constraints())?;
     push_order(alloc, &mut out, signature, a.cert())?;
     push_trace(alloc, &mut out, signature, a.trace())?;
     out.extend_from_slice(b"END\n")?;

@@ -5,6 +5,9 @@ ghost use Rattle.kb_report.specs.Sections.{Word, Count, counted_line, BeginsWith
 
 use kb_text::{TextFault, line_length, read_number};
 
+/// The most rules, the most constraints, and the most steps of a trace.
+pub(crate) const LINES: u32 = 4096;
+
 /// Whether the bytes are the word.
 pub(crate) fn is_word(bytes: &[u8], word: &[u8]) -> bool
     ensures { IsTrue result ↔ (bytes.now ≡ word.now) }
@@ -13,7 +16,7 @@ pub(crate) fn is_word(bytes: &[u8], word: &[u8]) -> bool
 }
 
 /// The line that the text begins with, without its line feed, and how many bytes it takes with it.
-pub(crate) fn first_line(text: &[u8]) -> Option<(&[u8], usize)>
+pub fn first_line(text: &[u8]) -> Option<(&[u8], usize)>
     ensures line { MatchOption result (IsWithout 10 text.now) (λ p. IsFirstLine text.now p.0.now (drop p.1 text.now)) }
     ensures size { MatchOption result ⊤ (λ p. p.1 ≤ length text.now) }
 {
@@ -27,7 +30,11 @@ pub(crate) fn first_line(text: &[u8]) -> Option<(&[u8], usize)>
 }
 
 /// How many bytes the line takes that the text begins with, where it is the word.
-pub(crate) fn read_word(text: &[u8], word: &[u8], first: u64) -> Result<usize, TextFault>
+///
+/// # Errors
+///
+/// `BadText(first)` where the text begins with another line or with none: `first` is the number of that line in a whole text.
+pub fn read_word(text: &[u8], word: &[u8], first: u64) -> Result<usize, TextFault>
     requires { IsWithout 10 word.now }
     ensures read { IfOk result (λ size. BeginsWith (Word word.now) text.now Prim.tt 1 (drop size text.now)) }
     ensures size { IfOk result (λ size. size ≤ length text.now) }
@@ -60,7 +67,11 @@ fn count_of(line: &[u8], word: &[u8], highest: u32) -> Option<u32>
 }
 
 /// The number of at most this behind the word on the line that the text begins with, and how many bytes the line takes.
-pub(crate) fn read_count(
+///
+/// # Errors
+///
+/// `BadText(first)` where the text begins with another line or with none: `first` is the number of that line in a whole text.
+pub fn read_count(
     text: &[u8],
     word: &[u8],
     highest: u32,

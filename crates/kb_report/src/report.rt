@@ -38,7 +38,8 @@ pub(crate) fn reason_word(reason: Reason) -> &'static [u8]
     }
 }
 
-/// The one spelling of a report: a system with its problem, rules, order and trace, or one line that says why there is none.
+/// The spelling of a report, in version 2: a system with its problem, rules, constraints, order and trace, or one line that
+/// says why there is none.
 pub fn answer_text(alloc: Global, r: &Report) -> Result<Vec<u8>, Memory>
     ensures { IfOk result (λ text. text.items ≡ report_text r.now) }
 {
@@ -85,7 +86,7 @@ fn over_text(alloc: Global, reason: Reason, living: u32) -> Result<Vec<u8>, Memo
 fn short_text(alloc: Global, line: &Fields) -> Result<Vec<u8>, Memory>
     ensures { IfOk result (λ text. text.items ≡ text_of_short line.now) }
 {
-    let mut text = Vec::from_slice(alloc, b"MKBTT 1\n")?;
+    let mut text = Vec::from_slice(alloc, b"MKBTT 2\n")?;
     line.line_to(&mut text)?;
     text.extend_from_slice(b"END\n")?;
     Ok(text)

@@ -1,5 +1,5 @@
 // Reading equations and rules.
-ghost use Rattle.std.specs.Prelude.{◌≡◌, ◌≤◌, ◌<◌, ◌↔◌, ℕ, IfOk, IfErr, IsTrue, MatchOption, List, decimal, drop, length, ⊤};
+ghost use Rattle.std.specs.Prelude.{◌≡◌, ◌≤◌, ◌<◌, ◌^◌, ◌↔◌, ℕ, IfOk, IfErr, IsTrue, MatchOption, List, decimal, drop, length, ⊤};
 ghost use Rattle.kb_term.specs.Rule.{Rule, rule_between};
 ghost use Rattle.kb_term.specs.Signature.{IsSignature, IsEquationWithinLimits, IsTermWithinLimits};
 ghost use Rattle.kb_term.specs.Tree.{Tree};
@@ -24,7 +24,16 @@ fn has_sides(rule: &Rule, left: &Term, right: &Term) -> bool
 }
 
 /// Whether the variables of two terms are at most 64 and numbered by first occurrence, left side first.
-fn are_numbered(alloc: Global, sig: &Signature, left: &Term, right: &Term) -> Result<bool, Memory>
+///
+/// # Errors
+///
+/// Want of memory.
+pub fn are_numbered(
+    alloc: Global,
+    sig: &Signature,
+    left: &Term,
+    right: &Term,
+) -> Result<bool, Memory>
     requires left { IsTermWithinLimits sig.now (tree_of left.now) }
     requires right { IsTermWithinLimits sig.now (tree_of right.now) }
     ensures { IfOk result (λ holds. IsTrue holds ↔ IsEquationWithinLimits sig.now (tree_of left.now, tree_of right.now)) }
@@ -155,7 +164,12 @@ fn next_rule(
 }
 
 /// So many equations, each on its line, and how many bytes they take.
-pub(crate) fn read_equations(
+///
+/// # Errors
+///
+/// `BadText` with the number of the first line that isn't an equation's, where the text begins with the line `first` of a whole
+/// text. `Memory` for want of memory.
+pub fn read_equations(
     alloc: Global,
     sig: &Signature,
     count: usize,
@@ -165,7 +179,7 @@ pub(crate) fn read_equations(
     requires few { length sig.now ≤ 24 }
     requires names { IsSignature sig.now }
     requires count { count ≤ 4096 }
-    requires first { first ≤ 10000 }
+    requires first { first ≤ 2 ^ 63 }
     ensures read { IfOk result (λ p. BeginsWith (Equations sig.now count) text.now (equations_of_list p.0.items) count (drop p.1 text.now)) }
     ensures size { IfOk result (λ p. p.1 ≤ length text.now) }
     ensures fault { IfErr result (IsSectionFault (Equations sig.now count) text.now first) }

@@ -1,7 +1,9 @@
 -- What a process costs, node by node.
-use Rattle.std.proofs.Common.{ℕ, zero, suc, ◌+◌, ◌*◌, ◌≤◌, ◌<◌, ◌≡◌, refl, ap, ◌∙◌, arith, List, [], ◌∷◌, ◌++◌, map, filter, flat_map, length, get_or, Bool, true, false, cond, Option, Some, None}
+use Rattle.std.proofs.Common.{ℕ, zero, suc, ◌+◌, ◌*◌, ◌≤◌, ◌<◌, ◌≡◌, refl, ap, ap₂, ◌∙◌, arith, List, [], ◌∷◌, ◌++◌, map, filter, flat_map, length, get_or, Bool, true, false, cond, Option, Some, None}
 use Rattle.std.specs.Prelude.{sum_by}
 use Rattle.std.specs.Option.{option_map_or}
+use Rattle.std.proofs.Math.Nat.{add-mul}
+use Rattle.std.proofs.lemmas.Nat.{mul-le}
 use Rattle.std.proofs.lemmas.List.{map-append}
 use Rattle.std.proofs.lemmas.List.Sums.{sum_by-cons, sum_by_push}
 use Rattle.kb_term.specs.Pair.{Pair}
@@ -9,8 +11,10 @@ use Rattle.kb_term.specs.Signature.{Signature}
 use Rattle.kb_term.specs.declared.origin.RuleRef.{RuleRef}
 use Rattle.kb_label.specs.Names.{Name}
 use Rattle.mkb_model.specs.Limits.{AreLimited}
-use Rattle.mkb_model.specs.Plain.{Plain, numbers_from, node_numbers, directions, is_equation, is_constraint, pair_at, pair_size, node_size, cost}
-use Rattle.mkb_board.specs.Choosing.{sizes_of, role_count}
+use Rattle.mkb_model.specs.Plain.{Plain, numbers_from, node_numbers, directions, is_equation, is_rule, is_constraint, pair_at, pair_size, node_size, rule_sizes, counted_rules, cost}
+use Rattle.mkb_model.specs.declared.settings.Selection.{Selection}
+use Rattle.mkb_model.specs.declared.settings.Selection.TheVariants.{Stated, Size}
+use Rattle.mkb_board.specs.Choosing.{sizes_of, one_if, rule_count, role_count}
 
 -- ---- numbers
 
@@ -93,9 +97,47 @@ module _ (f : ℕ → ℕ) (e : ℕ → Bool) (c : RuleRef → Bool) where
       let six = times (e n) (c forth) (c back) (f n) in
       omega (arith, one, two, three, four, five, six)
 
+two_times : (y z : Bool) (s : ℕ) → (cond y 1 0 + cond z 1 0) * s ≡ cond y s 0 + cond z s 0
+two_times true true s = omega arith
+two_times true false s = omega arith
+two_times false true s = omega arith
+two_times false false s = omega arith
+
+-- what the rules add, node by node
+rule_shares : (f : ℕ → ℕ) (c : RuleRef → Bool) (n k : ℕ) → sum_by (λ (a : RuleRef). f a.node) (filter c (flat_map directions (numbers_from n k))) ≡ sum_by (λ m. (one_if (c (record { node = m; dir = 0 })) + one_if (c (record { node = m; dir = 1 }))) * f m) (numbers_from n k)
+rule_shares f c n zero = refl
+rule_shares f c n (suc k) =
+    let ns = numbers_from (n + 1) k in
+    let rs = flat_map directions ns in
+    let forth : RuleRef = record { node = n; dir = 0 } in
+    let back : RuleRef = record { node = n; dir = 1 } in
+    let g = λ (m : ℕ). (one_if (c (record { node = m; dir = 0 })) + one_if (c (record { node = m; dir = 1 }))) * f m in
+    let two = kept (λ (a : RuleRef). f a.node) c forth (back ∷ rs) in
+    let three = kept (λ (a : RuleRef). f a.node) c back rs in
+    let four = sum_by-cons g n ns in
+    let five = rule_shares f c (n + 1) k in
+    let six = two_times (c forth) (c back) (f n) in
+    omega (arith, two, three, four, five, six)
+
+no_shares : (f : ℕ → ℕ) (ns : List ℕ) → 0 ≡ sum_by (λ m. 0 * f m) ns
+no_shares f [] = refl
+no_shares f (n ∷ ns) = omega (arith, sum_by-cons (λ m. 0 * f m) n ns, no_shares f ns)
+
+-- what the rules that count add
+counted_as : (by : Selection) (b : Plain) (p : Name) → rule_sizes b (counted_rules by b p) ≡ sum_by (λ n. rule_count by b p n * node_size b n) (node_numbers b)
+counted_as Stated b p = no_shares (node_size b) (node_numbers b)
+counted_as Size b p = rule_shares (node_size b) (is_rule b p) 0 (length b.nodes)
+
+sum_both : (f g h : ℕ → ℕ) (ns : List ℕ) → sum_by (λ n. f n * h n) ns + sum_by (λ n. g n * h n) ns ≡ sum_by (λ n. (f n + g n) * h n) ns
+sum_both f g h [] = refl
+sum_both f g h (n ∷ ns) =
+    omega (arith, sum_by-cons (λ n. f n * h n) n ns, sum_by-cons (λ n. g n * h n) n ns, sum_by-cons (λ n. (f n + g n) * h n) n ns, sum_both f g h ns, add-mul (f n) (g n) (h n))
+
 -- the cost is what each node adds to it
 pub cost_as : (b : Plain) (p : Name) → cost b p ≡ sum_by (λ n. role_count b p n * node_size b n) (node_numbers b)
-cost_as b p = shares (node_size b) (is_equation b p) (is_constraint b p) 0 (length b.nodes)
+cost_as b p =
+    ap₂ (λ x y. x + y) (shares (node_size b) (is_equation b p) (is_constraint b p) 0 (length b.nodes)) (counted_as b.settings.selection b p)
+    ∙ sum_both (times_of (node_size b) (is_equation b p) (is_constraint b p)) (rule_count b.settings.selection b p) (node_size b) (node_numbers b)
 
 -- ---- limits
 
@@ -107,17 +149,18 @@ size_most g b limited n = go (pair_at b n) refl
     go None e = omega arith
     go (Some q) e = let h = (limited n q e).within in omega (arith, h.first.size, h.second.size)
 
-few_times : (x y z : Bool) (s : ℕ) → s ≤ 1024 → (cond x 1 0 + (cond y 1 0 + cond z 1 0)) * s ≤ 3072
-few_times true true true s h = omega (arith, h)
-few_times true true false s h = omega (arith, h)
-few_times true false true s h = omega (arith, h)
-few_times true false false s h = omega (arith, h)
-few_times false true true s h = omega (arith, h)
-few_times false true false s h = omega (arith, h)
-few_times false false true s h = omega (arith, h)
-few_times false false false s h = omega arith
+one_most : (t : Bool) → one_if t ≤ 1
+one_most true = omega arith
+one_most false = omega arith
+
+rules_most : (by : Selection) (b : Plain) (p : Name) (n : ℕ) → rule_count by b p n ≤ 2
+rules_most Stated b p n = omega arith
+rules_most Size b p n = omega (arith, one_most (is_rule b p (record { node = n; dir = 0 })), one_most (is_rule b p (record { node = n; dir = 1 })))
+
+pub roles_most : (b : Plain) (p : Name) (n : ℕ) → role_count b p n ≤ 5
+roles_most b p n =
+    omega (arith, one_most (is_equation b p n), one_most (is_constraint b p (record { node = n; dir = 0 })), one_most (is_constraint b p (record { node = n; dir = 1 })), rules_most b.settings.selection b p n)
 
 -- what a node within the limits adds to the cost
-pub share_most : (g : Signature) (b : Plain) (p : Name) → AreLimited g b.nodes → (n : ℕ) → role_count b p n * node_size b n ≤ 3072
-share_most g b p limited n =
-    few_times (is_equation b p n) (is_constraint b p (record { node = n; dir = 0 })) (is_constraint b p (record { node = n; dir = 1 })) (node_size b n) (size_most g b limited n)
+pub share_most : (g : Signature) (b : Plain) (p : Name) → AreLimited g b.nodes → (n : ℕ) → role_count b p n * node_size b n ≤ 5120
+share_most g b p limited n = mul-le (role_count b p n) (node_size b n) 5 1024 (roles_most b p n) (size_most g b limited n)

@@ -1,6 +1,7 @@
 -- A legal board after a ticket ended.
-use Rattle.std.proofs.Common.{ℕ, ◌+◌, ◌≡◌, refl, sym, ap, ap₂, ◌∙◌, subst, arith, List, [], ◌∷◌, ◌++◌, Contains, Bool, true, false, ◌||◌, Option, Some, None}
+use Rattle.std.proofs.Common.{ℕ, ◌+◌, ◌≡◌, refl, sym, ap, ◌∙◌, subst, arith, List, [], ◌∷◌, ◌++◌, Contains, Bool, true, false, ◌||◌, Option, Some, None}
 use Rattle.std.specs.Prelude.{IsFalse, IsTrue}
+use Rattle.std.proofs.lemmas.List.{same_from_push}
 use Rattle.std.specs.Option.{option_map_or}
 use Rattle.kb_term.proofs.Steps.{contains_behind, contains_first}
 use Rattle.kb_term.specs.Signature.{Problem}
@@ -22,54 +23,41 @@ use Rattle.mkb_model.proofs.Unique.{after_once}
 use Rattle.mkb_board.specs.Boards.{Seen, seen, IsBoard, has_halt}
 use Rattle.mkb_board.specs.Takes.{IsTakenOn, IsProposalOf, take_entry}
 use Rattle.mkb_board.proofs.Growing.{grown, board_grown}
+use Rattle.mkb_model.specs.declared.settings.Settings.{Settings}
 
 -- ---- the moment of a take
 
-last_of : {A : Type 0} (x : A) (xs : List A) → (init : List A) × (last : A) × (x ∷ xs ≡ init ++ last ∷ [])
+pub last_of : {A : Type 0} (x : A) (xs : List A) → (init : List A) × (last : A) × (x ∷ xs ≡ init ++ last ∷ [])
 last_of x [] = ([], x, refl)
 last_of x (y ∷ ys) = let r = last_of y ys in (x ∷ r.0, r.1, ap (x ∷◌) r.2)
 
-regroup : {A : Type 0} (xs : List A) (x : A) (ys : List A) (y : A) → xs ++ x ∷ (ys ++ y ∷ []) ≡ (xs ++ x ∷ ys) ++ y ∷ []
+pub regroup : {A : Type 0} (xs : List A) (x : A) (ys : List A) (y : A) → xs ++ x ∷ (ys ++ y ∷ []) ≡ (xs ++ x ∷ ys) ++ y ∷ []
 regroup [] x ys y = refl
 regroup (z ∷ xs) x ys y = ap (z ∷◌) (regroup xs x ys y)
 
-no_end : {A : Type 0} (xs : List A) (x : A) {Q : Type 0} → xs ++ x ∷ [] ≡ [] → Q
-no_end [] x e = absurd (cc)
-no_end (y ∷ xs) x e = absurd (cc)
-
-not_nil : {A : Type 0} (xs : List A) (x : A) (ys : List A) {Q : Type 0} → [] ≡ xs ++ x ∷ ys → Q
+pub not_nil : {A : Type 0} (xs : List A) (x : A) (ys : List A) {Q : Type 0} → [] ≡ xs ++ x ∷ ys → Q
 not_nil [] x ys e = absurd (cc)
 not_nil (y ∷ xs) x ys e = absurd (cc)
 
-same_end : {A : Type 0} (xs ys : List A) (x y : A) → xs ++ x ∷ [] ≡ ys ++ y ∷ [] → (xs ≡ ys) × (x ≡ y)
-same_end [] [] x y e = (refl, let h : x ≡ y = cc in h)
-same_end [] (z ∷ ys) x y e = let h : [] ≡ ys ++ y ∷ [] = cc in no_end ys y (sym h)
-same_end (z ∷ xs) [] x y e = let h : xs ++ x ∷ [] ≡ [] = cc in no_end xs x h
-same_end {A} (z ∷ xs) (w ∷ ys) x y e =
-    let h : z ≡ w = cc in
-    let t : xs ++ x ∷ [] ≡ ys ++ y ∷ [] = cc in
-    let r = same_end xs ys x y t in
-    (ap₂ (λ (a : A) (l : List A). a ∷ l) h r.0, r.1)
-
 -- the moment of an entry of the journal
-entry_moment : (P : Problem) (n : ℕ) (ms : List Moment) (c : Plain) → IsRun P n ms c → (earlier : List Entry) (e : Entry) (later : List Entry) → journal_of ms ≡ earlier ++ e ∷ later → (m : Moment) × Contains ms m × (m.entry ≡ e) × After P n earlier m.board
+entry_moment : (P : Problem) (n : Settings) (ms : List Moment) (c : Plain) → IsRun P n ms c → (earlier : List Entry) (e : Entry) (later : List Entry) → journal_of ms ≡ earlier ++ e ∷ later → (m : Moment) × Contains ms m × (m.entry ≡ e) × After P n earlier m.board
 entry_moment P n [] c run earlier e later h = not_nil earlier e later h
-entry_moment P n (m ∷ ms) c run earlier e [] h = let k = same_end (journal_of ms) earlier m.entry e h in (m, contains_first m ms, k.1, (ms, k.0, run.0))
+entry_moment P n (m ∷ ms) c run earlier e [] h = let k = same_from_push (journal_of ms) earlier m.entry e h in (m, contains_first m ms, k.1, (ms, k.0, run.0))
 entry_moment P n (m ∷ ms) c run earlier e (l ∷ ls) h =
     let r = last_of l ls in
-    let k = same_end (journal_of ms) (earlier ++ e ∷ r.0) m.entry r.1 (h ∙ ap (λ z. earlier ++ e ∷ z) r.2 ∙ regroup earlier e r.0 r.1) in
+    let k = same_from_push (journal_of ms) (earlier ++ e ∷ r.0) m.entry r.1 (h ∙ ap (λ z. earlier ++ e ∷ z) r.2 ∙ regroup earlier e r.0 r.1) in
     let i = entry_moment P n ms m.board run.0 earlier e r.0 k.0 in
     (i.0, contains_behind m ms i.0 i.1, i.2, i.3)
 
 -- the take of a ticket is a moment of the run
-pub taken_moment : (s : Seen) (t : Ticket) (before : Plain) → IsTakenOn s t before → (ms : List Moment) → journal_of ms ≡ s.journal → IsRun s.plain.problem s.plain.budget ms s.plain → Contains ms (record { board = before; entry = take_entry t })
+pub taken_moment : (s : Seen) (t : Ticket) (before : Plain) → IsTakenOn s t before → (ms : List Moment) → journal_of ms ≡ s.journal → IsRun s.plain.problem s.plain.settings ms s.plain → Contains ms (record { board = before; entry = take_entry t })
 taken_moment s t before h ms j run =
-    let i = entry_moment s.plain.problem s.plain.budget ms s.plain run h.earlier (take_entry t) h.later (j ∙ h.parts) in
-    let b = after_once s.plain.problem s.plain.budget h.earlier i.0.board before i.3 h.after in
+    let i = entry_moment s.plain.problem s.plain.settings ms s.plain run h.earlier (take_entry t) h.later (j ∙ h.parts) in
+    let b = after_once s.plain.problem s.plain.settings h.earlier i.0.board before i.3 h.after in
     subst {A = Plain} (λ z. Contains ms (record { board = z; entry = take_entry t })) b (subst {A = Entry} (λ z. Contains ms (record { board = i.0.board; entry = z })) i.2 i.1)
 
 -- the ticket and its proposal may be finished
-pub finishing : (s : Seen) (t : Ticket) (x : Proposed) → verdict s.plain ≡ None → Contains s.plain.flight t → IsProposalOf s t x → (ms : List Moment) → journal_of ms ≡ s.journal → IsRun s.plain.problem s.plain.budget ms s.plain → IsFinishing ms s.plain t.worker t.number t.job x
+pub finishing : (s : Seen) (t : Ticket) (x : Proposed) → verdict s.plain ≡ None → Contains s.plain.flight t → IsProposalOf s t x → (ms : List Moment) → journal_of ms ≡ s.journal → IsRun s.plain.problem s.plain.settings ms s.plain → IsFinishing ms s.plain t.worker t.number t.job x
 finishing s t x none flying (before, taken, proposed) ms j run = record { no_verdict = none; flying = flying; before = before; taken = taken_moment s t before taken ms j run; proposed = proposed }
 
 -- ---- effects don't read the flight

@@ -20,6 +20,7 @@ use Rattle.std.proofs.lemmas.Bool.{eq-eqb}
 use Rattle.kb_term.proofs.Steps.{contains_cases}
 use Rattle.mkb_model.proofs.Lists.{none_in}
 use Rattle.mkb_board.specs.Boards.{Seen, seen, IsLegalBoard, IsBoard, takes_in, has_halt, drops_in, is_drop, owed}
+use Rattle.mkb_model.specs.declared.settings.Settings.{Settings}
 
 -- one where the test holds
 abbrev pub one_if : Bool → ℕ
@@ -60,17 +61,17 @@ halts_of [] = refl
 halts_of (m ∷ ms) = grind (arith, halts_more (journal_of ms) m.entry, halts_of ms)
 
 -- one entry more that follows leads to a legal board
-pub grown : (s : Seen) (e : Entry) (c : Plain) → IsLegalBoard s → ((ms : List Moment) → journal_of ms ≡ s.journal → IsRun s.plain.problem s.plain.budget ms s.plain → Follows IsFirstJob ms s.plain e c) → IsLegalBoard (record { plain = c; journal = s.journal ++ e ∷ [] })
+pub grown : (s : Seen) (e : Entry) (c : Plain) → IsLegalBoard s → ((ms : List Moment) → journal_of ms ≡ s.journal → IsRun s.plain.problem s.plain.settings ms s.plain → Follows IsFirstJob ms s.plain e c) → IsLegalBoard (record { plain = c; journal = s.journal ++ e ∷ [] })
 grown s e c legal follows =
     let ms = legal.after.0 in
     let m : Moment = record { board = s.plain; entry = e } in
-    let run : IsRun s.plain.problem s.plain.budget (m ∷ ms) c = (legal.after.2, follows ms legal.after.1 legal.after.2) in
-    let w = within_budget IsFirstJob s.plain.problem s.plain.budget (m ∷ ms) c run in
+    let run : IsRun s.plain.problem s.plain.settings (m ∷ ms) c = (legal.after.2, follows ms legal.after.1 legal.after.2) in
+    let w = within_budget IsFirstJob s.plain.problem s.plain.settings (m ∷ ms) c run in
     let J = s.journal ++ e ∷ [] in
-    let after : After s.plain.problem s.plain.budget J c = (m ∷ ms, ap (λ z. z ++ e ∷ []) legal.after.1, run) in
+    let after : After s.plain.problem s.plain.settings J c = (m ∷ ms, ap (λ z. z ++ e ∷ []) legal.after.1, run) in
     record {
       within = subst {A = Problem} IsWithinLimits (sym w.problem) legal.within;
-      after = subst {A = Problem} (λ z. After z c.budget J c) (sym w.problem) (subst {A = ℕ} (λ z. After s.plain.problem z J c) (sym w.budget) after);
+      after = subst {A = Problem} (λ z. After z c.settings J c) (sym w.problem) (subst {A = Settings} (λ z. After s.plain.problem z J c) (sym w.settings) after);
     }
 
 -- the numbers after one entry more

@@ -27,6 +27,7 @@ use Rattle.mkb_board.specs.declared.answers.Taken.TheVariants.{Job as TakenJob, 
 use Rattle.mkb_board.specs.declared.answers.Finished.{Finished}
 use Rattle.mkb_board.specs.declared.answers.Finished.TheVariants.{Ended, Dropped, Committed}
 use Rattle.mkb_board.proofs.Growing.{takes_of}
+use Rattle.mkb_model.specs.declared.settings.Settings.{Settings}
 
 -- a ticket that was taken is held
 pub held_taken : (old new : Seen) (w : ℕ) (t : Ticket) (s : Snapshot) → IsLegalBoard old → TakesJob old new w t s → IsHeld new t s
@@ -37,7 +38,7 @@ held_taken old new w t s legal h = record {
     earlier = old.journal;
     later = [];
     parts = h.entered;
-    after = subst {A = Plain} (λ (z : Plain). After z.problem z.budget old.journal old.plain) (sym h.flies) legal.after;
+    after = subst {A = Plain} (λ (z : Plain). After z.problem z.settings old.journal old.plain) (sym h.flies) legal.after;
   };
   job_is = h.job_is;
   reads = h.reads;
@@ -48,12 +49,12 @@ held_taken old new w t s legal h = record {
 pub held_numbered : (old new : Seen) (w : ℕ) (t u : Ticket) (s r : Snapshot) → IsLegalBoard old → TakesJob old new w t s → IsHeld old u r → u.number ≢ t.number
 held_numbered old new w t u s r legal h k e =
     let run = legal.after in
-    let most = ((flight_numbered IsFirstJob old.plain.problem old.plain.budget run.0 old.plain run.2).numbers u k.flying).1 in
+    let most = ((flight_numbered IsFirstJob old.plain.problem old.plain.settings run.0 old.plain run.2).numbers u k.flying).1 in
     let count = takes_of run.0 ∙ ap takes_in run.1 in
     absurd (omega (arith, most, count, h.number_is, e))
 
 -- it stays held while it is in flight
-pub held_on : (old new : Seen) (more : List Entry) (u : Ticket) (r : Snapshot) → IsHeld old u r → new.journal ≡ old.journal ++ more → new.plain.problem ≡ old.plain.problem → new.plain.budget ≡ old.plain.budget → Contains new.plain.flight u → IsHeld new u r
+pub held_on : (old new : Seen) (more : List Entry) (u : Ticket) (r : Snapshot) → IsHeld old u r → new.journal ≡ old.journal ++ more → new.plain.problem ≡ old.plain.problem → new.plain.settings ≡ old.plain.settings → Contains new.plain.flight u → IsHeld new u r
 held_on old new more u r h j p n i = record {
   flying = i;
   before = h.before;
@@ -61,7 +62,7 @@ held_on old new more u r h j p n i = record {
     earlier = h.taken.earlier;
     later = h.taken.later ++ more;
     parts = j ∙ ap (λ (z : List Entry). z ++ more) h.taken.parts ∙ append_assoc h.taken.earlier (take_entry u ∷ h.taken.later) more;
-    after = subst {A = Problem} (λ z. After z new.plain.budget h.taken.earlier h.before) (sym p) (subst {A = ℕ} (λ z. After old.plain.problem z h.taken.earlier h.before) (sym n) h.taken.after);
+    after = subst {A = Problem} (λ z. After z new.plain.settings h.taken.earlier h.before) (sym p) (subst {A = Settings} (λ z. After old.plain.problem z h.taken.earlier h.before) (sym n) h.taken.after);
   };
   job_is = h.job_is;
   reads = h.reads;
@@ -71,19 +72,20 @@ held_on old new more u r h j p n i = record {
 -- where others take
 pub held_after_take : (old new : Seen) (w : ℕ) (a : Taken) (u : Ticket) (r : Snapshot) → IsTakenBy old new w a → IsHeld old u r → IsHeld new u r
 held_after_take old new w (TakenJob t s) u r h k =
-    held_on old new (take_entry t ∷ []) u r k h.entered (ap (λ (z : Plain). z.problem) h.flies) (ap (λ (z : Plain). z.budget) h.flies)
+    held_on old new (take_entry t ∷ []) u r k h.entered (ap (λ (z : Plain). z.problem) h.flies) (ap (λ (z : Plain). z.settings) h.flies)
     (subst {A = Plain} (λ (z : Plain). Contains z.flight u) (sym h.flies) (Contains-append_left old.plain.flight (t ∷ []) u k.flying))
 held_after_take old new w (Idle n) u r h k = subst {A = Seen} (λ z. IsHeld z u r) (sym h.0) k
 held_after_take old new w (Over v) u r h k = subst {A = Seen} (λ z. IsHeld z u r) (sym h.0) k
 held_after_take old new w Halted u r h k = subst {A = Seen} (λ z. IsHeld z u r) (sym h.0) k
 
-other_number : (m n : ℕ) → m ≢ n → not (m == n) ≡ true
+-- two numbers that differ
+pub other_number : (m n : ℕ) → m ≢ n → not (m == n) ≡ true
 other_number m n d = grind (arith, nat_tests, d)
 
 -- where another ticket ends
-ended : (old new : Seen) (n : ℕ) (e : Entry) (c : Plain) (u : Ticket) (r : Snapshot) → u.number ≢ n → IsHeld old u r → c.flight ≡ old.plain.flight → c.problem ≡ old.plain.problem → c.budget ≡ old.plain.budget → new.plain ≡ landed n c → new.journal ≡ old.journal ++ e ∷ [] → IsHeld new u r
+ended : (old new : Seen) (n : ℕ) (e : Entry) (c : Plain) (u : Ticket) (r : Snapshot) → u.number ≢ n → IsHeld old u r → c.flight ≡ old.plain.flight → c.problem ≡ old.plain.problem → c.settings ≡ old.plain.settings → new.plain ≡ landed n c → new.journal ≡ old.journal ++ e ∷ [] → IsHeld new u r
 ended old new n e c u r d k f p b lands entered =
-    held_on old new (e ∷ []) u r k entered (ap (λ (z : Plain). z.problem) lands ∙ p) (ap (λ (z : Plain). z.budget) lands ∙ b)
+    held_on old new (e ∷ []) u r k entered (ap (λ (z : Plain). z.problem) lands ∙ p) (ap (λ (z : Plain). z.settings) lands ∙ b)
     (subst {A = Plain} (λ (z : Plain). Contains z.flight u) (sym lands)
     (in_filter (λ (x : Ticket). not (x.number == n)) c.flight u (subst {A = List Ticket} (λ ts. Contains ts u) (sym f) k.flying) (other_number u.number n d)))
 

@@ -26,19 +26,21 @@ numbers_as (x ∷ xs) [] = refl
 numbers_as (x ∷ xs) (y ∷ ys) = ap (ordering_then (nat_cmp x y)) (numbers_as xs ys)
 
 -- jobs compared by the numbers in them as lists
-abbrev by_lists : (Name → ℕ) → Job → Job → Ordering
-by_lists cost i j =
+abbrev by_lists : (Name → ℕ) → (Job → ℕ) → Job → Job → Ordering
+by_lists cost weight i j =
     ordering_then (nat_cmp (cost (process_of i)) (cost (process_of j)))
     (ordering_then (name_cmp (process_of i) (process_of j))
-    (ordering_then (nat_cmp (kind_number i) (kind_number j)) (slice_cmp nat_cmp (job_numbers i) (job_numbers j))))
+    (ordering_then (nat_cmp (kind_number i) (kind_number j))
+    (ordering_then (nat_cmp (weight i) (weight j)) (slice_cmp nat_cmp (job_numbers i) (job_numbers j)))))
 
-by_lists-total : (cost : Name → ℕ) → IsTotalOrder (by_lists cost)
-by_lists-total cost = then_total (on_total (λ j. cost (process_of j)) nat_cmp_total) (then_total (on_total process_of name_cmp-total) (then_total (on_total kind_number nat_cmp_total) (on_total job_numbers nat_list_cmp_total)))
+by_lists-total : (cost : Name → ℕ) (weight : Job → ℕ) → IsTotalOrder (by_lists cost weight)
+by_lists-total cost weight =
+    then_total (on_total (λ j. cost (process_of j)) nat_cmp_total) (then_total (on_total process_of name_cmp-total) (then_total (on_total kind_number nat_cmp_total) (then_total (on_total weight nat_cmp_total) (on_total job_numbers nat_list_cmp_total))))
 
-pub job_cmp-total : (cost : Name → ℕ) → IsTotalOrder (job_cmp cost)
-job_cmp-total cost =
-    let same = λ (i j : Job). ap (λ z. ordering_then (nat_cmp (cost (process_of i)) (cost (process_of j))) (ordering_then (name_cmp (process_of i) (process_of j)) (ordering_then (nat_cmp (kind_number i) (kind_number j)) z))) (numbers_as (job_numbers i) (job_numbers j)) in
-    let o = by_lists-total cost in
+pub job_cmp-total : (cost : Name → ℕ) (weight : Job → ℕ) → IsTotalOrder (job_cmp cost weight)
+job_cmp-total cost weight =
+    let same = λ (i j : Job). ap (λ z. ordering_then (nat_cmp (cost (process_of i)) (cost (process_of j))) (ordering_then (name_cmp (process_of i) (process_of j)) (ordering_then (nat_cmp (kind_number i) (kind_number j)) (ordering_then (nat_cmp (weight i) (weight j)) z)))) (numbers_as (job_numbers i) (job_numbers j)) in
+    let o = by_lists-total cost weight in
     record {
       antisymm = λ x y. same x y ∙ o.antisymm x y ∙ ap ordering_reverse (sym (same y x));
       trans = λ x y z h k. same x z ∙ o.trans x y z (sym (same x y) ∙ h) (sym (same y z) ∙ k);
@@ -138,7 +140,7 @@ module _ {A : Type 0} (R : A → A → Ordering) where
   abbrev pub IsRising : List A → Type 0
   IsRising xs = IsSorted (λ x y. is_le (R x y) ≡ true) xs
 
-  least_in : (xs : List A) (y : A) → least R xs ≡ Some y → Contains xs y
+  pub least_in : (xs : List A) (y : A) → least R xs ≡ Some y → Contains xs y
   least_in [] y e = none_some e
   least_in (x ∷ xs) y e = go (λ z f. least_in xs z f) (least R xs) refl e
     where

@@ -14,3 +14,5 @@ pub mod Ready
 pub mod Rising
 pub mod There
 pub mod Viewed
+pub mod Others
+pub mod Weighing

@@ -46,6 +46,7 @@ use Rattle.mkb_board.specs.Boards.{seen, IsLegalBoard}
 use Rattle.mkb_board.specs.Snapshots.{HasJobNodes, IsWhole}
 use Rattle.mkb_board.proofs.Flying.{taken_flying}
 use Rattle.mkb_board.proofs.Viewed.{passing_there}
+use Rattle.mkb_model.specs.declared.settings.Settings.{Settings}
 
 -- ---- rules of pairs within the limits
 
@@ -100,7 +101,7 @@ as_named b (a ∷ names) = go (rule_at b a) (as_named b names)
 
 -- ---- what is read
 
-module _ (P : Problem) (n : ℕ) (ms : List Moment) (b : Plain) (within : IsWithinLimits P) (run : IsPossibleRun P n ms b) where
+module _ (P : Problem) (n : Settings) (ms : List Moment) (b : Plain) (within : IsWithinLimits P) (run : IsPossibleRun P n ms b) where
   limited : AreLimited P.signature b.nodes
   limited = limited_run P n ms b within run
 
@@ -145,28 +146,28 @@ pub readable_on : (state : Plain) (flight : List Ticket) (J : List Entry) → Is
 readable_on state flight J legal s h w =
     let c = seen state flight J in
     let r = legal.after in
-    readable c.plain.problem c.plain.budget r.0 c.plain legal.within (legal-possible c.plain.problem c.plain.budget r.0 c.plain r.2) s (taken_flying state flight s h) w
+    readable c.plain.problem c.plain.settings r.0 c.plain legal.within (legal-possible c.plain.problem c.plain.settings r.0 c.plain r.2) s (taken_flying state flight s h) w
 
 -- the pairs of a legal board are within the limits
 pub limited_on : (state : Plain) (flight : List Ticket) (J : List Entry) → IsLegalBoard (seen state flight J) → AreLimited state.problem.signature state.nodes
 limited_on state flight J legal =
     let c = seen state flight J in
     let r = legal.after in
-    limited_run c.plain.problem c.plain.budget r.0 c.plain legal.within (legal-possible c.plain.problem c.plain.budget r.0 c.plain r.2)
+    limited_run c.plain.problem c.plain.settings r.0 c.plain legal.within (legal-possible c.plain.problem c.plain.settings r.0 c.plain r.2)
 
 -- and its living processes are in the order of names
 pub ordered_on : (state : Plain) (flight : List Ticket) (J : List Entry) → IsLegalBoard (seen state flight J) → IsInNameOrder state.living
 ordered_on state flight J legal =
     let c = seen state flight J in
     let r = legal.after in
-    (leaves-forked state.living (living_forked IsFreeJob c.plain.problem c.plain.budget r.0 c.plain (legal-possible c.plain.problem c.plain.budget r.0 c.plain r.2)).forked).in_order
+    (leaves-forked state.living (living_forked IsFreeJob c.plain.problem c.plain.settings r.0 c.plain (legal-possible c.plain.problem c.plain.settings r.0 c.plain r.2)).forked).in_order
 
 -- the certificate of a living process is of the family and orders its constraints
 pub certified_on : (state : Plain) (flight : List Ticket) (J : List Entry) → IsLegalBoard (seen state flight J) → (p : Name) → IsTrue (has state.living p) → IsCertified (seen state flight J).plain p
 certified_on state flight J legal p lives =
     let c = seen state flight J in
     let r = legal.after in
-    certified_run c.plain.problem c.plain.budget r.0 c.plain legal.within (legal-possible c.plain.problem c.plain.budget r.0 c.plain r.2) p lives
+    certified_run c.plain.problem c.plain.settings r.0 c.plain legal.within (legal-possible c.plain.problem c.plain.settings r.0 c.plain r.2) p lives
 
 -- ---- what is named
 

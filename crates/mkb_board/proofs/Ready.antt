@@ -52,17 +52,17 @@ module _ (state : Plain) (flight : List Ticket) (J : List Entry) (t : Ticket) (x
   state_named =
       let s = seen state flight J in
       let r = legal.after in
-      named_grounded state flight x (has_named s.plain.problem s.plain.budget r.0 s.plain (legal-possible s.plain.problem s.plain.budget r.0 s.plain r.2) t.worker t.number t.job x (finishing s t x none flying proposal r.0 r.1 r.2))
+      named_grounded state flight x (has_named s.plain.problem s.plain.settings r.0 s.plain (legal-possible s.plain.problem s.plain.settings r.0 s.plain r.2) t.worker t.number t.job x (finishing s t x none flying proposal r.0 r.1 r.2))
 
   pub state_applicable : IsFalse (is_dropped (record state { flight = flight }) x) → IsApplicable state x
   state_applicable acts =
       let s = seen state flight J in
       let r = legal.after in
-      let a = applicable s.plain.problem s.plain.budget r.0 s.plain (legal-possible s.plain.problem s.plain.budget r.0 s.plain r.2) t.worker t.number t.job x (finishing s t x none flying proposal r.0 r.1 r.2) legal.within acts in
+      let a = applicable s.plain.problem s.plain.settings r.0 s.plain (legal-possible s.plain.problem s.plain.settings r.0 s.plain r.2) t.worker t.number t.job x (finishing s t x none flying proposal r.0 r.1 r.2) legal.within acts in
       (named_grounded state flight x a.0, fitting_grounded state flight x a.1)
 
   pub state_budget : HasBudget state
   state_budget =
       let s = seen state flight J in
       let r = legal.after in
-      has_budget s.plain.problem s.plain.budget r.0 s.plain (legal-possible s.plain.problem s.plain.budget r.0 s.plain r.2) t.worker t.number t.job x (finishing s t x none flying proposal r.0 r.1 r.2)
+      has_budget s.plain.problem s.plain.settings r.0 s.plain (legal-possible s.plain.problem s.plain.settings r.0 s.plain r.2) t.worker t.number t.job x (finishing s t x none flying proposal r.0 r.1 r.2)

@@ -1,6 +1,6 @@
 -- The jobs that a process might have rise in their order.
-use Rattle.std.proofs.Common.{ℕ, zero, suc, ◌+◌, ◌<◌, ◌≡◌, refl, sym, ap, ◌∙◌, subst, arith, List, [], ◌∷◌, ◌++◌, map, flat_map, length, Contains, true, ⊎_elim}
-use Rattle.std.specs.Ordering.{ordering_then, is_le, nat_cmp}
+use Rattle.std.proofs.Common.{ℕ, zero, suc, ◌+◌, ◌<◌, ◌≤◌, ◌≡◌, refl, sym, ap, ◌∙◌, subst, arith, List, [], ◌∷◌, ◌++◌, map, flat_map, length, Contains, true, false, ⊎_elim}
+use Rattle.std.specs.Ordering.{ordering_then, ordering_reverse, is_le, nat_cmp}
 use Rattle.std.specs.declared.cmp.Ordering.{Ordering}
 use Rattle.std.specs.declared.cmp.Ordering.TheVariants.{Less, Equal, Greater}
 use Rattle.std.proofs.lemmas.Cmp.{tied_itself, nat_cmp_total}
@@ -15,20 +15,21 @@ use Rattle.kb_node.specs.declared.job.Job.TheVariants.{Reduce, Orient, Overlap, 
 use Rattle.mkb_model.specs.Jobs.{process_of, kind_number, job_numbers, numbers_cmp, job_cmp}
 use Rattle.mkb_model.specs.Plain.{Plain, numbers_from, node_numbers, directions, is_rule, rules_of}
 use Rattle.mkb_model.specs.DueJobs.{work_of}
-use Rattle.mkb_model.proofs.Lists.{map_in, flat_map_in, numbers_in, none_in}
+use Rattle.mkb_model.proofs.Lists.{map_in, flat_map_in, numbers_in, none_in, equal_or_more}
+use Rattle.mkb_board.specs.Choosing.{StandsEarlier}
 use Rattle.mkb_board.proofs.Least.{IsSorted, sorted_append, sorted_filter, sorted_map, sorted_flat}
 
 -- ---- within one process
 
-abbrev within : Job → Job → Ordering
-within i j = ordering_then (nat_cmp (kind_number i) (kind_number j)) (numbers_cmp (job_numbers i) (job_numbers j))
+abbrev within : (Job → ℕ) → Job → Job → Ordering
+within weight i j = ordering_then (nat_cmp (kind_number i) (kind_number j)) (ordering_then (nat_cmp (weight i) (weight j)) (numbers_cmp (job_numbers i) (job_numbers j)))
 
-same_process : (cost : Name → ℕ) (p : Name) (i j : Job) → process_of i ≡ p → process_of j ≡ p → job_cmp cost i j ≡ within i j
-same_process cost p i j e f =
-    ap (λ z. ordering_then (nat_cmp (cost z) (cost (process_of j))) (ordering_then (name_cmp z (process_of j)) (within i j))) e
-    ∙ ap (λ z. ordering_then (nat_cmp (cost p) (cost z)) (ordering_then (name_cmp p z) (within i j))) f
-    ∙ ap (λ z. ordering_then z (ordering_then (name_cmp p p) (within i j))) (tied_itself nat_cmp_total (cost p))
-    ∙ ap (λ z. ordering_then z (within i j)) (name_cmp-same p)
+pub same_process : (cost : Name → ℕ) (weight : Job → ℕ) (i j : Job) → process_of i ≡ process_of j → job_cmp cost weight i j ≡ within weight i j
+same_process cost weight i j e =
+    let p = process_of j in
+    ap (λ z. ordering_then (nat_cmp (cost z) (cost p)) (ordering_then (name_cmp z p) (within weight i j))) e
+    ∙ ap (λ z. ordering_then z (ordering_then (name_cmp p p) (within weight i j))) (tied_itself nat_cmp_total (cost p))
+    ∙ ap (λ z. ordering_then z (within weight i j)) (name_cmp-same p)
 
 less : (n m : ℕ) → n < m → nat_cmp n m ≡ Less
 less n m h = sym (nat_cmp_is n m Less h)
@@ -66,7 +67,7 @@ rules_rise b p = sorted_filter (λ a c. ref_cmp a c ≡ Less) (is_rule b p) (fla
 
 -- ---- jobs
 
-overlap_less : (p : Name) (a c x y : RuleRef) → ref_cmp a x ≡ Less → within (Overlap p a c) (Overlap p x y) ≡ Less
+overlap_less : (p : Name) (a c x y : RuleRef) → ref_cmp a x ≡ Less → numbers_cmp (job_numbers (Overlap p a c)) (job_numbers (Overlap p x y)) ≡ Less
 overlap_less p a c x y h =
     then_both (nat_cmp a.node x.node) (nat_cmp a.dir x.dir) (ordering_then (nat_cmp c.node y.node) (ordering_then (nat_cmp c.dir y.dir) Equal))
     ∙ ap (λ z. ordering_then z (ordering_then (nat_cmp c.node y.node) (ordering_then (nat_cmp c.dir y.dir) Equal))) h
@@ -74,83 +75,105 @@ overlap_less p a c x y h =
 same_then : (n : ℕ) (r : Ordering) → ordering_then (nat_cmp n n) r ≡ r
 same_then n r = ap (λ z. ordering_then z r) (tied_itself nat_cmp_total n)
 
-second_less : (p : Name) (a c y : RuleRef) → ref_cmp c y ≡ Less → within (Overlap p a c) (Overlap p a y) ≡ Less
+second_less : (p : Name) (a c y : RuleRef) → ref_cmp c y ≡ Less → numbers_cmp (job_numbers (Overlap p a c)) (job_numbers (Overlap p a y)) ≡ Less
 second_less p a c y h =
     let r = ordering_then (nat_cmp c.node y.node) (ordering_then (nat_cmp c.dir y.dir) Equal) in
     same_then a.node (ordering_then (nat_cmp a.dir a.dir) r) ∙ same_then a.dir r
     ∙ then_both (nat_cmp c.node y.node) (nat_cmp c.dir y.dir) Equal
     ∙ ap (λ z. ordering_then z Equal) h
 
-module _ (b : Plain) (cost : Name → ℕ) (p : Name) where
-  abbrev InOrder : Job → Job → Type 0
-  InOrder i j = is_le (job_cmp cost i j) ≡ true
+-- where no job has any weight
+abbrev InOrder : (Name → ℕ) → Job → Job → Type 0
+InOrder cost i j = is_le (job_cmp cost (λ z. 0) i j) ≡ true
 
-  in_order : (i j : Job) → process_of i ≡ p → process_of j ≡ p → within i j ≡ Less → InOrder i j
-  in_order i j e f h = ap is_le (same_process cost p i j e f ∙ h)
+-- the earlier stand before the later
+abbrev pub Rise : List Job → Type 0
+Rise js = IsSorted (λ i j. StandsEarlier j i) js
 
-  abbrev reduces : List Job
+pub reduces_rise : (p : Name) (n k : ℕ) → Rise (map (λ m. Reduce p (record { 0 = m })) (numbers_from n k))
+reduces_rise p n k = sorted_map (λ x y. x < y) (λ i j. StandsEarlier j i) (λ m. Reduce p (record { 0 = m }))
+    (λ x y h. record { process = refl; kind = refl; numbers = ap (λ z. ordering_then z Equal) (less x y h) })
+    (numbers_from n k) (numbers_rise n k)
+
+pub orients_rise : (p : Name) (n k : ℕ) → Rise (map (λ m. Orient p (record { 0 = m })) (numbers_from n k))
+orients_rise p n k = sorted_map (λ x y. x < y) (λ i j. StandsEarlier j i) (λ m. Orient p (record { 0 = m }))
+    (λ x y h. record { process = refl; kind = refl; numbers = ap (λ z. ordering_then z Equal) (less x y h) })
+    (numbers_from n k) (numbers_rise n k)
+
+pub overlaps_rise : (b : Plain) (p : Name) → Rise (flat_map (λ (a : RuleRef). map (Overlap p a) (rules_of b p)) (rules_of b p))
+overlaps_rise b p = sorted_flat (λ a c. ref_cmp a c ≡ Less) (λ i j. StandsEarlier j i) (λ (a : RuleRef). map (Overlap p a) (rules_of b p))
+    (λ a. sorted_map (λ a c. ref_cmp a c ≡ Less) (λ i j. StandsEarlier j i) (Overlap p a) (λ c y h. record { process = refl; kind = refl; numbers = second_less p a c y h }) (rules_of b p) (rules_rise b p))
+    (λ a x h u v i j.
+    let m = map_in (Overlap p a) (rules_of b p) u i in
+    let k = map_in (Overlap p x) (rules_of b p) v j in
+    subst {A = Job} (λ z. StandsEarlier v z) m.2 (subst {A = Job} (λ z. StandsEarlier z (Overlap p a m.0)) k.2 (record { process = refl; kind = refl; numbers = overlap_less p a m.0 x k.0 h })))
+    (rules_of b p) (rules_rise b p)
+
+-- jobs of equal weight stand in their order where one is earlier
+pub earlier_first : (cost : Name → ℕ) (weight : Job → ℕ) (i j : Job) → StandsEarlier j i → weight i ≤ weight j → is_le (job_cmp cost weight i j) ≡ true
+earlier_first cost weight i j h l =
+    ap is_le (same_process cost weight i j h.process)
+    ∙ ap (λ z. is_le (ordering_then (nat_cmp z (kind_number j)) (ordering_then (nat_cmp (weight i) (weight j)) (numbers_cmp (job_numbers i) (job_numbers j))))) h.kind
+    ∙ ap (λ z. is_le (ordering_then z (ordering_then (nat_cmp (weight i) (weight j)) (numbers_cmp (job_numbers i) (job_numbers j))))) (tied_itself nat_cmp_total (kind_number j))
+    ∙ ap (λ z. is_le (ordering_then (nat_cmp (weight i) (weight j)) z)) h.numbers
+    ∙ no_more (weight i) (weight j) l
+  where
+    no_more : (x y : ℕ) → x ≤ y → is_le (ordering_then (nat_cmp x y) Less) ≡ true
+    no_more x y l = ⊎_elim (λ e. ap (λ z. is_le (ordering_then (nat_cmp z y) Less)) e ∙ ap (λ z. is_le (ordering_then z Less)) (tied_itself nat_cmp_total y)) (λ k. ap (λ z. is_le (ordering_then z Less)) (less x y (omega (arith, k)))) (equal_or_more x y l)
+
+-- a lighter job of the same kind stands before
+pub lighter_first : (cost : Name → ℕ) (weight : Job → ℕ) (i j : Job) → StandsEarlier j i → weight j < weight i → is_le (job_cmp cost weight i j) ≡ false
+lighter_first cost weight i j h l =
+    ap is_le (same_process cost weight i j h.process)
+    ∙ ap (λ z. is_le (ordering_then (nat_cmp z (kind_number j)) (ordering_then (nat_cmp (weight i) (weight j)) (numbers_cmp (job_numbers i) (job_numbers j))))) h.kind
+    ∙ ap (λ z. is_le (ordering_then z (ordering_then (nat_cmp (weight i) (weight j)) (numbers_cmp (job_numbers i) (job_numbers j))))) (tied_itself nat_cmp_total (kind_number j))
+    ∙ ap (λ z. is_le (ordering_then z (numbers_cmp (job_numbers i) (job_numbers j)))) (nat_cmp_total.antisymm (weight i) (weight j) ∙ ap ordering_reverse (less (weight j) (weight i) l))
+
+module _ (b : Plain) (p : Name) where
+  abbrev pub reduces : List Job
   reduces = map (λ n. Reduce p (record { 0 = n })) (node_numbers b)
 
-  abbrev orients : List Job
+  abbrev pub orients : List Job
   orients = map (λ n. Orient p (record { 0 = n })) (node_numbers b)
 
-  abbrev overlaps : List Job
+  abbrev pub overlaps : List Job
   overlaps = flat_map (λ (a : RuleRef). map (Overlap p a) (rules_of b p)) (rules_of b p)
 
-  reduces_rise : IsSorted InOrder reduces
-  reduces_rise = sorted_map (λ x y. x < y) InOrder (λ n. Reduce p (record { 0 = n }))
-      (λ x y h. in_order (Reduce p (record { 0 = x })) (Reduce p (record { 0 = y })) refl refl (ap (λ z. ordering_then z Equal) (less x y h)))
-      (node_numbers b) (numbers_rise 0 (length b.nodes))
-
-  orients_rise : IsSorted InOrder orients
-  orients_rise = sorted_map (λ x y. x < y) InOrder (λ n. Orient p (record { 0 = n }))
-      (λ x y h. in_order (Orient p (record { 0 = x })) (Orient p (record { 0 = y })) refl refl (ap (λ z. ordering_then z Equal) (less x y h)))
-      (node_numbers b) (numbers_rise 0 (length b.nodes))
-
-  overlaps_rise : IsSorted InOrder overlaps
-  overlaps_rise = sorted_flat (λ a c. ref_cmp a c ≡ Less) InOrder (λ (a : RuleRef). map (Overlap p a) (rules_of b p))
-      (λ a. sorted_map (λ a c. ref_cmp a c ≡ Less) InOrder (Overlap p a) (λ c y h. in_order (Overlap p a c) (Overlap p a y) refl refl (second_less p a c y h)) (rules_of b p) (rules_rise b p))
-      (λ a x h u v i j.
-      let m = map_in (Overlap p a) (rules_of b p) u i in
-      let k = map_in (Overlap p x) (rules_of b p) v j in
-      subst {A = Job} (λ z. InOrder z v) m.2 (subst {A = Job} (InOrder (Overlap p a m.0)) k.2 (in_order (Overlap p a m.0) (Overlap p x k.0) refl refl (overlap_less p a m.0 x k.0 h))))
-      (rules_of b p) (rules_rise b p)
-
   -- the jobs of one kind
-  abbrev AreKind : ℕ → List Job → Type 0
+  abbrev pub AreKind : ℕ → List Job → Type 0
   AreKind k js = (j : Job) → Contains js j → (process_of j ≡ p) × (kind_number j ≡ k)
 
-  kinds : (k l : ℕ) → k < l → (i j : Job) → (process_of i ≡ p) × (kind_number i ≡ k) → (process_of j ≡ p) × (kind_number j ≡ l) → InOrder i j
-  kinds k l h i j e f =
+  -- by weight, kinds come in their order
+  pub kinds : (cost : Name → ℕ) (weight : Job → ℕ) (k l : ℕ) → k < l → (i j : Job) → (process_of i ≡ p) × (kind_number i ≡ k) → (process_of j ≡ p) × (kind_number j ≡ l) → is_le (job_cmp cost weight i j) ≡ true
+  kinds cost weight k l h i j e f =
       let d : kind_number i < kind_number j = omega (arith, h, e.1, f.1) in
-      in_order i j e.0 f.0 (ap (λ z. ordering_then z (numbers_cmp (job_numbers i) (job_numbers j))) (less (kind_number i) (kind_number j) d))
+      ap is_le (same_process cost weight i j (e.0 ∙ sym f.0) ∙ ap (λ z. ordering_then z (ordering_then (nat_cmp (weight i) (weight j)) (numbers_cmp (job_numbers i) (job_numbers j)))) (less (kind_number i) (kind_number j) d))
 
-  are_reduces : AreKind 0 reduces
+  pub are_reduces : AreKind 0 reduces
   are_reduces j i = let m = map_in (λ n. Reduce p (record { 0 = n })) (node_numbers b) j i in (sym (ap process_of m.2), sym (ap kind_number m.2))
 
-  are_orients : AreKind 1 orients
+  pub are_orients : AreKind 1 orients
   are_orients j i = let m = map_in (λ n. Orient p (record { 0 = n })) (node_numbers b) j i in (sym (ap process_of m.2), sym (ap kind_number m.2))
 
-  are_overlaps : AreKind 2 overlaps
+  pub are_overlaps : AreKind 2 overlaps
   are_overlaps j i =
       let q = flat_map_in (λ (a : RuleRef). map (Overlap p a) (rules_of b p)) (rules_of b p) j i in
       let m = map_in (Overlap p q.0) (rules_of b p) j q.2 in
       (sym (ap process_of m.2), sym (ap kind_number m.2))
 
-  are_close : AreKind 3 (Close p ∷ [])
+  pub are_close : AreKind 3 (Close p ∷ [])
   are_close j i = ⊎_elim (λ e. (sym (ap process_of e), sym (ap kind_number e))) (λ q. none_in q) (contains_cases (Close p) [] j i)
 
-  -- all that a process might have to do rises
-  pub work_rises : IsSorted InOrder (work_of b p ++ Close p ∷ [])
-  work_rises =
-      sorted_append InOrder (work_of b p) (Close p ∷ [])
-      (sorted_append InOrder reduces (orients ++ overlaps) reduces_rise
-      (sorted_append InOrder orients overlaps orients_rise overlaps_rise (λ i j u v. kinds 1 2 (omega arith) i j (are_orients i u) (are_overlaps j v)))
-      (λ i j u v. ⊎_elim (λ w. kinds 0 1 (omega arith) i j (are_reduces i u) (are_orients j w)) (λ w. kinds 0 2 (omega arith) i j (are_reduces i u) (are_overlaps j w)) (Contains-append_cases orients overlaps j v)))
-      (λ y i. none_in i, tt)
-      (λ i j u v. ⊎_elim (λ w. kinds 0 3 (omega arith) i j (are_reduces i w) (are_close j v))
-      (λ w. ⊎_elim (λ x. kinds 1 3 (omega arith) i j (are_orients i x) (are_close j v)) (λ x. kinds 2 3 (omega arith) i j (are_overlaps i x) (are_close j v)) (Contains-append_cases orients overlaps i w))
-      (Contains-append_cases reduces (orients ++ overlaps) i u))
+  -- where no job has any weight, all the work that a process might have rises
+  pub work_rises : (cost : Name → ℕ) → IsSorted (InOrder cost) (work_of b p)
+  work_rises cost =
+      sorted_append (InOrder cost) reduces (orients ++ overlaps) (raise reduces (reduces_rise p 0 (length b.nodes)))
+      (sorted_append (InOrder cost) orients overlaps (raise orients (orients_rise p 0 (length b.nodes))) (raise overlaps (overlaps_rise b p)) (λ i j u v. kinds cost (λ z. 0) 1 2 (omega arith) i j (are_orients i u) (are_overlaps j v)))
+      (λ i j u v. ⊎_elim (λ w. kinds cost (λ z. 0) 0 1 (omega arith) i j (are_reduces i u) (are_orients j w)) (λ w. kinds cost (λ z. 0) 0 2 (omega arith) i j (are_reduces i u) (are_overlaps j w)) (Contains-append_cases orients overlaps j v))
+    where
+      raise : (js : List Job) → Rise js → IsSorted (InOrder cost) js
+      raise [] h = tt
+      raise (j ∷ js) h = (λ i c. earlier_first cost (λ z. 0) j i (h.0 i c) (omega arith), raise js h.1)
 
   of_kind : (k : ℕ) (js : List Job) → AreKind k js → (j : Job) → Contains js j → process_of j ≡ p
   of_kind k js all j i = (all j i).0

@@ -46,13 +46,14 @@ use Rattle.mkb_model.proofs.Sizes.{limited_run, turned}
 use Rattle.mkb_model.proofs.Variables.{step_few}
 use Rattle.mkb_rules.specs.Named.{IsThere, Lives, HasNamed, HasNamedJob, HasRedexRule}
 use Rattle.mkb_rules.specs.Applicable.{HasFewVariablesAfter, IsApplicable}
+use Rattle.mkb_model.specs.declared.settings.Settings.{Settings}
 
 at_within : (xs : List PlainNode) (n : ℕ) (q : Pair) → pair_in xs n ≡ Some q → n < length xs
 at_within [] n q e = none_some e
 at_within (x ∷ xs) zero q e = omega arith
 at_within (x ∷ xs) (suc n) q e = let h = at_within xs n q e in omega (arith, h)
 
-module _ (P : Problem) (n : ℕ) (ms : List Moment) (b : Plain) (run : IsPossibleRun P n ms b) (w t : ℕ) (j : Job) (x : Proposed) (f : IsFinishing ms b w t j x) where
+module _ (P : Problem) (n : Settings) (ms : List Moment) (b : Plain) (run : IsPossibleRun P n ms b) (w t : ℕ) (j : Job) (x : Proposed) (f : IsFinishing ms b w t j x) where
   keeps : KeepsPairs f.before.nodes b.nodes
   keeps = pairs_stay IsFreeJob P n ms b run (record { board = f.before; entry = Take w t j }) f.taken
 
@@ -119,14 +120,14 @@ module _ (P : Problem) (n : ℕ) (ms : List Moment) (b : Plain) (run : IsPossibl
       go (Close p) (Deduce d k pairs) e h = absurd h
 
   -- the commits are below the budget
-  pub has_budget : b.commits < b.budget
-  has_budget = below b.commits b.budget (let h = within_budget IsFreeJob P n ms b run in subst {A = ℕ} (λ z. b.commits ≤ z) (sym h.budget) h.commits) (λ e. unspent (b.commits == b.budget) refl e)
+  pub has_budget : b.commits < b.settings.budget
+  has_budget = below b.commits b.settings.budget (let h = within_budget IsFreeJob P n ms b run in subst {A = ℕ} (λ z. b.commits ≤ z) (sym (ap (λ (z : Settings). z.budget) h.settings)) h.commits) (λ e. unspent (b.commits == b.settings.budget) refl e)
     where
       below : (c d : ℕ) → c ≤ d → c ≢ d → c < d
       below c d l h = grind (arith, l, h)
 
-      unspent : (s : Bool) → (b.commits == b.budget) ≡ s → b.commits ≡ b.budget → ⊥
-      unspent s e q = none_some (sym (nones (option_map Complete (find (is_complete b) b.living)) (some_if (list_all (is_failed b) b.living) AllFailed) (some_if (b.commits == b.budget) (IsSpent Commits)) (if list_all (λ p. is_failed b p || is_over b p) b.living then option_map (λ r. IsSpent (Over r)) (option_and_then (over_reason b) (first_over b)) else None) f.no_verdict).2 ∙ ap (λ (z : Bool). some_if z (IsSpent Commits)) (eq-eqb b.commits b.budget q))
+      unspent : (s : Bool) → (b.commits == b.settings.budget) ≡ s → b.commits ≡ b.settings.budget → ⊥
+      unspent s e q = none_some (sym (nones (option_map Complete (find (is_complete b) b.living)) (some_if (list_all (is_failed b) b.living) AllFailed) (some_if (b.commits == b.settings.budget) (IsSpent Commits)) (if list_all (λ p. is_failed b p || is_over b p) b.living then option_map (λ r. IsSpent (Over r)) (option_and_then (over_reason b) (first_over b)) else None) f.no_verdict).2 ∙ ap (λ (z : Bool). some_if z (IsSpent Commits)) (eq-eqb b.commits b.settings.budget q))
 
   module _ (within : IsWithinLimits P) (acts : IsFalse (is_dropped b x)) where
     limited : AreLimited P.signature b.nodes

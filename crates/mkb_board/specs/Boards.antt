@@ -20,7 +20,7 @@ seen state flight journal = record { plain = record state { flight = flight }; j
 -- the problem is within the limits, and the journal is legal for it and leads to the board
 pub record IsLegalBoard (s : Seen) : Type 0 where
   pub within : IsWithinLimits s.plain.problem
-  pub after : After s.plain.problem s.plain.budget s.journal s.plain
+  pub after : After s.plain.problem s.plain.settings s.journal s.plain
 
 -- how many tickets the journal takes
 abbrev pub takes_in : List Entry → ℕ

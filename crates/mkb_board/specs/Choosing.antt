@@ -1,6 +1,6 @@
 -- Which jobs may be chosen.
-use Rattle.std.specs.Prelude.{ℕ, List, [], ◌∷◌, ◌++◌, length, map, Bool, ◌&&◌, ◌<◌, ◌==◌, ◌≡◌, ◌+◌, not, if◌then◌else◌}
-use Rattle.std.specs.List.{find, list_any}
+use Rattle.std.specs.Prelude.{ℕ, List, [], ◌∷◌, ◌++◌, length, map, Bool, ◌&&◌, ◌<◌, ◌==◌, ◌≡◌, ◌+◌, not, filter, if◌then◌else◌}
+use Rattle.std.specs.List.{list_any}
 use Rattle.std.specs.Option.{option_map_or}
 use Rattle.std.specs.declared.cmp.Ordering.{Ordering}
 use Rattle.std.specs.declared.cmp.Ordering.TheVariants.{Less}
@@ -10,11 +10,14 @@ use Rattle.kb_label.specs.Names.{Name, name_cmp}
 use Rattle.kb_term.specs.declared.origin.RuleRef.{RuleRef}
 use Rattle.kb_node.specs.declared.job.Job.{Job}
 use Rattle.kb_node.specs.declared.job.Job.TheVariants.{Reduce, Orient, Overlap, Close}
-use Rattle.mkb_model.specs.Jobs.{process_of, is_free, lesser}
-use Rattle.mkb_model.specs.Plain.{Plain, node_numbers, is_rule, is_equation, is_constraint, known, node_size, cost}
+use Rattle.mkb_model.specs.Jobs.{process_of, kind_number, job_numbers, numbers_cmp, job_cmp, is_free, lesser, least}
+use Rattle.mkb_model.specs.Plain.{Plain, node_numbers, is_rule, is_equation, is_constraint, known, node_size, cost, weight, weight_by}
 use Rattle.mkb_model.specs.DueJobs.{is_work_due, is_due, is_open, work_of}
 use Rattle.mkb_model.specs.declared.entry.Ticket.{Ticket}
+use Rattle.mkb_model.specs.declared.settings.Selection.{Selection}
+use Rattle.mkb_model.specs.declared.settings.Selection.TheVariants.{Stated, Size}
 use Rattle.mkb_board.specs.declared.first.Choice.{Choice}
+use Rattle.mkb_board.specs.declared.lightest.Weighed.{Weighed}
 
 -- the jobs of the tickets
 abbrev pub jobs_of : List Ticket → List Job
@@ -35,9 +38,25 @@ HasNodes b (Close p) = Unit {0}
 abbrev pub is_open_rule : Plain → Name → ℕ → RuleRef → Bool
 is_open_rule b p n a = is_rule b p a && (not (a.node == n) && list_any (λ w. is_open b p n w (known b n w a)) (0 ∷ 1 ∷ []))
 
--- the first job of the process in its order that is due and clashes with none of these
+-- the least job of the process that is due and clashes with none of these
 abbrev pub first_choice : Plain → List Job → Name → Option Job
-first_choice b flight p = find (λ j. is_due b j && is_free flight j) (work_of b p ++ Close p ∷ [])
+first_choice b flight p = least (job_cmp (cost b) (weight b)) (filter (λ j. is_due b j && is_free flight j) (work_of b p ++ Close p ∷ []))
+
+-- the least of the jobs, by the selection, that may be chosen beside those in flight
+abbrev pub least_choice : Selection → Plain → List Job → List Job → Option Job
+least_choice by b flight js = least (job_cmp (cost b) (weight_by by b)) (filter (is_choice b flight) js)
+
+-- ---- the lightest job
+
+-- the weight that is kept beside the job is that by the sizes of nodes
+abbrev pub IsWeighed : Plain → Weighed → Type 0
+IsWeighed b w = w.weight ≡ weight_by Size b w.job
+
+-- a job of the same process and kind that comes before another by its numbers
+pub record StandsEarlier (j i : Job) : Type 0 where
+  pub process : process_of i ≡ process_of j
+  pub kind : kind_number i ≡ kind_number j
+  pub numbers : numbers_cmp (job_numbers i) (job_numbers j) ≡ Less
 
 -- ---- what processes cost
 
@@ -45,11 +64,21 @@ first_choice b flight p = find (λ j. is_due b j && is_free flight j) (work_of b
 abbrev pub sizes_of : Plain → List ℕ
 sizes_of b = map (node_size b) (node_numbers b)
 
--- how often the node counts for p: as an equation, and as a constraint in each direction
+-- one where it is so
+abbrev pub one_if : Bool → ℕ
+one_if t = if t then 1 else 0
+
+-- how often the node counts as a rule of p, in each direction, where the selection counts rules
+abbrev pub rule_count : Selection → Plain → Name → ℕ → ℕ
+rule_count Stated b p n = 0
+rule_count Size b p n = one_if (is_rule b p (record { node = n; dir = 0 })) + one_if (is_rule b p (record { node = n; dir = 1 }))
+
+-- how often the node counts for p: as an equation, as a constraint in each direction, and as a rule
 abbrev pub role_count : Plain → Name → ℕ → ℕ
 role_count b p n =
-    (if is_equation b p n then 1 else 0)
-    + ((if is_constraint b p (record { node = n; dir = 0 }) then 1 else 0) + (if is_constraint b p (record { node = n; dir = 1 }) then 1 else 0))
+    (one_if (is_equation b p n)
+    + (one_if (is_constraint b p (record { node = n; dir = 0 })) + one_if (is_constraint b p (record { node = n; dir = 1 }))))
+    + rule_count b.settings.selection b p n
 
 -- ---- the least of what the processes would take
 

@@ -29,7 +29,7 @@ pub record IsTakenOn (s : Seen) (t : Ticket) (before : Plain) : Type 0 where
   pub earlier : List Entry
   pub later : List Entry
   pub parts : s.journal ≡ earlier ++ take_entry t ∷ later
-  pub after : After s.plain.problem s.plain.budget earlier before
+  pub after : After s.plain.problem s.plain.settings earlier before
 
 -- the proposal is that of the ticket's job on the board from which it was taken
 abbrev pub IsProposalOf : Seen → Ticket → Proposed → Type 0

@@ -18,7 +18,7 @@ use kb_cert::Certificate;
 use kb_label::{Labels, ListLabels, Living, NameLog, Process, Verdict};
 use kb_node::{NodeTable, View};
 use kb_term::{Memory, Problem};
-use mkb_model::{Entry, Ticket};
+use mkb_model::{Entry, Settings, Ticket};
 use mkb_rules::State;
 use std::alloc::Global;
 use std::marker::Model;
@@ -60,12 +60,12 @@ impl Board {
     /// # Errors
     ///
     /// Want of memory.
-    pub fn start(alloc: Global, problem: Problem, budget: u32) -> Result<Board, Memory>
+    pub fn start(alloc: Global, problem: Problem, settings: Settings) -> Result<Board, Memory>
         requires { IsWithinLimits problem }
-        ensures plain { IfOk result (λ b. b.plain ≡ opening problem budget) }
+        ensures plain { IfOk result (λ b. b.plain ≡ opening problem settings) }
         ensures journal { IfOk result (λ b. b.journal ≡ []) }
     {
-        let state = State::start(alloc, problem, budget)?;
+        let state = State::start(alloc, problem, settings)?;
         let verdict = choosing::verdict(&state);
         let mut journal = Vec::new(alloc);
         journal.reserve(1)?;
@@ -80,7 +80,7 @@ impl Board {
         })
     }
 
-    /// The entries, in order; legal for the problem and the budget, and they lead to the board.
+    /// The entries, in order; legal for the problem and the settings, and they lead to the board.
     pub fn journal(&self) -> &[Entry]
         ensures journal { result.now ≡ self.now.journal }
         ensures legal { IsLegalBoard self.now }

@@ -24,7 +24,7 @@ pub(crate) fn verdict(state: &State) -> Option<Verdict>
     if have_all_failed(state) {
         return Some(Verdict::AllFailed);
     }
-    if state.commits() == state.budget() {
+    if state.commits() == state.settings().budget {
         return Some(Verdict::Spent(Spent::Commits));
     }
     if !have_all_stopped(state) {

@@ -153,7 +153,7 @@ fn chosen(state: &State, flight: &[Ticket], job: &Job) -> Option<Job>
 }
 
 // Whether the job is due by what its process sees, and clashes with none in flight.
-fn is_choice(state: &State, flight: &[Ticket], job: &Job) -> bool
+pub(crate) fn is_choice(state: &State, flight: &[Ticket], job: &Job) -> bool
     requires { HasNodes state.now job.now }
     ensures { result ≡ is_choice state.now (jobs_of flight.now) job.now }
 {

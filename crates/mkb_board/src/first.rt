@@ -6,18 +6,19 @@ ghost use Rattle.kb_label.specs.Names.{has, IsInNameOrder};
 ghost use Rattle.mkb_model.specs.Limits.{AreLimited};
 ghost use Rattle.kb_node.specs.declared.job.Job.TheVariants.{Close};
 ghost use Rattle.mkb_model.specs.Jobs.{process_of, job_cmp, is_free};
-ghost use Rattle.mkb_model.specs.Plain.{cost};
+ghost use Rattle.mkb_model.specs.Plain.{cost, weight};
 ghost use Rattle.mkb_model.specs.DueJobs.{first_job, work_of};
-ghost use Rattle.mkb_board.specs.Choosing.{jobs_of, is_choice, first_choice, sizes_of, merged, IsCosted, StandsBefore};
+ghost use Rattle.mkb_board.specs.Choosing.{jobs_of, is_choice, first_choice, least_choice, sizes_of, merged, IsCosted, StandsBefore};
 ghost use Rattle.mkb_board.specs.declared.first.Choice.{Choice};
 
 use crate::choosing::is_over;
 use crate::cost::{cost, sizes};
 use crate::due::{first_work, is_free};
+use crate::lightest::lightest_work;
 use kb_label::Process;
 use kb_node::Job;
 use kb_term::Memory;
-use mkb_model::Ticket;
+use mkb_model::{Selection, Ticket};
 use mkb_rules::State;
 use std::alloc::Global;
 
@@ -30,7 +31,8 @@ struct Choice {
 
 /// The first job beside those in flight, if there is one: the least due job that clashes with none of them.
 ///
-/// Each pair is measured once, and a process is searched only where its cost is below that of the best job so far.
+/// Each pair is measured once, and a process is searched only where its cost is below that of the best job so far. By the
+/// stated selection the search of a process ends at its first job that serves; by size it goes over its jobs of one kind.
 pub(crate) fn first_job(
     alloc: Global,
     state: &State,
@@ -44,7 +46,7 @@ pub(crate) fn first_job(
     let living = state.log().processes();
     let mut best = None;
     for i in 0..living.len() {
-        best = lesser_choice(state, flight, sizes.as_slice(), best, &living[i]);
+        best = lesser_choice(state, flight, sizes.as_slice(), best, &living[i])?;
     }
     match best {
         Some(choice) => Ok(Some(choice.job)),
@@ -60,23 +62,23 @@ fn lesser_choice(
     sizes: &[u32],
     best: Option<Choice>,
     p: &Process,
-) -> Option<Choice>
+) -> Result<Option<Choice>, Memory>
     requires limited { AreLimited state.now.problem.signature state.now.nodes }
     requires sizes { sizes.now ≡ sizes_of state.now }
     requires lives { IsTrue (has state.now.living p.now) }
     requires costed { IfSome best (IsCosted state.now) }
     requires earlier { IfSome best (StandsBefore p.now) }
-    ensures least { option_map (λ (c : Choice). c.job) result ≡ merged (job_cmp (cost state.now)) (option_map (λ (c : Choice). c.job) best) (first_choice state.now (jobs_of flight.now) p.now) }
-    ensures costed { IfSome result (IsCosted state.now) }
-    ensures of_either { (result ≡ best) ⊎ IfSome result (λ c. process_of c.job ≡ p.now) }
+    ensures least { IfOk result (λ o. option_map (λ (c : Choice). c.job) o ≡ merged (job_cmp (cost state.now) (weight state.now)) (option_map (λ (c : Choice). c.job) best) (first_choice state.now (jobs_of flight.now) p.now)) }
+    ensures costed { IfOk result (λ o. IfSome o (IsCosted state.now)) }
+    ensures of_either { IfOk result (λ o. (o ≡ best) ⊎ IfSome o (λ c. process_of c.job ≡ p.now)) }
 {
     let cost = cost(state, sizes, p);
     if !is_below(cost, &best) {
-        return best;
+        return Ok(best);
     }
-    match first_choice(state, flight, p) {
-        Some(job) => Some(Choice { cost, job }),
-        None => best,
+    match first_choice(state, flight, sizes, p)? {
+        Some(job) => Ok(Some(Choice { cost, job })),
+        None => Ok(best),
     }
 }
 
@@ -90,17 +92,43 @@ fn is_below(cost: u32, best: &Option<Choice>) -> bool
     }
 }
 
-// What a process would take first: its first job that is due and clashes with none in flight.
-fn first_choice(state: &State, flight: &[Ticket], p: &Process) -> Option<Job>
-    requires { IsTrue (has state.now.living p.now) }
-    ensures { result ≡ first_choice state.now (jobs_of flight.now) p.now }
+// What a process would take first: its least job that is due and clashes with none in flight.
+fn first_choice(
+    state: &State,
+    flight: &[Ticket],
+    sizes: &[u32],
+    p: &Process,
+) -> Result<Option<Job>, Memory>
+    requires limited { AreLimited state.now.problem.signature state.now.nodes }
+    requires sizes { sizes.now ≡ sizes_of state.now }
+    requires lives { IsTrue (has state.now.living p.now) }
+    ensures { IfOk result (λ o. o ≡ first_choice state.now (jobs_of flight.now) p.now) }
 {
     if is_over(state, p) {
-        return None;
+        return Ok(None);
     }
     match first_work(state, &[], p) {
-        None => first_close(state, flight, p),
-        Some(job) => free_work(state, flight, p, job),
+        None => Ok(first_close(state, flight, p)),
+        Some(job) => selected_work(state, flight, sizes, p, job),
+    }
+}
+
+// The least work of the process by the selection that clashes with none in flight, where this is the first that is due.
+fn selected_work(
+    state: &State,
+    flight: &[Ticket],
+    sizes: &[u32],
+    p: &Process,
+    first: Job,
+) -> Result<Option<Job>, Memory>
+    requires limited { AreLimited state.now.problem.signature state.now.nodes }
+    requires sizes { sizes.now ≡ sizes_of state.now }
+    requires first { find (is_choice state.now []) (work_of state.now p.now) ≡ Some first }
+    ensures { IfOk result (λ o. o ≡ least_choice state.now.settings.selection state.now (jobs_of flight.now) (work_of state.now p.now)) }
+{
+    match state.settings().selection {
+        Selection::Stated => Ok(free_work(state, flight, p, first)),
+        Selection::Size => lightest_work(state, flight, sizes, p),
     }
 }
 

@@ -9,6 +9,7 @@ mod due;
 mod finishing;
 mod first;
 mod laws;
+mod lightest;
 mod snapshots;
 mod taking;
 

@@ -13,7 +13,7 @@ use kb_label::{Labels, Living, Process};
 use kb_node::{Job, LabelKind, NodeId};
 use kb_term::{Problem, RuleRef, Signature, Symbol, Term, Terms};
 use mkb_board::{Board, Finished, Taken, held_tickets_stay};
-use mkb_model::{Entry, Ticket};
+use mkb_model::{Entry, Settings, Ticket};
 use mkb_rules::Applied;
 use std::alloc::Global;
 use std::process::Abort;
@@ -262,13 +262,13 @@ fn back(node: u16) -> RuleRef {
 // The board of the equations f(a) = b and f(a) = c.
 fn values_board(rt: &impl Abort, alloc: Global) -> Board {
     let problem = two_values(rt, alloc);
-    Board::start(alloc, problem, 100).expect(rt, "memory")
+    Board::start(alloc, problem, Settings::stated(100)).expect(rt, "memory")
 }
 
 // The board of the equations f(f(x1)) = a and b = c.
 fn parts_board(rt: &impl Abort, alloc: Global) -> Board {
     let problem = two_parts(rt, alloc);
-    Board::start(alloc, problem, 100).expect(rt, "memory")
+    Board::start(alloc, problem, Settings::stated(100)).expect(rt, "memory")
 }
 
 // Whether the process lives and sees these equations, rules and constraints.

@@ -58,11 +58,12 @@ use Rattle.mkb_model.proofs.Resting.{rules_in}
 use Rattle.mkb_model.proofs.Restful.{Stands, stands_run}
 use Rattle.mkb_model.proofs.Staying.{closers_stay, orienters_stay, KeepsConstraints}
 use Rattle.mkb_model.proofs.Deductions.{HasNamed, overlaps_deduced, both_ways_in, all_ways_in, picks_in}
+use Rattle.mkb_model.specs.declared.settings.Settings.{Settings}
 
 -- ---- earlier boards
 
 -- an earlier board of a run is the board of a run
-pub earlier_run : (May : Plain → Job → Type 0) (P : Problem) (n : ℕ) (ms : List Moment) (c : Plain) → IsRunBy May P n ms c → (m : Moment) → Contains ms m → (past : List Moment) × IsRunBy May P n past m.board
+pub earlier_run : (May : Plain → Job → Type 0) (P : Problem) (n : Settings) (ms : List Moment) (c : Plain) → IsRunBy May P n ms c → (m : Moment) → Contains ms m → (past : List Moment) × IsRunBy May P n past m.board
 earlier_run May P n [] c run m i = none_in i
 earlier_run May P n (x ∷ ms) c run m i = ⊎_elim (λ e. (ms, subst {A = Moment} (λ z. IsRunBy May P n ms z.board) e run.0)) (λ k. earlier_run May P n ms x.board run.0 m k) (contains_cases x ms m i)
 
@@ -103,7 +104,7 @@ pub well_inputs : (P : Problem) → IsWithinLimits P → All (λ (d : Tree × Tr
 well_inputs P within = all_from (λ (d : Tree × Tree). IsWellFormed P.signature d.0 × IsWellFormed P.signature d.1) P.equations (λ d i. let e = All-contains (IsEquationWithinLimits P.signature) P.equations d within.each i in (e.left.well_formed, e.right.well_formed))
 
 -- the state of each process is ordered
-pub states_ordered : (P : Problem) (n : ℕ) (ms : List Moment) (c : Plain) → IsWithinLimits P → (run : IsPossibleRun P n ms c) → AllFine IsFreeJob P n ms c run → (p : Name) → IsOrdered P.signature (state_of c p)
+pub states_ordered : (P : Problem) (n : Settings) (ms : List Moment) (c : Plain) → IsWithinLimits P → (run : IsPossibleRun P n ms c) → AllFine IsFreeJob P n ms c run → (p : Name) → IsOrdered P.signature (state_of c p)
 states_ordered P n ms c within run fine p = go (has c.living p) refl
   where
     s : Stands c
@@ -219,7 +220,7 @@ module _ (g : Signature) (before b : Plain) (keeps : KeepsPairs before.nodes b.n
 pub due_equation : (b : Plain) (p : Name) (n : NodeId) → IsFreeJob b (Orient p n) → is_equation b p n.0 ≡ true
 due_equation b p n free = and_left (is_equation b p n.0) (not (has (label b n.0 X) p)) (and_right (is_working b p) (is_work_due b (Orient p n)) (free_due b (Orient p n) free).3)
 
-module _ (P : Problem) (n : ℕ) (past : List Moment) (b : Plain) (run : IsPossibleRun P n past b) (s : Stands b) (ordered : (p : Name) → IsOrdered P.signature (state_of b p)) (w t : ℕ) (j : Job) (x : Proposed) (f : IsFinishing past b w t j x) (acts : IsFalse (is_dropped b x)) where
+module _ (P : Problem) (n : Settings) (past : List Moment) (b : Plain) (run : IsPossibleRun P n past b) (s : Stands b) (ordered : (p : Name) → IsOrdered P.signature (state_of b p)) (w t : ℕ) (j : Job) (x : Proposed) (f : IsFinishing past b w t j x) (acts : IsFalse (is_dropped b x)) where
   keeps : KeepsPairs f.before.nodes b.nodes
   keeps = pairs_stay IsFreeJob P n past b run (record { board = f.before; entry = Take w t j }) f.taken
 
@@ -330,7 +331,7 @@ inputs_only i (e ∷ es) xs m j d = inputs_only (i + 1) es (with_input (canonica
         let k : ℕ = node_of ws q in
         put_other ws k m E j (join (label_at ws k E) (minus (minus (root ∷ []) (label_at ws k R0)) (label_at ws k R1))) (inr d) ∙ label-with_node q (Input i) xs m j
 
-one_role_opening : (P : Problem) (n : ℕ) (q : Name) → OneRole (opening P n).nodes q
+one_role_opening : (P : Problem) (n : Settings) (q : Name) → OneRole (opening P n).nodes q
 one_role_opening P n q m i j ri rj oi oj = go i j ri rj oi oj
   where
     none : (k : LabelKind) → k ≢ E → ¬ IsOn (opening P n).nodes q m k
@@ -350,10 +351,10 @@ one_role_opening P n q m i j ri rj oi oj = go i j ri rj oi oj
 -- ---- runs
 
 -- what is committed is fine, and each process has each node in one role
-abbrev Goes : (P : Problem) (n : ℕ) (ms : List Moment) (c : Plain) → IsPossibleRun P n ms c → Type 0
+abbrev Goes : (P : Problem) (n : Settings) (ms : List Moment) (c : Plain) → IsPossibleRun P n ms c → Type 0
 Goes P n ms c run = AllFine IsFreeJob P n ms c run × ((q : Name) → OneRole c.nodes q)
 
-fine_follow : (P : Problem) (n : ℕ) (past : List Moment) (b : Plain) (e : Entry) (c : Plain) → IsWithinLimits P → (run : IsPossibleRun P n past b) → (f : Follows IsFreeJob past b e c) → IsLabelled c → Goes P n past b run → CommitsFine IsFreeJob P.signature past b e c f × ((q : Name) → OneRole c.nodes q)
+fine_follow : (P : Problem) (n : Settings) (past : List Moment) (b : Plain) (e : Entry) (c : Plain) → IsWithinLimits P → (run : IsPossibleRun P n past b) → (f : Follows IsFreeJob past b e c) → IsLabelled c → Goes P n past b run → CommitsFine IsFreeJob P.signature past b e c f × ((q : Name) → OneRole c.nodes q)
 fine_follow P n past b (Take w t j) c within run f labelled h = (tt, λ q. subst {A = Plain} (λ z. OneRole z.nodes q) (sym f.leads_to) (h.1 q))
 fine_follow P n past b (Commit w t e) c within run f labelled h = (fine, role)
   where
@@ -377,7 +378,7 @@ fine_follow P n past b (Drop w t p) c within run f labelled h = (tt, λ q. subst
 fine_follow P n past b (Abandon w t) c within run f labelled h = (tt, λ q. subst {A = Plain} (λ z. OneRole z.nodes q) (sym f.leads_to) (h.1 q))
 fine_follow P n past b Halt c within run f labelled h = (tt, λ q. subst {A = Plain} (λ z. OneRole z.nodes q) (sym f.1) (h.1 q))
 
-pub goes : (P : Problem) (n : ℕ) (ms : List Moment) (c : Plain) → IsWithinLimits P → (run : IsPossibleRun P n ms c) → Goes P n ms c run
+pub goes : (P : Problem) (n : Settings) (ms : List Moment) (c : Plain) → IsWithinLimits P → (run : IsPossibleRun P n ms c) → Goes P n ms c run
 goes P n [] c within run = (tt, λ q. subst {A = Plain} (λ z. OneRole z.nodes q) (sym run) (one_role_opening P n q))
 goes P n (m ∷ ms) c within run =
     let h = goes P n ms m.board within run.0 in
@@ -385,15 +386,15 @@ goes P n (m ∷ ms) c within run =
     ((k.0, h.0), k.1)
 
 -- what is committed in a possible run is fine
-pub commits_fine : (P : Problem) (n : ℕ) (ms : List Moment) (c : Plain) → IsWithinLimits P → (run : IsPossibleRun P n ms c) → AllFine IsFreeJob P n ms c run
+pub commits_fine : (P : Problem) (n : Settings) (ms : List Moment) (c : Plain) → IsWithinLimits P → (run : IsPossibleRun P n ms c) → AllFine IsFreeJob P n ms c run
 commits_fine P n ms c within run = (goes P n ms c within run).0
 
 -- so the states of each living process and its ancestors are a run of completion
-pub runs_complete : (P : Problem) (n : ℕ) (ms : List Moment) (c : Plain) → IsWithinLimits P → IsPossibleRun P n ms c → EachCompletes P ms c
+pub runs_complete : (P : Problem) (n : Settings) (ms : List Moment) (c : Plain) → IsWithinLimits P → IsPossibleRun P n ms c → EachCompletes P ms c
 runs_complete P n ms c within run = run_completes IsFreeJob P n ms c run (commits_fine P n ms c within run)
 
 -- each process has each node as an equation, as one of the two rules, or not at all
-pub runs_one_role : (P : Problem) (n : ℕ) (ms : List Moment) (c : Plain) → IsWithinLimits P → IsPossibleRun P n ms c → (p : Name) (m : ℕ) → HasOneRole c p m
+pub runs_one_role : (P : Problem) (n : Settings) (ms : List Moment) (c : Plain) → IsWithinLimits P → IsPossibleRun P n ms c → (p : Name) (m : ℕ) → HasOneRole c p m
 runs_one_role P n ms c within run p m = record {
   not_both_rules = λ h. false_unless (has (label_at c.nodes m R1) p) (λ k. rules_differ (one m R0 R1 tt tt h k));
   no_rule = λ h. (false_unless (has (label_at c.nodes m R0) p) (λ k. equation-no_rule 0 (one m E R0 tt tt h k)), false_unless (has (label_at c.nodes m R1) p) (λ k. equation-no_rule 1 (one m E R1 tt tt h k)));

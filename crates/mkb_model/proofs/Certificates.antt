@@ -44,6 +44,7 @@ use Rattle.mkb_model.proofs.Flyers.{unlike}
 use Rattle.mkb_model.proofs.Restful.{Stands, stands_run}
 use Rattle.mkb_model.proofs.Staying.{KeepsConstraints, constraints_applied}
 use Rattle.mkb_model.proofs.AllFine.{OrdersWith, orient_orders, constraints_in, in_constraints, rule_back, states_ordered, commits_fine, children_new, inputs_only}
+use Rattle.mkb_model.specs.declared.settings.Settings.{Settings}
 
 -- ---- lists of certificates
 
@@ -226,7 +227,7 @@ certified_effect P b x e acts s new h = go (limit_of b x)
     go (Some r) = again b (counted (give_up r (effect_label b x) b)) refl refl refl refl h
 
 -- the certificates that are proposed order the constraints with the new rule
-orders_new : (P : Problem) (n : ℕ) (past : List Moment) (b : Plain) (run : IsPossibleRun P n past b) (within : IsWithinLimits P) (w t : ℕ) (j : Job) (x : Proposed) → IsFinishing past b w t j x → IsFalse (is_dropped b x) → OrdersNew P b x
+orders_new : (P : Problem) (n : Settings) (past : List Moment) (b : Plain) (run : IsPossibleRun P n past b) (within : IsWithinLimits P) (w t : ℕ) (j : Job) (x : Proposed) → IsFinishing past b w t j x → IsFalse (is_dropped b x) → OrdersNew P b x
 orders_new P n past b run within w t j x f acts = go j x refl f.proposed
   where
     orders : (p : Name) (m : NodeId) (d : ℕ) (c : Certificate) → j ≡ Orient p m → OrientsBy f.before p m.0 d (Some c) → OrdersWith P.signature b p m.0 d c
@@ -254,7 +255,7 @@ orders_new P n past b run within w t j x f acts = go j x refl f.proposed
 
 -- ---- runs
 
-certified_opening : (P : Problem) (n : ℕ) → AreCertified (opening P n)
+certified_opening : (P : Problem) (n : Settings) → AreCertified (opening P n)
 certified_opening P n p lives = at p lives
   where
     first : (xs : List Certificate) (c : Certificate) → Contains xs c → (d : Certificate) × Contains xs d × (certificate_in (map (λ c. record { name = root; certificate = c }) (take 1 xs)) root ≡ Some d)
@@ -274,7 +275,7 @@ certified_opening P n p lives = at p lives
     at [] h = at_root
     at (x ∷ p) h = clash h refl
 
-certified_follow : (P : Problem) (n : ℕ) (past : List Moment) (b : Plain) (e : Entry) (c : Plain) → IsWithinLimits P → IsPossibleRun P n past b → Follows IsFreeJob past b e c → AreCertified b → AreCertified c
+certified_follow : (P : Problem) (n : Settings) (past : List Moment) (b : Plain) (e : Entry) (c : Plain) → IsWithinLimits P → IsPossibleRun P n past b → Follows IsFreeJob past b e c → AreCertified b → AreCertified c
 certified_follow P n past b (Take w t j) c within run f h = subst {A = Plain} AreCertified (sym f.leads_to) (again b _ refl refl refl refl h)
 certified_follow P n past b (Commit w t e) c within run f h = subst {A = Plain} AreCertified (sym f.leads_to) (again (effect b f.proposal) _ refl refl refl refl
     (certified_effect P b f.proposal (within_budget IsFreeJob P n past b run).problem f.acts (stands_run P n past b run) (orders_new P n past b run within w t f.job f.proposal f.finishing f.acts) h))
@@ -283,12 +284,12 @@ certified_follow P n past b (Abandon w t) c within run f h = subst {A = Plain} A
 certified_follow P n past b Halt c within run f h = subst {A = Plain} AreCertified (sym f.1) h
 
 -- each living process's certificate is of the family and orders its constraints
-pub certified_run : (P : Problem) (n : ℕ) (ms : List Moment) (c : Plain) → IsWithinLimits P → IsPossibleRun P n ms c → AreCertified c
+pub certified_run : (P : Problem) (n : Settings) (ms : List Moment) (c : Plain) → IsWithinLimits P → IsPossibleRun P n ms c → AreCertified c
 certified_run P n [] c within run = subst {A = Plain} AreCertified (sym run) (certified_opening P n)
 certified_run P n (m ∷ ms) c within run = certified_follow P n ms m.board m.entry c within run.0 run.1 (certified_run P n ms m.board within run.0)
 
 -- each rule of a process leads from its left to its right side by its constraints
-pub rules_follow : (P : Problem) (n : ℕ) (ms : List Moment) (c : Plain) → IsWithinLimits P → IsPossibleRun P n ms c → (p : Name) → RulesFollow c p
+pub rules_follow : (P : Problem) (n : Settings) (ms : List Moment) (c : Plain) → IsWithinLimits P → IsPossibleRun P n ms c → (p : Name) → RulesFollow c p
 rules_follow P n ms c within run p a rule on there = go (pair_in c.nodes a.node) refl there
   where
     go : (o : Option Pair) → pair_in c.nodes a.node ≡ o → option_map (λ q. rule_of q a.dir) o ≡ Some rule → (path : List Tree) × (1 ≤ length path) × Proving.IsChain (rules_at c (constraints_of c p)) path rule.left rule.right

@@ -58,6 +58,7 @@ use Rattle.mkb_model.proofs.PairLists.{few_run}
 use Rattle.mkb_model.proofs.Findings.{is_about, missing_some, missing_stays, added_known}
 use Rattle.mkb_model.proofs.Moved.{role_lost}
 use Rattle.mkb_model.proofs.Unjoining.{never_all, added_had}
+use Rattle.mkb_model.specs.declared.settings.Settings.{Settings}
 
 -- ---- limits
 
@@ -65,7 +66,7 @@ none_named : (l : List Name) (p : Name) → is_empty l ≡ true → has l p ≡ 
 none_named [] p h = refl
 none_named (q ∷ l) p h = clash h refl
 
-module _ (P : Problem) (n : ℕ) (within : IsWithinLimits P) (past : List Moment) (b : Plain) (run : IsPossibleRun P n past b) where
+module _ (P : Problem) (n : Settings) (within : IsWithinLimits P) (past : List Moment) (b : Plain) (run : IsPossibleRun P n past b) where
   -- who gives up is seen to
   limit_seen : (r : Reason) (l : List Name) (p : Name) → has (not_over b l) p ≡ true → SaysTheSame b (give_up r l b) → ⊥
   limit_seen r l p h same = clash (given_over IsFreeJob P n past b run r l p h) (same.over p ∙ not_true (and_left (not (is_over b p)) (has l p) (sym (has-filter (λ q. not (is_over b q)) l p) ∙ h)))
@@ -139,7 +140,7 @@ added_done a c l p h (d ∷ ds) = go (ref_eq d.first a && ref_eq d.second c) ref
 fork_leaves : (p : Name) (l : List Name) → has l p ≡ true → has (relabel p l) p ≡ true → ⊥
 fork_leaves p l h k = ⊎_elim (λ c. let e : length p ≡ length (child p c.0) = ap length c.1 in let q = length-append p (c.0 ∷ []) in omega (arith, e, q)) (λ c. clash (name_eq-refl p) c.0) (after_fork p l h p k)
 
-module _ (P : Problem) (n : ℕ) (within : IsWithinLimits P) (past : List Moment) (b : Plain) (run : IsPossibleRun P n past b) (w t : ℕ) (j : Job) (x : Proposed) (f : IsFinishing past b w t j x) (acts : IsFalse (is_dropped b x)) (free : limit_of b x ≡ None) where
+module _ (P : Problem) (n : Settings) (within : IsWithinLimits P) (past : List Moment) (b : Plain) (run : IsPossibleRun P n past b) (w t : ℕ) (j : Job) (x : Proposed) (f : IsFinishing past b w t j x) (acts : IsFalse (is_dropped b x)) (free : limit_of b x ≡ None) where
   keeps : KeepsPairs f.before.nodes b.nodes
   keeps = pairs_stay IsFreeJob P n past b run (record { board = f.before; entry = Take w t j }) f.taken
 
@@ -233,7 +234,7 @@ module _ (P : Problem) (n : ℕ) (within : IsWithinLimits P) (past : List Moment
       go (Overlap p d e) (Unjoined q ds) ei ey h same = absurd h
 
 -- each commit changes what the board says, or meets an idle limit
-pub commits_change : (P : Problem) (n : ℕ) (past : List Moment) (b : Plain) (w t : ℕ) (e : Effect) (d : Plain) → IsWithinLimits P → IsPossibleRun P n past b → (c : IsCommitting past b w t e d) → IsChanged b d ⊎ IsIdleLimit b c.proposal
+pub commits_change : (P : Problem) (n : Settings) (past : List Moment) (b : Plain) (w t : ℕ) (e : Effect) (d : Plain) → IsWithinLimits P → IsPossibleRun P n past b → (c : IsCommitting past b w t e d) → IsChanged b d ⊎ IsIdleLimit b c.proposal
 commits_change P n past b w t e d within run c = go (limit_of b c.proposal) refl
   where
     landed_same : (a : Plain) → d ≡ landed t (counted a) → SaysTheSame b d → SaysTheSame b a
@@ -265,7 +266,7 @@ nobody_more r l e (g ∷ gs) h = ap₂ (λ (x : GivenUp) (xs : List GivenUp). x 
     go false = refl
 
 -- an idle limit changes the number of commits and the flight alone
-pub idle_commits : (P : Problem) (n : ℕ) (past : List Moment) (b : Plain) (w t : ℕ) (e : Effect) (d : Plain) → IsPossibleRun P n past b → (c : IsCommitting past b w t e d) → IsIdleLimit b c.proposal → d ≡ landed t (counted b)
+pub idle_commits : (P : Problem) (n : Settings) (past : List Moment) (b : Plain) (w t : ℕ) (e : Effect) (d : Plain) → IsPossibleRun P n past b → (c : IsCommitting past b w t e d) → IsIdleLimit b c.proposal → d ≡ landed t (counted b)
 idle_commits P n past b w t e d run c i = ⊎_elim (at Nodes) (at Processes) i.limit
   where
     all : not_over b (effect_label b c.proposal) ≡ []

@@ -36,6 +36,7 @@ use Rattle.mkb_model.proofs.Living.{within_budget, living_forked}
 use Rattle.mkb_model.proofs.AllFine.{runs_complete, well_inputs}
 use Rattle.mkb_model.proofs.StillClosed.{closed_run}
 use Rattle.mkb_model.proofs.Certificates.{certified_run}
+use Rattle.mkb_model.specs.declared.settings.Settings.{Settings}
 
 -- ---- rules by their numbers
 
@@ -174,7 +175,7 @@ proves_itself es e i = (e.1 ∷ [], ((record { left = e.0; right = e.1 }, inl i,
 
 -- ---- the answer
 
-pub good_answer : (P : Problem) (n : ℕ) (ms : List Moment) (c : Plain) (p : Name) → IsWithinLimits P → IsPossibleRun P n ms c → verdict c ≡ Some (Complete p) → IsGoodAnswer P c p
+pub good_answer : (P : Problem) (n : Settings) (ms : List Moment) (c : Plain) (p : Name) → IsWithinLimits P → IsPossibleRun P n ms c → verdict c ≡ Some (Complete p) → IsGoodAnswer P c p
 good_answer P n ms c p within run stands = record { certified = certified_run P n ms c within run p means.lives; system = system; overlaps = close; inputs = λ e i. inputs e i (closed.formed refl e (subst {A = Problem} (λ z. Contains z.equations e) (sym problem) i)) }
   where
     means : HasCompleted c p

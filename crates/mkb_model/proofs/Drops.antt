@@ -30,6 +30,7 @@ use Rattle.mkb_model.proofs.Readiness.{named_rule}
 use Rattle.mkb_model.proofs.Flyers.{taken_free, free_due, due_working}
 use Rattle.mkb_model.proofs.Resting.{IsBit, rules_in}
 use Rattle.mkb_model.proofs.Restful.{resting_run}
+use Rattle.mkb_model.specs.declared.settings.Settings.{Settings}
 
 -- ---- labels that name somebody
 
@@ -165,7 +166,7 @@ quiet_follow May past b (Drop w t p) c h f = quiet_from b c _ f.leads_to (record
 quiet_follow May past b (Abandon w t) c h f = quiet_from b c _ f.leads_to (record { nodes = refl; done = refl; over = refl })
 quiet_follow May past b Halt c h f = quiet_from b c b f.1 (record { nodes = refl; done = refl; over = refl })
 
-quiet_since : (May : Plain → Job → Type 0) (P : Problem) (n : ℕ) (later : List Moment) (before : Plain) (w t : ℕ) (j : Job) (earlier : List Moment) (c : Plain) → IsRunBy May P n (later ++ record { board = before; entry = Take w t j } ∷ earlier) c → list_any (λ (m : Moment). is_commit m.entry) later ≡ false → IsQuiet before c
+quiet_since : (May : Plain → Job → Type 0) (P : Problem) (n : Settings) (later : List Moment) (before : Plain) (w t : ℕ) (j : Job) (earlier : List Moment) (c : Plain) → IsRunBy May P n (later ++ record { board = before; entry = Take w t j } ∷ earlier) c → list_any (λ (m : Moment). is_commit m.entry) later ≡ false → IsQuiet before c
 quiet_since May P n [] before w t j earlier c run h = quiet_follow May earlier before (Take w t j) c refl run.1
 quiet_since May P n (m ∷ later) before w t j earlier c run h =
     quiet_trans before m.board c (quiet_since May P n later before w t j earlier m.board run.0 (any_off (is_commit m.entry) (list_any (λ (m : Moment). is_commit m.entry) later) h).1)
@@ -203,7 +204,7 @@ split_at [] x i = none_in i
 split_at {A} (y ∷ xs) x i = ⊎_elim (λ e. ([], xs, ap (λ (z : A). z ∷ xs) e)) (λ k. let r = split_at xs x k in (y ∷ r.0, r.1, ap (y ∷◌) r.2)) (contains_cases y xs x i)
 
 -- between a ticket's take and its drop a commit came
-pub drops_follow_commits : (P : Problem) (n : ℕ) (past : List Moment) (b : Plain) (w t : ℕ) (p : Name) (c : Plain) → IsPossibleRun P n past b → (d : IsDropping past b w t p c) → CommitCameSince past d.finishing.before w t d.job
+pub drops_follow_commits : (P : Problem) (n : Settings) (past : List Moment) (b : Plain) (w t : ℕ) (p : Name) (c : Plain) → IsPossibleRun P n past b → (d : IsDropping past b w t p c) → CommitCameSince past d.finishing.before w t d.job
 drops_follow_commits P n past b w t p c run d = go (list_any (λ (m : Moment). is_commit m.entry) s.0) refl
   where
     s : (later : List Moment) × (earlier : List Moment) × (past ≡ later ++ record { board = d.finishing.before; entry = Take w t d.job } ∷ earlier)
@@ -217,7 +218,7 @@ drops_follow_commits P n past b w t p c run d = go (list_any (λ (m : Moment). i
         clash d.idle (dropped_quiet d.finishing.before b d.proposal q ∙ acts_at_take d.finishing.before d.job d.proposal (free_due d.finishing.before d.job free).3 d.finishing.proposed)
 
 -- a closing is never dropped
-pub closings_commit : (P : Problem) (n : ℕ) (past : List Moment) (b : Plain) (w t : ℕ) (p : Name) (c : Plain) → IsPossibleRun P n past b → (d : IsDropping past b w t p c) → (q : Name) → d.job ≢ Close q
+pub closings_commit : (P : Problem) (n : Settings) (past : List Moment) (b : Plain) (w t : ℕ) (p : Name) (c : Plain) → IsPossibleRun P n past b → (d : IsDropping past b w t p c) → (q : Name) → d.job ≢ Close q
 closings_commit P n past b w t p c run d q e = go d.proposal (subst {A = Job} (λ z. Proposes d.finishing.before z d.proposal) e d.finishing.proposed) d.idle
   where
     rest : is_over b q ≡ false

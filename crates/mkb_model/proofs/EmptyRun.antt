@@ -6,7 +6,7 @@ use Rattle.kb_label.specs.Names.{Name}
 use Rattle.mkb_model.specs.Plain.{Plain}
 use Rattle.mkb_model.specs.Effects.{effect}
 use Rattle.mkb_model.specs.Proposals.{IsClosedOn}
-use Rattle.mkb_model.specs.Journals.{Moment, IsFirstJob, opening, in_flight, landed, IsTaking, IsCommitting, IsFinishing, After, Alone}
+use Rattle.mkb_model.specs.Journals.{Moment, IsFirstJob, opening, in_flight, landed, IsTaking, IsCommitting, IsFinishing, After, Alone, stated}
 use Rattle.kb_node.specs.declared.job.Job.TheVariants.{Close}
 use Rattle.mkb_model.specs.declared.proposed.Proposed.TheVariants.{Closed}
 use Rattle.mkb_model.specs.declared.entry.Effect.TheVariants.{Made}
@@ -23,7 +23,7 @@ abbrev e : Name
 e = []
 
 abbrev before : Plain
-before = opening row2 100
+before = opening row2 (stated 100)
 
 abbrev taken : Plain
 taken = in_flight 1 1 (Close e) before
@@ -70,8 +70,8 @@ row2_commit = record {
 abbrev journal : List Entry
 journal = Take 1 1 (Close e) ∷ Commit 1 1 (Made (Closed e)) ∷ []
 
-row2_after : After row2 100 journal ended
+row2_after : After row2 (stated 100) journal ended
 row2_after = (record { board = taken; entry = Commit 1 1 (Made (Closed e)) } ∷ first_moment ∷ [], refl, ((refl, row2_take), row2_commit))
 
-row2_alone : Alone row2 100 journal ended
+row2_alone : Alone row2 (stated 100) journal ended
 row2_alone = record { legal = row2_after; in_turn = refl; ended = refl }

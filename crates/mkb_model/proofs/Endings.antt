@@ -101,7 +101,7 @@ module _ (b : Plain) (no_verdict : verdict b ≡ None) (none_free : free_jobs b 
   is_none (j ∷ js) h = absurd (h j (contains_first j js))
 
   not_complete : (p : Name) → Contains b.living p → is_complete b p ≡ false
-  not_complete p i = find_none (is_complete b) b.living (empty (find (is_complete b) b.living) (nones (option_map Complete (find (is_complete b) b.living)) (some_if (list_all (is_failed b) b.living) AllFailed) (some_if (b.commits == b.budget) (IsSpent Commits)) (cond (list_all (λ p. is_failed b p || is_over b p) b.living) (option_map (λ r. IsSpent (Over r)) (option_and_then (over_reason b) (first_over b))) None) no_verdict).0) p i
+  not_complete p i = find_none (is_complete b) b.living (empty (find (is_complete b) b.living) (nones (option_map Complete (find (is_complete b) b.living)) (some_if (list_all (is_failed b) b.living) AllFailed) (some_if (b.commits == b.settings.budget) (IsSpent Commits)) (cond (list_all (λ p. is_failed b p || is_over b p) b.living) (option_map (λ r. IsSpent (Over r)) (option_and_then (over_reason b) (first_over b))) None) no_verdict).0) p i
     where
       empty : (a : Option Name) → option_map Complete a ≡ None → a ≡ None
       empty None e = refl
@@ -126,8 +126,8 @@ module _ (b : Plain) (no_verdict : verdict b ≡ None) (none_free : free_jobs b 
   failed_or_over : list_all (λ p. is_failed b p || is_over b p) b.living ≡ true
   failed_or_over = all_of (λ p. is_failed b p || is_over b p) b.living (λ p i. ⊎_elim (λ o. or_right (is_failed b p) (is_over b p) o) (λ o. or_left (is_failed b p) (is_over b p) (failed_unless_over p i o)) (decide (is_over b p)))
 
-  parts : (option_map Complete (find (is_complete b) b.living) ≡ None) × (some_if (list_all (is_failed b) b.living) AllFailed ≡ None) × (some_if (b.commits == b.budget) (IsSpent Commits) ≡ None) × (cond (list_all (λ p. is_failed b p || is_over b p) b.living) (option_map (λ r. IsSpent (Over r)) (option_and_then (over_reason b) (first_over b))) None ≡ None)
-  parts = nones (option_map Complete (find (is_complete b) b.living)) (some_if (list_all (is_failed b) b.living) AllFailed) (some_if (b.commits == b.budget) (IsSpent Commits)) (cond (list_all (λ p. is_failed b p || is_over b p) b.living) (option_map (λ r. IsSpent (Over r)) (option_and_then (over_reason b) (first_over b))) None) no_verdict
+  parts : (option_map Complete (find (is_complete b) b.living) ≡ None) × (some_if (list_all (is_failed b) b.living) AllFailed ≡ None) × (some_if (b.commits == b.settings.budget) (IsSpent Commits) ≡ None) × (cond (list_all (λ p. is_failed b p || is_over b p) b.living) (option_map (λ r. IsSpent (Over r)) (option_and_then (over_reason b) (first_over b))) None ≡ None)
+  parts = nones (option_map Complete (find (is_complete b) b.living)) (some_if (list_all (is_failed b) b.living) AllFailed) (some_if (b.commits == b.settings.budget) (IsSpent Commits)) (cond (list_all (λ p. is_failed b p || is_over b p) b.living) (option_map (λ r. IsSpent (Over r)) (option_and_then (over_reason b) (first_over b))) None) no_verdict
 
   contradiction : ⊥
   contradiction = go (first_over b) refl

@@ -38,6 +38,7 @@ use Rattle.mkb_model.proofs.Flyers.{two_clear}
 use Rattle.mkb_model.proofs.Resting.{known_rule, known_holds}
 use Rattle.mkb_model.proofs.Completed.{ref_self}
 use Rattle.mkb_model.proofs.Staying.{since}
+use Rattle.mkb_model.specs.declared.settings.Settings.{Settings}
 
 -- the fact is about this side and this rule
 abbrev pub is_about : ℕ → ℕ → RuleRef → Fact → Bool
@@ -151,7 +152,7 @@ none_of_map None h = refl
 none_of_map (Some f) h = none_some (sym h)
 
 -- while a Reduce is in flight, nothing becomes known of its node
-pub missing_stays : (P : Problem) (n : ℕ) (ms : List Moment) (c : Plain) → IsPossibleRun P n ms c → (before : Plain) (w t : ℕ) (p : Name) (m : NodeId) → Contains ms (record { board = before; entry = Take w t (Reduce p m) }) → Contains c.flight (record { number = t; worker = w; job = Reduce p m })
+pub missing_stays : (P : Problem) (n : Settings) (ms : List Moment) (c : Plain) → IsPossibleRun P n ms c → (before : Plain) (w t : ℕ) (p : Name) (m : NodeId) → Contains ms (record { board = before; entry = Take w t (Reduce p m) }) → Contains c.flight (record { number = t; worker = w; job = Reduce p m })
     → (v : ℕ) (a : RuleRef) → known before m.0 v a ≡ None → find (is_about m.0 v a) c.facts ≡ None
 missing_stays P n ms c run before w t p m i k v a e = since P n ms c run before w t (Reduce p m) (λ xs fs. find (is_about m.0 v a) fs ≡ None) (none_of_map (find (is_about m.0 v a) before.facts) e) step i k
   where

@@ -40,6 +40,7 @@ use Rattle.mkb_model.proofs.Adding.{add_one, with_pair}
 use Rattle.mkb_model.proofs.Rewriting.{some_canonical}
 use Rattle.mkb_model.proofs.Rewritings.{lost_nodes, moved_nodes}
 use Rattle.mkb_model.proofs.Commits.{pairs-applied}
+use Rattle.mkb_model.specs.declared.settings.Settings.{Settings}
 
 -- ---- canonical pairs
 
@@ -215,7 +216,7 @@ pairs_follow May past b (Abandon w t) c f = subst {A = Plain} (λ z. KeepsPairs 
 pairs_follow May past b Halt c f = subst {A = Plain} (λ z. KeepsPairs b.nodes z.nodes) (sym f.1) (λ n q h. h)
 
 -- in a run each pair of an earlier board stands where it stood
-pub pairs_stay : (May : Plain → Job → Type 0) (P : Problem) (n : ℕ) (ms : List Moment) (c : Plain) → IsRunBy May P n ms c → (m : Moment) → Contains ms m → KeepsPairs m.board.nodes c.nodes
+pub pairs_stay : (May : Plain → Job → Type 0) (P : Problem) (n : Settings) (ms : List Moment) (c : Plain) → IsRunBy May P n ms c → (m : Moment) → Contains ms m → KeepsPairs m.board.nodes c.nodes
 pairs_stay May P n [] c run m i = none_in i
 pairs_stay May P n (x ∷ ms) c (run, f) m i = ⊎_elim
     (λ e. subst {A = Moment} (λ z. KeepsPairs z.board.nodes c.nodes) e (pairs_follow May ms x.board x.entry c f))
@@ -242,6 +243,6 @@ fits_follow May past b (Abandon w t) c f h = subst {A = Plain} (λ z. Fits z.nod
 fits_follow May past b Halt c f h = subst {A = Plain} (λ z. Fits z.nodes) (sym f.1) h
 
 -- the pairs of a board of a run are canonical, not trivial and distinct
-pub fits_run : (May : Plain → Job → Type 0) (P : Problem) (n : ℕ) (ms : List Moment) (c : Plain) → IsRunBy May P n ms c → Fits c.nodes
+pub fits_run : (May : Plain → Job → Type 0) (P : Problem) (n : Settings) (ms : List Moment) (c : Plain) → IsRunBy May P n ms c → Fits c.nodes
 fits_run May P n [] c run = subst {A = Plain} (λ z. Fits z.nodes) (sym run) (fits_inputs 1 P.equations [] fits_none)
 fits_run May P n (m ∷ ms) c (run, f) = fits_follow May ms m.board m.entry c f (fits_run May P n ms m.board run)

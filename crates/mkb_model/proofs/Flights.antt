@@ -20,6 +20,7 @@ use Rattle.mkb_model.specs.declared.entry.Ticket.{Ticket}
 use Rattle.mkb_model.specs.declared.entry.Entry.{Entry}
 use Rattle.mkb_model.specs.declared.entry.Entry.TheVariants.{Take, Commit, Drop, Abandon, Halt}
 use Rattle.mkb_model.proofs.Lists.{filter_in, any_none, not_true, in_map}
+use Rattle.mkb_model.specs.declared.settings.Settings.{Settings}
 
 applied_flight : (b : Plain) (x : Proposed) → (applied b x).flight ≡ b.flight
 applied_flight b (Facts fs) = refl
@@ -58,6 +59,6 @@ clear_follow past b (Abandon w t) c f h = subst {A = Plain} FlightIsClear (sym f
 clear_follow past b Halt c f h = subst {A = Plain} FlightIsClear (sym f.1) h
 
 -- in a possible run no two tickets in flight clash
-pub flight_clear : (P : Problem) (n : ℕ) (ms : List Moment) (c : Plain) → IsPossibleRun P n ms c → FlightIsClear c
+pub flight_clear : (P : Problem) (n : Settings) (ms : List Moment) (c : Plain) → IsPossibleRun P n ms c → FlightIsClear c
 flight_clear P n [] c run = subst {A = Plain} FlightIsClear (sym run) (λ i j d h l. absurd (omega (arith, l)))
 flight_clear P n (m ∷ ms) c (run, f) = clear_follow ms m.board m.entry c f (flight_clear P n ms m.board run)

@@ -29,6 +29,7 @@ use Rattle.mkb_model.proofs.Roles.{below}
 use Rattle.mkb_model.proofs.Flights.{effect_flight, flight_clear}
 use Rattle.mkb_model.proofs.Labels.{other_lives}
 use Rattle.mkb_model.proofs.Endings.{has_in}
+use Rattle.mkb_model.specs.declared.settings.Settings.{Settings}
 
 -- ---- a process's own jobs
 
@@ -93,7 +94,7 @@ more_tickets m ms = go (is_take m.entry)
     go false = omega arith
 
 -- each take was of a job that might be taken, and its number is at most the takes so far
-pub taken_free : (P : Problem) (n : ℕ) (ms : List Moment) (c : Plain) → IsPossibleRun P n ms c → (before : Plain) (w t : ℕ) (j : Job) → Contains ms (record { board = before; entry = Take w t j }) → IsFreeJob before j × (t ≤ tickets ms)
+pub taken_free : (P : Problem) (n : Settings) (ms : List Moment) (c : Plain) → IsPossibleRun P n ms c → (before : Plain) (w t : ℕ) (j : Job) → Contains ms (record { board = before; entry = Take w t j }) → IsFreeJob before j × (t ≤ tickets ms)
 taken_free P n [] c run before w t j i = none_in i
 taken_free P n (m ∷ ms) c (run, f) before w t j i = ⊎_elim now (λ k. let r = taken_free P n ms m.board run before w t j k in (r.0, let l = more_tickets m ms in omega (arith, l, r.1))) (contains_cases m ms (record { board = before; entry = Take w t j }) i)
   where
@@ -211,6 +212,6 @@ owners_follow past b (Abandon w t) c f clear h = owners_fewer t b c (ap (λ (z :
 owners_follow past b Halt c f clear h = subst {A = Plain} OwnersLive (sym f.1) h
 
 -- in a possible run each process that orients or closes lives
-pub owners_live : (P : Problem) (n : ℕ) (ms : List Moment) (c : Plain) → IsPossibleRun P n ms c → OwnersLive c
+pub owners_live : (P : Problem) (n : Settings) (ms : List Moment) (c : Plain) → IsPossibleRun P n ms c → OwnersLive c
 owners_live P n [] c run = subst {A = Plain} OwnersLive (sym run) (λ u i own. none_in i)
 owners_live P n (m ∷ ms) c (run, f) = owners_follow ms m.board m.entry c f (flight_clear P n ms m.board run) (owners_live P n ms m.board run)

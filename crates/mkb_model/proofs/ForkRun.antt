@@ -16,7 +16,7 @@ use Rattle.kb_cert.specs.declared.certificate.Certificate.TheVariants.{Lpo, Line
 use Rattle.mkb_model.specs.Plain.{Plain}
 use Rattle.mkb_model.specs.Effects.{effect}
 use Rattle.mkb_model.specs.Proposals.{NamedRule, IsClosedOn, HasForm, Proposes}
-use Rattle.mkb_model.specs.Journals.{Moment, IsFirstJob, opening, in_flight, landed, IsTaking, IsCommitting, After, Alone}
+use Rattle.mkb_model.specs.Journals.{Moment, IsFirstJob, opening, in_flight, landed, IsTaking, IsCommitting, After, Alone, stated}
 use Rattle.kb_node.specs.declared.job.Job.TheVariants.{Orient, Overlap, Close}
 use Rattle.mkb_model.specs.declared.proposed.Proposed.{Proposed}
 use Rattle.mkb_model.specs.declared.proposed.Proposed.TheVariants.{Both, Deduce, Closed}
@@ -89,7 +89,7 @@ not_first h = not_above 1 0 (λ above. omega (arith, above)) (h 0 b_to_a (omega 
 -- ---- the boards
 
 abbrev pub board0 : Plain
-board0 = opening row3 100
+board0 = opening row3 (stated 100)
 
 abbrev pub fork_it : Proposed
 fork_it = Both e (node 0) (Lpo (0 ∷ 1 ∷ [])) (Lpo (1 ∷ 0 ∷ []))
@@ -271,12 +271,12 @@ journal =
     ∷ Commit 1 3 (Made (Closed p0))
     ∷ []
 
-pub row3_after : After row3 100 journal board6
+pub row3_after : After row3 (stated 100) journal board6
 row3_after = (
   moment6 ∷ moment5 ∷ moment4 ∷ moment3 ∷ moment2 ∷ moment1 ∷ [],
   refl,
   ((((((refl, taking1), committing2), taking3), committing4), taking5), committing6),
 )
 
-row3_alone : Alone row3 100 journal board6
+row3_alone : Alone row3 (stated 100) journal board6
 row3_alone = record { legal = row3_after; in_turn = refl; ended = refl }

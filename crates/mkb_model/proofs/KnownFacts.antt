@@ -16,7 +16,7 @@ use Rattle.kb_term.specs.declared.origin.RuleRef.{RuleRef}
 use Rattle.kb_term.specs.declared.origin.Found.{Found}
 use Rattle.kb_term.specs.declared.origin.Found.TheVariants.{Strict}
 use Rattle.kb_term.proofs.Steps.{contains_cases}
-use Rattle.mkb_model.specs.Plain.{Plain, rule_at, known, cost, pair_in}
+use Rattle.mkb_model.specs.Plain.{Plain, rule_at, known, cost, weight, pair_in}
 use Rattle.mkb_model.specs.Jobs.{job_cmp}
 use Rattle.mkb_model.specs.DueJobs.{reducers, free_jobs, first_job}
 use Rattle.mkb_model.specs.Effects.{applied, effect, limit_of, give_up, effect_label}
@@ -38,10 +38,11 @@ use Rattle.mkb_model.proofs.Readiness.{named_rule}
 use Rattle.mkb_model.proofs.Fitting.{pairs_follow, pairs_stay}
 use Rattle.mkb_model.proofs.Selections.{least-none}
 use Rattle.mkb_model.proofs.Endings.{some_flies}
+use Rattle.mkb_model.specs.declared.settings.Settings.{Settings}
 
 -- where no verdict stands and there is no first job, a ticket is in flight
 pub idle_flies : (b : Plain) → verdict b ≡ None → first_job b ≡ None → b.flight ≢ []
-idle_flies b h k = some_flies b h (least-none (job_cmp (cost b)) (free_jobs b) k)
+idle_flies b h k = some_flies b h (least-none (job_cmp (cost b) (weight b)) (free_jobs b) k)
 
 -- what stands at a position can be replaced
 pub replaceable : (p : List ℕ) (t u v : Tree) → subtree_at t p ≡ Some u → (w : Tree) × (replace_at t p v ≡ Some w)
@@ -120,7 +121,7 @@ effect_facts b x f = go (limit_of b x)
 facts_same : (b c : Plain) → KeepsPairs b.nodes c.nodes → ((f : Fact) → Contains c.facts f → Contains b.facts f) → FactsHold b → FactsHold c
 facts_same b c keeps old h f i = let k = h f (old f i) in (fact_stays b c f keeps k.0, k.1)
 
-facts_follow : (May : Plain → Job → Type 0) (P : Problem) (n : ℕ) (past : List Moment) (b : Plain) (e : Entry) (c : Plain) → IsRunBy May P n past b → Follows May past b e c → FactsHold b → FactsHold c
+facts_follow : (May : Plain → Job → Type 0) (P : Problem) (n : Settings) (past : List Moment) (b : Plain) (e : Entry) (c : Plain) → IsRunBy May P n past b → Follows May past b e c → FactsHold b → FactsHold c
 facts_follow May P n past b (Take w t j) c run f h = facts_same b c (pairs_follow May past b (Take w t j) c f) (λ x i. subst {A = Plain} (λ z. Contains z.facts x) f.leads_to i) h
 facts_follow May P n past b (Commit w t e) c run f h = λ x i. go x (effect_facts b f.proposal x (subst {A = Plain} (λ z. Contains z.facts x) f.leads_to i))
   where
@@ -134,6 +135,6 @@ facts_follow May P n past b (Abandon w t) c run f h = facts_same b c (pairs_foll
 facts_follow May P n past b Halt c run f h = subst {A = Plain} FactsHold (sym f.1) h
 
 -- in a run the facts are true, and none is strict
-pub facts_hold : (May : Plain → Job → Type 0) (P : Problem) (n : ℕ) (ms : List Moment) (c : Plain) → IsRunBy May P n ms c → FactsHold c
+pub facts_hold : (May : Plain → Job → Type 0) (P : Problem) (n : Settings) (ms : List Moment) (c : Plain) → IsRunBy May P n ms c → FactsHold c
 facts_hold May P n [] c run = subst {A = Plain} FactsHold (sym run) (λ f i. none_in i)
 facts_hold May P n (m ∷ ms) c (run, f) = facts_follow May P n ms m.board m.entry c run f (facts_hold May P n ms m.board run)

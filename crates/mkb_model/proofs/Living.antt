@@ -27,6 +27,7 @@ use Rattle.mkb_model.specs.declared.entry.Entry.TheVariants.{Take, Commit, Drop,
 use Rattle.mkb_model.proofs.Lists.{none_in, filter_in, none_some, equal_or_more}
 use Rattle.mkb_model.proofs.Flights.{effect_flight}
 use Rattle.mkb_model.proofs.Meanings.{budget_left}
+use Rattle.mkb_model.specs.declared.settings.Settings.{Settings}
 
 -- ---- living names
 
@@ -70,12 +71,12 @@ few_follow May past b (Drop w t p) c f h = subst {A = Plain} (λ z. AreFew z.liv
 few_follow May past b (Abandon w t) c f h = subst {A = Plain} (λ z. AreFew z.living) (sym f.leads_to) h
 few_follow May past b Halt c f h = subst {A = Plain} (λ z. AreFew z.living) (sym f.1) h
 
-few_run : (May : Plain → Job → Type 0) (P : Problem) (n : ℕ) (ms : List Moment) (c : Plain) → IsRunBy May P n ms c → AreFew c.living
+few_run : (May : Plain → Job → Type 0) (P : Problem) (n : Settings) (ms : List Moment) (c : Plain) → IsRunBy May P n ms c → AreFew c.living
 few_run May P n [] c run = subst {A = Plain} (λ z. AreFew z.living) (sym run) (at_first, omega arith)
 few_run May P n (m ∷ ms) c (run, f) = few_follow May ms m.board m.entry c f (few_run May P n ms m.board run)
 
 -- the living names of a board of a run are what forks make of the first one
-pub living_forked : (May : Plain → Job → Type 0) (P : Problem) (n : ℕ) (ms : List Moment) (c : Plain) → IsRunBy May P n ms c → LivingIsForked c
+pub living_forked : (May : Plain → Job → Type 0) (P : Problem) (n : Settings) (ms : List Moment) (c : Plain) → IsRunBy May P n ms c → LivingIsForked c
 living_forked May P n ms c run =
     let few = few_run May P n ms c run in
     record { forked = few.0; apart = (leaves-forked c.living few.0).apart; few = few.1 }
@@ -110,14 +111,14 @@ numbered_follow May past b (Abandon w t) c f h = fewer (tickets past) t b c (ap 
 numbered_follow May past b Halt c f h = subst {A = Plain} (FlightIsNumbered (tickets past)) (sym f.1) h
 
 -- the tickets in flight have different numbers, none above the number of takes
-pub flight_numbered : (May : Plain → Job → Type 0) (P : Problem) (n : ℕ) (ms : List Moment) (c : Plain) → IsRunBy May P n ms c → FlightIsNumbered (tickets ms) c
+pub flight_numbered : (May : Plain → Job → Type 0) (P : Problem) (n : Settings) (ms : List Moment) (c : Plain) → IsRunBy May P n ms c → FlightIsNumbered (tickets ms) c
 flight_numbered May P n [] c run = subst {A = Plain} (FlightIsNumbered 0) (sym run) (record { distinct = λ i j d h l. absurd (omega (arith, l)); numbers = λ u i. none_in i })
 flight_numbered May P n (m ∷ ms) c (run, f) = numbered_follow May ms m.board m.entry c f (flight_numbered May P n ms m.board run)
 
--- ---- the problem, the budget and the commits
+-- ---- the problem, the settings and the commits
 
 abbrev HaveSameSetting : Plain → Plain → Type 0
-HaveSameSetting b c = (c.problem ≡ b.problem) × (c.budget ≡ b.budget) × (c.commits ≡ b.commits)
+HaveSameSetting b c = (c.problem ≡ b.problem) × (c.settings ≡ b.settings) × (c.commits ≡ b.commits)
 
 applied_setting : (b : Plain) (x : Proposed) → HaveSameSetting b (applied b x)
 applied_setting b (Facts fs) = (refl, refl, refl)
@@ -130,28 +131,28 @@ applied_setting b (Unjoined p ds) = (refl, refl, refl)
 applied_setting b (Closed p) = (refl, refl, refl)
 applied_setting b (Limit j cause) = (refl, refl, refl)
 
-pub effect_setting : (b : Plain) (x : Proposed) → ((effect b x).problem ≡ b.problem) × ((effect b x).budget ≡ b.budget) × ((effect b x).commits ≡ b.commits + 1)
+pub effect_setting : (b : Plain) (x : Proposed) → ((effect b x).problem ≡ b.problem) × ((effect b x).settings ≡ b.settings) × ((effect b x).commits ≡ b.commits + 1)
 effect_setting b x = let k = go (limit_of b x) in (k.0, k.1, ap (λ m. m + 1) k.2)
   where
     go : (o : Option Reason) → HaveSameSetting b (option_map_or (λ r. give_up r (effect_label b x) b) o (applied b x))
     go None = applied_setting b x
     go (Some r) = (refl, refl, refl)
 
-budget_follow : (May : Plain → Job → Type 0) (P : Problem) (n : ℕ) (past : List Moment) (b : Plain) (e : Entry) (c : Plain) → Follows May past b e c → IsWithinBudget P n b → IsWithinBudget P n c
-budget_follow May P n past b (Take w t j) c f h = subst {A = Plain} (IsWithinBudget P n) (sym f.leads_to) (record { problem = h.problem; budget = h.budget; commits = h.commits })
+budget_follow : (May : Plain → Job → Type 0) (P : Problem) (n : Settings) (past : List Moment) (b : Plain) (e : Entry) (c : Plain) → Follows May past b e c → IsWithinBudget P n b → IsWithinBudget P n c
+budget_follow May P n past b (Take w t j) c f h = subst {A = Plain} (IsWithinBudget P n) (sym f.leads_to) (record { problem = h.problem; settings = h.settings; commits = h.commits })
 budget_follow May P n past b (Commit w t e) c f h = subst {A = Plain} (IsWithinBudget P n) (sym f.leads_to) (record {
   problem = k.0 ∙ h.problem;
-  budget = k.1 ∙ h.budget;
-  commits = ⊎_elim (λ q. absurd (budget_left b f.finishing.no_verdict (q ∙ sym h.budget))) (λ l. subst {A = ℕ} (λ m. m ≤ n) (sym k.2) l) (equal_or_more b.commits n h.commits);
+  settings = k.1 ∙ h.settings;
+  commits = ⊎_elim (λ q. absurd (budget_left b f.finishing.no_verdict (q ∙ sym (ap (λ (z : Settings). z.budget) h.settings)))) (λ l. subst {A = ℕ} (λ m. m ≤ n.budget) (sym k.2) l) (equal_or_more b.commits n.budget h.commits);
 })
   where
-    k : ((effect b f.proposal).problem ≡ b.problem) × ((effect b f.proposal).budget ≡ b.budget) × ((effect b f.proposal).commits ≡ b.commits + 1)
+    k : ((effect b f.proposal).problem ≡ b.problem) × ((effect b f.proposal).settings ≡ b.settings) × ((effect b f.proposal).commits ≡ b.commits + 1)
     k = effect_setting b f.proposal
-budget_follow May P n past b (Drop w t p) c f h = subst {A = Plain} (IsWithinBudget P n) (sym f.leads_to) (record { problem = h.problem; budget = h.budget; commits = h.commits })
-budget_follow May P n past b (Abandon w t) c f h = subst {A = Plain} (IsWithinBudget P n) (sym f.leads_to) (record { problem = h.problem; budget = h.budget; commits = h.commits })
+budget_follow May P n past b (Drop w t p) c f h = subst {A = Plain} (IsWithinBudget P n) (sym f.leads_to) (record { problem = h.problem; settings = h.settings; commits = h.commits })
+budget_follow May P n past b (Abandon w t) c f h = subst {A = Plain} (IsWithinBudget P n) (sym f.leads_to) (record { problem = h.problem; settings = h.settings; commits = h.commits })
 budget_follow May P n past b Halt c f h = subst {A = Plain} (IsWithinBudget P n) (sym f.1) h
 
--- each board of a run is of the problem and the budget, and its commits are within it
-pub within_budget : (May : Plain → Job → Type 0) (P : Problem) (n : ℕ) (ms : List Moment) (c : Plain) → IsRunBy May P n ms c → IsWithinBudget P n c
-within_budget May P n [] c run = subst {A = Plain} (IsWithinBudget P n) (sym run) (record { problem = refl; budget = refl; commits = omega arith })
+-- each board of a run is of the problem and the settings, and its commits are within it
+pub within_budget : (May : Plain → Job → Type 0) (P : Problem) (n : Settings) (ms : List Moment) (c : Plain) → IsRunBy May P n ms c → IsWithinBudget P n c
+within_budget May P n [] c run = subst {A = Plain} (IsWithinBudget P n) (sym run) (record { problem = refl; settings = refl; commits = omega arith })
 within_budget May P n (m ∷ ms) c (run, f) = budget_follow May P n ms m.board m.entry c f (within_budget May P n ms m.board run)

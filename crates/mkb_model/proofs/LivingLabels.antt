@@ -33,6 +33,7 @@ use Rattle.mkb_model.proofs.Lists.{none_in, map_in}
 use Rattle.mkb_model.proofs.Labels.{IsLabelOf, AreLabels, label-none, label-one, label-filter, label-join, label-add, label-relabel, child_lives, labels-gains, labels-gains_equation, labels-with_node, labels-oriented, labels-added, labels-rewritten, labels-fork}
 use Rattle.mkb_model.proofs.Commits.{orients}
 use Rattle.mkb_model.proofs.Flyers.{is_own, own_of, OwnersLive, owners_live}
+use Rattle.mkb_model.specs.declared.settings.Settings.{Settings}
 
 -- each label of the board names living processes, in their order
 pub record IsLabelled (b : Plain) : Type 0 where
@@ -179,7 +180,7 @@ labelled_inputs : (i : ℕ) (es : List (Tree × Tree)) (xs : List PlainNode) →
 labelled_inputs i [] xs h = h
 labelled_inputs i (e ∷ es) xs h = labelled_inputs (i + 1) es (with_input (canonical_pair e.0 e.1) i xs) (labelled_input (canonical_pair e.0 e.1) i xs h)
 
-labelled_opening : (P : Problem) (n : ℕ) → IsLabelled (opening P n)
+labelled_opening : (P : Problem) (n : Settings) → IsLabelled (opening P n)
 labelled_opening P n = record {
   alive = tt;
   nodes = labelled_inputs 1 P.equations [] (λ m j. label-none (root ∷ []));
@@ -197,7 +198,7 @@ labelled_follow past b (Drop w t p) c f owners h = subst {A = Plain} IsLabelled 
 labelled_follow past b (Abandon w t) c f owners h = subst {A = Plain} IsLabelled (sym f.leads_to) (record { alive = h.alive; nodes = h.nodes; done = h.done; closed = h.closed; over = h.over })
 labelled_follow past b Halt c f owners h = subst {A = Plain} IsLabelled (sym f.1) h
 
-pub labelled_run : (P : Problem) (n : ℕ) (ms : List Moment) (c : Plain) → IsPossibleRun P n ms c → IsLabelled c
+pub labelled_run : (P : Problem) (n : Settings) (ms : List Moment) (c : Plain) → IsPossibleRun P n ms c → IsLabelled c
 labelled_run P n [] c run = subst {A = Plain} IsLabelled (sym run) (labelled_opening P n)
 labelled_run P n (m ∷ ms) c (run, f) = labelled_follow ms m.board m.entry c f (owners_live P n ms m.board run) (labelled_run P n ms m.board run)
 
@@ -205,7 +206,7 @@ labelled_run P n (m ∷ ms) c (run, f) = labelled_follow ms m.board m.entry c f 
 as_label : (b : Plain) (l : List Name) → IsLabelOf b.living l → IsLabel b l
 as_label b l h = record { ordered = h.ordered; living = h.lives }
 
-pub labels_live : (P : Problem) (n : ℕ) (ms : List Moment) (c : Plain) → IsPossibleRun P n ms c → LabelsAreLabels c
+pub labels_live : (P : Problem) (n : Settings) (ms : List Moment) (c : Plain) → IsPossibleRun P n ms c → LabelsAreLabels c
 labels_live P n ms c run = record {
   alive = h.alive;
   of_nodes = λ x kind i. as_label c (label_in x kind) (subst {A = List Name} (IsLabelOf c.living) (ap (λ o. label_or_none o kind) (slice_get-get_or c.nodes i.0 x i.1) ∙ ap (λ (y : PlainNode). label_in y kind) i.2) (h.nodes i.0 kind));

@@ -98,7 +98,7 @@ comes_of None false false false r v h = none_some h
 
 -- the verdict means what it says
 pub verdict_means : (b : Plain) (v : Verdict) → verdict b ≡ Some v → VerdictMeans b v
-verdict_means b v h = go v (comes_of (find (is_complete b) b.living) (list_all (is_failed b) b.living) (b.commits == b.budget) (list_all (λ p. is_failed b p || is_over b p) b.living) (option_and_then (over_reason b) (first_over b)) v h)
+verdict_means b v h = go v (comes_of (find (is_complete b) b.living) (list_all (is_failed b) b.living) (b.commits == b.settings.budget) (list_all (λ p. is_failed b p || is_over b p) b.living) (option_and_then (over_reason b) (first_over b)) v h)
   where
     over : (r : Reason) (o : Option Name) → first_over b ≡ o → option_and_then (over_reason b) o ≡ Some r → list_all (λ p. is_failed b p || is_over b p) b.living ≡ true → HaveGivenUp b r
     over r None e k all = none_some k
@@ -109,17 +109,17 @@ verdict_means b v h = go v (comes_of (find (is_complete b) b.living) (list_all (
       reason = k;
     }
 
-    go : (v : Verdict) → ComesOf (find (is_complete b) b.living) (list_all (is_failed b) b.living) (b.commits == b.budget) (list_all (λ p. is_failed b p || is_over b p) b.living) (option_and_then (over_reason b) (first_over b)) v → VerdictMeans b v
+    go : (v : Verdict) → ComesOf (find (is_complete b) b.living) (list_all (is_failed b) b.living) (b.commits == b.settings.budget) (list_all (λ p. is_failed b p || is_over b p) b.living) (option_and_then (over_reason b) (first_over b)) v → VerdictMeans b v
     go (Complete p) c =
         let f = find_in (is_complete b) b.living p c in
         record { lives = has_in b.living p f.0; closed = and_right (no_members (equations_of b p)) (has b.closed p) f.1; no_equation = no_members_is (equations_of b p) (and_left (no_members (equations_of b p)) (has b.closed p) f.1) }
     go AllFailed c = λ p lives. has_failed b p lives (of_all (is_failed b) b.living c p (in_has b.living p lives))
-    go (IsSpent Commits) c = eqb→eq b.commits b.budget (subst {A = Bool} T (sym c) tt)
+    go (IsSpent Commits) c = eqb→eq b.commits b.settings.budget (subst {A = Bool} T (sym c) tt)
     go (IsSpent (Over r)) c = over r (first_over b) refl c.1 c.0
 
 -- where no verdict stands the budget is not spent
-pub budget_left : (b : Plain) → verdict b ≡ None → b.commits ≢ b.budget
-budget_left b h e = unspent (b.commits == b.budget) (eq-eqb b.commits b.budget e) (nones (option_map Complete (find (is_complete b) b.living)) (some_if (list_all (is_failed b) b.living) AllFailed) (some_if (b.commits == b.budget) (IsSpent Commits)) (cond (list_all (λ p. is_failed b p || is_over b p) b.living) (option_map (λ r. IsSpent (Over r)) (option_and_then (over_reason b) (first_over b))) None) h).2
+pub budget_left : (b : Plain) → verdict b ≡ None → b.commits ≢ b.settings.budget
+budget_left b h e = unspent (b.commits == b.settings.budget) (eq-eqb b.commits b.settings.budget e) (nones (option_map Complete (find (is_complete b) b.living)) (some_if (list_all (is_failed b) b.living) AllFailed) (some_if (b.commits == b.settings.budget) (IsSpent Commits)) (cond (list_all (λ p. is_failed b p || is_over b p) b.living) (option_map (λ r. IsSpent (Over r)) (option_and_then (over_reason b) (first_over b))) None) h).2
   where
     unspent : (x : Bool) → x ≡ true → some_if x (IsSpent Commits) ≡ None → ⊥
     unspent true d k = none_some (sym k)

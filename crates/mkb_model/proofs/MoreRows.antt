@@ -5,18 +5,19 @@ use Rattle.kb_term.specs.Signature.{Problem}
 use Rattle.kb_term.specs.declared.origin.Found.TheVariants.{Strict}
 use Rattle.kb_term.specs.declared.origin.Origin.TheVariants.{Input}
 use Rattle.kb_cert.specs.declared.certificate.Certificate.TheVariants.{Lpo}
-use Rattle.mkb_model.specs.Plain.{Plain, view, label, over_reason}
+use Rattle.mkb_model.specs.Plain.{Plain, cost, view, label, over_reason}
 use Rattle.mkb_model.specs.DueJobs.{first_job}
 use Rattle.mkb_model.specs.Effects.{effect, effect_entry, is_dropped, limit_of, new_node}
-use Rattle.mkb_model.specs.Journals.{opening}
+use Rattle.mkb_model.specs.Journals.{opening, stated}
 use Rattle.mkb_model.specs.declared.entry.Effect.TheVariants.{Over}
+use Rattle.mkb_model.specs.declared.settings.Selection.TheVariants.{Size}
 use Rattle.kb_label.specs.declared.verdict.Reason.TheVariants.{Nodes, Processes}
 use Rattle.kb_node.specs.declared.node.LabelKind.TheVariants.{E}
-use Rattle.kb_node.specs.declared.job.Job.TheVariants.{Reduce}
+use Rattle.kb_node.specs.declared.job.Job.TheVariants.{Reduce, Overlap}
 use Rattle.mkb_model.specs.declared.proposed.Proposed.{Proposed}
 use Rattle.mkb_model.specs.declared.proposed.Proposed.TheVariants.{Rewrite, One, Both, Refuse, Deduce, Unjoined}
 use Rattle.mkb_model.proofs.Replays.{turns}
-use Rattle.mkb_model.proofs.Rows.{row3, row7, row7_proposals, fa_is_a, node, rule, constant, unary, symbol, e, p0, given_constant, given_unary}
+use Rattle.mkb_model.proofs.Rows.{row3, row7, row7_proposals, row10, row10_proposals, p00, fa_is_a, node, rule, constant, unary, symbol, e, p0, given_constant, given_unary}
 
 -- ---- f(a) == c, a == b: the rule f(a) -> c collapses by a -> b into the equation f(b) = c
 
@@ -27,7 +28,7 @@ collapsing = record {
 }
 
 abbrev pub both_oriented : Plain
-both_oriented = effect (effect (opening collapsing 100) (One e (node 0) 0 (Lpo (0 ∷ 1 ∷ 2 ∷ 3 ∷ [])))) (One e (node 1) 0 (Lpo (0 ∷ 1 ∷ 2 ∷ 3 ∷ [])))
+both_oriented = effect (effect (opening collapsing (stated 100)) (One e (node 0) 0 (Lpo (0 ∷ 1 ∷ 2 ∷ 3 ∷ [])))) (One e (node 1) 0 (Lpo (0 ∷ 1 ∷ 2 ∷ 3 ∷ [])))
 
 collapse_is_first : first_job both_oriented ≡ Some (Reduce e (node 0))
 collapse_is_first = refl
@@ -40,13 +41,31 @@ collapsed_view = refl
 
 -- ---- two rules that were overlapped are not overlapped again
 
-overlapped_once : is_dropped (turns 1 (list_take 2 row7_proposals) (opening row7 100)) (Deduce (rule 0 0) (rule 0 0) (fa_is_a (rule 0 0) (rule 0 0) ∷ [])) ≡ true
+overlapped_once : is_dropped (turns 1 (list_take 2 row7_proposals) (opening row7 (stated 100))) (Deduce (rule 0 0) (rule 0 0) (fa_is_a (rule 0 0) (rule 0 0) ∷ [])) ≡ true
 overlapped_once = refl
+
+-- ---- of three due overlaps of f(a) -> c and b -> c the stated selection takes that of the older rule with itself, the other one that of the smaller rule with itself
+
+abbrev pub by_size : Plain
+by_size = let b : Plain = turns 1 (list_take 7 row10_proposals) (opening row10 (stated 100)) in record b { living = p00 ∷ []; settings = record { budget = 100; selection = Size } }
+
+smallest_overlap : first_job by_size ≡ Some (Overlap p00 (rule 2 0) (rule 2 0))
+smallest_overlap = refl
+
+oldest_overlap : first_job (record by_size { settings = stated 100 }) ≡ Some (Overlap p00 (rule 1 0) (rule 1 0))
+oldest_overlap = refl
+
+-- the rules f(a) -> c and b -> c count beside the constraints f(a) -> b and b -> c
+cost_by_size : cost by_size p00 ≡ 10
+cost_by_size = refl
+
+stated_cost : cost (record by_size { settings = stated 100 }) p00 ≡ 5
+stated_cost = refl
 
 -- ---- a raw pair becomes an equation of the process alone
 
 abbrev pub forked_once : Plain
-forked_once = turns 1 (Both e (node 0) (Lpo (0 ∷ 1 ∷ [])) (Lpo (1 ∷ 0 ∷ [])) ∷ []) (opening row7 100)
+forked_once = turns 1 (Both e (node 0) (Lpo (0 ∷ 1 ∷ [])) (Lpo (1 ∷ 0 ∷ [])) ∷ []) (opening row7 (stated 100))
 
 raw_pair : label (effect forked_once (Unjoined p0 (fa_is_a (rule 0 0) (rule 0 0) ∷ []))) 1 E ≡ p0 ∷ []
 raw_pair = refl
@@ -54,7 +73,7 @@ raw_pair = refl
 -- ---- a fork with 256 living processes
 
 abbrev pub crowded : Plain
-crowded = let b : Plain = opening row3 100 in record b { living = replicate 256 e }
+crowded = let b : Plain = opening row3 (stated 100) in record b { living = replicate 256 e }
 
 abbrev pub forking : Proposed
 forking = Both e (node 0) (Lpo (0 ∷ 1 ∷ [])) (Lpo (1 ∷ 0 ∷ []))
@@ -68,7 +87,7 @@ crowded_over = refl
 crowded_equation : label (effect crowded forking) 0 E ≡ e ∷ []
 crowded_equation = refl
 
-not_crowded : limit_of (let b : Plain = opening row3 100 in record b { living = replicate 255 e }) forking ≡ None
+not_crowded : limit_of (let b : Plain = opening row3 (stated 100) in record b { living = replicate 255 e }) forking ≡ None
 not_crowded = refl
 
 -- ---- 4,096 nodes: a new pair finds no room, one that is there does

@@ -19,16 +19,17 @@ use Rattle.mkb_model.proofs.Living.{flight_numbered}
 use Rattle.mkb_model.proofs.AllFine.{earlier_run, states_ordered, commits_fine}
 use Rattle.mkb_model.proofs.Unique.{taken_once, ticket_once}
 use Rattle.mkb_model.proofs.OneProposal.{one_proposal}
+use Rattle.mkb_model.specs.declared.settings.Settings.{Settings}
 
 -- the rules of each process hold their variables
-pub rules_hold : (P : Problem) (n : ℕ) (ms : List Moment) (c : Plain) → IsWithinLimits P → IsPossibleRun P n ms c → (p : Name) → HoldVariables (rules_at c (rules_of c p))
+pub rules_hold : (P : Problem) (n : Settings) (ms : List Moment) (c : Plain) → IsWithinLimits P → IsPossibleRun P n ms c → (p : Name) → HoldVariables (rules_at c (rules_of c p))
 rules_hold P n ms c within run p rule i = ((states_ordered P n ms c within run (commits_fine P n ms c within run) p).sound.rules rule i).is_rule.holds_variables
 
 -- what a job that was taken in a run proposes is one
-pub taken_one : (P : Problem) (n : ℕ) (ms : List Moment) (c : Plain) → IsWithinLimits P → IsPossibleRun P n ms c → (j : Job) (x y : Proposed) → Proposes c j x → Proposes c j y → x ≡ y
+pub taken_one : (P : Problem) (n : Settings) (ms : List Moment) (c : Plain) → IsWithinLimits P → IsPossibleRun P n ms c → (j : Job) (x y : Proposed) → Proposes c j x → Proposes c j y → x ≡ y
 taken_one P n ms c within run j x y = one_proposal c j x y (rules_hold P n ms c within run (process_of j))
 
-module _ (P : Problem) (n : ℕ) (within : IsWithinLimits P) (past : List Moment) (b : Plain) (run : IsPossibleRun P n past b) where
+module _ (P : Problem) (n : Settings) (within : IsWithinLimits P) (past : List Moment) (b : Plain) (run : IsPossibleRun P n past b) where
   -- two ends of one ticket end one proposal of one worker's job
   record OneEnd (v w : ℕ) (i j : Job) (x y : Proposed) : Type 0 where
     worker : v ≡ w
@@ -101,7 +102,7 @@ module _ (P : Problem) (n : ℕ) (within : IsWithinLimits P) (past : List Moment
   follow_one Halt (Abandon w t) c a f g h = absurd (cc)
 
 -- runs with the same moves are the same run
-pub moves_decide : (P : Problem) (n : ℕ) → IsWithinLimits P → (ms ns : List Moment) (c d : Plain) → IsPossibleRun P n ms c → IsPossibleRun P n ns d → moves_of ms ≡ moves_of ns → (ms ≡ ns) × (c ≡ d)
+pub moves_decide : (P : Problem) (n : Settings) → IsWithinLimits P → (ms ns : List Moment) (c d : Plain) → IsPossibleRun P n ms c → IsPossibleRun P n ns d → moves_of ms ≡ moves_of ns → (ms ≡ ns) × (c ≡ d)
 moves_decide P n within [] [] c d run other h = (refl, run ∙ sym other)
 moves_decide P n within [] (k ∷ ns) c d run other h = absurd (cc)
 moves_decide P n within (m ∷ ms) [] c d run other h = absurd (cc)

@@ -12,6 +12,7 @@ use Rattle.mkb_model.specs.declared.entry.Entry.TheVariants.{Take, Commit, Drop,
 use Rattle.mkb_model.proofs.Lists.{clash, some_is, none_some, and_left, and_right}
 use Rattle.mkb_model.proofs.Selections.{legal-possible}
 use Rattle.mkb_model.proofs.OneJournal.{follow_one}
+use Rattle.mkb_model.specs.declared.settings.Settings.{Settings}
 
 -- ---- a run goes on by entries
 
@@ -28,7 +29,7 @@ goes_on past b [] ms d e c g f = (
 )
 goes_on past b (x ∷ J) ms d e c g f = (g.0, g.1, goes_on (record { board = b; entry = x } ∷ past) g.0 J ms d e c g.2 f)
 
-goes_run : (P : Problem) (n : ℕ) (ms : List Moment) (c : Plain) → IsRun P n ms c → Goes [] (opening P n) (journal_of ms) ms c
+goes_run : (P : Problem) (n : Settings) (ms : List Moment) (c : Plain) → IsRun P n ms c → Goes [] (opening P n) (journal_of ms) ms c
 goes_run P n [] c run = (refl, run)
 goes_run P n (m ∷ ms) c (run, f) = goes_on [] (opening P n) (journal_of ms) ms m.board m.entry c (goes_run P n ms m.board run) f
 
@@ -78,7 +79,7 @@ end_move t Halt h = clash h refl
 none_taken : {A : Type 0} (past : List Moment) (b : Plain) (w t : ℕ) (j : Job) (c d : Plain) → IsSome (verdict c) → c ≡ b → IsTaking IsFirstJob past b w t j d → A
 none_taken past b w t j c d v e f = none_some (sym (ap verdict e ∙ f.no_verdict) ∙ (some_value (verdict c) v).1)
 
-module _ (P : Problem) (n : ℕ) (within : IsWithinLimits P) where
+module _ (P : Problem) (n : Settings) (within : IsWithinLimits P) where
   -- two entries of one move are one
   step_one : (past : List Moment) (b : Plain) → IsRun P n past b → (e x : Entry) (c d : Plain) → Follows IsFirstJob past b e c → Follows IsFirstJob past b x d → move_of e ≡ move_of x → (e ≡ x) × (c ≡ d)
   step_one past b run e x c d f g h = follow_one P n within past b (legal-possible P n past b run) e x c d
@@ -133,9 +134,9 @@ module _ (P : Problem) (n : ℕ) (within : IsWithinLimits P) where
   one_turn (Abandon w t ∷ J) K past b run hj hk ms ns c d g k vc vd = clash hj refl
   one_turn (Halt ∷ J) K past b run hj hk ms ns c d g k vc vd = clash hj refl
 
-goes_alone : (P : Problem) (n : ℕ) (J : List Entry) (c : Plain) → (x : Alone P n J c) → Goes [] (opening P n) J x.legal.0 c
+goes_alone : (P : Problem) (n : Settings) (J : List Entry) (c : Plain) → (x : Alone P n J c) → Goes [] (opening P n) J x.legal.0 c
 goes_alone P n J c x = subst {A = List Entry} (λ z. Goes [] (opening P n) z x.legal.0 c) x.legal.1 (goes_run P n x.legal.0 c x.legal.2)
 
 -- one worker has one journal, and one board at its end
-pub alone_once : (P : Problem) (n : ℕ) (J K : List Entry) (b c : Plain) → IsWithinLimits P → Alone P n J b → Alone P n K c → (J ≡ K) × (b ≡ c)
+pub alone_once : (P : Problem) (n : Settings) (J K : List Entry) (b c : Plain) → IsWithinLimits P → Alone P n J b → Alone P n K c → (J ≡ K) × (b ≡ c)
 alone_once P n J K b c within x y = one_turn P n within J K [] (opening P n) refl x.in_turn y.in_turn x.legal.0 y.legal.0 b c (goes_alone P n J b x) (goes_alone P n K c y) x.ended y.ended

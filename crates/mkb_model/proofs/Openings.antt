@@ -31,6 +31,7 @@ use Rattle.mkb_model.proofs.Rewritten.{eq_gain, others_gain}
 use Rattle.mkb_model.proofs.Fitting.{fits_run, canonical_same}
 use Rattle.mkb_model.proofs.Ancestors.{first_board, simulating_completes}
 use Rattle.mkb_model.proofs.Simulation.{run_simulates}
+use Rattle.mkb_model.specs.declared.settings.Settings.{Settings}
 
 -- ---- the equations of the opening board
 
@@ -168,7 +169,7 @@ trivial_of (e ∷ es) = go (trees_decide e.0 e.1) (trivial_of es)
     go (inr n) (ts, trivial, old, all) = (ts, trivial, (λ t c. contains_behind e es t (old t c)), λ d c h. ⊎_elim (λ i. absurd (n (subst {A = Tree × Tree} (λ x. x.0 ≡ x.1) (sym i) h))) (λ i. all d i h) (contains_cases e es d c))
 
 -- the first process begins with the equations of the problem, the trivial ones deleted
-pub opening_reached : (P : Problem) (n : ℕ) → KbReaches P.signature (kb_start P) (state_of (opening P n) root)
+pub opening_reached : (P : Problem) (n : Settings) → KbReaches P.signature (kb_start P) (state_of (opening P n) root)
 opening_reached P n = deleting P.signature (state_of (opening P n) root) (lean_state (opening P n) root (fits_run (λ b j. ⊥) P n [] (opening P n) refl)) ts.0 ts.1 (kb_start P) eqs
     (λ r. ((λ h. none_in h.1), λ h. let v = (rules-view (opening P n) root r).0 h in absurd (view.0 v.0 (rule_kind v.1) (λ e. equation-no_rule v.1 (sym e)) v.3)))
     (λ r. ((λ h. none_in h.1), λ h. let v = (constraints-view (opening P n) root r).0 h in absurd (view.0 v.0 (constraint_kind v.1) (λ e. equation-no_constraint v.1 (sym e)) v.3)))
@@ -193,12 +194,12 @@ opening_reached P n = deleting P.signature (state_of (opening P n) root) (lean_s
         go h (Some z) e = inl ((equations-view (opening P n) root y).1 ((view.1 y).1 (inr (h.0, h.1, (z, e, same_trans (sides z) h.0 y (same_sym h.0 (sides z) (same_as h.0 z e)) h.2)))))
 
 -- the run begins with the opening board
-pub first_opening : (May : Plain → Job → Type 0) (P : Problem) (n : ℕ) (ms : List Moment) (c : Plain) → IsRunBy May P n ms c → first_board ms c ≡ opening P n
+pub first_opening : (May : Plain → Job → Type 0) (P : Problem) (n : Settings) (ms : List Moment) (c : Plain) → IsRunBy May P n ms c → first_board ms c ≡ opening P n
 first_opening May P n [] c run = run
 first_opening May P n (m ∷ ms) c run = first_opening May P n ms m.board run.0
 
 -- in a run in which what is committed is ready, the views of each living process are a completion run of that process alone
-pub run_completes : (May : Plain → Job → Type 0) (P : Problem) (n : ℕ) (ms : List Moment) (c : Plain) (run : IsRunBy May P n ms c) → AllFine May P n ms c run → EachCompletes P ms c
+pub run_completes : (May : Plain → Job → Type 0) (P : Problem) (n : Settings) (ms : List Moment) (c : Plain) (run : IsRunBy May P n ms c) → AllFine May P n ms c run → EachCompletes P ms c
 run_completes May P n ms c run fine =
     let s = run_simulates May P n ms c run fine in
     simulating_completes P ms c s.0 s.1 (λ q lives. subst {A = Plain} (λ b. has b.living q ≡ true → KbReaches P.signature (kb_start P) (state_of b q)) (sym (first_opening May P n ms c run)) (at_root q) lives)

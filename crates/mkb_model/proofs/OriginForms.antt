@@ -35,6 +35,7 @@ use Rattle.mkb_model.proofs.Deductions.{named_overlap, both_ways_in, all_ways_in
 use Rattle.mkb_model.proofs.Flyers.{free_due, taken_free}
 use Rattle.mkb_model.proofs.Resting.{IsBit, IsKnownJob, known_job, rules_in}
 use Rattle.mkb_model.proofs.Origins.{Bone, bones, bones_label, bones_fork, bones_append, bones_gains_equation, bones_gains_rule, bones_oriented}
+use Rattle.mkb_model.specs.declared.settings.Settings.{Settings}
 
 -- each node's origin is of the form
 abbrev Formed : List PlainNode → Type 0
@@ -150,7 +151,7 @@ formed_inputs (e ∷ es) i xs h = formed_inputs es (i + 1) (with_input (canonica
         let ws : List PlainNode = with_node z (Input i) xs in
         formed_same ws (with_input (Some z) i xs) (bones_gains_equation (node_of ws z) (root ∷ []) ws) (formed_with_node z (Input i) xs tt h)
 
-formed_run : (P : Problem) (n : ℕ) (ms : List Moment) (c : Plain) → IsPossibleRun P n ms c → Formed c.nodes
+formed_run : (P : Problem) (n : Settings) (ms : List Moment) (c : Plain) → IsPossibleRun P n ms c → Formed c.nodes
 formed_run P n [] c run = subst {A = Plain} (λ z. Formed z.nodes) (sym run) (formed_inputs P.equations 1 [] (λ b i. none_in i))
 formed_run P n (m ∷ ms) c (run, f) = go m.entry f (formed_run P n ms m.board run)
   where
@@ -167,5 +168,5 @@ formed_run P n (m ∷ ms) c (run, f) = go m.entry f (formed_run P n ms m.board r
     go Halt f h = subst {A = Plain} (λ z. Formed z.nodes) (sym f.1) h
 
 -- the origin of each node of a board of a possible run names sides and directions that are 0 or 1
-pub origins_of_form : (P : Problem) (n : ℕ) (ms : List Moment) (c : Plain) → IsPossibleRun P n ms c → (x : PlainNode) → Contains c.nodes x → IsOriginOfForm x.origin
+pub origins_of_form : (P : Problem) (n : Settings) (ms : List Moment) (c : Plain) → IsPossibleRun P n ms c → (x : PlainNode) → Contains c.nodes x → IsOriginOfForm x.origin
 origins_of_form P n ms c run x i = formed_run P n ms c run (x.pair, x.origin) (in_map (λ (y : PlainNode). (y.pair, y.origin)) c.nodes x i)

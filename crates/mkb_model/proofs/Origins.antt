@@ -45,6 +45,7 @@ use Rattle.mkb_model.proofs.Deductions.{HasNamed, named_overlap, picks_in}
 use Rattle.mkb_model.proofs.Restful.{Stands, stands_run}
 use Rattle.mkb_model.proofs.Staying.{closers_stay}
 use Rattle.mkb_model.proofs.AllFine.{states_ordered, commits_fine, deduce_named, unjoined_named}
+use Rattle.mkb_model.specs.declared.settings.Settings.{Settings}
 
 -- ---- pairs with their origins
 
@@ -234,7 +235,7 @@ pub some_named : (l : List Name) → is_empty l ≡ false → (p : Name) × (has
 some_named [] h = clash refl h
 some_named (p ∷ l) h = (p, or_left _ (has l p) (name_eq-refl p))
 
-module _ (P : Problem) (n : ℕ) (past : List Moment) (b : Plain) (run : IsPossibleRun P n past b) (s : Stands b) (ordered : (p : Name) → IsOrdered P.signature (state_of b p)) (es : List (Tree × Tree)) (w t : ℕ) (j : Job) (x : Proposed) (f : IsFinishing past b w t j x) (acts : IsFalse (is_dropped b x)) (right : Right es b.nodes) where
+module _ (P : Problem) (n : Settings) (past : List Moment) (b : Plain) (run : IsPossibleRun P n past b) (s : Stands b) (ordered : (p : Name) → IsOrdered P.signature (state_of b p)) (es : List (Tree × Tree)) (w t : ℕ) (j : Job) (x : Proposed) (f : IsFinishing past b w t j x) (acts : IsFalse (is_dropped b x)) (right : Right es b.nodes) where
   keeps : KeepsPairs f.before.nodes b.nodes
   keeps = pairs_stay IsFreeJob P n past b run (record { board = f.before; entry = Take w t j }) f.taken
 
@@ -299,10 +300,10 @@ right_inputs es (e ∷ fs) i xs h r = right_inputs es fs (i + 1) (with_input (ca
     (λ k d q. let m : i + suc k ≡ (i + 1) + k = omega arith in subst {A = ℕ} (λ z. item es z ≡ Some d) m (h (suc k) d q))
     (right_input es (canonical_pair e.0 e.1) i e xs refl (let m : i + 0 ≡ i = omega arith in subst {A = ℕ} (λ z. item es z ≡ Some e) m (h 0 e refl)) r)
 
-right_opening : (P : Problem) (n : ℕ) → Right P.equations (opening P n).nodes
+right_opening : (P : Problem) (n : Settings) → Right P.equations (opening P n).nodes
 right_opening P n = right_inputs P.equations P.equations 1 [] (λ k e h. let m : suc k ≡ 1 + k = omega arith in subst {A = ℕ} (λ z. item P.equations z ≡ Some e) m h) (λ m b h. none_some h)
 
-right_run : (P : Problem) (n : ℕ) (ms : List Moment) (c : Plain) → IsWithinLimits P → IsPossibleRun P n ms c → Right P.equations c.nodes
+right_run : (P : Problem) (n : Settings) (ms : List Moment) (c : Plain) → IsWithinLimits P → IsPossibleRun P n ms c → Right P.equations c.nodes
 right_run P n [] c within run = subst {A = Plain} (λ z. Right P.equations z.nodes) (sym run) (right_opening P n)
 right_run P n (m ∷ ms) c within (run, f) = go m.entry f (right_run P n ms m.board within run)
   where
@@ -324,6 +325,6 @@ bone_at (y ∷ xs) zero x h = ap (λ z. Some (bone z)) (some_is h)
 bone_at (y ∷ xs) (suc n) x h = bone_at xs n x h
 
 -- each pair of a board of a run follows from the input and earlier pairs
-pub pairs_follow_run : (P : Problem) (n : ℕ) (ms : List Moment) (c : Plain) → IsWithinLimits P → IsPossibleRun P n ms c → PairsFollow c
+pub pairs_follow_run : (P : Problem) (n : Settings) (ms : List Moment) (c : Plain) → IsWithinLimits P → IsPossibleRun P n ms c → PairsFollow c
 pairs_follow_run P n ms c within run k x h = subst {A = Problem} (λ z. IsRightOrigin z.equations (pair_in (take k c.nodes)) x.origin x.pair) (sym (within_budget IsFreeJob P n ms c run).problem)
     (origin_more P.equations (at (take k (bones c.nodes))) (pair_in (take k c.nodes)) (λ m q e. sym (at_is (take k c.nodes) m) ∙ sym (ap (λ bs. at bs m) (bones_take k c.nodes)) ∙ e) x.origin x.pair (right_run P n ms c within run k (bone x) (bone_at c.nodes k x h)))

@@ -1,5 +1,5 @@
 -- On each board of a run the list of those that gave up has each reason, so giving up for one is seen.
-use Rattle.std.proofs.Common.{ℕ, ◌≡◌, refl, sym, ap, ◌∙◌, subst, arith, List, [], ◌∷◌, map, Contains, Bool, true, false, cond, Option, Some, None}
+use Rattle.std.proofs.Common.{◌≡◌, refl, sym, ap, ◌∙◌, subst, arith, List, [], ◌∷◌, map, Contains, Bool, true, false, cond, Option, Some, None}
 use Rattle.std.specs.Option.{option_map_or}
 use Rattle.std.proofs.lemmas.Bool.{eq-eqb}
 use Rattle.kb_term.specs.Signature.{Problem}
@@ -16,6 +16,7 @@ use Rattle.mkb_model.specs.declared.proposed.Proposed.TheVariants.{Facts, Rewrit
 use Rattle.mkb_model.specs.declared.entry.Entry.{Entry}
 use Rattle.mkb_model.specs.declared.entry.Entry.TheVariants.{Take, Commit, Drop, Abandon, Halt}
 use Rattle.mkb_model.proofs.Lists.{or_right, map_in, in_map, in_any}
+use Rattle.mkb_model.specs.declared.settings.Settings.{Settings}
 
 abbrev reasons : List GivenUp → List Reason
 reasons gs = map (λ (g : GivenUp). g.reason) gs
@@ -49,7 +50,7 @@ reasons_effect b x = go (limit_of b x)
     go None = reasons_applied b x
     go (Some r) = reasons_given b r (effect_label b x)
 
-reasons_run : (May : Plain → Job → Type 0) (P : Problem) (n : ℕ) (ms : List Moment) (c : Plain) → IsRunBy May P n ms c → reasons c.over ≡ reasons nobody_over
+reasons_run : (May : Plain → Job → Type 0) (P : Problem) (n : Settings) (ms : List Moment) (c : Plain) → IsRunBy May P n ms c → reasons c.over ≡ reasons nobody_over
 reasons_run May P n [] c run = ap (λ (z : Plain). reasons z.over) run
 reasons_run May P n (m ∷ ms) c (run, f) = go m.entry f ∙ reasons_run May P n ms m.board run
   where
@@ -69,7 +70,7 @@ each_reason Variables = (4, omega arith, refl)
 each_reason Steps = (5, omega arith, refl)
 
 -- who gives up has given up afterwards
-pub given_over : (May : Plain → Job → Type 0) (P : Problem) (n : ℕ) (ms : List Moment) (b : Plain) → IsRunBy May P n ms b → (r : Reason) (l : List Name) (p : Name) → has (not_over b l) p ≡ true → is_over (give_up r l b) p ≡ true
+pub given_over : (May : Plain → Job → Type 0) (P : Problem) (n : Settings) (ms : List Moment) (b : Plain) → IsRunBy May P n ms b → (r : Reason) (l : List Name) (p : Name) → has (not_over b l) p ≡ true → is_over (give_up r l b) p ≡ true
 given_over May P n ms b run r l p h =
     let m = map_in (λ (g : GivenUp). g.reason) b.over r (subst {A = List Reason} (λ rs. Contains rs r) (sym (reasons_run May P n ms b run)) (each_reason r)) in
     in_any (λ (g : GivenUp). has g.names p) (map given b.over) (given m.0) (in_map given b.over m.0 m.1) (named m.0 (reason_eq m.0.reason r) (eq-eqb (reason_number m.0.reason) (reason_number r) (ap reason_number m.2)))

@@ -33,6 +33,7 @@ use Rattle.mkb_model.proofs.Roles.{length-put}
 use Rattle.mkb_model.proofs.Adding.{add_one}
 use Rattle.mkb_model.proofs.Rewritings.{lost_nodes, moved_nodes}
 use Rattle.mkb_model.proofs.Sizes.{not_more}
+use Rattle.mkb_model.specs.declared.settings.Settings.{Settings}
 
 -- the pairs of the nodes
 abbrev pub plain_pairs : List PlainNode → List Pair
@@ -172,7 +173,7 @@ length-with_inputs i [] xs = omega arith
 length-with_inputs i (e ∷ es) xs = let k = length-with_input (canonical_pair e.0 e.1) i xs in let l = length-with_inputs (i + 1) es (with_input (canonical_pair e.0 e.1) i xs) in omega (arith, k, l)
 
 -- a board of a run of a problem within the limits has no more nodes than there may be
-pub few_run : (May : Plain → Job → Type 0) (P : Problem) (n : ℕ) (ms : List Moment) (c : Plain) → IsWithinLimits P → IsRunBy May P n ms c → length c.nodes ≤ most_nodes
+pub few_run : (May : Plain → Job → Type 0) (P : Problem) (n : Settings) (ms : List Moment) (c : Plain) → IsWithinLimits P → IsRunBy May P n ms c → length c.nodes ≤ most_nodes
 few_run May P n [] c within run = subst {A = Plain} (λ z. length z.nodes ≤ most_nodes) (sym run) (let k = length-with_inputs 1 P.equations [] in let l = within.count in omega (arith, k, l))
 few_run May P n (m ∷ ms) c within (run, f) = go m.entry f (few_run May P n ms m.board within run)
   where

@@ -35,6 +35,7 @@ use Rattle.mkb_model.proofs.Flyers.{is_own, own_of, owners_differ, OwnersLive, o
 use Rattle.mkb_model.proofs.LivingLabels.{IsLabelled, labelled_run}
 use Rattle.mkb_model.proofs.Unmoved.{IsUnmoved, unmoved_effect}
 use Rattle.mkb_model.proofs.Resting.{Rests, rests_from, rests_to, rests_unmoved, rest_unnamed, known_job}
+use Rattle.mkb_model.specs.declared.settings.Settings.{Settings}
 
 -- who is closed or being closed is at rest, and who is closed has no job of its own in flight
 pub record IsResting (b : Plain) : Type 0 where
@@ -181,10 +182,10 @@ resting_landed t b h = record {
 
 -- ---- runs
 
-pub stands_run : (P : Problem) (n : ℕ) (ms : List Moment) (c : Plain) → IsPossibleRun P n ms c → Stands c
+pub stands_run : (P : Problem) (n : Settings) (ms : List Moment) (c : Plain) → IsPossibleRun P n ms c → Stands c
 stands_run P n ms c run = record { clear = flight_clear P n ms c run; apart = (living_forked IsFreeJob P n ms c run).apart; facts = facts_hold IsFreeJob P n ms c run; owners = owners_live P n ms c run; labelled = labelled_run P n ms c run }
 
-resting_follow : (P : Problem) (n : ℕ) (past : List Moment) (b : Plain) (e : Entry) (c : Plain) → IsPossibleRun P n past b → Follows IsFreeJob past b e c → IsResting b → IsResting c
+resting_follow : (P : Problem) (n : Settings) (past : List Moment) (b : Plain) (e : Entry) (c : Plain) → IsPossibleRun P n past b → Follows IsFreeJob past b e c → IsResting b → IsResting c
 resting_follow P n past b (Take w t j) c run f h = subst {A = Plain} IsResting (sym f.leads_to) (resting_taken b w t j f.picked h)
 resting_follow P n past b (Commit w t e) c run f h = subst {A = Plain} IsResting (sym f.leads_to)
     (resting_commit f.finishing.before b w t f.job f.proposal f.finishing.proposed (taken_free P n past b run f.finishing.before w t f.job f.finishing.taken).0
@@ -193,12 +194,12 @@ resting_follow P n past b (Drop w t p) c run f h = subst {A = Plain} IsResting (
 resting_follow P n past b (Abandon w t) c run f h = subst {A = Plain} IsResting (sym f.leads_to) (resting_landed t b h)
 resting_follow P n past b Halt c run f h = subst {A = Plain} IsResting (sym f.1) h
 
-pub resting_run : (P : Problem) (n : ℕ) (ms : List Moment) (c : Plain) → IsPossibleRun P n ms c → IsResting c
+pub resting_run : (P : Problem) (n : Settings) (ms : List Moment) (c : Plain) → IsPossibleRun P n ms c → IsResting c
 resting_run P n [] c run = subst {A = Plain} IsResting (sym run) (record { closed = λ p e. clash e refl; closing = λ u p i. none_in i; no_own = λ p e. clash e refl })
 resting_run P n (m ∷ ms) c (run, f) = resting_follow P n ms m.board m.entry c run f (resting_run P n ms m.board run)
 
 -- as it is stated
-pub closed_rests : (P : Problem) (n : ℕ) (ms : List Moment) (c : Plain) → IsPossibleRun P n ms c → (p : Name) → ClosedIsAtRest c p
+pub closed_rests : (P : Problem) (n : Settings) (ms : List Moment) (c : Plain) → IsPossibleRun P n ms c → (p : Name) → ClosedIsAtRest c p
 closed_rests P n ms c run p = record {
   closed = λ k. rests_to c p (h.closed p k);
   closing = λ f. rests_to c p (h.closing f.0 p f.1 f.2);

@@ -13,7 +13,7 @@ use Rattle.kb_label.specs.declared.verdict.Reason.TheVariants.{Depth}
 use Rattle.kb_label.specs.declared.verdict.Spent.TheVariants.{Commits, Over}
 use Rattle.mkb_model.specs.DueJobs.{first_job}
 use Rattle.mkb_model.specs.Verdicts.{verdict}
-use Rattle.mkb_model.specs.Journals.{opening}
+use Rattle.mkb_model.specs.Journals.{opening, stated}
 use Rattle.mkb_model.proofs.Replays.{turns, first_jobs, take, finish}
 use Rattle.kb_term.specs.View.{tree_of}
 use Rattle.kb_term.specs.declared.term.Term.{Term}
@@ -85,7 +85,7 @@ row3_proposals =
     ∷ Closed p0
     ∷ []
 
-row3_jobs : first_jobs 1 row3_proposals (opening row3 100) ≡
+row3_jobs : first_jobs 1 row3_proposals (opening row3 (stated 100)) ≡
     Some (Orient e (node 0))
     ∷ Some (Overlap p0 (rule 0 0) (rule 0 0))
     ∷ Some (Close p0)
@@ -93,7 +93,7 @@ row3_jobs : first_jobs 1 row3_proposals (opening row3 100) ≡
     ∷ []
 row3_jobs = refl
 
-row3_verdict : verdict (turns 1 row3_proposals (opening row3 100)) ≡ Some (Complete p0)
+row3_verdict : verdict (turns 1 row3_proposals (opening row3 (stated 100))) ≡ Some (Complete p0)
 row3_verdict = refl
 
 -- ---- f(x,y) == f(y,x): refused in both directions, and closed with its equation
@@ -104,10 +104,10 @@ row4 = record { signature = symbol 102 2 ∷ []; equations = (binary 0 (variable
 abbrev pub row4_proposals : List Proposed
 row4_proposals = Refuse e (node 0) ∷ Closed e ∷ []
 
-row4_jobs : first_jobs 1 row4_proposals (opening row4 100) ≡ Some (Orient e (node 0)) ∷ Some (Close e) ∷ None ∷ []
+row4_jobs : first_jobs 1 row4_proposals (opening row4 (stated 100)) ≡ Some (Orient e (node 0)) ∷ Some (Close e) ∷ None ∷ []
 row4_jobs = refl
 
-row4_verdict : verdict (turns 1 row4_proposals (opening row4 100)) ≡ Some AllFailed
+row4_verdict : verdict (turns 1 row4_proposals (opening row4 (stated 100))) ≡ Some AllFailed
 row4_verdict = refl
 
 -- ---- f(f(x)) == g(x): a fork; process 0 deduces an equation, and process 1, which costs less from then on, closes
@@ -128,7 +128,7 @@ row6_proposals =
     ∷ Closed p1
     ∷ []
 
-row6_jobs : first_jobs 1 row6_proposals (opening row6 100) ≡
+row6_jobs : first_jobs 1 row6_proposals (opening row6 (stated 100)) ≡
     Some (Orient e (node 0))
     ∷ Some (Overlap p0 (rule 0 0) (rule 0 0))
     ∷ Some (Overlap p1 (rule 0 1) (rule 0 1))
@@ -138,7 +138,7 @@ row6_jobs : first_jobs 1 row6_proposals (opening row6 100) ≡
 row6_jobs = refl
 
 abbrev pub row6_end : Plain
-row6_end = turns 1 row6_proposals (opening row6 100)
+row6_end = turns 1 row6_proposals (opening row6 (stated 100))
 
 row6_verdict : verdict row6_end ≡ Some (Complete p1)
 row6_verdict = refl
@@ -178,7 +178,7 @@ row10_proposals =
     ∷ Closed p00
     ∷ []
 
-row10_jobs : first_jobs 1 row10_proposals (opening row10 100) ≡
+row10_jobs : first_jobs 1 row10_proposals (opening row10 (stated 100)) ≡
     Some (Orient e (node 0))
     ∷ Some (Reduce p0 (node 1))
     ∷ Some (Reduce p0 (node 2))
@@ -195,7 +195,7 @@ row10_jobs : first_jobs 1 row10_proposals (opening row10 100) ≡
 row10_jobs = refl
 
 abbrev pub row10_end : Plain
-row10_end = turns 1 row10_proposals (opening row10 100)
+row10_end = turns 1 row10_proposals (opening row10 (stated 100))
 
 row10_verdict : verdict row10_end ≡ Some (Complete p00)
 row10_verdict = refl
@@ -208,7 +208,7 @@ row10_view = refl
 
 -- ---- the same with a budget of one commit
 
-row11_verdict : verdict (turns 1 (Both e (node 0) (Lpo (0 ∷ 1 ∷ 2 ∷ 3 ∷ [])) (Lpo (2 ∷ 0 ∷ 1 ∷ 3 ∷ [])) ∷ []) (opening row10 1)) ≡ Some (Spent Commits)
+row11_verdict : verdict (turns 1 (Both e (node 0) (Lpo (0 ∷ 1 ∷ 2 ∷ 3 ∷ [])) (Lpo (2 ∷ 0 ∷ 1 ∷ 3 ∷ [])) ∷ []) (opening row10 (stated 1))) ≡ Some (Spent Commits)
 row11_verdict = refl
 
 -- ---- f(f(x)) == a: eight commits; the pair of the last overlap is there already, as a rule
@@ -231,7 +231,7 @@ row7_proposals =
     ∷ Closed e
     ∷ []
 
-row7_jobs : first_jobs 1 row7_proposals (opening row7 100) ≡
+row7_jobs : first_jobs 1 row7_proposals (opening row7 (stated 100)) ≡
     Some (Orient e (node 0))
     ∷ Some (Overlap e (rule 0 0) (rule 0 0))
     ∷ Some (Reduce e (node 1))
@@ -244,12 +244,12 @@ row7_jobs : first_jobs 1 row7_proposals (opening row7 100) ≡
     ∷ []
 row7_jobs = refl
 
-row7_verdict : verdict (turns 1 row7_proposals (opening row7 100)) ≡ Some (Complete e)
+row7_verdict : verdict (turns 1 row7_proposals (opening row7 (stated 100))) ≡ Some (Complete e)
 row7_verdict = refl
 
 -- ---- a limit stops the only process
 
-row12_verdict : verdict (turns 1 (One e (node 0) 0 (Lpo (0 ∷ 1 ∷ [])) ∷ Limit (Overlap e (rule 0 0) (rule 0 0)) (record { redex = None; reason = Depth }) ∷ []) (opening row7 100)) ≡ Some (Spent (Over Depth))
+row12_verdict : verdict (turns 1 (One e (node 0) 0 (Lpo (0 ∷ 1 ∷ [])) ∷ Limit (Overlap e (rule 0 0) (rule 0 0)) (record { redex = None; reason = Depth }) ∷ []) (opening row7 (stated 100))) ≡ Some (Spent (Over Depth))
 row12_verdict = refl
 
 -- ---- f(f(x)) == a, b == c with tickets in flight: a fork while the overlap of the forked process is under way
@@ -262,7 +262,7 @@ row15 = record {
 
 -- two tickets are finished, and two are in flight
 abbrev pub row15_flying : Plain
-row15_flying = take 4 (take 3 (turns 1 (One e (node 0) 0 (Lpo (0 ∷ 1 ∷ 2 ∷ 3 ∷ [])) ∷ Facts (fact 1 0 (rule 0 0) ∷ fact 1 1 (rule 0 0) ∷ []) ∷ []) (opening row15 100)))
+row15_flying = take 4 (take 3 (turns 1 (One e (node 0) 0 (Lpo (0 ∷ 1 ∷ 2 ∷ 3 ∷ [])) ∷ Facts (fact 1 0 (rule 0 0) ∷ fact 1 1 (rule 0 0) ∷ []) ∷ []) (opening row15 (stated 100))))
 
 row15_flight : row15_flying.flight ≡
     record { number = 3; worker = 1; job = Orient e (node 1) }
@@ -282,7 +282,7 @@ row15_equation = refl
 -- ---- f(a) == b, f(a) == c with tickets in flight: an orientation is dropped, since its equation was rewritten meanwhile
 
 abbrev pub row16_flying : Plain
-row16_flying = take 3 (take 2 (turns 1 (Both e (node 0) (Lpo (0 ∷ 1 ∷ 2 ∷ 3 ∷ [])) (Lpo (2 ∷ 0 ∷ 1 ∷ 3 ∷ [])) ∷ []) (opening row10 100)))
+row16_flying = take 3 (take 2 (turns 1 (Both e (node 0) (Lpo (0 ∷ 1 ∷ 2 ∷ 3 ∷ [])) (Lpo (2 ∷ 0 ∷ 1 ∷ 3 ∷ [])) ∷ []) (opening row10 (stated 100))))
 
 row16_flight : row16_flying.flight ≡
     record { number = 2; worker = 1; job = Reduce p0 (node 1) }
@@ -296,7 +296,7 @@ row16_drop = refl
 -- ---- the same after four tickets: a rule is composed while its overlaps are under way
 
 abbrev pub row17_flying : Plain
-row17_flying = take 7 (take 6 (take 5 (turns 1 (list_take 4 row10_proposals) (opening row10 100))))
+row17_flying = take 7 (take 6 (take 5 (turns 1 (list_take 4 row10_proposals) (opening row10 (stated 100)))))
 
 row17_flight : row17_flying.flight ≡
     record { number = 5; worker = 1; job = Reduce p00 (node 0) }
@@ -322,10 +322,10 @@ row1 = record { signature = symbol 102 1 ∷ []; equations = (unary 0 (variable 
 abbrev pub row1_proposals : List Proposed
 row1_proposals = One e (node 0) 1 (Lpo (0 ∷ [])) ∷ Deduce (rule 0 1) (rule 0 1) [] ∷ Closed e ∷ []
 
-row1_jobs : first_jobs 1 row1_proposals (opening row1 100) ≡ Some (Orient e (node 0)) ∷ Some (Overlap e (rule 0 1) (rule 0 1)) ∷ Some (Close e) ∷ None ∷ []
+row1_jobs : first_jobs 1 row1_proposals (opening row1 (stated 100)) ≡ Some (Orient e (node 0)) ∷ Some (Overlap e (rule 0 1) (rule 0 1)) ∷ Some (Close e) ∷ None ∷ []
 row1_jobs = refl
 
-row1_verdict : verdict (turns 1 row1_proposals (opening row1 100)) ≡ Some (Complete e)
+row1_verdict : verdict (turns 1 row1_proposals (opening row1 (stated 100))) ≡ Some (Complete e)
 row1_verdict = refl
 
 -- ---- a == a: no node, and a close at once
@@ -333,10 +333,10 @@ row1_verdict = refl
 abbrev pub row8 : Problem
 row8 = record { signature = symbol 97 0 ∷ []; equations = (constant 0, constant 0) ∷ [] }
 
-row8_nodes : (opening row8 100).nodes ≡ []
+row8_nodes : (opening row8 (stated 100)).nodes ≡ []
 row8_nodes = refl
 
-row8_job : first_job (opening row8 100) ≡ Some (Close e)
+row8_job : first_job (opening row8 (stated 100)) ≡ Some (Close e)
 row8_job = refl
 
 -- ---- f(x) == x, f(y) == y: one node, from the first equation
@@ -344,7 +344,7 @@ row8_job = refl
 abbrev pub row9 : Problem
 row9 = record { signature = symbol 102 1 ∷ []; equations = (unary 0 (variable 0), variable 0) ∷ (unary 0 (variable 0), variable 0) ∷ [] }
 
-row9_origins : map (λ (x : PlainNode). x.origin) (opening row9 100).nodes ≡ Input 1 ∷ []
+row9_origins : map (λ (x : PlainNode). x.origin) (opening row9 (stated 100)).nodes ≡ Input 1 ∷ []
 row9_origins = refl
 
 -- ---- f(a) == b, f(a) == c at the end of its run: where the nodes came from

@@ -1,17 +1,18 @@
 -- Legal runs are possible runs: the first job is one of those that may be taken.
-use Rattle.std.proofs.Common.{ℕ, ◌≡◌, ◌⊎◌, inl, inr, refl, sym, subst, List, [], ◌∷◌, Contains, Bool, true, false, cond, Option, Some, None, Ordering, ⊎_elim}
+use Rattle.std.proofs.Common.{◌≡◌, ◌⊎◌, inl, inr, refl, sym, subst, List, [], ◌∷◌, Contains, Bool, true, false, cond, Option, Some, None, Ordering, ⊎_elim}
 use Rattle.std.specs.Option.{option_map_or}
 use Rattle.std.specs.Ordering.{is_le}
 use Rattle.kb_term.proofs.Steps.{contains_behind, contains_first}
 use Rattle.kb_term.specs.Signature.{Problem}
 use Rattle.mkb_model.specs.Jobs.{least, lesser, job_cmp}
-use Rattle.mkb_model.specs.Plain.{Plain, cost}
+use Rattle.mkb_model.specs.Plain.{Plain, cost, weight}
 use Rattle.mkb_model.specs.DueJobs.{free_jobs}
 use Rattle.mkb_model.specs.Journals.{Moment, Follows, IsRunBy, IsRun, IsPossibleRun, IsFreeJob, IsFirstJob}
 use Rattle.kb_node.specs.declared.job.Job.{Job}
 use Rattle.mkb_model.specs.declared.entry.Entry.{Entry}
 use Rattle.mkb_model.specs.declared.entry.Entry.TheVariants.{Take, Commit, Drop, Abandon, Halt}
 use Rattle.mkb_model.proofs.Lists.{some_is, none_some}
+use Rattle.mkb_model.specs.declared.settings.Settings.{Settings}
 
 lesser_cases : {A : Type 0} (cmp : A → A → Ordering) (x y : A) → (lesser cmp x y ≡ x) ⊎ (lesser cmp x y ≡ y)
 lesser_cases {A} cmp x y = go (is_le (cmp x y))
@@ -36,10 +37,10 @@ least-none cmp (x ∷ xs) h = absurd (cc)
 
 -- the first job is a due job that clashes with none in flight
 pub first-free : (b : Plain) (j : Job) → IsFirstJob b j → IsFreeJob b j
-first-free b j h = least-in (job_cmp (cost b)) (free_jobs b) j h
+first-free b j h = least-in (job_cmp (cost b) (weight b)) (free_jobs b) j h
 
 -- a run whose takes are of some jobs is a run whose takes are of more
-pub widened : (May More : Plain → Job → Type 0) → ((b : Plain) (j : Job) → May b j → More b j) → (P : Problem) (n : ℕ) (ms : List Moment) (c : Plain) → IsRunBy May P n ms c → IsRunBy More P n ms c
+pub widened : (May More : Plain → Job → Type 0) → ((b : Plain) (j : Job) → May b j → More b j) → (P : Problem) (n : Settings) (ms : List Moment) (c : Plain) → IsRunBy May P n ms c → IsRunBy More P n ms c
 widened May More h P n [] c run = run
 widened May More h P n (m ∷ ms) c (run, f) = (widened May More h P n ms m.board run, more m.entry f)
   where
@@ -51,5 +52,5 @@ widened May More h P n (m ∷ ms) c (run, f) = (widened May More h P n ms m.boar
     more Halt f = f
 
 -- a legal run is a possible run
-pub legal-possible : (P : Problem) (n : ℕ) (ms : List Moment) (c : Plain) → IsRun P n ms c → IsPossibleRun P n ms c
+pub legal-possible : (P : Problem) (n : Settings) (ms : List Moment) (c : Plain) → IsRun P n ms c → IsPossibleRun P n ms c
 legal-possible P n ms c run = widened IsFirstJob IsFreeJob first-free P n ms c run

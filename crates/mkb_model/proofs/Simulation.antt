@@ -1,5 +1,5 @@
 -- Each entry of a run is zero or more steps of each living process, from the state of its living ancestor, where what is committed is ready.
-use Rattle.std.proofs.Common.{ℕ, ◌≡◌, ◌≢◌, ◌⊎◌, inl, inr, refl, sym, ◌∙◌, subst, List, [], ◌∷◌, Option, Some, None, ⊎_elim, Bool, true, false, cond, not}
+use Rattle.std.proofs.Common.{◌≡◌, ◌≢◌, ◌⊎◌, inl, inr, refl, sym, ◌∙◌, subst, List, [], ◌∷◌, Option, Some, None, ⊎_elim, Bool, true, false, cond, not}
 use Rattle.std.specs.Prelude.{IsFalse}
 use Rattle.std.specs.Option.{option_map_or}
 use Rattle.kb_term.specs.Signature.{Signature, Problem}
@@ -24,6 +24,7 @@ use Rattle.mkb_model.proofs.Changes.{Fits}
 use Rattle.mkb_model.proofs.Commits.{IsApartFrom, applied_reaches, fork_reaches, orients}
 use Rattle.mkb_model.proofs.Fitting.{HasPairs, fits-applied, fits_run, proposed_pairs}
 use Rattle.mkb_model.proofs.Ancestors.{begins-refl, begins-trans, two_beginnings, Simulates, Simulating}
+use Rattle.mkb_model.specs.declared.settings.Settings.{Settings}
 
 -- ---- children
 
@@ -140,7 +141,7 @@ follow_simulates May g past b (Drop w t p) c f fine fits apart = subst {A = Plai
 follow_simulates May g past b (Abandon w t) c f fine fits apart = subst {A = Plain} (λ z. Simulates g b z × AreApart z.living) (sym f.leads_to) (same_board g b (landed t b) refl refl (λ q. refl) apart)
 follow_simulates May g past b Halt c f fine fits apart = subst {A = Plain} (λ z. Simulates g b z × AreApart z.living) (sym f.1) (same_board g b b refl refl (λ q. refl) apart)
 
-pub run_simulates : (May : Plain → Job → Type 0) (P : Problem) (n : ℕ) (ms : List Moment) (c : Plain) (run : IsRunBy May P n ms c) → AllFine May P n ms c run → Simulating P.signature ms c × AreApart c.living
+pub run_simulates : (May : Plain → Job → Type 0) (P : Problem) (n : Settings) (ms : List Moment) (c : Plain) (run : IsRunBy May P n ms c) → AllFine May P n ms c run → Simulating P.signature ms c × AreApart c.living
 run_simulates May P n [] c run fine = (tt, subst {A = Plain} (λ z. AreApart z.living) (sym run) one)
   where
     is_root : (p : Name) → has ([] ∷ []) p ≡ true → p ≡ []

@@ -62,6 +62,7 @@ use Rattle.mkb_model.proofs.Staying.{closers_stay}
 use Rattle.mkb_model.proofs.AllFine.{states_ordered, commits_fine, deduce_named, unjoined_named}
 use Rattle.mkb_model.proofs.Origins.{some_named}
 use Rattle.mkb_model.specs.Limits.{IsLimitedPair, AreLimited}
+use Rattle.mkb_model.specs.declared.settings.Settings.{Settings}
 
 -- ---- what holds of the pair of each node
 
@@ -289,7 +290,7 @@ list_of_some : (o : Option Pair) (q : Pair) → Contains (option_to_list o) q �
 list_of_some None q c = none_in c
 list_of_some (Some z) q c = ⊎_elim (λ e. ap Some e) (λ k. none_in k) (contains_cases z [] q c)
 
-module _ (P : Problem) (n : ℕ) (past : List Moment) (b : Plain) (run : IsPossibleRun P n past b) (s : Stands b) (ordered : (p : Name) → IsOrdered P.signature (state_of b p)) (w t : ℕ) (j : Job) (x : Proposed) (f : IsFinishing past b w t j x) (acts : IsFalse (is_dropped b x)) (limited : AreLimited P.signature b.nodes) where
+module _ (P : Problem) (n : Settings) (past : List Moment) (b : Plain) (run : IsPossibleRun P n past b) (s : Stands b) (ordered : (p : Name) → IsOrdered P.signature (state_of b p)) (w t : ℕ) (j : Job) (x : Proposed) (f : IsFinishing past b w t j x) (acts : IsFalse (is_dropped b x)) (limited : AreLimited P.signature b.nodes) where
   keeps : KeepsPairs f.before.nodes b.nodes
   keeps = pairs_stay IsFreeJob P n past b run (record { board = f.before; entry = Take w t j }) f.taken
 
@@ -351,7 +352,7 @@ limited_inputs g i (e ∷ es) xs h f = limited_inputs g (i + 1) es (with_input (
     go (Some z) c = of_same (IsLimitedPair g) (with_node z (Input i) xs) (with_input (Some z) i xs) (pairs-gains_equation (node_of (with_node z (Input i) xs) z) (root ∷ []) (with_node z (Input i) xs)) (of_with_node (IsLimitedPair g) z (Input i) xs (canonical_limited g e.0 e.1 z c one.left.well_formed one.right.well_formed within) f)
 
 -- the pairs of each board of a possible run of a problem within the limits are within the limits
-pub limited_run : (P : Problem) (n : ℕ) (ms : List Moment) (c : Plain) → IsWithinLimits P → IsPossibleRun P n ms c → AreLimited P.signature c.nodes
+pub limited_run : (P : Problem) (n : Settings) (ms : List Moment) (c : Plain) → IsWithinLimits P → IsPossibleRun P n ms c → AreLimited P.signature c.nodes
 limited_run P n [] c within run = subst {A = Plain} (λ z. AreLimited P.signature z.nodes) (sym run) (limited_inputs P.signature 1 P.equations [] (λ e i. All-contains (IsEquationWithinLimits P.signature) P.equations e within.each i) (λ m q e. none_some e))
 limited_run P n (m ∷ ms) c within (run, f) = go m.entry f (limited_run P n ms m.board within run)
   where

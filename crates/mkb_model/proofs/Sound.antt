@@ -1,5 +1,5 @@
 -- All invariants hold of each board of a possible run of a problem within the limits.
-use Rattle.std.proofs.Common.{ℕ, List}
+use Rattle.std.proofs.Common.{List}
 use Rattle.kb_term.specs.Signature.{Problem, IsWithinLimits}
 use Rattle.mkb_model.specs.Plain.{Plain}
 use Rattle.mkb_model.specs.Invariants.{IsSound}
@@ -14,8 +14,9 @@ use Rattle.mkb_model.proofs.AllFine.{runs_one_role}
 use Rattle.mkb_model.proofs.StillClosed.{closed_run}
 use Rattle.mkb_model.proofs.Certificates.{certified_run, rules_follow}
 use Rattle.mkb_model.proofs.Origins.{pairs_follow_run}
+use Rattle.mkb_model.specs.declared.settings.Settings.{Settings}
 
-pub boards_sound : (P : Problem) (n : ℕ) (ms : List Moment) (c : Plain) → IsWithinLimits P → IsPossibleRun P n ms c → IsSound (tickets ms) c
+pub boards_sound : (P : Problem) (n : Settings) (ms : List Moment) (c : Plain) → IsWithinLimits P → IsPossibleRun P n ms c → IsSound (tickets ms) c
 boards_sound P n ms c within run = record {
   labels = labels_live P n ms c run;
   one_role = runs_one_role P n ms c within run;

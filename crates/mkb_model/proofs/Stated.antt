@@ -11,10 +11,11 @@ use Rattle.mkb_model.specs.Journals.{Moment, IsPossibleRun, IsFreeJob}
 use Rattle.std.specs.declared.option.Option.TheVariants.{None}
 use Rattle.mkb_model.proofs.Selections.{least-none}
 use Rattle.mkb_model.specs.Jobs.{job_cmp}
-use Rattle.mkb_model.specs.Plain.{cost}
+use Rattle.mkb_model.specs.Plain.{cost, weight}
 use Rattle.mkb_model.proofs.Changes.{Fits}
 use Rattle.mkb_model.proofs.Fitting.{fits_run}
 use Rattle.mkb_model.proofs.Endings.{some_flies}
+use Rattle.mkb_model.specs.declared.settings.Settings.{Settings}
 
 -- the pair at a number
 at_number : (xs : List PlainNode) (k : ℕ) (d : PlainNode) → k < length xs → pair_in xs k ≡ Some (get_or xs k d).pair
@@ -30,8 +31,8 @@ pairs_differ b f = record {
       omega (arith, h, k);
 }
 
-pub run_pairs_differ : (P : Problem) (n : ℕ) (ms : List Moment) (b : Plain) → IsPossibleRun P n ms b → PairsDiffer b
+pub run_pairs_differ : (P : Problem) (n : Settings) (ms : List Moment) (b : Plain) → IsPossibleRun P n ms b → PairsDiffer b
 run_pairs_differ P n ms b run = pairs_differ b (fits_run IsFreeJob P n ms b run)
 
 pub none_first : (b : Plain) → verdict b ≡ None → first_job b ≡ None → b.flight ≢ []
-none_first b h k = some_flies b h (least-none (job_cmp (cost b)) (free_jobs b) k)
+none_first b h k = some_flies b h (least-none (job_cmp (cost b) (weight b)) (free_jobs b) k)

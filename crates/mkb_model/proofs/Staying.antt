@@ -44,11 +44,12 @@ use Rattle.mkb_model.proofs.Commits.{IsApartFrom, fork_other}
 use Rattle.mkb_model.proofs.Flyers.{is_own, own_of, owners_differ, owners_live, not_landed, taken_free, unlike}
 use Rattle.mkb_model.proofs.Unmoved.{same_roles, apart_forked, role_tests}
 use Rattle.mkb_model.proofs.Restful.{Stands, stands_run, resting_run, stays}
+use Rattle.mkb_model.specs.declared.settings.Settings.{Settings}
 
 -- ---- from a take to a later board
 
 -- what holds of the nodes and the facts when a ticket is taken, and is kept by each commit of another ticket, holds while it flies
-pub since : (P : Problem) (n : ℕ) (ms : List Moment) (c : Plain) → IsPossibleRun P n ms c → (before : Plain) (w t : ℕ) (j : Job) (Q : List PlainNode → List Fact → Type 0) → Q before.nodes before.facts
+pub since : (P : Problem) (n : Settings) (ms : List Moment) (c : Plain) → IsPossibleRun P n ms c → (before : Plain) (w t : ℕ) (j : Job) (Q : List PlainNode → List Fact → Type 0) → Q before.nodes before.facts
     → ((past : List Moment) (b : Plain) (v s : ℕ) (e : Effect) (d : Plain) → IsPossibleRun P n past b → (f : Follows IsFreeJob past b (Commit v s e) d) → Contains b.flight (record { number = t; worker = w; job = j }) → t ≢ s → Q b.nodes b.facts → Q (effect b f.proposal).nodes (effect b f.proposal).facts)
     → Contains ms (record { board = before; entry = Take w t j }) → Contains c.flight (record { number = t; worker = w; job = j }) → Q c.nodes c.facts
 since P n [] c run before w t j Q q step i k = none_in i
@@ -77,7 +78,7 @@ since P n (m ∷ ms) c (run, f) before w t j Q q step i k = ⊎_elim now (λ l. 
 -- ---- closing
 
 -- a process whose Close is in flight lives, and has the roles that it had when the ticket was taken
-pub closers_stay : (P : Problem) (n : ℕ) (ms : List Moment) (c : Plain) → IsPossibleRun P n ms c → (before : Plain) (w t : ℕ) (p : Name) → Contains ms (record { board = before; entry = Take w t (Close p) }) → Contains c.flight (record { number = t; worker = w; job = Close p }) → (has c.living p ≡ true) × KeepsRoles before.nodes c.nodes p
+pub closers_stay : (P : Problem) (n : Settings) (ms : List Moment) (c : Plain) → IsPossibleRun P n ms c → (before : Plain) (w t : ℕ) (p : Name) → Contains ms (record { board = before; entry = Take w t (Close p) }) → Contains c.flight (record { number = t; worker = w; job = Close p }) → (has c.living p ≡ true) × KeepsRoles before.nodes c.nodes p
 closers_stay P n ms c run before w t p i k = (owners_live P n ms c run (record { number = t; worker = w; job = Close p }) k refl, since P n ms c run before w t (Close p) (λ xs fs. KeepsRoles before.nodes xs p) (same_roles before.nodes p) step i k)
   where
     step : (past : List Moment) (b : Plain) (v s : ℕ) (e : Effect) (d : Plain) → IsPossibleRun P n past b → (f : Follows IsFreeJob past b (Commit v s e) d) → Contains b.flight (record { number = t; worker = w; job = Close p }) → t ≢ s → KeepsRoles before.nodes b.nodes p → KeepsRoles before.nodes (effect b f.proposal).nodes p
@@ -198,7 +199,7 @@ others before b t u (Closed q) h s i k away own = tt
 others before b t u (Limit j cause) h s i k away own = tt
 
 -- a process whose Orient is in flight lives, and has the constraints that it had when the ticket was taken
-pub orienters_stay : (P : Problem) (n : ℕ) (ms : List Moment) (c : Plain) → IsPossibleRun P n ms c → (before : Plain) (w t : ℕ) (p : Name) (m : NodeId) → Contains ms (record { board = before; entry = Take w t (Orient p m) }) → Contains c.flight (record { number = t; worker = w; job = Orient p m }) → (has c.living p ≡ true) × KeepsConstraints before.nodes c.nodes p
+pub orienters_stay : (P : Problem) (n : Settings) (ms : List Moment) (c : Plain) → IsPossibleRun P n ms c → (before : Plain) (w t : ℕ) (p : Name) (m : NodeId) → Contains ms (record { board = before; entry = Take w t (Orient p m) }) → Contains c.flight (record { number = t; worker = w; job = Orient p m }) → (has c.living p ≡ true) × KeepsConstraints before.nodes c.nodes p
 orienters_stay P n ms c run before w t p m i k = (owners_live P n ms c run (record { number = t; worker = w; job = Orient p m }) k refl, since P n ms c run before w t (Orient p m) (λ xs fs. KeepsConstraints before.nodes xs p) (by_roles before.nodes before.nodes p (same_roles before.nodes p)) step i k)
   where
     step : (past : List Moment) (b : Plain) (v s : ℕ) (e : Effect) (d : Plain) → IsPossibleRun P n past b → (f : Follows IsFreeJob past b (Commit v s e) d) → Contains b.flight (record { number = t; worker = w; job = Orient p m }) → t ≢ s → KeepsConstraints before.nodes b.nodes p → KeepsConstraints before.nodes (effect b f.proposal).nodes p
@@ -248,7 +249,7 @@ refused_effect b x p h m = go (limit_of b x)
     go (Some r) = refl
 
 -- a process whose Orient is in flight is refused the nodes that it was refused when the ticket was taken
-pub refused_stay : (P : Problem) (n : ℕ) (ms : List Moment) (c : Plain) → IsPossibleRun P n ms c → (before : Plain) (w t : ℕ) (p : Name) (m : NodeId) → Contains ms (record { board = before; entry = Take w t (Orient p m) }) → Contains c.flight (record { number = t; worker = w; job = Orient p m })
+pub refused_stay : (P : Problem) (n : Settings) (ms : List Moment) (c : Plain) → IsPossibleRun P n ms c → (before : Plain) (w t : ℕ) (p : Name) (m : NodeId) → Contains ms (record { board = before; entry = Take w t (Orient p m) }) → Contains c.flight (record { number = t; worker = w; job = Orient p m })
     → (k : ℕ) → has (label_at c.nodes k X) p ≡ has (label_at before.nodes k X) p
 refused_stay P n ms c run before w t p m i k = since P n ms c run before w t (Orient p m) (λ xs fs. (k : ℕ) → has (label_at xs k X) p ≡ has (label_at before.nodes k X) p) (λ k. refl) step i k
   where

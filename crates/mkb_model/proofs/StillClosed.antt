@@ -33,6 +33,7 @@ use Rattle.mkb_model.proofs.Resting.{rules_in}
 use Rattle.mkb_model.proofs.Restful.{stands_run, resting_run, stays, effect_closed, closing_job, not_forked, IsForkOfClosed}
 use Rattle.mkb_model.proofs.Staying.{closers_stay}
 use Rattle.mkb_model.proofs.AllFine.{pair_there, earlier_run}
+use Rattle.mkb_model.specs.declared.settings.Settings.{Settings}
 
 -- ---- lists
 
@@ -131,7 +132,7 @@ module _ (b c : Plain) (p : Name) (roles : KeepsRoles b.nodes c.nodes p) (keeps 
 closed_nodes : (b : Plain) (x : Proposed) (p : Name) → x ≡ Closed p → (effect b x).nodes ≡ b.nodes
 closed_nodes b x p e = ⊎_elim (λ h. h) (λ h. h ∙ subst {A = Proposed} (λ z. (applied b z).nodes ≡ b.nodes) (sym e) refl) (effect_cases b x)
 
-closed_follow : (P : Problem) (n : ℕ) (past : List Moment) (b : Plain) (e : Entry) (c : Plain) → IsPossibleRun P n past b → Follows IsFreeJob past b e c → ((p : Name) → has b.closed p ≡ true → IsClosedOn b p) → (p : Name) → has c.closed p ≡ true → IsClosedOn c p
+closed_follow : (P : Problem) (n : Settings) (past : List Moment) (b : Plain) (e : Entry) (c : Plain) → IsPossibleRun P n past b → Follows IsFreeJob past b e c → ((p : Name) → has b.closed p ≡ true → IsClosedOn b p) → (p : Name) → has c.closed p ≡ true → IsClosedOn c p
 closed_follow P n past b (Take w t j) c run f h = subst {A = Plain} (λ z. (p : Name) → has z.closed p ≡ true → IsClosedOn z p) (sym f.leads_to) h
 closed_follow P n past b (Commit w t e) c run f h = subst {A = Plain} (λ z. (p : Name) → has z.closed p ≡ true → IsClosedOn z p) (sym f.leads_to) (λ p k. ⊎_elim (old p) (λ r. ⊎_elim (λ i. new p i.0) (λ i. absurd (fork i)) r) (effect_closed b f.proposal p k))
   where
@@ -174,6 +175,6 @@ closed_follow P n past b (Abandon w t) c run f h = subst {A = Plain} (λ z. (p :
 closed_follow P n past b Halt c run f h = subst {A = Plain} (λ z. (p : Name) → has z.closed p ≡ true → IsClosedOn z p) (sym f.1) h
 
 -- what is closed is closed: all overlaps of its rules join or are equations that it has
-pub closed_run : (P : Problem) (n : ℕ) (ms : List Moment) (c : Plain) → IsPossibleRun P n ms c → (p : Name) → has c.closed p ≡ true → IsClosedOn c p
+pub closed_run : (P : Problem) (n : Settings) (ms : List Moment) (c : Plain) → IsPossibleRun P n ms c → (p : Name) → has c.closed p ≡ true → IsClosedOn c p
 closed_run P n [] c run = subst {A = Plain} (λ z. (p : Name) → has z.closed p ≡ true → IsClosedOn z p) (sym run) (λ p k. clash k refl)
 closed_run P n (m ∷ ms) c (run, f) = closed_follow P n ms m.board m.entry c run f (closed_run P n ms m.board run)

@@ -41,6 +41,7 @@ use Rattle.mkb_model.proofs.Readiness.{named_rule}
 use Rattle.mkb_model.proofs.Selections.{legal-possible}
 use Rattle.mkb_model.proofs.Living.{flight_numbered}
 use Rattle.mkb_model.proofs.Flyers.{taken_free}
+use Rattle.mkb_model.specs.declared.settings.Settings.{Settings}
 
 -- ---- the first redex is one
 
@@ -214,7 +215,7 @@ take_number ms m c before w t j f e = at (subst {A = Moment} (λ z. Follows IsFr
     at : Follows IsFreeJob ms before (Take w t j) c → t ≡ tickets ms + 1
     at f = f.next_number
 
-pub taken_once : (P : Problem) (n : ℕ) (ms : List Moment) (c : Plain) → IsPossibleRun P n ms c → (b d : Plain) (v w t : ℕ) (i j : Job) → Contains ms (record { board = b; entry = Take v t i }) → Contains ms (record { board = d; entry = Take w t j }) → b ≡ d
+pub taken_once : (P : Problem) (n : Settings) (ms : List Moment) (c : Plain) → IsPossibleRun P n ms c → (b d : Plain) (v w t : ℕ) (i j : Job) → Contains ms (record { board = b; entry = Take v t i }) → Contains ms (record { board = d; entry = Take w t j }) → b ≡ d
 taken_once P n [] c run b d v w t i j x y = none_in x
 taken_once P n (m ∷ ms) c (run, f) b d v w t i j x y = go (contains_cases m ms (record { board = b; entry = Take v t i }) x) (contains_cases m ms (record { board = d; entry = Take w t j }) y) (λ k l. taken_once P n ms m.board run b d v w t i j k l)
   where
@@ -236,7 +237,7 @@ ticket_once ts differ t u i k e = ⊎_elim (λ l. absurd (apart t u i k l e)) (�
 
 -- ---- runs
 
-follow_once : (P : Problem) (n : ℕ) (past : List Moment) (b : Plain) → IsPossibleRun P n past b → (e : Entry) (c d : Plain) → Follows IsFreeJob past b e c → Follows IsFreeJob past b e d → c ≡ d
+follow_once : (P : Problem) (n : Settings) (past : List Moment) (b : Plain) → IsPossibleRun P n past b → (e : Entry) (c d : Plain) → Follows IsFreeJob past b e c → Follows IsFreeJob past b e d → c ≡ d
 follow_once P n past b run (Take w t j) c d f g = f.leads_to ∙ sym g.leads_to
 follow_once P n past b run (Commit w t e) c d f g = f.leads_to ∙ ap (landed t) (same_effect b f.proposal g.proposal (sym f.names_effect ∙ g.names_effect) (same_label f.finishing.before b f.job f.proposal g.proposal f.finishing.proposed other)) ∙ sym g.leads_to
   where
@@ -267,7 +268,7 @@ same_end {A} (z ∷ xs) (w ∷ ys) x y e =
     (ap₂ (λ (a : A) (l : List A). a ∷ l) h r.0, r.1)
 
 -- a journal decides the run and its board
-pub runs_once : (P : Problem) (n : ℕ) (ms ns : List Moment) (c d : Plain) → IsPossibleRun P n ms c → IsPossibleRun P n ns d → journal_of ms ≡ journal_of ns → (ms ≡ ns) × (c ≡ d)
+pub runs_once : (P : Problem) (n : Settings) (ms ns : List Moment) (c d : Plain) → IsPossibleRun P n ms c → IsPossibleRun P n ns d → journal_of ms ≡ journal_of ns → (ms ≡ ns) × (c ≡ d)
 runs_once P n [] [] c d r s e = (refl, r ∙ sym s)
 runs_once P n [] (k ∷ ns) c d r s e = no_end (journal_of ns) k.entry (sym e)
 runs_once P n (m ∷ ms) [] c d r s e = no_end (journal_of ms) m.entry e
@@ -281,5 +282,5 @@ runs_once P n (m ∷ ms) (k ∷ ns) c d r s e =
     same m k b i = ap₂ (λ (x : Plain) (y : Entry). record { board = x; entry = y }) b i
 
 -- so a legal journal leads to one board
-pub after_once : (P : Problem) (n : ℕ) (J : List Entry) (c d : Plain) → After P n J c → After P n J d → c ≡ d
+pub after_once : (P : Problem) (n : Settings) (J : List Entry) (c d : Plain) → After P n J c → After P n J d → c ≡ d
 after_once P n J c d a b = (runs_once P n a.0 b.0 c d (legal-possible P n a.0 c a.2) (legal-possible P n b.0 d b.2) (a.1 ∙ sym b.1)).1

@@ -4,7 +4,7 @@ use Rattle.std.specs.List.{list_any, flat_map}
 use Rattle.std.specs.declared.option.Option.{Option}
 use Rattle.std.specs.declared.option.Option.TheVariants.{Some, None}
 use Rattle.kb_label.specs.Names.{Name, has}
-use Rattle.mkb_model.specs.Plain.{Plain, node_numbers, label, other, is_equation, is_rule, rules_of, done_of, known, is_over, cost}
+use Rattle.mkb_model.specs.Plain.{Plain, node_numbers, label, other, is_equation, is_rule, rules_of, done_of, known, is_over, cost, weight}
 use Rattle.kb_term.specs.declared.origin.RuleRef.{RuleRef}
 use Rattle.kb_term.specs.declared.origin.Found.{Found}
 use Rattle.kb_term.specs.declared.origin.Found.TheVariants.{No, Variant, Strict}
@@ -91,4 +91,4 @@ free_jobs b = filter (is_free (flying_jobs b)) (due_jobs b)
 
 -- the job that is taken next: the least due job that clashes with none in flight
 abbrev pub first_job : Plain → Option Job
-first_job b = least (job_cmp (cost b)) (free_jobs b)
+first_job b = least (job_cmp (cost b) (weight b)) (free_jobs b)

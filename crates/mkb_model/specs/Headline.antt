@@ -11,6 +11,7 @@ use Rattle.kb_label.specs.declared.verdict.Verdict.{Verdict}
 use Rattle.kb_node.specs.declared.job.Job.{Job}
 use Rattle.mkb_model.specs.declared.entry.Entry.{Entry}
 use Rattle.mkb_model.specs.declared.entry.Entry.TheVariants.{Take}
+use Rattle.mkb_model.specs.declared.settings.Settings.{Settings}
 
 -- the state of p on a board, or of the process there whose forks led to p
 abbrev pub past_state : Name → Plain → KbState
@@ -33,11 +34,11 @@ EachCompletes P ms c = (p : Name) → IsTrue (has c.living p) → IsKbRun P (sta
 abbrev pub TakesAreBy : ℕ → List Entry → Type 0
 TakesAreBy workers J = (w t : ℕ) (j : Job) → Contains J (Take w t j) → (1 ≤ w) × (w ≤ workers)
 
--- the problem is within the limits, so its equations are well formed; the journal is legal for it, the budget and the workers, leads to the board, and each living process completes by itself
-pub record IsOutcome (P : Problem) (budget workers : ℕ) (J : List Entry) (c : Plain) : Type 0 where
+-- the problem is within the limits, so its equations are well formed; the journal is legal for it, the settings and the workers, leads to the board, and each living process completes by itself
+pub record IsOutcome (P : Problem) (settings : Settings) (workers : ℕ) (J : List Entry) (c : Plain) : Type 0 where
   pub within : IsWithinLimits P
   pub moments : List Moment
-  pub run : IsRun P budget moments c
+  pub run : IsRun P settings moments c
   pub journal : journal_of moments ≡ J
   pub takes : TakesAreBy workers J
   pub completes : EachCompletes P moments c

@@ -25,6 +25,7 @@ use Rattle.kb_node.specs.declared.node.NodeId.{NodeId}
 use Rattle.kb_node.specs.declared.node.LabelKind.{LabelKind}
 use Rattle.kb_node.specs.declared.job.Fact.{Fact}
 use Rattle.mkb_model.specs.declared.entry.Ticket.{Ticket}
+use Rattle.mkb_model.specs.declared.settings.Settings.{Settings}
 
 -- the label names living processes, each once, in name order
 pub record IsLabel (b : Plain) (l : List Name) : Type 0 where
@@ -113,11 +114,11 @@ pub record FlightIsNumbered (taken : ℕ) (b : Plain) : Type 0 where
   pub distinct : AllPairs (λ (t u : Ticket). t.number ≢ u.number) b.flight
   pub numbers : (t : Ticket) → Contains b.flight t → (1 ≤ t.number) × (t.number ≤ taken)
 
--- 11: the board is of the problem and the budget, and its commits are within it
-pub record IsWithinBudget (P : Problem) (n : ℕ) (b : Plain) : Type 0 where
+-- 11: the board is of the problem and the settings, and its commits are within the budget
+pub record IsWithinBudget (P : Problem) (s : Settings) (b : Plain) : Type 0 where
   pub problem : b.problem ≡ P
-  pub budget : b.budget ≡ n
-  pub commits : b.commits ≤ n
+  pub settings : b.settings ≡ s
+  pub commits : b.commits ≤ s.budget
 
 -- all of it, after so many takes
 pub record IsSound (taken : ℕ) (b : Plain) : Type 0 where

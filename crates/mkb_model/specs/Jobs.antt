@@ -52,12 +52,13 @@ numbers_cmp [] (m ∷ ms) = Less
 numbers_cmp (n ∷ ns) [] = Greater
 numbers_cmp (n ∷ ns) (m ∷ ms) = ordering_then (nat_cmp n m) (numbers_cmp ns ms)
 
--- the order of jobs: by the cost of the process, its name, the kind, and the numbers in the job
-abbrev pub job_cmp : (Name → ℕ) → Job → Job → Ordering
-job_cmp cost i j =
+-- the order of jobs: by the cost of the process, its name, the kind, the weight, and the numbers in the job
+abbrev pub job_cmp : (Name → ℕ) → (Job → ℕ) → Job → Job → Ordering
+job_cmp cost weight i j =
     ordering_then (nat_cmp (cost (process_of i)) (cost (process_of j)))
     (ordering_then (name_cmp (process_of i) (process_of j))
-    (ordering_then (nat_cmp (kind_number i) (kind_number j)) (numbers_cmp (job_numbers i) (job_numbers j))))
+    (ordering_then (nat_cmp (kind_number i) (kind_number j))
+    (ordering_then (nat_cmp (weight i) (weight j)) (numbers_cmp (job_numbers i) (job_numbers j)))))
 
 -- the lesser of two, the first where they are equal
 abbrev pub lesser : {A : Type 0} → (A → A → Ordering) → A → A → A

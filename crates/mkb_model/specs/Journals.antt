@@ -21,6 +21,8 @@ use Rattle.mkb_model.specs.declared.entry.Ticket.{Ticket}
 use Rattle.mkb_model.specs.declared.entry.Effect.{Effect}
 use Rattle.mkb_model.specs.declared.entry.Entry.{Entry}
 use Rattle.mkb_model.specs.declared.entry.Entry.TheVariants.{Take, Commit, Drop, Abandon, Halt}
+use Rattle.mkb_model.specs.declared.settings.Selection.TheVariants.{Stated}
+use Rattle.mkb_model.specs.declared.settings.Settings.{Settings}
 
 -- ---- the opening board
 
@@ -34,11 +36,15 @@ abbrev pub with_inputs : ℕ → List (Tree × Tree) → List PlainNode → List
 with_inputs i [] xs = xs
 with_inputs i (e ∷ es) xs = with_inputs (i + 1) es (with_input (canonical_pair e.0 e.1) i xs)
 
+-- the settings with this budget under which the stated job comes first
+abbrev pub stated : ℕ → Settings
+stated n = record { budget = n; selection = Stated }
+
 -- the board before any entry: one process, which has the input equations that are not trivial
-abbrev pub opening : Problem → ℕ → Plain
-opening P n = record {
+abbrev pub opening : Problem → Settings → Plain
+opening P s = record {
   problem = P;
-  budget = n;
+  settings = s;
   living = root ∷ [];
   nodes = with_inputs 1 P.equations [];
   done = [];
@@ -147,17 +153,17 @@ IsLeaving (Abandon w t) = ⊤
 IsLeaving Halt = ⊤
 IsLeaving e = ⊥
 
--- these moments, the newest first, make up a journal of the problem and the budget whose takes are of jobs that may be taken, and lead to the board
-abbrev pub IsRunBy : (Plain → Job → Type 0) → Problem → ℕ → List Moment → Plain → Type 0
-IsRunBy May P n [] c = c ≡ opening P n
-IsRunBy May P n (m ∷ past) c = IsRunBy May P n past m.board × Follows May past m.board m.entry c
+-- these moments, the newest first, make up a journal of the problem and the settings whose takes are of jobs that may be taken, and lead to the board
+abbrev pub IsRunBy : (Plain → Job → Type 0) → Problem → Settings → List Moment → Plain → Type 0
+IsRunBy May P s [] c = c ≡ opening P s
+IsRunBy May P s (m ∷ past) c = IsRunBy May P s past m.board × Follows May past m.board m.entry c
 
 -- a possible run: each take is of any due job that clashes with none in flight
-abbrev pub IsPossibleRun : Problem → ℕ → List Moment → Plain → Type 0
+abbrev pub IsPossibleRun : Problem → Settings → List Moment → Plain → Type 0
 IsPossibleRun = IsRunBy IsFreeJob
 
 -- a legal run: each take is of the first of these jobs
-abbrev pub IsRun : Problem → ℕ → List Moment → Plain → Type 0
+abbrev pub IsRun : Problem → Settings → List Moment → Plain → Type 0
 IsRun = IsRunBy IsFirstJob
 
 -- the journal of a run, in order
@@ -166,12 +172,12 @@ journal_of [] = []
 journal_of (m ∷ ms) = journal_of ms ++ m.entry ∷ []
 
 -- the journal is legal, and leads to this board
-abbrev pub After : Problem → ℕ → List Entry → Plain → Type 0
-After P n J c = (ms : List Moment) × (journal_of ms ≡ J) × IsRun P n ms c
+abbrev pub After : Problem → Settings → List Entry → Plain → Type 0
+After P s J c = (ms : List Moment) × (journal_of ms ≡ J) × IsRun P s ms c
 
 -- the journal is legal
-abbrev pub IsLegal : Problem → ℕ → List Entry → Type 0
-IsLegal P n J = (c : Plain) × After P n J c
+abbrev pub IsLegal : Problem → Settings → List Entry → Type 0
+IsLegal P s J = (c : Plain) × After P s J c
 
 -- what each line of a journal text keeps of an entry: of a take its worker, ticket and job, of every other but a halt the ticket
 pub data Move : Type 0 where
@@ -219,7 +225,7 @@ takes_in_turn (Take w t j ∷ e ∷ J) = (w == 1) && (is_end_of t e && takes_in_
 takes_in_turn J = false
 
 -- the journal of one worker: legal, each ticket ended at once, and ended by a verdict
-pub record Alone (P : Problem) (n : ℕ) (J : List Entry) (c : Plain) : Type 0 where
-  pub legal : After P n J c
+pub record Alone (P : Problem) (s : Settings) (J : List Entry) (c : Plain) : Type 0 where
+  pub legal : After P s J c
   pub in_turn : IsTrue (takes_in_turn J)
   pub ended : IsSome (verdict c)

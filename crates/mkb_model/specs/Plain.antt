@@ -20,7 +20,12 @@ use Rattle.kb_label.specs.declared.verdict.Reason.TheVariants.{Nodes, Processes,
 use Rattle.kb_node.specs.declared.node.LabelKind.{LabelKind}
 use Rattle.kb_node.specs.declared.node.LabelKind.TheVariants.{R0, R1, E, C0, C1, X}
 use Rattle.kb_node.specs.declared.job.Fact.{Fact}
+use Rattle.kb_node.specs.declared.job.Job.{Job}
+use Rattle.kb_node.specs.declared.job.Job.TheVariants.{Reduce, Orient, Overlap, Close}
 use Rattle.mkb_model.specs.declared.entry.Ticket.{Ticket}
+use Rattle.mkb_model.specs.declared.settings.Selection.{Selection}
+use Rattle.mkb_model.specs.declared.settings.Selection.TheVariants.{Stated, Size as BySize}
+use Rattle.mkb_model.specs.declared.settings.Settings.{Settings}
 
 -- ---- the parts
 
@@ -54,7 +59,7 @@ pub record Certified : Type 0 where
 -- the whole board without its journal
 pub record Plain : Type 0 where
   pub problem : Problem
-  pub budget : ℕ
+  pub settings : Settings
   pub living : List Name
   pub nodes : List PlainNode
   pub done : List Done
@@ -233,9 +238,34 @@ pair_size q = tree_size q.first + tree_size q.second
 abbrev pub node_size : Plain → ℕ → ℕ
 node_size b n = option_map_or pair_size (pair_at b n) 0
 
--- the cost of a process: the sizes of both sides of its equations and its constraints
+-- the sizes of the nodes of these rules
+abbrev pub rule_sizes : Plain → List RuleRef → ℕ
+rule_sizes b refs = sum_by (λ (a : RuleRef). node_size b a.node) refs
+
+-- the rules that count for the cost of a process, by the selection
+abbrev pub counted_rules : Selection → Plain → Name → List RuleRef
+counted_rules Stated b p = []
+counted_rules BySize b p = rules_of b p
+
+-- the cost of a process: the sizes of both sides of its equations and its constraints, and of its rules where the selection counts them
 abbrev pub cost : Plain → Name → ℕ
-cost b p = sum_by (node_size b) (equations_of b p) + sum_by (λ (a : RuleRef). node_size b a.node) (constraints_of b p)
+cost b p = (sum_by (node_size b) (equations_of b p) + rule_sizes b (constraints_of b p)) + rule_sizes b (counted_rules b.settings.selection b p)
+
+-- the nodes that a job names
+abbrev pub job_nodes : Job → List ℕ
+job_nodes (Reduce p n) = n.0 ∷ []
+job_nodes (Orient p n) = n.0 ∷ []
+job_nodes (Overlap p a c) = a.node ∷ c.node ∷ []
+job_nodes (Close p) = []
+
+-- the weight of a job by the selection: of the stated one no job has any, of the other the sizes of the nodes that it names
+abbrev pub weight_by : Selection → Plain → Job → ℕ
+weight_by Stated b j = 0
+weight_by BySize b j = sum_by (node_size b) (job_nodes j)
+
+-- the weight of a job
+abbrev pub weight : Plain → Job → ℕ
+weight b = weight_by b.settings.selection b
 
 -- the six reasons, with nobody who gave up
 abbrev pub nobody_over : List GivenUp

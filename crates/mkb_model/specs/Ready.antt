@@ -23,6 +23,7 @@ use Rattle.mkb_model.specs.declared.proposed.Proposed.{Proposed}
 use Rattle.mkb_model.specs.declared.proposed.Proposed.TheVariants.{Facts, Rewrite, One, Both, Refuse, Deduce, Unjoined, Closed, Limit}
 use Rattle.mkb_model.specs.declared.entry.Entry.{Entry}
 use Rattle.mkb_model.specs.declared.entry.Entry.TheVariants.{Take, Commit, Drop, Abandon, Halt}
+use Rattle.mkb_model.specs.declared.settings.Settings.{Settings}
 
 -- ---- nodes
 
@@ -120,6 +121,6 @@ CommitsFine May g past b (Abandon w t) c f = ⊤
 CommitsFine May g past b Halt c f = ⊤
 
 -- each commit of the run is fine
-abbrev pub AllFine : (May : Plain → Job → Type 0) (P : Problem) (n : ℕ) (ms : List Moment) (c : Plain) → IsRunBy May P n ms c → Type 0
+abbrev pub AllFine : (May : Plain → Job → Type 0) (P : Problem) (n : Settings) (ms : List Moment) (c : Plain) → IsRunBy May P n ms c → Type 0
 AllFine May P n [] c run = ⊤
 AllFine May P n (m ∷ ms) c run = CommitsFine May P.signature ms m.board m.entry c run.1 × AllFine May P n ms m.board run.0

@@ -35,7 +35,7 @@ abbrev pub verdict : Plain → Option Verdict
 verdict b = first_some (
     option_map Complete (find (is_complete b) b.living)
     ∷ some_if (list_all (is_failed b) b.living) AllFailed
-    ∷ some_if (b.commits == b.budget) (IsSpent Commits)
+    ∷ some_if (b.commits == b.settings.budget) (IsSpent Commits)
     ∷ (if list_all (λ p. is_failed b p || is_over b p) b.living
     then option_map (λ r. IsSpent (Over r)) (option_and_then (over_reason b) (first_over b))
     else None)
@@ -69,5 +69,5 @@ pub record HaveGivenUp (b : Plain) (r : Reason) : Type 0 where
 abbrev pub VerdictMeans : Plain → Verdict → Type 0
 VerdictMeans b (Complete p) = HasCompleted b p
 VerdictMeans b AllFailed = (p : Name) → IsTrue (has b.living p) → HasFailed b p
-VerdictMeans b (IsSpent Commits) = b.commits ≡ b.budget
+VerdictMeans b (IsSpent Commits) = b.commits ≡ b.settings.budget
 VerdictMeans b (IsSpent (Over r)) = HaveGivenUp b r

@@ -7,6 +7,7 @@
 mod entry;
 mod laws;
 mod proposed;
+mod settings;
 
 pub use entry::{Effect, Entry, Ticket};
 pub use laws::{
@@ -18,6 +19,7 @@ pub use laws::{
     tickets_are_dropped_after_commits, verdicts_stay, work_goes_on,
 };
 pub use proposed::{DeducedList, FactList, Proposed};
+pub use settings::{Selection, Settings};
 
 #[cfg(test)]
 mod tests;

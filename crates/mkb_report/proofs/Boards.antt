@@ -8,13 +8,13 @@ use Rattle.kb_term.specs.Pair.{Pair}
 use Rattle.kb_term.specs.declared.origin.RuleRef.{RuleRef}
 use Rattle.kb_term.specs.declared.origin.Origin.{Origin}
 use Rattle.kb_overlap.specs.Trace.{IsRightOrigin}
-use Rattle.kb_cert.specs.Family.{family}
+use Rattle.kb_cert.specs.Family.{family, Orders}
 use Rattle.kb_cert.specs.declared.certificate.Certificate.{Certificate}
 use Rattle.kb_laws.specs.Complete.{IsCompleteSystem}
 use Rattle.kb_laws.specs.Overlaps.{OverlapsClose, HaveOneNormalForm}
 use Rattle.kb_label.specs.Names.{Name}
 use Rattle.kb_label.specs.declared.verdict.Verdict.TheVariants.{Complete}
-use Rattle.mkb_model.specs.Plain.{Plain, PlainNode, numbers_from, directions, is_rule, rules_of, rules_at, pair_in, certificate_of}
+use Rattle.mkb_model.specs.Plain.{Plain, PlainNode, numbers_from, directions, is_rule, is_constraint, rules_of, constraints_of, rules_at, pair_in, certificate_of}
 use Rattle.mkb_model.specs.Verdicts.{verdict}
 use Rattle.mkb_model.specs.Journals.{IsPossibleRun, IsFreeJob, tickets}
 use Rattle.mkb_model.specs.Invariants.{IsSound, PairsFollow}
@@ -30,13 +30,15 @@ use Rattle.mkb_model.proofs.Sound.{boards_sound}
 use Rattle.mkb_model.proofs.Sizes.{limited_run}
 use Rattle.mkb_model.proofs.Completed.{good_answer}
 use Rattle.mkb_report.specs.Reports.{IsReached, pairs_of}
+use Rattle.mkb_report.proofs.OneWay.{one_way}
 use Rattle.mkb_report.proofs.Traces.{OriginsAreRight, node_pair, right_alike, mapped_is}
 
--- the rules of the process are a complete system for the problem by its certificate, and what the checker looks at besides
+-- the rules of the process are a complete system for the problem by its certificate, which orders its constraints, and what the checker looks at besides
 pub record IsGoodProcess (b : Plain) (p : Name) : Type 0 where
   pub certificate : Certificate
   pub there : certificate_of b p ≡ Some certificate
   pub member : Contains (family b.problem.signature) certificate
+  pub orders : Orders certificate (rules_at b (constraints_of b p))
   pub system : IsCompleteSystem b.problem certificate (rules_at b (rules_of b p))
   pub overlaps : OverlapsClose (rules_at b (rules_of b p))
   pub inputs : (e : Tree × Tree) → Contains b.problem.equations e → HaveOneNormalForm (rules_at b (rules_of b p)) e.0 e.1
@@ -65,49 +67,52 @@ origins_right b h n x e =
     right_alike b.problem.equations (pair_in (take n b.nodes)) (node_pair (take n (pairs_of b))) x.1 x.0 (λ m. sym (pair_of_first b.nodes n m))
     (subst (λ (z : Pair × Origin). IsRightOrigin b.problem.equations (pair_in (take n b.nodes)) z.1 z.0) y.2 (h n y.0 y.1))
 
+-- ---- at most one rule for each node
+
+module _ (F : RuleRef → Bool) (one : (n : ℕ) → F (record { node = n; dir = 0 }) ≡ true → F (record { node = n; dir = 1 }) ≡ true → ⊥) where
+  one_of_two : (n : ℕ) → length {A = RuleRef} (filter F (directions n)) ≤ 1
+  one_of_two n = go (F (record { node = n; dir = 0 })) (F (record { node = n; dir = 1 })) refl refl
+    where
+      go : (x y : Bool) → F (record { node = n; dir = 0 }) ≡ x → F (record { node = n; dir = 1 }) ≡ y
+          → length {A = RuleRef} (cond x (record { node = n; dir = 0 } ∷ cond y (record { node = n; dir = 1 } ∷ []) []) (cond y (record { node = n; dir = 1 } ∷ []) [])) ≤ 1
+      go true true e f = absurd (one n e f)
+      go true false e f = omega arith
+      go false true e f = omega arith
+      go false false e f = omega arith
+
+  few_passing : (n k : ℕ) → length (filter F (flat_map directions (numbers_from n k))) ≤ k
+  few_passing n zero = omega arith
+  few_passing n (suc k) =
+      let rest = flat_map directions (numbers_from (n + 1) k) in
+      omega (arith, ap length (filter-append F (directions n) rest), length-append (filter F (directions n)) (filter F rest), one_of_two n, few_passing (n + 1) k)
+
 module _ (b : Plain) (r : IsReached b) where
-  run : IsPossibleRun b.problem b.budget r.after.0 (record b { flight = r.flight })
-  run = legal-possible b.problem b.budget r.after.0 (record b { flight = r.flight }) r.after.2
+  run : IsPossibleRun b.problem b.settings r.after.0 (record b { flight = r.flight })
+  run = legal-possible b.problem b.settings r.after.0 (record b { flight = r.flight }) r.after.2
 
   sound : IsSound (tickets r.after.0) (record b { flight = r.flight })
-  sound = boards_sound b.problem b.budget r.after.0 (record b { flight = r.flight }) r.within run
+  sound = boards_sound b.problem b.settings r.after.0 (record b { flight = r.flight }) r.within run
 
   pub right : OriginsAreRight b.problem.equations (pairs_of b)
   right = origins_right b sound.pairs_follow
 
   pub limited : AreLimited b.problem.signature b.nodes
-  limited = limited_run b.problem b.budget r.after.0 (record b { flight = r.flight }) r.within run
+  limited = limited_run b.problem b.settings r.after.0 (record b { flight = r.flight }) r.within run
 
   pub fits : Fits b.nodes
-  fits = fits_run IsFreeJob b.problem b.budget r.after.0 (record b { flight = r.flight }) run
+  fits = fits_run IsFreeJob b.problem b.settings r.after.0 (record b { flight = r.flight }) run
 
   pub formed : (x : PlainNode) → Contains b.nodes x → IsOriginOfForm x.origin
-  formed = origins_of_form b.problem b.budget r.after.0 (record b { flight = r.flight }) run
+  formed = origins_of_form b.problem b.settings r.after.0 (record b { flight = r.flight }) run
 
   pub good : (p : Name) → verdict b ≡ Some (Complete p) → IsGoodProcess b p
   good p stands =
-      let h : IsGoodAnswer b.problem (record b { flight = r.flight }) p = good_answer b.problem b.budget r.after.0 (record b { flight = r.flight }) p r.within run stands in
-      record { certificate = h.certified.certificate; there = h.certified.there; member = h.certified.member; system = h.system; overlaps = h.overlaps; inputs = h.inputs }
+      let h : IsGoodAnswer b.problem (record b { flight = r.flight }) p = good_answer b.problem b.settings r.after.0 (record b { flight = r.flight }) p r.within run stands in
+      record { certificate = h.certified.certificate; there = h.certified.there; member = h.certified.member; orders = h.certified.orders; system = h.system; overlaps = h.overlaps; inputs = h.inputs }
 
-  -- ---- at most one rule for each node
-
-  one_of_two : (p : Name) (n : ℕ) → length {A = RuleRef} (filter (is_rule b p) (directions n)) ≤ 1
-  one_of_two p n = go (is_rule b p (record { node = n; dir = 0 })) (is_rule b p (record { node = n; dir = 1 })) refl refl
-    where
-      go : (x y : Bool) → is_rule b p (record { node = n; dir = 0 }) ≡ x → is_rule b p (record { node = n; dir = 1 }) ≡ y
-          → length {A = RuleRef} (cond x (record { node = n; dir = 0 } ∷ cond y (record { node = n; dir = 1 } ∷ []) []) (cond y (record { node = n; dir = 1 } ∷ []) [])) ≤ 1
-      go true true e f = clash f ((sound.one_role p n).not_both_rules e)
-      go true false e f = omega arith
-      go false true e f = omega arith
-      go false false e f = omega arith
-
-  few_from : (p : Name) (n k : ℕ) → length (filter (is_rule b p) (flat_map directions (numbers_from n k))) ≤ k
-  few_from p n zero = omega arith
-  few_from p n (suc k) =
-      let rest = flat_map directions (numbers_from (n + 1) k) in
-      let F = is_rule b p in
-      omega (arith, ap length (filter-append F (directions n) rest), length-append (filter F (directions n)) (filter F rest), one_of_two p n, few_from p (n + 1) k)
-
-  -- a process has at most as many rules as there are nodes
+  -- a process has at most as many rules as there are nodes, and a good one at most as many constraints
   pub few_rules : (p : Name) → length (rules_of b p) ≤ length b.nodes
-  few_rules p = few_from p 0 (length b.nodes)
+  few_rules p = few_passing (is_rule b p) (λ n e f. clash f ((sound.one_role p n).not_both_rules e)) 0 (length b.nodes)
+
+pub few_constraints : (b : Plain) (p : Name) → IsGoodProcess b p → length (constraints_of b p) ≤ length b.nodes
+few_constraints b p g = few_passing (is_constraint b p) (one_way b p g.certificate g.orders) 0 (length b.nodes)

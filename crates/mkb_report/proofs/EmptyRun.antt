@@ -8,7 +8,7 @@ use Rattle.mkb_model.specs.Plain.{Plain}
 use Rattle.mkb_model.specs.Effects.{effect}
 use Rattle.mkb_model.specs.Proposals.{IsClosedOn}
 use Rattle.mkb_model.specs.Verdicts.{verdict}
-use Rattle.mkb_model.specs.Journals.{Moment, IsFirstJob, IsTaking, IsCommitting, IsFinishing, After, opening, in_flight, landed}
+use Rattle.mkb_model.specs.Journals.{Moment, IsFirstJob, IsTaking, IsCommitting, IsFinishing, After, opening, in_flight, landed, stated}
 use Rattle.kb_node.specs.declared.job.Job.TheVariants.{Close}
 use Rattle.mkb_model.specs.declared.proposed.Proposed.TheVariants.{Closed}
 use Rattle.mkb_model.specs.declared.entry.Effect.TheVariants.{Made}
@@ -16,6 +16,7 @@ use Rattle.mkb_model.specs.declared.entry.Entry.{Entry}
 use Rattle.mkb_model.specs.declared.entry.Entry.TheVariants.{Take, Commit}
 use Rattle.mkb_model.proofs.Lists.{none_in}
 use Rattle.mkb_report.specs.Reports.{IsReached}
+use Rattle.mkb_model.specs.declared.settings.Settings.{Settings}
 
 abbrev pub empty : Problem
 empty = record { signature = []; equations = [] }
@@ -29,19 +30,19 @@ given {E} o b c e h = subst {A = Result Plain E} (λ r. IfOk r (λ z. z ≡ c)) 
 
 -- ---- the opening board
 
-pub opening_reached : (b : Plain) (n : ℕ) → b ≡ opening empty n → IsReached b
+pub opening_reached : (b : Plain) (n : Settings) → b ≡ opening empty n → IsReached b
 opening_reached b n e = subst {A = Plain} IsReached (sym e) (record { within = within; flight = []; journal = []; after = ([], refl, refl) })
 
-pub begun : (b : Plain) → b ≡ opening empty 5 → verdict b ≡ None
+pub begun : (b : Plain) → b ≡ opening empty (stated 5) → verdict b ≡ None
 begun b e = ap verdict e
 
-pub spent : (b : Plain) → b ≡ opening empty 0 → verdict b ≡ Some (Spent Commits)
+pub spent : (b : Plain) → b ≡ opening empty (stated 0) → verdict b ≡ Some (Spent Commits)
 spent b e = ap verdict e
 
 -- ---- one close
 
 abbrev before : Plain
-before = opening empty 100
+before = opening empty (stated 100)
 
 abbrev taken : Plain
 taken = in_flight 1 1 (Close []) before
@@ -75,14 +76,14 @@ commit = record { job = Close []; proposal = Closed []; finishing = finish; acts
 abbrev journal : List Entry
 journal = Take 1 1 (Close []) ∷ Commit 1 1 (Made (Closed [])) ∷ []
 
-after : After empty 100 journal ended
+after : After empty (stated 100) journal ended
 after = (record { board = taken; entry = Commit 1 1 (Made (Closed [])) } ∷ first ∷ [], refl, ((refl, take), commit))
 
 ended_reached : IsReached ended
 ended_reached = record { within = within; flight = []; journal = journal; after = after }
 
-pub closed_reached : (b : Plain) → b ≡ effect (opening empty 100) (Closed []) → IsReached b
+pub closed_reached : (b : Plain) → b ≡ effect (opening empty (stated 100)) (Closed []) → IsReached b
 closed_reached b e = subst {A = Plain} IsReached (sym e) ended_reached
 
-pub complete : (b : Plain) → b ≡ effect (opening empty 100) (Closed []) → verdict b ≡ Some (Complete [])
+pub complete : (b : Plain) → b ≡ effect (opening empty (stated 100)) (Closed []) → verdict b ≡ Some (Complete [])
 complete b e = ap verdict e

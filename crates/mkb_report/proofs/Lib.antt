@@ -1,6 +1,7 @@
 pub mod Rising
 pub mod Traces
 pub mod Forms
+pub mod OneWay
 pub mod Boards
 pub mod Viewed
 pub mod Counted

@@ -1,9 +1,10 @@
 -- An answer of a complete process on a reached board is good, is accepted, has the form of an answer, and is one.
-use Rattle.std.proofs.Common.{ℕ, suc, eqb→eq, ◌+◌, ◌<◌, ◌≤◌, ◌≡◌, ◌∙◌, refl, sym, ap, ap₂, subst, arith, ⊎_elim, eq-eqb, ◌==◌, ◌⊎◌, inl, inr, List, [], ◌∷◌, map, take, not, length, Contains, All, Bool, true, false, cond, Option, Some, slice_get}
+use Rattle.std.proofs.Common.{ℕ, suc, eqb→eq, ◌+◌, ◌<◌, ◌≤◌, ◌≡◌, ◌∙◌, refl, sym, ap, ap₂, subst, arith, ⊎_elim, eq-eqb, ◌==◌, ◌⊎◌, inl, inr, List, [], ◌∷◌, ◌++◌, map, take, not, length, Contains, All, Bool, true, false, cond, Option, Some, slice_get}
 use Rattle.std.specs.Prelude.{T, option_map}
 use Rattle.std.specs.List.{AllZip, cons_option, position_or_len}
 use Rattle.std.specs.Option.{option_map_or}
 use Rattle.std.proofs.lemmas.List.{length-map}
+use Rattle.std.proofs.lemmas.List.Elements.{All-contains, Contains-append_cases, Contains-append_left, Contains-append_right}
 use Rattle.std.proofs.lemmas.Option.{slice_get-map, slice_get_within}
 use Rattle.std.proofs.lemmas.Slice.Zip.{AllZip-long}
 use Rattle.kb_term.specs.Pair.{Pair, place_in}
@@ -13,7 +14,9 @@ use Rattle.kb_term.specs.declared.origin.RuleRef.{RuleRef}
 use Rattle.kb_term.specs.declared.origin.Origin.{Origin}
 use Rattle.kb_term.proofs.Steps.{contains_cases, contains_first, contains_behind}
 use Rattle.kb_cert.specs.CertificateText.{is_certificate}
+use Rattle.kb_cert.specs.Family.{Orders}
 use Rattle.kb_cert.proofs.Members.{member_text}
+use Rattle.kb_cert.proofs.Ordering.{orders_among}
 use Rattle.kb_cert.specs.declared.certificate.Certificate.{Certificate}
 use Rattle.kb_overlap.specs.Trace.{TraceStep, item, IsRightTrace}
 use Rattle.kb_laws.specs.Complete.{IsCompleteSystem}
@@ -26,7 +29,7 @@ use Rattle.kb_trace.specs.Reached.{cites, CitesEarlier, IsStepOf, IsTraceOf, num
 use Rattle.kb_trace.specs.TraceText.{is_origin, IsStepForm, IsTraceForm}
 use Rattle.kb_trace.proofs.Reaching.{reached_more}
 use Rattle.kb_trace.proofs.StepForms.{IsUpTo}
-use Rattle.kb_checker.specs.Answers.{Answer, rules_of as answer_rules, IsRuleForm, IsAnswer, IsTraced, IsGoodAnswer}
+use Rattle.kb_checker.specs.Answers.{Answer, rules_of as answer_rules, IsRuleForm, IsAnswer, IsTraced, IsOriented, IsGoodAnswer}
 use Rattle.kb_checker.specs.Verdicts.{IsAccepted, IsProved}
 use Rattle.kb_label.specs.Names.{Name}
 use Rattle.kb_label.specs.declared.verdict.Verdict.{Verdict}
@@ -34,7 +37,7 @@ use Rattle.kb_label.specs.declared.verdict.Verdict.TheVariants.{Complete, AllFai
 use Rattle.kb_label.specs.declared.verdict.Spent.TheVariants.{Commits, Over}
 use Rattle.kb_report.specs.declared.report.Report.{Report}
 use Rattle.kb_report.specs.declared.report.Report.TheVariants.{System}
-use Rattle.mkb_model.specs.Plain.{Plain, PlainNode, rules_of, pair_at, rule_at, rules_at, certificate_of}
+use Rattle.mkb_model.specs.Plain.{Plain, PlainNode, rules_of, constraints_of, pair_at, rule_at, rules_at, certificate_of}
 use Rattle.mkb_model.specs.Effects.{pair_eq}
 use Rattle.mkb_model.specs.Limits.{IsLimitedPair}
 use Rattle.mkb_model.specs.Origins.{IsOriginOfForm}
@@ -44,13 +47,13 @@ use Rattle.mkb_model.proofs.Lists.{in_map, map_in, none_in, same_test, some_is}
 use mathlib.Core.Bool.{true≢false}
 use Rattle.mkb_model.proofs.Pairs.{pair_eq-eq, pair_eq-refl}
 use Rattle.mkb_rules.specs.Named.{IsRuleThere}
-use Rattle.mkb_rules.proofs.Viewed.{rule_there}
+use Rattle.mkb_rules.proofs.Viewed.{rule_there, constraints_there}
 use Rattle.mkb_report.specs.Cited.{cited_by, number_with}
-use Rattle.mkb_report.specs.Reports.{IsReached, IsAnswerOf, IsReportOf, pairs_of, rule_nodes}
+use Rattle.mkb_report.specs.Reports.{IsReached, AreCited, IsAnswerOf, IsReportOf, pairs_of, nodes_of, wanted_nodes}
 use Rattle.mkb_report.proofs.Rising.{few_rising, rising_from}
 use Rattle.mkb_report.proofs.Traces.{node_pair, earlier_is, mapped_is, one_kept, one_trace, right_cites, right_trace, traced}
 use Rattle.mkb_report.proofs.Forms.{origin_form, pair_form, rule_form, rule_pair}
-use Rattle.mkb_report.proofs.Boards.{IsGoodProcess, few_rules, fits, formed, good, limited, pair_of_node, right}
+use Rattle.mkb_report.proofs.Boards.{IsGoodProcess, few_rules, few_constraints, fits, formed, good, limited, pair_of_node, right}
 use Rattle.mkb_report.proofs.Viewed.{parts}
 
 -- ---- rules and the numbers that they cite
@@ -131,54 +134,77 @@ module _ (b : Plain) (p : Name) (a : Answer) (r : IsReached b) (stands : verdict
   same_cert : process.certificate ≡ a.cert
   same_cert = some_is (sym process.there ∙ h.cert)
 
-  zipped : AllZip (IsCitedRule b (number_in h.trace.kept)) (rules_of b p) a.rules
-  zipped = rules_zip b (number_in h.trace.kept) (rules_of b p) a.rules (rule_there b p) h.rules h.cites
+  -- the nodes of these rules are kept
+  abbrev AreKept : List RuleRef → Type 0
+  AreKept names = (x : RuleRef) → Contains names x → IsRuleThere b x × Contains h.trace.kept x.node
 
-  -- a rule's node is kept
-  rule_kept : (x : RuleRef) → Contains (rules_of b p) x → Contains h.trace.kept x.node
-  rule_kept x i = (h.trace.reached x.node).1 (x.node, in_map (λ (c : RuleRef). c.node) (rules_of b p) x i, [], refl)
+  wanted_kept : (x : RuleRef) → Contains (rules_of b p ++ constraints_of b p) x → Contains h.trace.kept x.node
+  wanted_kept x i = (h.trace.reached x.node).1 (x.node, in_map (λ (c : RuleRef). c.node) (rules_of b p ++ constraints_of b p) x i, [], refl)
+
+  rules_kept : AreKept (rules_of b p)
+  rules_kept x i = (rule_there b p x i, wanted_kept x (Contains-append_left (rules_of b p) (constraints_of b p) x i))
+
+  constraints_kept : AreKept (constraints_of b p)
+  constraints_kept x i = (All-contains (IsRuleThere b) (constraints_of b p) x (constraints_there b p) i, wanted_kept x (Contains-append_right (rules_of b p) (constraints_of b p) x i))
+
+  zipped : (names : List RuleRef) (rules : List (Rule × ℕ)) → AreKept names → AreCited b h.trace.kept names rules → AllZip (IsCitedRule b (number_in h.trace.kept)) names rules
+  zipped names rules k c = rules_zip b (number_in h.trace.kept) names rules (λ x i. (k x i).0) c.sides c.steps
 
   -- the step of a kept node
   step_pair : (n : ℕ) (q : Pair) → Contains h.trace.kept n → pair_at b n ≡ Some q → item (step_pairs a.trace) (number_in h.trace.kept n) ≡ Some q
-  step_pair n q c e = traced (pairs_of b) (rule_nodes b p) a.trace h.trace n c ∙ pair_of_node b.nodes n ∙ e
+  step_pair n q c e = traced (pairs_of b) (wanted_nodes b p) a.trace h.trace n c ∙ pair_of_node b.nodes n ∙ e
 
-  rule_traced : (x : Rule × ℕ) → Contains a.rules x → IsTraced a.trace x
-  rule_traced x i =
-      let z = contains_zip (IsCitedRule b (number_in h.trace.kept)) (rules_of b p) a.rules x zipped i in
+  all_traced : (names : List RuleRef) (rules : List (Rule × ℕ)) → AreKept names → AreCited b h.trace.kept names rules → All (IsTraced a.trace) rules
+  all_traced names rules k c = all_from (IsTraced a.trace) rules (λ x i.
+      let z = contains_zip (IsCitedRule b (number_in h.trace.kept)) names rules x (zipped names rules k c) i in
       let own = (fits b r).canonical z.0.node z.2.pair z.2.there in
-      ap (item (step_pairs a.trace)) z.2.number ∙ step_pair z.0.node z.2.pair (rule_kept z.0 z.1) z.2.there
-      ∙ ap Some (sym (ap pair_of_rule z.2.rule ∙ rule_pair z.2.pair z.0.dir own))
+      ap (item (step_pairs a.trace)) z.2.number ∙ step_pair z.0.node z.2.pair (k z.0 z.1).1 z.2.there
+      ∙ ap Some (sym (ap pair_of_rule z.2.rule ∙ rule_pair z.2.pair z.0.dir own)))
 
   system : IsCompleteSystem a.problem a.cert (answer_rules a.rules)
   system =
       subst {A = Problem} (λ z. IsCompleteSystem z a.cert (answer_rules a.rules)) (sym h.problem)
       (subst {A = Certificate} (λ z. IsCompleteSystem b.problem z (answer_rules a.rules)) same_cert
-      (subst {A = List Rule} (λ z. IsCompleteSystem b.problem process.certificate z) (sym h.rules) process.system))
+      (subst {A = List Rule} (λ z. IsCompleteSystem b.problem process.certificate z) (sym h.rules.sides) process.system))
 
   right_steps : IsRightTrace a.problem.equations a.trace
-  right_steps = subst {A = Problem} (λ z. IsRightTrace z.equations a.trace) (sym h.problem) (right_trace (pairs_of b) (rule_nodes b p) a.trace h.trace b.problem.equations (right b r))
+  right_steps = subst {A = Problem} (λ z. IsRightTrace z.equations a.trace) (sym h.problem) (right_trace (pairs_of b) (wanted_nodes b p) a.trace h.trace b.problem.equations (right b r))
 
   citations : All (IsTraced a.trace) a.rules
-  citations = all_from (IsTraced a.trace) a.rules rule_traced
+  citations = all_traced (rules_of b p) a.rules rules_kept h.rules
+
+  constraint_citations : All (IsTraced a.trace) a.constraints
+  constraint_citations = all_traced (constraints_of b p) a.constraints constraints_kept h.constraints
+
+  ordered : Orders a.cert (answer_rules a.constraints)
+  ordered = subst {A = List Rule} (Orders a.cert) (sym h.constraints.sides) (subst {A = Certificate} (λ z. Orders z (rules_at b (constraints_of b p))) same_cert process.orders)
+
+  -- what a certificate orders it orders one by one
+  all_oriented : (rules : List (Rule × ℕ)) → Orders a.cert (answer_rules rules) → All (IsOriented a.cert) rules
+  all_oriented rules o = all_from (IsOriented a.cert) rules (λ x i. orders_among a.cert (answer_rules rules) (x.0 ∷ []) (λ y c. ⊎_elim
+      (λ e. subst {A = Rule} (Contains (answer_rules rules)) e (in_map (λ (z : Rule × ℕ). z.0) rules x i))
+      (λ d. none_in d) (contains_cases x.0 [] y c)) o)
 
   pub made_good : IsGoodAnswer a
-  made_good = record { system = system; right = right_steps; traced = citations }
+  made_good = record { system = system; ordered = ordered; right = right_steps; traced = citations; constraints_traced = constraint_citations }
 
   pub made_accepted : IsAccepted a
   made_accepted = record {
     steps = right_steps;
     citations = citations;
-    orders = system.ordered;
-    overlaps = subst {A = List Rule} OverlapsClose (sym h.rules) process.overlaps;
+    constraint_citations = constraint_citations;
+    constraints = all_oriented a.constraints ordered;
+    orders = all_oriented a.rules system.ordered;
+    overlaps = subst {A = List Rule} OverlapsClose (sym h.rules.sides) process.overlaps;
     equations = all_from (IsProved (answer_rules a.rules)) a.problem.equations (λ e i.
-        subst {A = List Rule} (λ z. HaveOneNormalForm z e.0 e.1) (sym h.rules) (process.inputs e (subst {A = Problem} (λ z. Contains z.equations e) h.problem i)));
+        subst {A = List Rule} (λ z. HaveOneNormalForm z e.0 e.1) (sym h.rules.sides) (process.inputs e (subst {A = Problem} (λ z. Contains z.equations e) h.problem i)));
   }
 
   -- ---- its form
 
   module _ (few : length b.nodes ≤ 4096) where
     numbered : (n : ℕ) → Contains h.trace.kept n → IsUpTo 4096 (number_in h.trace.kept n)
-    numbered n c = record { low = omega arith; high = omega (arith, place_below h.trace.kept n c, few_kept b (rule_nodes b p) a.trace h.trace, few) }
+    numbered n c = record { low = omega arith; high = omega (arith, place_below h.trace.kept n c, few_kept b (wanted_nodes b p) a.trace h.trace, few) }
 
     step_form : (n : ℕ) (s : TraceStep) → Contains h.trace.kept n → IsStepOf (pairs_of b) h.trace.kept n s → IsStepForm b.problem.signature s
     step_form n s c st = record {
@@ -213,26 +239,31 @@ module _ (b : Plain) (p : Name) (a : Answer) (r : IsReached b) (stands : verdict
         earlier m q e = limited b r m q (sym (pair_of_node b.nodes m) ∙ (earlier_is (pairs_of b) n m q e).1)
 
         cited : (m : ℕ) → Contains (cites x.1) m → IsUpTo 4096 (number_in h.trace.kept m)
-        cited m d = numbered m ((h.trace.reached m).1 (reached_more (pairs_of b) (rule_nodes b p) n m ((h.trace.reached n).0 c) (st.0, st.1, d)))
+        cited m d = numbered m ((h.trace.reached m).1 (reached_more (pairs_of b) (wanted_nodes b p) n m ((h.trace.reached n).0 c) (st.0, st.1, d)))
 
     trace_form : IsTraceForm b.problem.signature a.trace
     trace_form = record {
-      count = omega (arith, few_steps b (rule_nodes b p) a.trace h.trace, few);
+      count = omega (arith, few_steps b (wanted_nodes b p) a.trace h.trace, few);
       steps = all_from (IsStepForm b.problem.signature) a.trace (λ s i. let z = contains_zip (IsStepOf (pairs_of b) h.trace.kept) h.trace.kept a.trace s h.trace.steps i in step_form z.0 s z.1 z.2);
     }
 
-    rule_formed : (x : Rule × ℕ) → Contains a.rules x → IsRuleForm b.problem.signature x
-    rule_formed x i =
-        let z = contains_zip (IsCitedRule b (number_in h.trace.kept)) (rules_of b p) a.rules x zipped i in
+    all_formed : (names : List RuleRef) (rules : List (Rule × ℕ)) → AreKept names → AreCited b h.trace.kept names rules → All (IsRuleForm b.problem.signature) rules
+    all_formed names rules k c = all_from (IsRuleForm b.problem.signature) rules (λ x i.
+        let z = contains_zip (IsCitedRule b (number_in h.trace.kept)) names rules x (zipped names rules k c) i in
         let is : (rule_of z.2.pair z.0.dir, number_in h.trace.kept z.0.node) ≡ x = λ j. (sym z.2.rule j, sym z.2.number j) in
         subst {A = Rule × ℕ} (IsRuleForm b.problem.signature) is
-        (rule_form b.problem.signature z.2.pair z.0.dir (number_in h.trace.kept z.0.node) (limited b r z.0.node z.2.pair z.2.there) (numbered z.0.node (rule_kept z.0 z.1)))
+        (rule_form b.problem.signature z.2.pair z.0.dir (number_in h.trace.kept z.0.node) (limited b r z.0.node z.2.pair z.2.there) (numbered z.0.node (k z.0 z.1).1)))
+
+    as_many : (names : List RuleRef) (rules : List (Rule × ℕ)) → AreKept names → AreCited b h.trace.kept names rules → length names ≤ length b.nodes → length rules ≤ 4096
+    as_many names rules k c most = omega (arith, AllZip-long (IsCitedRule b (number_in h.trace.kept)) names rules (zipped names rules k c), most, few)
 
     pub made_form : IsAnswer a
     made_form = record {
       problem = subst {A = Problem} IsWithinLimits (sym h.problem) r.within;
-      count = omega (arith, AllZip-long (IsCitedRule b (number_in h.trace.kept)) (rules_of b p) a.rules zipped, few_rules b r p, few);
-      rules = subst {A = Problem} (λ z. All (IsRuleForm z.signature) a.rules) (sym h.problem) (all_from (IsRuleForm b.problem.signature) a.rules rule_formed);
+      count = as_many (rules_of b p) a.rules rules_kept h.rules (few_rules b r p);
+      rules = subst {A = Problem} (λ z. All (IsRuleForm z.signature) a.rules) (sym h.problem) (all_formed (rules_of b p) a.rules rules_kept h.rules);
+      constraint_count = as_many (constraints_of b p) a.constraints constraints_kept h.constraints (few_constraints b p process);
+      constraints = subst {A = Problem} (λ z. All (IsRuleForm z.signature) a.constraints) (sym h.problem) (all_formed (constraints_of b p) a.constraints constraints_kept h.constraints);
       cert =
           subst {A = Problem} (λ z. is_certificate z.signature a.cert ≡ true) (sym h.problem)
           (subst {A = Certificate} (λ z. is_certificate b.problem.signature z ≡ true) same_cert (member_text b.problem.signature process.certificate process.member));
@@ -257,20 +288,27 @@ module _ (b : Plain) (r : IsReached b) where
         let there : pair_at b m ≡ Some s.pair = sym (pair_of_node b.nodes m) ∙ ap (option_map (λ (x : Pair × Origin). x.0)) h.0.1 ∙ ap Some (sym h.0.2) in
         ap₂ (λ (t : Bool) (k : ℕ). cond (not t) (1 + k) 0) (same_tests m n s.pair q there at) (first_place ns ss h.1)
 
-  cited_is : (p : Name) (trace : List TraceStep) (t : IsTraceOf (pairs_of b) (rule_nodes b p) trace) (a : RuleRef) → IsRuleThere b a → cited_by b trace a ≡ number_in t.kept a.node
+  cited_is : (p : Name) (trace : List TraceStep) (t : IsTraceOf (pairs_of b) (wanted_nodes b p) trace) (a : RuleRef) → IsRuleThere b a → cited_by b trace a ≡ number_in t.kept a.node
   cited_is p trace t a there =
       let q = pair_there b.nodes a.node there.0 in
       ap (λ (o : Option Pair). option_map_or (number_with trace) o 0) q.1 ∙ ap (λ k. k + 1) (first_place t.kept a.node q.0 q.1 t.kept trace t.steps)
 
-  cites_are : (p : Name) (trace : List TraceStep) (t : IsTraceOf (pairs_of b) (rule_nodes b p) trace) (names : List RuleRef) → ((a : RuleRef) → Contains names a → IsRuleThere b a)
-      → map (cited_by b trace) names ≡ map (number_in t.kept) (map (λ (a : RuleRef). a.node) names)
+  cites_are : (p : Name) (trace : List TraceStep) (t : IsTraceOf (pairs_of b) (wanted_nodes b p) trace) (names : List RuleRef) → ((a : RuleRef) → Contains names a → IsRuleThere b a)
+      → map (cited_by b trace) names ≡ map (number_in t.kept) (nodes_of names)
   cites_are p trace t [] h = refl
   cites_are p trace t (a ∷ names) h = ap₂ (λ (n : ℕ) (ns : List ℕ). n ∷ ns) (cited_is p trace t a (h a (contains_first a names))) (cites_are p trace t names (λ c i. h c (contains_behind a names c i)))
 
   -- what the code makes is the answer of the process
-  pub answer_made : (p : Name) (a : Answer) → a.problem ≡ b.problem → map (λ (x : Rule × ℕ). x.0) a.rules ≡ rules_at b (rules_of b p) → certificate_of b p ≡ Some a.cert
-      → IsTraceOf (pairs_of b) (rule_nodes b p) a.trace → map (λ (x : Rule × ℕ). x.1) a.rules ≡ map (cited_by b a.trace) (rules_of b p) → IsAnswerOf b p a
-  answer_made p a problem rules cert trace cites = record { problem = problem; rules = rules; cert = cert; trace = trace; cites = cites ∙ cites_are p a.trace trace (rules_of b p) (rule_there b p) }
+  pub answer_made : (p : Name) (a : Answer) → a.problem ≡ b.problem → certificate_of b p ≡ Some a.cert → IsTraceOf (pairs_of b) (wanted_nodes b p) a.trace
+      → map (λ (x : Rule × ℕ). x.0) a.rules ≡ rules_at b (rules_of b p) → map (λ (x : Rule × ℕ). x.1) a.rules ≡ map (cited_by b a.trace) (rules_of b p)
+      → map (λ (x : Rule × ℕ). x.0) a.constraints ≡ rules_at b (constraints_of b p) → map (λ (x : Rule × ℕ). x.1) a.constraints ≡ map (cited_by b a.trace) (constraints_of b p) → IsAnswerOf b p a
+  answer_made p a problem cert trace rules cites constraints constraint_cites = record {
+    problem = problem;
+    cert = cert;
+    trace = trace;
+    rules = record { sides = rules; steps = cites ∙ cites_are p a.trace trace (rules_of b p) (rule_there b p) };
+    constraints = record { sides = constraints; steps = constraint_cites ∙ cites_are p a.trace trace (constraints_of b p) (λ x i. All-contains (IsRuleThere b) (constraints_of b p) x (constraints_there b p) i) };
+  }
 
 -- ---- one report
 
@@ -286,7 +324,7 @@ one_list (x ∷ xs) (y ∷ ys) e f =
     ap₂ (λ (z : Rule × ℕ) (zs : List (Rule × ℕ)). z ∷ zs) (λ i. (rule i, number i)) (one_list xs ys rules numbers)
 
 one_answer : (b : Plain) (p : Name) (a c : Answer) → IsAnswerOf b p a → IsAnswerOf b p c → a ≡ c
-one_answer b p a c h k = λ i. record { problem = problem i; rules = rules i; cert = cert i; trace = trace i }
+one_answer b p a c h k = λ i. record { problem = problem i; rules = rules i; constraints = constraints i; cert = cert i; trace = trace i }
   where
     problem : a.problem ≡ c.problem
     problem = h.problem ∙ sym k.problem
@@ -295,11 +333,19 @@ one_answer b p a c h k = λ i. record { problem = problem i; rules = rules i; ce
     cert = some_is (sym h.cert ∙ k.cert)
 
     trace : a.trace ≡ c.trace
-    trace = one_trace (pairs_of b) (rule_nodes b p) a.trace c.trace h.trace k.trace
+    trace = one_trace (pairs_of b) (wanted_nodes b p) a.trace c.trace h.trace k.trace
+
+    kept : h.trace.kept ≡ k.trace.kept
+    kept = one_kept (pairs_of b) (wanted_nodes b p) a.trace c.trace h.trace k.trace
+
+    same : (names : List RuleRef) (xs ys : List (Rule × ℕ)) → AreCited b h.trace.kept names xs → AreCited b k.trace.kept names ys → xs ≡ ys
+    same names xs ys x y = one_list xs ys (x.sides ∙ sym y.sides) (x.steps ∙ ap (λ ns. map (number_in ns) (nodes_of names)) kept ∙ sym y.steps)
 
     rules : a.rules ≡ c.rules
-    rules = one_list a.rules c.rules (h.rules ∙ sym k.rules)
-        (h.cites ∙ ap (λ ns. map (number_in ns) (rule_nodes b p)) (one_kept (pairs_of b) (rule_nodes b p) a.trace c.trace h.trace k.trace) ∙ sym k.cites)
+    rules = same (rules_of b p) a.rules c.rules h.rules k.rules
+
+    constraints : a.constraints ≡ c.constraints
+    constraints = same (constraints_of b p) a.constraints c.constraints h.constraints k.constraints
 
 -- a board has at most one report
 pub one_report : (b : Plain) (v : Verdict) (one other : Report) → IsReportOf b v one → IsReportOf b v other → one ≡ other
@@ -314,25 +360,41 @@ one_report b (Spent (Over reason)) one other h k = h ∙ sym k
 pub nodes_cite_earlier : (b : Plain) → IsReached b → CitesEarlier (pairs_of b)
 nodes_cite_earlier b r = right_cites b.problem.equations (pairs_of b) (right b r)
 
--- the nodes of the rules are there
-pub wanted_there : (b : Plain) (p : Name) → All (λ n. n < length (pairs_of b)) (rule_nodes b p)
-wanted_there b p = all_from (λ n. n < length (pairs_of b)) (rule_nodes b p) (λ n i.
-    let a = map_in (λ (x : RuleRef). x.node) (rules_of b p) n i in
-    let l = (rule_there b p a.0 a.1).0 in
+-- the rules and the constraints are there
+named_there : (b : Plain) (p : Name) (x : RuleRef) → Contains (rules_of b p ++ constraints_of b p) x → IsRuleThere b x
+named_there b p x i = ⊎_elim (λ c. rule_there b p x c) (λ c. All-contains (IsRuleThere b) (constraints_of b p) x (constraints_there b p) c) (Contains-append_cases (rules_of b p) (constraints_of b p) x i)
+
+-- and so are their nodes
+pub wanted_there : (b : Plain) (p : Name) → All (λ n. n < length (pairs_of b)) (wanted_nodes b p)
+wanted_there b p = all_from (λ n. n < length (pairs_of b)) (wanted_nodes b p) (λ n i.
+    let a = map_in (λ (x : RuleRef). x.node) (rules_of b p ++ constraints_of b p) n i in
+    let l = (named_there b p a.0 a.1).0 in
     let long : length (pairs_of b) ≡ length b.nodes = length-map b.nodes parts in
     omega (arith, l, a.2, long))
 
+-- what is read of the board
+pub record AreRead (b : Plain) (p : Name) (nodes : List (Pair × Origin)) (rules constraints : List RuleRef) (wanted : List ℕ) : Type 0 where
+  pub nodes_are : nodes ≡ pairs_of b
+  pub rules_are : rules ≡ rules_of b p
+  pub constraints_are : constraints ≡ constraints_of b p
+  pub wanted_are : wanted ≡ nodes_of (rules ++ constraints)
+
+pub wanted_read : (b : Plain) (p : Name) (nodes : List (Pair × Origin)) (rules constraints : List RuleRef) (wanted : List ℕ) → AreRead b p nodes rules constraints wanted → wanted ≡ wanted_nodes b p
+wanted_read b p nodes rules constraints wanted r = r.wanted_are ∙ ap₂ (λ (xs ys : List RuleRef). nodes_of (xs ++ ys)) r.rules_are r.constraints_are
+
 -- the trace of what was read
-pub trace_read : (b : Plain) (p : Name) (nodes : List (Pair × Origin)) (names : List RuleRef) (wanted : List ℕ) (trace : List TraceStep) → nodes ≡ pairs_of b → names ≡ rules_of b p → wanted ≡ map (λ (x : RuleRef). x.node) names
-    → IsTraceOf nodes wanted trace → IsTraceOf (pairs_of b) (rule_nodes b p) trace
-trace_read b p nodes names wanted trace e f g h =
-    subst {A = List (Pair × Origin)} (λ ns. IsTraceOf ns (rule_nodes b p) trace) e
-    (subst {A = List ℕ} (λ ws. IsTraceOf nodes ws trace) (g ∙ ap (map (λ (x : RuleRef). x.node)) f) h)
+pub trace_read : (b : Plain) (p : Name) (nodes : List (Pair × Origin)) (rules constraints : List RuleRef) (wanted : List ℕ) (trace : List TraceStep) → AreRead b p nodes rules constraints wanted
+    → IsTraceOf nodes wanted trace → IsTraceOf (pairs_of b) (wanted_nodes b p) trace
+trace_read b p nodes rules constraints wanted trace r h =
+    subst {A = List (Pair × Origin)} (λ ns. IsTraceOf ns (wanted_nodes b p) trace) r.nodes_are
+    (subst {A = List ℕ} (λ ws. IsTraceOf nodes ws trace) (wanted_read b p nodes rules constraints wanted r) h)
 
 -- the answer of what was read
-pub answer_read : (b : Plain) (p : Name) (a : Answer) (nodes : List (Pair × Origin)) (names : List RuleRef) (wanted : List ℕ) (steps : List TraceStep) → IsReached b
-    → a.problem ≡ b.problem → certificate_of b p ≡ Some a.cert → nodes ≡ pairs_of b → names ≡ rules_of b p → wanted ≡ map (λ (x : RuleRef). x.node) names → IsTraceOf nodes wanted a.trace → steps ≡ a.trace
-    → map (λ (x : Rule × ℕ). x.0) a.rules ≡ rules_at b names → map (λ (x : Rule × ℕ). x.1) a.rules ≡ map (cited_by b steps) names → IsAnswerOf b p a
-answer_read b p a nodes names wanted steps r problem cert e f g t same rules cites =
-    answer_made b r p a problem (rules ∙ ap (rules_at b) f) cert (trace_read b p nodes names wanted a.trace e f g t)
-    (cites ∙ ap₂ (λ (ss : List TraceStep) (ns : List RuleRef). map (cited_by b ss) ns) same f)
+pub answer_read : (b : Plain) (p : Name) (a : Answer) (nodes : List (Pair × Origin)) (rules constraints : List RuleRef) (wanted : List ℕ) (steps : List TraceStep) → IsReached b
+    → AreRead b p nodes rules constraints wanted → a.problem ≡ b.problem → certificate_of b p ≡ Some a.cert → IsTraceOf nodes wanted a.trace → steps ≡ a.trace
+    → map (λ (x : Rule × ℕ). x.0) a.rules ≡ rules_at b rules → map (λ (x : Rule × ℕ). x.1) a.rules ≡ map (cited_by b steps) rules
+    → map (λ (x : Rule × ℕ). x.0) a.constraints ≡ rules_at b constraints → map (λ (x : Rule × ℕ). x.1) a.constraints ≡ map (cited_by b steps) constraints → IsAnswerOf b p a
+answer_read b p a nodes rules constraints wanted steps reached r problem cert t same sides cites constraint_sides constraint_cites =
+    answer_made b reached p a problem cert (trace_read b p nodes rules constraints wanted a.trace r t)
+    (sides ∙ ap (rules_at b) r.rules_are) (cites ∙ ap₂ (λ (ss : List TraceStep) (ns : List RuleRef). map (cited_by b ss) ns) same r.rules_are)
+    (constraint_sides ∙ ap (rules_at b) r.constraints_are) (constraint_cites ∙ ap₂ (λ (ss : List TraceStep) (ns : List RuleRef). map (cited_by b ss) ns) same r.constraints_are)

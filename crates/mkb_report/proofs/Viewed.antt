@@ -15,7 +15,7 @@ use Rattle.kb_node.specs.declared.node.Node.{Node}
 use Rattle.mkb_model.specs.Plain.{Plain, PlainNode, pair_at, rule_at}
 use Rattle.mkb_model.proofs.Lists.{some_is}
 use Rattle.mkb_rules.specs.Parts.{plain_node, plain_nodes}
-pub use Rattle.mkb_rules.proofs.Viewed.{rules_viewed}
+pub use Rattle.mkb_rules.proofs.Viewed.{rules_viewed, constraints_viewed}
 use Rattle.mkb_report.specs.Cited.{cited_by, number_with}
 use Rattle.mkb_report.proofs.Traces.{mapped_is}
 

@@ -1,4 +1,4 @@
--- The steps that the rules of an answer cite.
+-- The steps that the rules and the constraints of an answer cite.
 use Rattle.std.specs.Prelude.{ℕ, ◌+◌, List}
 use Rattle.std.specs.List.{position_or_len}
 use Rattle.std.specs.Option.{option_map_or}

@@ -1,5 +1,5 @@
 -- What a board reports where a verdict stands.
-use Rattle.std.specs.Prelude.{ℕ, ◌≡◌, List, map, length, Some}
+use Rattle.std.specs.Prelude.{ℕ, ◌≡◌, ◌++◌, List, map, length, Some}
 use Rattle.kb_term.specs.Pair.{Pair}
 use Rattle.kb_term.specs.Rule.{Rule}
 use Rattle.kb_term.specs.Signature.{IsWithinLimits}
@@ -11,7 +11,7 @@ use Rattle.kb_label.specs.Names.{Name}
 use Rattle.kb_label.specs.declared.verdict.Verdict.{Verdict}
 use Rattle.kb_label.specs.declared.verdict.Verdict.TheVariants as verdicts
 use Rattle.kb_label.specs.declared.verdict.Spent.TheVariants.{Commits, Over}
-use Rattle.mkb_model.specs.Plain.{Plain, PlainNode, rules_of, rules_at, certificate_of}
+use Rattle.mkb_model.specs.Plain.{Plain, PlainNode, rules_of, constraints_of, rules_at, certificate_of}
 use Rattle.mkb_model.specs.Journals.{After}
 use Rattle.mkb_model.specs.declared.entry.Ticket.{Ticket}
 use Rattle.mkb_model.specs.declared.entry.Entry.{Entry}
@@ -23,23 +23,32 @@ pub record IsReached (b : Plain) : Type 0 where
   pub within : IsWithinLimits b.problem
   pub flight : List Ticket
   pub journal : List Entry
-  pub after : After b.problem b.budget journal (record b { flight = flight })
+  pub after : After b.problem b.settings journal (record b { flight = flight })
 
 -- the pair and the origin of each node
 abbrev pub pairs_of : Plain → List (Pair × Origin)
 pairs_of b = map (λ (x : PlainNode). (x.pair, x.origin)) b.nodes
 
--- the nodes of the process's rules, in order
-abbrev pub rule_nodes : Plain → Name → List ℕ
-rule_nodes b p = map (λ (a : RuleRef). a.node) (rules_of b p)
+-- the nodes of rules, in order
+abbrev pub nodes_of : List RuleRef → List ℕ
+nodes_of names = map (λ (a : RuleRef). a.node) names
 
--- the answer of a process: its rules by node, then direction, its certificate, and as trace the nodes that its rules reach through origins; each rule cites the step of its node
+-- the nodes that an answer has to trace: those of the process's rules and of its constraints
+abbrev pub wanted_nodes : Plain → Name → List ℕ
+wanted_nodes b p = nodes_of (rules_of b p ++ constraints_of b p)
+
+-- the rules with these names, each with the step of its node, where these nodes are kept as steps
+pub record AreCited (b : Plain) (kept : List ℕ) (names : List RuleRef) (rules : List (Rule × ℕ)) : Type 0 where
+  pub sides : map (λ (r : Rule × ℕ). r.0) rules ≡ rules_at b names
+  pub steps : map (λ (r : Rule × ℕ). r.1) rules ≡ map (number_in kept) (nodes_of names)
+
+-- the answer of a process: its rules and its constraints by node, then direction, its certificate, and as trace the nodes that they reach through origins; each cites the step of its node
 pub record IsAnswerOf (b : Plain) (p : Name) (a : Answer) : Type 0 where
   pub problem : a.problem ≡ b.problem
-  pub rules : map (λ (r : Rule × ℕ). r.0) a.rules ≡ rules_at b (rules_of b p)
   pub cert : certificate_of b p ≡ Some a.cert
-  pub trace : IsTraceOf (pairs_of b) (rule_nodes b p) a.trace
-  pub cites : map (λ (r : Rule × ℕ). r.1) a.rules ≡ map (number_in trace.kept) (rule_nodes b p)
+  pub trace : IsTraceOf (pairs_of b) (wanted_nodes b p) a.trace
+  pub rules : AreCited b trace.kept (rules_of b p) a.rules
+  pub constraints : AreCited b trace.kept (constraints_of b p) a.constraints
 
 -- the report of the verdict
 abbrev pub IsReportOf : Plain → Verdict → Report → Type 0

@@ -14,8 +14,8 @@ ghost use Rattle.kb_report.specs.declared.report.Report.{Report};
 ghost use Rattle.mkb_report.specs.Reports.{IsReached, IsAnswerOf, IsReportOf};
 
 /// On a board that a legal journal of a problem within the limits leads to, where the verdict is that a process is complete, its
-/// answer is good: its rules halt, are confluent and prove exactly what the problem proves, its trace is right and traces each
-/// rule. No item of the check of this answer fails; so what the checker says of it, where it has the form of an answer, is that it
+/// answer is good: its rules halt, are confluent and prove exactly what the problem proves, its order orders them and the
+/// constraints, its trace is right and traces each rule and each constraint. No item of the check of this answer fails; so what the checker says of it, where it has the form of an answer, is that it
 /// is accepted.
 pub fn reports_are_good()
     ensures good { (b : Plain) (p : Name) (a : Answer) → IsReached b → verdict b ≡ Some (Complete p) → IsAnswerOf b p a → IsGoodAnswer a }

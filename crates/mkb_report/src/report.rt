@@ -1,13 +1,13 @@
 // The report of a board on which a verdict stands.
-ghost use Rattle.std.specs.Prelude.{◌≡◌, ◌<◌, ◌≤◌, ℕ, Some, All, IfOk, length, map};
+ghost use Rattle.std.specs.Prelude.{◌≡◌, ◌<◌, ◌≤◌, ◌++◌, ℕ, Some, All, IfOk, length, map};
 ghost use Rattle.kb_term.specs.Signature.{IsSignature};
 ghost use Rattle.kb_term.specs.Rule.{Rule as RuleValue};
-ghost use Rattle.mkb_model.specs.Plain.{PlainNode, rules_at, rules_of};
+ghost use Rattle.mkb_model.specs.Plain.{PlainNode, constraints_of, rules_at, rules_of};
 ghost use Rattle.mkb_model.specs.Verdicts.{verdict as verdict_on};
 ghost use Rattle.mkb_rules.specs.Parts.{plain_nodes};
 ghost use Rattle.kb_checker.specs.Answers.{Answer as SystemAnswer};
 ghost use Rattle.kb_report.specs.Answers.{IsSystem};
-ghost use Rattle.mkb_report.specs.Reports.{IsReached, IsAnswerOf, IsReportOf};
+ghost use Rattle.mkb_report.specs.Reports.{IsReached, IsAnswerOf, IsReportOf, nodes_of};
 ghost use Rattle.mkb_rules.specs.Named.{IsRuleThere};
 ghost use Rattle.mkb_report.specs.Cited.{cited_by, number_with as number_of_pair};
 
@@ -20,10 +20,11 @@ use kb_trace::{Step, trace_of};
 use mkb_rules::State;
 use std::alloc::Global;
 
-/// The report of the verdict that stands on the board: of a complete process its answer, that is its rules by node, then
-/// direction, each with the step of its node, its certificate, and as trace the nodes that its rules reach through origins.
+/// The report of the verdict that stands on the board: of a complete process its answer, that is its rules and its constraints
+/// by node, then direction, each with the step of its node, its certificate, and as trace the nodes that they reach through
+/// origins.
 ///
-/// It takes time linear in the nodes, and for each rule time linear in the steps of the trace.
+/// It takes time linear in the nodes, and for each rule and each constraint time linear in the steps of the trace.
 ///
 /// # Errors
 ///
@@ -60,11 +61,14 @@ fn answer_of(alloc: Global, state: &State, p: &Process) -> Result<Answer, Memory
     let cert = state.certificate(p).clone()?;
     let nodes = node_list(alloc, state.nodes())?;
     let view = view_of(state, p)?;
-    let names = view.rules.items();
-    let wanted = nodes_of(alloc, names)?;
+    let rule_names = view.rules.items();
+    let constraint_names = view.constraints.items();
+    let wanted = nodes_of(alloc, rule_names, constraint_names)?;
     let trace = trace_of(alloc, nodes.as_slice(), wanted.as_slice())?;
-    let rules = cited_rules(alloc, state, names, trace.steps())?;
-    Ok(Answer::new(problem, rules, cert, trace))
+    let steps = trace.steps();
+    let rules = cited_rules(alloc, state, rule_names, steps)?;
+    let constraints = cited_rules(alloc, state, constraint_names, steps)?;
+    Ok(Answer::new(problem, rules, constraints, cert, trace))
 }
 
 // The problem, whose names are different identifiers: each signature keeps this, and says so where its symbols are read.
@@ -93,18 +97,23 @@ fn node_list(alloc: Global, table: &NodeTable<ListLabels>) -> Result<Vec<(Pair, 
 }
 
 // What the process sees of the nodes.
-#[tactic(auto, using(crate::proofs::Viewed::rules_viewed))]
+#[tactic(auto, using(crate::proofs::Viewed::rules_viewed, crate::proofs::Viewed::constraints_viewed))]
 fn view_of(state: &State, p: &Process) -> Result<View, Memory>
-    ensures { IfOk result (λ view. view.rules ≡ rules_of state.now p.now) }
+    ensures rules { IfOk result (λ view. view.rules ≡ rules_of state.now p.now) }
+    ensures constraints { IfOk result (λ view. view.constraints ≡ constraints_of state.now p.now) }
 {
     state.nodes().view_of(state.log(), p)
 }
 
-// The nodes of the rules.
-fn nodes_of(alloc: Global, names: &[RuleRef]) -> Result<Vec<u16>, Memory>
-    ensures { IfOk result (λ nodes. nodes.items ≡ map (λ a. a.node) names.now) }
+// The nodes of the rules, and those of the constraints behind them.
+fn nodes_of(alloc: Global, rules: &[RuleRef], constraints: &[RuleRef]) -> Result<Vec<u16>, Memory>
+    ensures { IfOk result (λ nodes. nodes.items ≡ nodes_of (rules.now ++ constraints.now)) }
 {
-    Ok(names.iter().map(|name| name.node).collect(alloc)?)
+    let mut nodes: Vec<u16> = rules.iter().map(|name| name.node).collect(alloc)?;
+    for name in constraints {
+        nodes.push(name.node)?;
+    }
+    Ok(nodes)
 }
 
 // The rules with the names, each with the number of the first step that has the pair of its node.

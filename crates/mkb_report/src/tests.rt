@@ -1,27 +1,28 @@
 // The report and the summary of boards without equations: one process alone, which has nothing to do but to close.
 ghost use Rattle.std.specs.Prelude.{◌≡◌, [], IfOk};
 ghost use Rattle.mkb_model.specs.Effects.{effect};
-ghost use Rattle.mkb_model.specs.Journals.{opening};
+ghost use Rattle.mkb_model.specs.Journals.{opening, stated};
 ghost use Rattle.mkb_model.specs.declared.proposed.Proposed.TheVariants.{Closed};
 
 use super::*;
 use kb_label::{Process, Spent, Verdict};
 use kb_report::{Report, Summary};
 use kb_term::{Memory, Problem, Signature};
+use mkb_model::Settings;
 use mkb_rules::State;
 use std::alloc::Global;
 
 /// The opening board of no equations over no symbols.
 fn opened(alloc: Global, budget: u32) -> Result<State, Memory>
-    ensures { IfOk result (λ state. state ≡ opening (record { signature = []; equations = [] }) budget) }
+    ensures { IfOk result (λ state. state ≡ opening (record { signature = []; equations = [] }) (stated budget)) }
 {
     let problem = Problem::new(Signature::new(Vec::new(alloc)), Vec::new(alloc));
-    State::start(alloc, problem, budget)
+    State::start(alloc, problem, Settings::stated(budget))
 }
 
 /// The same after its process closed.
 fn closed(alloc: Global) -> Result<State, Memory>
-    ensures { IfOk result (λ state. state ≡ effect (opening (record { signature = []; equations = [] }) 100) (Closed [])) }
+    ensures { IfOk result (λ state. state ≡ effect (opening (record { signature = []; equations = [] }) (stated 100)) (Closed [])) }
 {
     let mut state = opened(alloc, 100)?;
     let _applied = state.close(alloc, &Process::root())?;
@@ -37,6 +38,7 @@ fn a_complete_process_without_rules_is_reported(rt: HostRuntime) {
     match report {
         Report::System(answer) => {
             assert!(rt; answer.rules().is_empty());
+            assert!(rt; answer.constraints().is_empty());
             assert!(rt; answer.trace().steps().is_empty());
         }
         _ => panic!(rt; "no system"),

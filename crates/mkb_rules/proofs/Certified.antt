@@ -1,5 +1,5 @@
 -- The orders of processes, by their places.
-use Rattle.std.proofs.Common.{ℕ, suc, ◌≡◌, ◌<◌, ◌≤◌, ◌+◌, Bool, true, false, List, [], ◌∷◌, length, get_or, set, insert, map, Option, Some, None, IsSome, option_map, if◌then◌else◌, refl, ap, sym, subst, ◌∙◌, arith}
+use Rattle.std.proofs.Common.{suc, ◌≡◌, ◌<◌, ◌≤◌, Bool, true, false, List, [], ◌∷◌, length, get_or, set, insert, Option, Some, IsSome, option_map, if◌then◌else◌, refl, ap, arith}
 use Rattle.std.specs.List.{find}
 use Rattle.kb_label.specs.Names.{Name, child, name_eq}
 use Rattle.kb_cert.specs.declared.certificate.Certificate.{Certificate}

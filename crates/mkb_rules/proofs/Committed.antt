@@ -1,7 +1,6 @@
 -- Commits that meet no limit, and those that meet one.
-use Rattle.std.proofs.Common.{ℕ, ◌≡◌, ◌<◌, ◌≤◌, ◌+◌, Bool, true, false, List, [], ◌∷◌, length, map, nat_le, nat_lt, Option, Some, None, refl, ap, sym, ◌∙◌, arith}
+use Rattle.std.proofs.Common.{◌≡◌, ◌<◌, ◌≤◌, ◌+◌, true, false, List, [], ◌∷◌, length, map, nat_le, nat_lt, Option, Some, None, ap, sym, ◌∙◌, arith}
 use Rattle.std.specs.Option.{option_map_or}
-use Rattle.std.proofs.lemmas.Grind.{common_steps}
 use Rattle.std.proofs.lemmas.Bool.Decides.{nat_tests}
 use Rattle.kb_label.specs.Names.{Name, child}
 use Rattle.kb_label.specs.declared.verdict.Reason.{Reason}
@@ -44,7 +43,7 @@ fork_made b mid parts p n c0 c1 h e =
     ap (λ (m : Plain). counted (with_parts parts m)) e
     ∙ (λ i. record {
       problem = b.problem;
-      budget = b.budget;
+      settings = b.settings;
       living = h.living i;
       nodes = fork_of_nodes p n b.nodes;
       done = h.done i;

@@ -1,5 +1,5 @@
 -- A pair that is found, or that gets a node.
-use Rattle.std.proofs.Common.{ℕ, zero, suc, ◌+◌, ◌≡◌, ◌⊎◌, inl, inr, refl, sym, ap, ◌∙◌, subst, arith, List, [], ◌∷◌, ◌++◌, map, length, Result, Ok, Err, Bool, true, false, cond}
+use Rattle.std.proofs.Common.{ℕ, zero, suc, ◌+◌, ◌≡◌, ◌⊎◌, inl, inr, refl, sym, ap, ◌∙◌, subst, arith, List, [], ◌∷◌, ◌++◌, length, Result, Ok, Err, Bool, true, false, cond}
 use Rattle.std.specs.Prelude.{slice_get, option_map, OnOk, OnErr, IfOk, IsFalse, ◌↔◌}
 use Rattle.std.proofs.lemmas.List.{map-append, length-map, append-nil}
 use Rattle.kb_label.specs.Names.{Name}

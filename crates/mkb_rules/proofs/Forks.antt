@@ -1,5 +1,5 @@
 -- Nodes after a fork, one label and one node after another.
-use Rattle.std.proofs.Common.{ℕ, zero, suc, ◌≡◌, ◌+◌, false, List, [], ◌∷◌, length, map, refl, ap, sym, ◌∙◌}
+use Rattle.std.proofs.Common.{ℕ, zero, suc, ◌≡◌, false, List, [], ◌∷◌, length, map, refl, ap, sym, ◌∙◌}
 use Rattle.kb_label.specs.Names.{Name, has, relabel}
 use Rattle.kb_label.proofs.Sets.{relabel-absent}
 use Rattle.kb_node.specs.declared.node.LabelKind.{LabelKind}

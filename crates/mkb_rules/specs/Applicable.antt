@@ -1,5 +1,4 @@
 -- Which proposals can be applied.
-use Rattle.std.specs.Prelude.{ℕ, List}
 use Rattle.kb_term.specs.View.{tree_of}
 use Rattle.mkb_model.specs.Plain.{Plain}
 use Rattle.mkb_model.specs.declared.proposed.Proposed.{Proposed}

@@ -1,5 +1,5 @@
 -- What a call that applies an effect answers.
-use Rattle.std.specs.Prelude.{ℕ, List, ◌≡◌, ◌<◌, Option, Some, None}
+use Rattle.std.specs.Prelude.{◌≡◌, ◌<◌, Option, Some, None}
 use Rattle.kb_label.specs.declared.verdict.Reason.{Reason}
 use Rattle.mkb_model.specs.Plain.{Plain}
 use Rattle.mkb_model.specs.Effects.{effect, limit_of}
@@ -14,7 +14,7 @@ applied_as (Some r) = Over r
 
 -- there is budget for one commit more
 abbrev pub HasBudget : Plain → Type 0
-HasBudget b = b.commits < b.budget
+HasBudget b = b.commits < b.settings.budget
 
 -- the new board is that after the commit of the proposal, and the answer tells the limit that it met
 abbrev pub Commits : Plain → Proposed → Plain → Applied → Type 0

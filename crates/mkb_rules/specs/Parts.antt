@@ -12,6 +12,7 @@ use Rattle.mkb_model.specs.Jobs.{ref_eq}
 use Rattle.kb_node.specs.declared.node.LabelKind.TheVariants.{E}
 use Rattle.mkb_model.specs.Plain.{Plain, PlainNode, Done, GivenUp, Certified, rule_kind, constraint_kind}
 use Rattle.mkb_model.specs.Effects.{gains, loses}
+use Rattle.mkb_model.specs.declared.settings.Settings.{Settings}
 
 -- a node of the table as a node of the plain board
 abbrev pub plain_node : Node (List Name) → PlainNode
@@ -38,10 +39,10 @@ given_up nodes processes size depth variables steps =
     ∷ record { reason = Variables; names = variables } ∷ record { reason = Steps; names = steps } ∷ []
 
 -- the board of these parts, with no ticket in flight
-abbrev pub board_of : Problem → ℕ → List Name → List PlainNode → List Done → List Fact → List Name → List GivenUp → ℕ → List Certified → Plain
-board_of problem budget living nodes done facts closed over commits certificates = record {
+abbrev pub board_of : Problem → Settings → List Name → List PlainNode → List Done → List Fact → List Name → List GivenUp → ℕ → List Certified → Plain
+board_of problem settings living nodes done facts closed over commits certificates = record {
   problem = problem;
-  budget = budget;
+  settings = settings;
   living = living;
   nodes = nodes;
   done = done;

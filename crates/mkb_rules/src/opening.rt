@@ -19,6 +19,7 @@ use kb_cert::search;
 use kb_label::{Labels, ListLabels, Living, NameLog, Process};
 use kb_node::NodeFault;
 use kb_term::{Memory, Origin, Problem, Signature, Term, canonical};
+use mkb_model::Settings;
 use std::alloc::Global;
 
 impl State {
@@ -28,16 +29,16 @@ impl State {
     /// # Errors
     ///
     /// Want of memory.
-    pub fn start(alloc: Global, problem: Problem, budget: u32) -> Result<State, Memory>
+    pub fn start(alloc: Global, problem: Problem, settings: Settings) -> Result<State, Memory>
         requires { IsWithinLimits problem }
-        ensures { IfOk result (λ state. state ≡ opening problem budget) }
+        ensures { IfOk result (λ state. state ≡ opening problem settings) }
     {
         let log = NameLog::start(alloc)?;
         let nodes = input_nodes(alloc, &log, problem.equations())?;
         let certificates = first_certificates(alloc, problem.signature())?;
         Ok(State {
             problem,
-            budget,
+            settings,
             log,
             nodes,
             done: Vec::new(alloc),

@@ -13,6 +13,7 @@ use kb_cert::Certificate;
 use kb_label::{Labels, ListLabels, NameLog, Process, Reason};
 use kb_node::{LabelKind, NodeId, NodeTable};
 use kb_term::{Found, Problem, RuleRef};
+use mkb_model::Settings;
 use std::marker::Model;
 
 /// The processes for which two rules have been overlapped.
@@ -45,7 +46,7 @@ pub(crate) struct Certified {
 #[derive(Drop)]
 pub struct State {
     pub(crate) problem: Problem,
-    pub(crate) budget: u32,
+    pub(crate) settings: Settings,
     pub(crate) log: NameLog,
     pub(crate) nodes: Nodes,
     pub(crate) done: Vec<DonePair>,
@@ -69,7 +70,7 @@ impl Model for State {
 
     ghost coded = { Prim.hlevel (codes, coded_pair, coded_problem, coded_tree) };
 
-    ghost view = { λ s. board_of s.problem s.budget s.log s.nodes.now
+    ghost view = { λ s. board_of s.problem s.settings s.log s.nodes.now
         (map (λ (d : DonePair). record { first = d.first; second = d.second; names = d.names }) s.done.items)
         s.facts s.closed
         (given_up s.over.nodes s.over.processes s.over.size s.over.depth s.over.variables s.over.steps)
@@ -85,11 +86,11 @@ impl State {
         self.commits
     }
 
-    /// How many commits there may be.
-    pub fn budget(&self) -> u32
-        ensures { result ≡ self.now.budget }
+    /// The settings of the run.
+    pub fn settings(&self) -> Settings
+        ensures { result ≡ self.now.settings }
     {
-        self.budget
+        self.settings
     }
 
     /// The problem.

@@ -14,7 +14,7 @@ use kb_label::{Labels, Living, Process, Reason};
 use kb_node::{Deduced, Fact, Job, LabelKind, LimitCause, NodeId};
 use kb_syntax::{parse_problem, spelled_problems_are_within_limits};
 use kb_term::{Found, Pair, Position, Problem, RuleRef, Term, pair_limit};
-use mkb_model::{DeducedList, Proposed};
+use mkb_model::{DeducedList, Proposed, Settings};
 use mkb_rules::{Applied, State};
 use std::alloc::Global;
 use std::process::Abort;
@@ -33,14 +33,14 @@ pub(crate) fn problem(rt: &impl Abort, alloc: Global, text: &[u8]) -> Problem
 /// The state of the problem before any commit, with a budget of 100 commits.
 pub(crate) fn opened(rt: &impl Abort, alloc: Global, text: &[u8]) -> State {
     let problem = problem(rt, alloc, text);
-    State::start(alloc, problem, 100).expect(rt, "memory")
+    State::start(alloc, problem, Settings::stated(100)).expect(rt, "memory")
 }
 
 /// There is budget for one commit more.
 pub(crate) fn ready(rt: &impl Abort, state: &State)
     ensures { HasBudget state.now }
 {
-    assert!(rt; state.commits() < state.budget());
+    assert!(rt; state.commits() < state.settings().budget);
 }
 
 /// There is a node with this number.

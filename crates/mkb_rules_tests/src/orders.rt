@@ -8,6 +8,7 @@ use kb_cert::Certificate;
 use kb_label::Process;
 use kb_node::NodeId;
 use kb_term::Symbol;
+use mkb_model::Settings;
 use mkb_rules::{Applied, State};
 use std::alloc::Global;
 use std::process::Abort;
@@ -17,7 +18,7 @@ fn begin(rt: &impl Abort, alloc: Global) -> State
     ensures { IsRootOrdered result }
 {
     let problem = problem(rt, alloc, b"(RULES a == b)");
-    State::start(alloc, problem, 100).expect(rt, "memory")
+    State::start(alloc, problem, Settings::stated(100)).expect(rt, "memory")
 }
 
 // The first process forks: its left child has symbol 0 above symbol 1, its right child below.

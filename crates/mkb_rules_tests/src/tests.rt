@@ -5,6 +5,7 @@ use crate::calls::{
 use crate::terms::{applied_and_bare, first, forth, left, overlap, right};
 use kb_label::{Living, Reason};
 use kb_node::{Deduced, LabelKind};
+use mkb_model::Settings;
 use mkb_rules::{Applied, State};
 use std::alloc::Global;
 use std::process::Abort;
@@ -12,7 +13,7 @@ use std::process::Abort;
 // The state has one process, two equations, and no commit of the 100 that there may be.
 fn is_new(rt: &impl Abort, state: &State) {
     assert_eq!(rt; state.commits(), 0);
-    assert_eq!(rt; state.budget(), 100);
+    assert_eq!(rt; state.settings(), Settings::stated(100));
     assert_eq!(rt; state.nodes().len(), 2);
     assert_eq!(rt; state.problem().equations().len(), 2);
     assert_eq!(rt; state.log().living(), 1);

@@ -1,6 +1,10 @@
 //! Completes a set of term equations: reads a problem, writes a convergent rewrite system with its certificate and traces.
 #![tactic(auto)]
 
+ghost use Rattle.std.specs.Prelude.{◌≡◌};
+ghost use Rattle.std.specs.Process.{exit_status};
+ghost use Rattle.mkbtt_top.specs.Statuses.{code_of};
+
 use kb_io::{OpenGate, StdSink, StdSource};
 use mkbtt_top::{Status, run, status_code, status_line};
 use std::alloc::{AllocError, Global};
@@ -29,6 +33,16 @@ fn words(rt: &HostRuntime) -> Result<Vec<String>, Status> {
     Ok(words)
 }
 
+// Tells the status: by a line on standard error where it has one, and as the program's own.
+fn told(rt: &HostRuntime, status: &Status) -> ExitCode
+    ensures { exit_status result ≡ code_of status.now }
+{
+    if let Ok(line) = status_line(rt.alloc(), status) {
+        let _ = rt.stderr().write_all(&line);
+    }
+    ExitCode::from(status_code(status))
+}
+
 fn main(rt: HostRuntime) -> ExitCode {
     let alloc = rt.alloc();
     let mut source = StdSource::new(rt.stdin());
@@ -40,8 +54,5 @@ fn main(rt: HostRuntime) -> ExitCode {
         },
         Err(status) => status,
     };
-    if let Ok(line) = status_line(alloc, &status) {
-        let _ = rt.stderr().write_all(&line);
-    }
-    ExitCode::from(status_code(&status))
+    told(&rt, &status)
 }

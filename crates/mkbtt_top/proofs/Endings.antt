@@ -1,6 +1,6 @@
 -- What a run leaves, clause by clause.
-use Rattle.std.proofs.Common.{ℕ, ◌≡◌, ◌∙◌, inl, inr, sym, subst, List}
-use Rattle.std.specs.Prelude.{Option}
+use Rattle.std.proofs.Common.{ℕ, ◌≡◌, ◌∙◌, inl, inr, ⊎_elim, refl, sym, subst, List}
+use Rattle.std.specs.Prelude.{Option, None, IsTrue}
 use Rattle.kb_io.specs.Bytes.{Rose, TakesAll}
 use Rattle.kb_text.specs.declared.kind.Kind.{Kind}
 use Rattle.kb_label.specs.declared.verdict.Verdict.{Verdict}
@@ -8,18 +8,23 @@ use Rattle.kb_label.specs.declared.verdict.Verdict.TheVariants as verdicts
 use Rattle.kb_checker.specs.declared.verdict.Checked.{Checked}
 use Rattle.kb_checker.specs.declared.verdict.Checked.TheVariants.{Accepted, Rejected}
 use Rattle.mkb_board.specs.Boards.{Seen}
-use Rattle.mkbtt_top.specs.Checking.{HasBadLine, status_of as status_of_checked}
+use Rattle.mkbtt_top.specs.Answering.{HasBadLine, IsAnswerLong, IsNoTextBy, IsUnreadBy}
+use Rattle.mkbtt_top.specs.Checking.{status_of as status_of_checked}
 use Rattle.mkbtt_top.specs.Completing.{status_of, IsRefusal}
-use Rattle.mkbtt_top.specs.Replies.{status_of_stop}
-use Rattle.mkbtt_top.specs.Runs.{Answers, AnswersInPart, Ends, whole, in_part, stopped, by_text, IsAnswered, IsUnread, Makes, ReadsIfAsked, Refuses, IsRefusedBy, StopsBy, WritesNothing}
-use Rattle.mkbtt_top.specs.Tasks.{AskFor, is_reading}
+use Rattle.mkbtt_top.specs.Replies.{board_of_stop, status_of_stop}
+use Rattle.mkbtt_top.specs.Runs.{Answers, AnswersInPart, Ends, AskToRead, HasBadAnswer, HasNoBoard, whole, in_part, stopped, by_text, IsAnswered, IsUnread, Makes, ReadsIfAsked, Refuses, IsRefusedBy, StopsBy, WritesNothing}
+use Rattle.mkbtt_top.specs.Tasks.{AskFor, form_of, is_reading, reads_answer}
 use Rattle.mkbtt_top.specs.declared.reply.Stop.{Stop}
 use Rattle.mkbtt_top.specs.declared.reply.Stop.TheVariants as stops
 use Rattle.mkbtt_top.specs.declared.status.Status.{Status}
 use Rattle.mkbtt_top.specs.declared.status.Status.TheVariants.{Done, Refused, BadText, ReadFault, WriteFault, Memory, Words}
 use Rattle.mkbtt_top.specs.declared.status.Status.TheVariants as status
 use Rattle.mkbtt_top.specs.declared.task.Task.{Task}
-use Rattle.mkbtt_top.specs.declared.task.Task.TheVariants.{Complete, Check, Summary, Generate}
+use Rattle.mkbtt_top.specs.declared.task.Task.TheVariants.{Complete, Check, Convert, Reduce, Decide, Simplify, Summary, Generate}
+use Rattle.mkb_model.specs.declared.settings.Settings.{Settings}
+use Rattle.kb_reduce.specs.declared.reduction.Reduction.{Reduction}
+use Rattle.kb_reduce.specs.declared.reduction.Reduction.TheVariants as told
+use Rattle.mkbtt_top.specs.Reducing.{Tells}
 
 answered_verdict : (v : Verdict) → IsAnswered (status_of v)
 answered_verdict (verdicts.Complete p) = tt
@@ -30,12 +35,43 @@ answered_check : (c : Checked) → IsAnswered (status_of_checked c)
 answered_check Accepted = tt
 answered_check (Rejected reason n) = tt
 
+answered_told : (r : Reduction) (end : Status) (text : List ℕ) → Tells r end text → IsAnswered end
+answered_told (told.Reduced b) end text h = subst {A = Status} IsAnswered (sym h.0) tt
+answered_told (told.Rejected reason n) end text h = subst {A = Status} IsAnswered (sym h.0) tt
+answered_told (told.Unreduced why n) end text h = subst {A = Status} IsAnswered (sym h.0) tt
+
 -- what a task makes has a status with which it is written
 answered_made : (task : Task) (end : Status) (board : Option Seen) (old new : Option (List ℕ)) (text : List ℕ) → Makes task end board old new text → IsAnswered end
-answered_made (Complete budget) end board old new text h = subst {A = Status} IsAnswered (sym h.completion.completion.status_is) (answered_verdict h.completion.completion.verdict)
+answered_made (Complete settings workers) end board old new text h = subst {A = Status} IsAnswered (sym h.completion.completion.status_is) (answered_verdict h.completion.completion.verdict)
 answered_made Check end board old new text h = subst {A = Status} IsAnswered (sym h.status_is) (answered_check h.checked)
-answered_made (Summary budget number) end board old new text h = subst {A = Status} IsAnswered (sym h.0.status_is) tt
+answered_made (Convert format) end board old new text h = subst {A = Status} IsAnswered (sym h.status_is) tt
+answered_made Reduce end board old new text h = answered_told h.told.reduction end text h.told.told
+answered_made Decide end board old new text h = ⊎_elim (λ r. subst {A = Status} IsAnswered (sym r.status_is) tt) (λ s. subst {A = Status} IsAnswered (sym s.status_is) tt) h.said
+answered_made Simplify end board old new text h = ⊎_elim (λ r. subst {A = Status} IsAnswered (sym r.status_is) tt) (λ s. subst {A = Status} IsAnswered (sym s.status_is) tt) h.said
+answered_made (Summary settings number) end board old new text h = subst {A = Status} IsAnswered (sym h.0.status_is) tt
 answered_made (Generate number) end board old new text h = subst {A = Status} IsAnswered (sym h.0.status_is) tt
+
+board_of_verdict : (v : Verdict) → HasNoBoard (status_of v) → ⊥
+board_of_verdict (verdicts.Complete p) h = h
+board_of_verdict verdicts.AllFailed h = h
+board_of_verdict (verdicts.Spent s) h = h
+
+-- what a task makes that ends without a board has none
+board_made : (task : Task) (end : Status) (board : Option Seen) (old new : Option (List ℕ)) (text : List ℕ) → Makes task end board old new text → HasNoBoard end → board ≡ None
+board_made (Complete settings workers) end board old new text h n = absurd (board_of_verdict h.completion.completion.verdict (subst {A = Status} HasNoBoard h.completion.completion.status_is n))
+board_made Check end board old new text h n = h.board_is
+board_made (Convert format) end board old new text h n = h.board_is
+board_made Reduce end board old new text h n = h.board_is
+board_made Decide end board old new text h n = h.board_is
+board_made Simplify end board old new text h n = h.board_is
+board_made (Summary settings number) end board old new text h n = absurd (subst {A = Status} HasNoBoard h.0.status_is n)
+board_made (Generate number) end board old new text h n = h.0.board_is
+
+board_of_stopped : (stop : Stop) → HasNoBoard (status_of_stop stop) → board_of_stop stop ≡ None
+board_of_stopped (stops.Refused kind at) h = refl
+board_of_stopped (stops.BadText n) h = refl
+board_of_stopped stops.ReadFault h = refl
+board_of_stopped (stops.Memory board) h = absurd h
 
 unanswered_stop : (stop : Stop) → IsAnswered (status_of_stop stop) → ⊥
 unanswered_stop (stops.Refused kind at) h = h
@@ -47,6 +83,7 @@ writes_all : (end : Status) (old new : Option (List ℕ)) → IsAnswered end →
 writes_all Done old new h = tt
 writes_all status.AllFailed old new h = tt
 writes_all (status.Rejected reason n) old new h = tt
+writes_all (status.Unreduced why n) old new h = tt
 writes_all (status.Spent spent) old new h = tt
 writes_all (Refused kind at) old new h = absurd h
 writes_all (BadText n) old new h = absurd h
@@ -59,6 +96,7 @@ writes_none : (end : Status) (old new : Option (List ℕ)) → new ≡ old → W
 writes_none Done old new h = tt
 writes_none status.AllFailed old new h = tt
 writes_none (status.Rejected reason n) old new h = tt
+writes_none (status.Unreduced why n) old new h = tt
 writes_none (status.Spent spent) old new h = tt
 writes_none (Refused kind at) old new h = h
 writes_none (BadText n) old new h = h
@@ -81,10 +119,10 @@ stop_of_words (stops.BadText n) e = cc
 stop_of_words stops.ReadFault e = cc
 stop_of_words (stops.Memory board) e = cc
 
-stop_of_read_fault : (task : Task) (old new : Option (List ℕ)) (before after : ℕ) (stop : Stop) → StopsBy task old new before after stop → status_of_stop stop ≡ ReadFault → Rose before after
+stop_of_read_fault : (task : Task) (old new : Option (List ℕ)) (before after : ℕ) (stop : Stop) → StopsBy task old new before after stop → status_of_stop stop ≡ ReadFault → IsTrue (is_reading task) × Rose before after
 stop_of_read_fault task old new before after (stops.Refused kind at) h e = absurd (cc)
 stop_of_read_fault task old new before after (stops.BadText n) h e = absurd (cc)
-stop_of_read_fault task old new before after stops.ReadFault h e = h.1
+stop_of_read_fault task old new before after stops.ReadFault h e = h
 stop_of_read_fault task old new before after (stops.Memory board) h e = absurd (cc)
 
 stop_of_refused : (task : Task) (old new : Option (List ℕ)) (before after : ℕ) (stop : Stop) (kind : Kind) (at : ℕ) → StopsBy task old new before after stop → status_of_stop stop ≡ Refused kind at → IsRefusedBy task old new kind at
@@ -96,20 +134,56 @@ stop_of_refused task old new before after (stops.BadText n) k m h e = absurd (cc
 stop_of_refused task old new before after stops.ReadFault k m h e = absurd (cc)
 stop_of_refused task old new before after (stops.Memory board) k m h e = absurd (cc)
 
-stop_of_bad_text : (task : Task) (old new : Option (List ℕ)) (before after : ℕ) (stop : Stop) (n : ℕ) → StopsBy task old new before after stop → status_of_stop stop ≡ BadText n → (task ≡ Check) × HasBadLine old new n
+stop_of_bad_text : (task : Task) (old new : Option (List ℕ)) (before after : ℕ) (stop : Stop) (n : ℕ) → StopsBy task old new before after stop → status_of_stop stop ≡ BadText n → IsTrue (reads_answer task) × HasBadLine (form_of task) old new n
 stop_of_bad_text task old new before after (stops.Refused kind at) m h e = absurd (cc)
 stop_of_bad_text task old new before after (stops.BadText n) m h e =
     let same : n ≡ m = cc in
-    subst {A = ℕ} (λ k. (task ≡ Check) × HasBadLine old new k) same h
+    subst {A = ℕ} (λ k. IsTrue (reads_answer task) × HasBadLine (form_of task) old new k) same h
 stop_of_bad_text task old new before after stops.ReadFault m h e = absurd (cc)
 stop_of_bad_text task old new before after (stops.Memory board) m h e = absurd (cc)
 
+-- ---- an answer that isn't read
+
+long_answer : (task : Task) (old new : Option (List ℕ)) (kind : Kind) (at : ℕ) → IsTrue (reads_answer task) → IsAnswerLong old kind at → IsRefusedBy task old new kind at
+long_answer (Complete settings workers) old new kind at r h = absurd (cc)
+long_answer Check old new kind at r h = h
+long_answer (Convert format) old new kind at r h = h
+long_answer Reduce old new kind at r h = h
+long_answer Decide old new kind at r h = h
+long_answer Simplify old new kind at r h = h
+long_answer (Summary settings number) old new kind at r h = absurd (cc)
+long_answer (Generate number) old new kind at r h = absurd (cc)
+
+answer_is_read : (task : Task) → IsTrue (reads_answer task) → IsTrue (is_reading task)
+answer_is_read (Complete settings workers) r = absurd (cc)
+answer_is_read Check r = refl
+answer_is_read (Convert format) r = refl
+answer_is_read Reduce r = refl
+answer_is_read Decide r = refl
+answer_is_read Simplify r = refl
+answer_is_read (Summary settings number) r = absurd (cc)
+answer_is_read (Generate number) r = absurd (cc)
+
+-- why the text of the task's form isn't read is why the task makes nothing
+pub stops_by : (task : Task) (old new : Option (List ℕ)) (before after : ℕ) (stop : Stop) → IsTrue (reads_answer task) → IsNoTextBy (form_of task) old new before after stop → StopsBy task old new before after stop
+stops_by task old new before after (stops.Refused kind at) r h = long_answer task old new kind at r h
+stops_by task old new before after (stops.BadText n) r h = (r, h)
+stops_by task old new before after stops.ReadFault r h = (answer_is_read task r, h)
+stops_by task old new before after (stops.Memory board) r h = tt
+
+-- where no bytes are read, no text is
+pub no_text : (IsOfForm : List ℕ → Type 0) (old new : Option (List ℕ)) (before after : ℕ) (stop : Stop) → IsUnreadBy old before after stop → IsNoTextBy IsOfForm old new before after stop
+no_text IsOfForm old new before after (stops.Refused kind at) h = h
+no_text IsOfForm old new before after (stops.BadText n) h = absurd h
+no_text IsOfForm old new before after stops.ReadFault h = h
+no_text IsOfForm old new before after (stops.Memory board) h = h
+
 -- what the bytes of a problem are refused for, as the refusal of what was read
-pub stop_of_refusal : (budget : ℕ) (old new : Option (List ℕ)) (before after : ℕ) (bytes : List ℕ) (stop : Stop) → TakesAll old bytes new → IsRefusal bytes stop → StopsBy (Complete budget) old new before after stop
-stop_of_refusal budget old new before after bytes (stops.Refused kind at) t h = by_text bytes t h
-stop_of_refusal budget old new before after bytes (stops.BadText n) t h = absurd h
-stop_of_refusal budget old new before after bytes stops.ReadFault t h = absurd h
-stop_of_refusal budget old new before after bytes (stops.Memory board) t h = tt
+pub stop_of_refusal : (settings : Settings) (workers : ℕ) (old new : Option (List ℕ)) (before after : ℕ) (bytes : List ℕ) (stop : Stop) → TakesAll old bytes new → IsRefusal bytes stop → StopsBy (Complete settings workers) old new before after stop
+stop_of_refusal settings workers old new before after bytes (stops.Refused kind at) t h = by_text bytes t h
+stop_of_refusal settings workers old new before after bytes (stops.BadText n) t h = absurd h
+stop_of_refusal settings workers old new before after bytes stops.ReadFault t h = absurd h
+stop_of_refusal settings workers old new before after bytes (stops.Memory board) t h = tt
 
 -- ---- the clauses
 
@@ -132,7 +206,17 @@ module _ (words : List (List ℕ)) (task : Task) (asked : AskFor task words) (en
   pub read_cause : Ends task end board left_old left_new reads_before reads_after written_old written_new writes_before writes_after → end ≡ ReadFault → Rose reads_before reads_after
   read_cause (whole h) e = absurd (subst {A = Status} IsAnswered e (answered_made task end board left_old left_new h.text h.made))
   read_cause (in_part h) e = let clash : WriteFault ≡ ReadFault = sym h.end_is ∙ e in absurd (cc)
-  read_cause (stopped h) e = stop_of_read_fault task left_old left_new reads_before reads_after h.stop h.cause (sym h.end_is ∙ e)
+  read_cause (stopped h) e = (stop_of_read_fault task left_old left_new reads_before reads_after h.stop h.cause (sym h.end_is ∙ e)).1
+
+  pub read_task : Ends task end board left_old left_new reads_before reads_after written_old written_new writes_before writes_after → end ≡ ReadFault → AskToRead words
+  read_task (whole h) e = absurd (subst {A = Status} IsAnswered e (answered_made task end board left_old left_new h.text h.made))
+  read_task (in_part h) e = let clash : WriteFault ≡ ReadFault = sym h.end_is ∙ e in absurd (cc)
+  read_task (stopped h) e = record { task = task; asked = asked; reads = (stop_of_read_fault task left_old left_new reads_before reads_after h.stop h.cause (sym h.end_is ∙ e)).0 }
+
+  pub no_board : Ends task end board left_old left_new reads_before reads_after written_old written_new writes_before writes_after → HasNoBoard end → board ≡ None
+  no_board (whole h) n = board_made task end board left_old left_new h.text h.made n
+  no_board (in_part h) n = absurd (subst {A = Status} HasNoBoard h.end_is n)
+  no_board (stopped h) n = h.board_is ∙ board_of_stopped h.stop (subst {A = Status} HasNoBoard h.end_is n)
 
   pub write_cause : Ends task end board left_old left_new reads_before reads_after written_old written_new writes_before writes_after → end ≡ WriteFault → Rose writes_before writes_after
   write_cause (whole h) e = absurd (subst {A = Status} IsAnswered e (answered_made task end board left_old left_new h.text h.made))
@@ -144,10 +228,10 @@ module _ (words : List (List ℕ)) (task : Task) (asked : AskFor task words) (en
   refused (in_part h) kind at e = let clash : WriteFault ≡ Refused kind at = sym h.end_is ∙ e in absurd (cc)
   refused (stopped h) kind at e = record { task = task; asked = asked; refused = stop_of_refused task left_old left_new reads_before reads_after h.stop kind at h.cause (sym h.end_is ∙ e) }
 
-  pub bad_text : Ends task end board left_old left_new reads_before reads_after written_old written_new writes_before writes_after → (n : ℕ) → end ≡ BadText n → AskFor Check words × HasBadLine left_old left_new n
+  pub bad_text : Ends task end board left_old left_new reads_before reads_after written_old written_new writes_before writes_after → (n : ℕ) → end ≡ BadText n → HasBadAnswer words left_old left_new n
   bad_text (whole h) n e = absurd (subst {A = Status} IsAnswered e (answered_made task end board left_old left_new h.text h.made))
   bad_text (in_part h) n e = let clash : WriteFault ≡ BadText n = sym h.end_is ∙ e in absurd (cc)
-  bad_text (stopped h) n e = let bad = stop_of_bad_text task left_old left_new reads_before reads_after h.stop n h.cause (sym h.end_is ∙ e) in (subst {A = Task} (λ t. AskFor t words) bad.0 asked, bad.1)
+  bad_text (stopped h) n e = let bad = stop_of_bad_text task left_old left_new reads_before reads_after h.stop n h.cause (sym h.end_is ∙ e) in record { task = task; asked = asked; reads = bad.0; line = bad.1 }
 
   pub nothing : Ends task end board left_old left_new reads_before reads_after written_old written_new writes_before writes_after → WritesNothing end written_old written_new
   nothing (whole h) = writes_all end written_old written_new (answered_made task end board left_old left_new h.text h.made)
@@ -155,5 +239,5 @@ module _ (words : List (List ℕ)) (task : Task) (asked : AskFor task words) (en
   nothing (stopped h) = writes_none end written_old written_new h.nothing
 
 pub reads : (words : List (List ℕ)) (task : Task) (old new : Option (List ℕ)) → AskFor task words → IsUnread task old new → ReadsIfAsked words old new
-reads words task old new asked (inl h) = inr (task, asked, h)
+reads words task old new asked (inl h) = inr (record { task = task; asked = asked; reads = h })
 reads words task old new asked (inr h) = inl h

@@ -3,3 +3,4 @@ mod Endings
 mod Reported
 mod Generated
 mod Tasks
+mod Handed

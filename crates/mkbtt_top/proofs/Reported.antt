@@ -30,7 +30,7 @@ reached s b e legal = record {
   within = subst {A = Plain} (λ z. IsWithinLimits z.problem) (sym e) legal.within;
   flight = s.plain.flight;
   journal = s.journal;
-  after = subst {A = Plain} (λ z. After z.problem z.budget s.journal z) (sym e) legal.after;
+  after = subst {A = Plain} (λ z. After z.problem z.settings s.journal z) (sym e) legal.after;
 }
 
 pub verdict_of_state : (s : Seen) (b : Plain) (o : Option Verdict) → IsStateOf s b → verdict s.plain ≡ o → verdict b ≡ o
@@ -42,10 +42,10 @@ report_of_board s b (Complete p) r e h = subst {A = Plain} (λ z. IsReportOf z (
   h.1,
   record {
     problem = h.2.problem;
-    rules = h.2.rules;
     cert = h.2.cert;
     trace = h.2.trace;
-    cites = h.2.cites;
+    rules = record { sides = h.2.rules.sides; steps = h.2.rules.steps };
+    constraints = record { sides = h.2.constraints.sides; steps = h.2.constraints.steps };
   },
 )
 report_of_board s b AllFailed r e h = subst {A = Plain} (λ z. IsReportOf z AllFailed r) e h

@@ -1,15 +1,14 @@
 -- What a check of an answer comes to.
 use Rattle.std.specs.Prelude.{ℕ, ◌≡◌, List, [], ◌∷◌, Option, None, codes, decimal}
-use Rattle.kb_io.specs.Bytes.{TakesAll}
-use Rattle.kb_text.specs.Lines.{line, IsBadLine}
+use Rattle.kb_text.specs.Lines.{line}
 use Rattle.kb_checker.specs.Answers.{Answer, IsGoodAnswer}
 use Rattle.kb_checker.specs.Verdicts.{IsVerdict}
 use Rattle.kb_checker.specs.declared.verdict.Reject.{Reject}
-use Rattle.kb_checker.specs.declared.verdict.Reject.TheVariants.{BadStep, Untraced, NotOriented, PairLarge, PairSteps, NotJoined, EquationLarge, EquationSteps, NotProved}
+use Rattle.kb_checker.specs.declared.verdict.Reject.TheVariants.{BadStep, Untraced, UntracedConstraint, ConstraintNotOriented, NotOriented, PairLarge, PairSteps, NotJoined, EquationLarge, EquationSteps, NotProved}
 use Rattle.kb_checker.specs.declared.verdict.Checked.{Checked}
 use Rattle.kb_checker.specs.declared.verdict.Checked.TheVariants.{Accepted, Rejected}
-use Rattle.kb_report.specs.Answers.{AnswerSpelled, IsSystemText}
 use Rattle.mkb_board.specs.Boards.{Seen}
+use Rattle.mkbtt_top.specs.Answering.{IsReadFrom}
 use Rattle.mkbtt_top.specs.declared.status.Status.{Status}
 use Rattle.mkbtt_top.specs.declared.status.Status.TheVariants.{Done}
 use Rattle.mkbtt_top.specs.declared.status.Status.TheVariants as status
@@ -17,6 +16,8 @@ use Rattle.mkbtt_top.specs.declared.status.Status.TheVariants as status
 abbrev pub reject_word : Reject → List ℕ
 reject_word BadStep = codes "badstep"
 reject_word Untraced = codes "untraced"
+reject_word UntracedConstraint = codes "untracedconstraint"
+reject_word ConstraintNotOriented = codes "constraintnotoriented"
 reject_word NotOriented = codes "notoriented"
 reject_word PairLarge = codes "pairlarge"
 reject_word PairSteps = codes "pairsteps"
@@ -30,30 +31,18 @@ abbrev pub checked_text : Checked → List ℕ
 checked_text Accepted = line (codes "ACCEPTED" ∷ [])
 checked_text (Rejected reason n) = line (codes "REJECTED" ∷ reject_word reason ∷ decimal n ∷ [])
 
--- the bytes are the text of an answer, and this is what the checker says of it; what it accepts is good
-pub record IsChecked (bytes : List ℕ) (checked : Checked) : Type 0 where
-  pub answer : Answer
-  pub spelled : AnswerSpelled bytes answer
-  pub verdict : IsVerdict answer checked
-  pub good : checked ≡ Accepted → IsGoodAnswer answer
-
 -- the status of what the checker says
 abbrev pub status_of : Checked → Status
 status_of Accepted = Done
 status_of (Rejected reason n) = status.Rejected reason n
 
--- the source was read to its end, its bytes are the text of an answer, and the text and the status are what the checker says of it
+-- the text and the status are what the checker says of the answer that was read; what it accepts is good
 pub record Checks (end : Status) (board : Option Seen) (left_old left_new : Option (List ℕ)) (text : List ℕ) : Type 0 where
+  pub answer : Answer
+  pub read : IsReadFrom left_old left_new answer
   pub checked : Checked
-  pub bytes : List ℕ
-  pub read : TakesAll left_old bytes left_new
-  pub is_checked : IsChecked bytes checked
+  pub verdict : IsVerdict answer checked
+  pub good : checked ≡ Accepted → IsGoodAnswer answer
   pub status_is : end ≡ status_of checked
   pub board_is : board ≡ None
   pub text_is : text ≡ checked_text checked
-
--- the source was read to its end, and this line is the first that isn't of the form of an answer's text
-pub record HasBadLine (left_old left_new : Option (List ℕ)) (n : ℕ) : Type 0 where
-  pub bytes : List ℕ
-  pub read : TakesAll left_old bytes left_new
-  pub bad : IsBadLine IsSystemText bytes n

@@ -9,6 +9,7 @@ use Rattle.mkb_report.specs.Summaries.{summary_of}
 use Rattle.mkbtt_top.specs.Completing.{IsFinished}
 use Rattle.mkbtt_top.specs.declared.status.Status.{Status}
 use Rattle.mkbtt_top.specs.declared.status.Status.TheVariants.{Done}
+use Rattle.mkb_model.specs.declared.settings.Settings.{Settings}
 
 -- the text is that of the generated problem with this number
 pub record Generates (number : ℕ) (status : Status) (board : Option Seen) (text : List ℕ) : Type 0 where
@@ -21,10 +22,10 @@ abbrev pub board_text : Seen → List ℕ
 board_text board = summary_text (summary_of board.plain (drops_in board.journal))
 
 -- the board is one on which one worker alone completed the generated problem with this number, and the text is its summary
-pub record Summarises (budget number : ℕ) (status : Status) (board : Option Seen) (text : List ℕ) : Type 0 where
+pub record Summarises (settings : Settings) (number : ℕ) (status : Status) (board : Option Seen) (text : List ℕ) : Type 0 where
   pub end : Seen
   pub verdict : Verdict
   pub status_is : status ≡ Done
   pub board_is : board ≡ Some end
-  pub finished : IsFinished (generated number) budget end verdict
+  pub finished : IsFinished (generated number) settings 1 end verdict
   pub text_is : text ≡ board_text end

@@ -1,7 +1,11 @@
 pub mod Statuses
-pub mod Tasks
 pub mod Replies
+pub mod Answering
+pub mod Tasks
 pub mod Checking
+pub mod Converting
+pub mod Reducing
+pub mod Deciding
 pub mod Completing
 pub mod Generating
 pub mod Runs

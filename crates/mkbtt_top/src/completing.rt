@@ -5,18 +5,21 @@ ghost use Rattle.mkb_model.specs.Verdicts.{verdict as verdict_on};
 ghost use Rattle.mkbtt_top.specs.Completing.{status_of as status_by, IsFinished, IsReported, IsCompletion, IsCompletionOf, Completes, IsRefusal};
 ghost use Rattle.mkbtt_top.specs.Runs.{StopsBy};
 
+use crate::host::{Host, worked_on};
 use crate::reply::{Reply, Stop};
 use crate::status::Status;
 use crate::task::Task;
-use kb_io::{ReadAllFault, Source, read_all};
+use kb_io::{Gate, ReadAllFault, Source, read_all};
 use kb_label::Verdict;
 use kb_report::answer_text;
 use kb_syntax::{Bound, Kind, SyntaxFault, parse_problem, spelled_problems_are_within_limits};
 use kb_term::{Memory, Problem};
 use mkb_board::Board;
+use mkb_model::Settings;
 use mkb_report::{report_of, reports_are_good};
 use std::alloc::Global;
-use work_crew::work_alone;
+use std::sync::Wait;
+use std::thread::Threads;
 
 /// The most bytes of a problem.
 const PROBLEM_BYTES: usize = 1_048_576;
@@ -43,23 +46,26 @@ fn report_text(alloc: Global, board: &Board, verdict: &Verdict) -> Result<Vec<u8
     answer_text(alloc, &report)
 }
 
-/// The board of the problem, on which one worker has ended its work.
+/// The board of the problem, on which so many workers have ended their work.
 ///
 /// # Errors
 ///
 /// Want of memory before a verdict stands, with the board where one was made.
-pub(crate) fn finish(
-    alloc: Global,
+pub(crate) fn finish<R: Threads + Wait + Sync, G: Gate>(
+    host: &Host<R, G>,
     problem: Problem,
-    budget: u32,
+    settings: Settings,
+    workers: u8,
 ) -> Result<(Board, Verdict), Option<Board>>
-    requires { IsWithinLimits problem }
-    ensures { IfOk result (λ end. IsFinished problem budget end.0 end.1) }
+    requires within { IsWithinLimits problem }
+    requires least { 1 ≤ workers }
+    requires most { workers ≤ 16 }
+    ensures { IfOk result (λ end. IsFinished problem settings workers end.0 end.1) }
 {
-    let Ok(board) = Board::start(alloc, problem, budget) else {
+    let Ok(board) = Board::start(host.alloc, problem, settings) else {
         return Err(None);
     };
-    let crew = work_alone(alloc, board);
+    let crew = worked_on(host, board, workers);
     match crew.board.verdict() {
         Some(verdict) => Ok((crew.board, verdict)),
         None => Err(Some(crew.board)),
@@ -67,12 +73,19 @@ pub(crate) fn finish(
 }
 
 // The reply to the problem.
-fn complete_problem(alloc: Global, problem: Problem, budget: u32) -> Result<Reply, Option<Board>>
-    requires { IsWithinLimits problem }
-    ensures { IfOk result (λ r. IsCompletion problem budget r.status r.board r.text.items) }
+fn complete_problem<R: Threads + Wait + Sync, G: Gate>(
+    host: &Host<R, G>,
+    problem: Problem,
+    settings: Settings,
+    workers: u8,
+) -> Result<Reply, Option<Board>>
+    requires within { IsWithinLimits problem }
+    requires least { 1 ≤ workers }
+    requires most { workers ≤ 16 }
+    ensures { IfOk result (λ r. IsCompletion problem settings workers r.status r.board r.text.items) }
 {
-    let (board, verdict) = finish(alloc, problem, budget)?;
-    match report_text(alloc, &board, &verdict) {
+    let (board, verdict) = finish(host, problem, settings, workers)?;
+    match report_text(host.alloc, &board, &verdict) {
         Ok(text) => Ok(Reply {
             text,
             status: status_of(&verdict),
@@ -83,31 +96,41 @@ fn complete_problem(alloc: Global, problem: Problem, budget: u32) -> Result<Repl
 }
 
 // The reply to the problem that the bytes spell.
-fn complete_bytes(alloc: Global, bytes: &[u8], budget: u32) -> Result<Reply, Stop>
-    ensures reply { IfOk result (λ r. IsCompletionOf bytes.now budget r.status r.board r.text.items) }
+fn complete_bytes<R: Threads + Wait + Sync, G: Gate>(
+    host: &Host<R, G>,
+    bytes: &[u8],
+    settings: Settings,
+    workers: u8,
+) -> Result<Reply, Stop>
+    requires least { 1 ≤ workers }
+    requires most { workers ≤ 16 }
+    ensures reply { IfOk result (λ r. IsCompletionOf bytes.now settings workers r.status r.board r.text.items) }
     ensures stop { IfErr result (IsRefusal bytes.now) }
 {
     // a law: what the bytes spell is within the limits
     spelled_problems_are_within_limits();
-    let problem = match parse_problem(alloc, bytes) {
+    let problem = match parse_problem(host.alloc, bytes) {
         Ok(problem) => problem,
         Err(SyntaxFault::Refused(refusal)) => return Err(Stop::Refused(refusal.kind, refusal.at)),
         Err(SyntaxFault::Memory) => return Err(Stop::Memory(None)),
     };
-    complete_problem(alloc, problem, budget).map_err(Stop::Memory)
+    complete_problem(host, problem, settings, workers).map_err(Stop::Memory)
 }
 
-/// Reads a problem from the source and completes it by one worker; the reply is the report of the verdict.
-pub(crate) fn complete_source<S: Source>(
-    alloc: Global,
+/// Reads a problem from the source and completes it by so many workers; the reply is the report of the verdict.
+pub(crate) fn complete_source<R: Threads + Wait + Sync, S: Source, G: Gate>(
+    host: &Host<R, G>,
     source: &mut S,
-    budget: u32,
+    settings: Settings,
+    workers: u8,
 ) -> Result<Reply, Stop>
-    ensures reply { IfOk result (λ r. Completes budget r.status r.board (S.left source.old) (S.left source.new) r.text.items) }
-    ensures stop { IfErr result (StopsBy (Task.Complete budget) (S.left source.old) (S.left source.new) (S.faults source.old) (S.faults source.new)) }
+    requires least { 1 ≤ workers }
+    requires most { workers ≤ 16 }
+    ensures reply { IfOk result (λ r. Completes settings workers r.status r.board (S.left source.old) (S.left source.new) r.text.items) }
+    ensures stop { IfErr result (StopsBy (Task.Complete settings workers) (S.left source.old) (S.left source.new) (S.faults source.old) (S.faults source.new)) }
     ensures count { S.faults source.old ≤ S.faults source.new }
 {
-    let bytes = match read_all(alloc, source, PROBLEM_BYTES) {
+    let bytes = match read_all(host.alloc, source, PROBLEM_BYTES) {
         Ok(bytes) => bytes,
         Err(ReadAllFault::ReadFault) => return Err(Stop::ReadFault),
         Err(ReadAllFault::TooLong) => {
@@ -115,5 +138,5 @@ pub(crate) fn complete_source<S: Source>(
         }
         Err(ReadAllFault::Memory) => return Err(Stop::Memory(None)),
     };
-    complete_bytes(alloc, &bytes, budget)
+    complete_bytes(host, &bytes, settings, workers)
 }

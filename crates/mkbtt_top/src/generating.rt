@@ -4,15 +4,20 @@ ghost use Rattle.mkb_model.specs.Verdicts.{verdict as verdict_on};
 ghost use Rattle.mkbtt_top.specs.Generating.{board_text as text_of_board, Generates, Summarises};
 
 use crate::completing::finish;
+use crate::host::Host;
 use crate::reply::Reply;
 use crate::status::Status;
+use kb_io::Gate;
 use kb_label::Verdict;
 use kb_report::summary_text;
 use kb_syntax::{generate, problem_text};
 use kb_term::Memory;
 use mkb_board::Board;
+use mkb_model::Settings;
 use mkb_report::summary_of;
 use std::alloc::Global;
+use std::sync::Wait;
+use std::thread::Threads;
 
 /// The reply is the text of the generated problem with this number.
 ///
@@ -37,16 +42,20 @@ pub(crate) fn generated_text(alloc: Global, number: u32) -> Result<Reply, Memory
 /// # Errors
 ///
 /// Want of memory, with the board where one was made.
-pub(crate) fn summarise(alloc: Global, budget: u32, number: u32) -> Result<Reply, Option<Board>>
+pub(crate) fn summarise<R: Threads + Wait + Sync, G: Gate>(
+    host: &Host<R, G>,
+    settings: Settings,
+    number: u32,
+) -> Result<Reply, Option<Board>>
     requires some { 1 ≤ number }
     requires most { number ≤ 64 }
-    ensures { IfOk result (λ r. Summarises budget number r.status r.board r.text.items) }
+    ensures { IfOk result (λ r. Summarises settings number r.status r.board r.text.items) }
 {
-    let Ok(problem) = generate(alloc, number as usize) else {
+    let Ok(problem) = generate(host.alloc, number as usize) else {
         return Err(None);
     };
-    let (board, verdict) = finish(alloc, problem, budget)?;
-    match board_text(alloc, &board, verdict) {
+    let (board, verdict) = finish(host, problem, settings, 1)?;
+    match board_text(host.alloc, &board, verdict) {
         Ok(text) => Ok(Reply {
             text,
             status: Status::Done,

@@ -1,9 +1,14 @@
 //! The top call: from words and bytes to bytes and a status.
 #![tactic(auto)]
 
+mod answering;
 mod checking;
 mod completing;
+mod converting;
+mod deciding;
 mod generating;
+mod host;
+mod reducing;
 mod reply;
 mod status;
 mod task;

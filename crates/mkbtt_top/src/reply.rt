@@ -29,12 +29,27 @@ pub(crate) struct Reply {
 pub(crate) enum Stop {
     /// The bytes that were read are refused, for this reason at this place.
     Refused(Kind, u64),
-    /// The line with this number, from 1, is the first that isn't of the form of an answer's text.
+    /// The line with this number, from 1, is the first that isn't of the form of the text that is read.
     BadText(u64),
     /// The source failed.
     ReadFault,
     /// There was no memory.
     Memory(Option<Board>),
+}
+
+impl Reply {
+    /// A text that is written by a run that did its work without a board.
+    pub(crate) fn done(text: Vec<u8>) -> Reply
+        ensures status { result.status ≡ Status.Done }
+        ensures text { result.text.items ≡ text.items }
+        ensures board { result.board ≡ None }
+    {
+        Reply {
+            text,
+            status: Status::Done,
+            board: None,
+        }
+    }
 }
 
 impl From<Memory> for Stop {

@@ -4,6 +4,7 @@ ghost use Rattle.mkbtt_top.specs.Statuses.{bound_word as word_of_bound, kind_wor
 
 use kb_checker::Reject;
 use kb_label::Spent;
+use kb_reduce::Why;
 use kb_syntax::{Bound, Fields, Kind};
 use kb_term::Memory;
 use std::alloc::Global;
@@ -17,11 +18,13 @@ pub enum Status {
     AllFailed,
     /// The answer that was read is rejected, for this reason at the item with this number in its group.
     Rejected(Reject, u64),
+    /// The answer that was read has a rule, with this number, whose right side passes this limit when it is normalised.
+    Unreduced(Why, u32),
     /// The budget is used up, or each living process failed or passed a limit, and that was written.
     Spent(Spent),
     /// The bytes that were read are refused, for this reason at this place.
     Refused(Kind, u64),
-    /// The line with this number, from 1, is the first that isn't of the form of an answer's text.
+    /// The line with this number, from 1, is the first that isn't of the form of the text that is read.
     BadText(u64),
     /// The source failed.
     ReadFault,
@@ -41,6 +44,7 @@ pub fn status_code(status: &Status) -> u8
         Status::Done => 0,
         Status::AllFailed => 1,
         Status::Rejected(_, _) => 1,
+        Status::Unreduced(_, _) => 1,
         Status::Spent(_) => 2,
         Status::Refused(_, _) => 3,
         Status::BadText(_) => 3,
@@ -109,9 +113,11 @@ pub fn status_line(alloc: Global, status: &Status) -> Result<Vec<u8>, Memory>
     let mut line = Fields::new(alloc);
     line.word(alloc, b"mkbtt:")?;
     match status {
-        Status::Done | Status::AllFailed | Status::Rejected(_, _) | Status::Spent(_) => {
-            return Ok(text);
-        }
+        Status::Done
+        | Status::AllFailed
+        | Status::Rejected(_, _)
+        | Status::Unreduced(_, _)
+        | Status::Spent(_) => return Ok(text),
         Status::Refused(kind, at) => {
             line.word(alloc, b"refused")?;
             line.push(kind_word(alloc, *kind)?)?;

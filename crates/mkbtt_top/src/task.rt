@@ -1,22 +1,51 @@
 // What the words ask for.
 ghost use Rattle.std.specs.Prelude.{◌≡◌, Ok, None, map, IfOk, IfSome};
-ghost use Rattle.mkbtt_top.specs.Tasks.{task_of as task_in, AskFor, AreBadWords};
+ghost use Rattle.mkbtt_top.specs.Tasks.{selection_by, settings_of as settings_in, task_of as task_in, AskFor, AreBadWords};
 
 use kb_term::Memory;
-use mkbtt_words::{Mode, Words, WordsFault, read_words};
+use mkb_model::{Selection, Settings};
+use mkbtt_words::{Format, Mode, Words, WordsFault, read_words};
 use std::alloc::Global;
 
 /// What is to be done, with the numbers that it needs.
 #[derive(Clone, Copy, PartialEq, Eq)]
 pub enum Task {
-    /// Complete the problem that is read, with so many commits at most, and write the report.
-    Complete { budget: u32 },
+    /// Complete the problem that is read, with these settings and by so many workers, and write the report.
+    Complete { settings: Settings, workers: u8 },
     /// Check the answer that is read, and write what the checker says.
     Check,
-    /// Complete the generated problem with this number, with so many commits at most, and write the summary of the run.
-    Summary { budget: u32, number: u32 },
+    /// Write the answer that is read in this format.
+    Convert { format: Format },
+    /// Write the answer that is read with its rules reduced.
+    Reduce,
+    /// Decide the goals that are read behind an answer, by its rules.
+    Decide,
+    /// Simplify the terms that are read behind an answer, by its rules.
+    Simplify,
+    /// Complete the generated problem with this number, with these settings, and write the summary of the run.
+    Summary { settings: Settings, number: u32 },
     /// Write the generated problem with this number.
     Generate { number: u32 },
+}
+
+// The selection of a run that the words name.
+fn selection_of(named: mkbtt_words::Selection) -> Selection
+    ensures { result ≡ selection_by named }
+{
+    match named {
+        mkbtt_words::Selection::Stated => Selection::Stated,
+        mkbtt_words::Selection::Size => Selection::Size,
+    }
+}
+
+// The settings of the run that the words ask for.
+fn settings_of(words: &Words) -> Settings
+    ensures { result ≡ settings_in words.now }
+{
+    Settings {
+        budget: words.budget,
+        selection: selection_of(words.selection),
+    }
 }
 
 fn task_of(words: &Words) -> Option<Task>
@@ -24,16 +53,23 @@ fn task_of(words: &Words) -> Option<Task>
 {
     match words.mode {
         Mode::Complete => Some(Task::Complete {
-            budget: words.budget,
+            settings: settings_of(words),
+            workers: words.workers,
         }),
         Mode::Check => Some(Task::Check),
+        Mode::Convert => Some(Task::Convert {
+            format: words.format,
+        }),
         Mode::Summary => Some(Task::Summary {
-            budget: words.budget,
+            settings: settings_of(words),
             number: words.number,
         }),
         Mode::Gen => Some(Task::Generate {
             number: words.number,
         }),
+        Mode::Reduce => Some(Task::Reduce),
+        Mode::Decide => Some(Task::Decide),
+        Mode::Simplify => Some(Task::Simplify),
         Mode::Journal | Mode::Replay => None,
     }
 }

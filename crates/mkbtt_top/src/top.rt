@@ -1,13 +1,16 @@
 // The top call.
-ghost use Rattle.std.specs.Prelude.{◌≡◌, ◌≤◌, map, IfOk, IfErr};
+ghost use Rattle.std.specs.Prelude.{◌≡◌, ◌≤◌, None, map, IfOk, IfErr};
 ghost use Rattle.kb_io.specs.Bytes.{Rose};
-ghost use Rattle.mkbtt_top.specs.Checking.{HasBadLine};
-ghost use Rattle.mkbtt_top.specs.Runs.{Answers, AnswersInPart, Ends, IsAnswered, IsUnread, Makes, ReadsIfAsked, Refuses, StopsBy, WritesNothing};
+ghost use Rattle.mkbtt_top.specs.Runs.{Answers, AnswersInPart, AskToRead, Ends, HasBadAnswer, HasNoBoard, IsAnswered, IsUnread, Makes, ReadsIfAsked, Refuses, StopsBy, WritesNothing};
 ghost use Rattle.mkbtt_top.specs.Tasks.{AreBadWords, AskFor, HasNumber};
 
 use crate::checking::check_source;
 use crate::completing::complete_source;
+use crate::converting::convert_source;
+use crate::deciding::{decide_source, simplify_source};
 use crate::generating::{generated_text, summarise};
+use crate::host::Host;
+use crate::reducing::reduce_source;
 use crate::reply::{Outcome, Reply, Stop, outcome_of, write_reply};
 use crate::status::Status;
 use crate::task::{Task, asked_task};
@@ -18,7 +21,11 @@ use std::sync::Wait;
 use std::thread::Threads;
 
 // What the task makes of what it reads.
-fn make<S: Source>(alloc: Global, task: Task, source: &mut S) -> Result<Reply, Stop>
+fn make<R: Threads + Wait + Sync, S: Source, G: Gate>(
+    host: &Host<R, G>,
+    task: Task,
+    source: &mut S,
+) -> Result<Reply, Stop>
     requires { HasNumber task }
     ensures reply { IfOk result (λ r. Makes task r.status r.board (S.left source.old) (S.left source.new) r.text.items) }
     ensures stop { IfErr result (StopsBy task (S.left source.old) (S.left source.new) (S.faults source.old) (S.faults source.new)) }
@@ -26,24 +33,33 @@ fn make<S: Source>(alloc: Global, task: Task, source: &mut S) -> Result<Reply, S
     ensures count { S.faults source.old ≤ S.faults source.new }
 {
     match task {
-        Task::Complete { budget } => complete_source(alloc, source, budget),
-        Task::Check => check_source(alloc, source),
-        Task::Summary { budget, number } => {
-            summarise(alloc, budget, number).map_err(Stop::Memory)
-        }
-        Task::Generate { number } => Ok(generated_text(alloc, number)?),
+        Task::Complete { settings, workers } => complete_source(host, source, settings, workers),
+        Task::Check => check_source(host.alloc, source),
+        Task::Convert { format } => convert_source(host.alloc, source, format),
+        Task::Reduce => reduce_source(host.alloc, source),
+        Task::Decide => decide_source(host.alloc, source),
+        Task::Simplify => simplify_source(host.alloc, source),
+        Task::Summary { settings, number } => {
+            summarise(host, settings, number).map_err(Stop::Memory)
+        },
+        Task::Generate { number } => Ok(generated_text(host.alloc, number)?),
     }
 }
 
 // Does the task: reads what it reads and writes what it makes.
-fn run_task<S: Source, K: Sink>(alloc: Global, task: Task, source: &mut S, sink: &mut K) -> Outcome
+fn run_task<R: Threads + Wait + Sync, S: Source, K: Sink, G: Gate>(
+    host: &Host<R, G>,
+    task: Task,
+    source: &mut S,
+    sink: &mut K,
+) -> Outcome
     requires { HasNumber task }
     ensures ends { Ends task result.status result.board (S.left source.old) (S.left source.new) (S.faults source.old) (S.faults source.new) (K.written sink.old) (K.written sink.new) (K.faults sink.old) (K.faults sink.new) }
     ensures unread { IsUnread task (S.left source.old) (S.left source.new) }
     ensures source_count { S.faults source.old ≤ S.faults source.new }
     ensures sink_count { K.faults sink.old ≤ K.faults sink.new }
 {
-    match make(alloc, task, source) {
+    match make(host, task, source) {
         Ok(reply) => write_reply(reply, sink),
         Err(stop) => outcome_of(stop),
     }
@@ -51,22 +67,27 @@ fn run_task<S: Source, K: Sink>(alloc: Global, task: Task, source: &mut S, sink:
 
 /// Does what the words ask for: `complete` reads a problem from the source, completes it, and writes the report of the verdict to
 /// the sink; `check` reads an answer, checks it, and writes `ACCEPTED`, or `REJECTED` with the reason and the number of the first
-/// item that fails; `gen` writes the generated problem with the number; `summary` completes that problem and writes the summary of
+/// item that fails; `convert` reads an answer of either version and writes
+/// it in the format of the words, its text of version 2, its rules alone, or its trace as a graph;
+/// `reduce` reads an answer and writes it with its rules reduced, `decide` and `simplify` read an answer with goals or terms
+/// behind it and write what its rules say of them, where the checker accepts the answer; `gen` writes the generated problem with the number; `summary` completes that problem and writes the summary of
 /// the run.
 ///
 /// The words are those of `read_words`; the modes `journal` and `replay` are refused like words that the command doesn't take.
-/// Whatever the number of workers, one worker does the work. Bytes that spell no problem are refused by the first thing that is
-/// wrong, with its place; bytes that are no answer's text by the first line that isn't of its form. Each text is made whole before
+/// A completion has as many workers as the words say: one alone, or several, each in a thread of its own; each asks the gate
+/// between a take and the work. A summary has one worker. Bytes that spell no problem are refused by the first thing that is
+/// wrong, with its place; bytes that are no answer's text, or have no goals or terms
+/// behind one, by the first line that isn't of its form. Each text is made whole before
 /// its first byte is written. The outcome has the board of a completion, where one was made.
 pub fn run<R: Threads + Wait + Sync, S: Source, K: Sink, G: Gate>(
-    _rt: &R,
+    rt: &R,
     alloc: Global,
     words: &[&str],
     source: &mut S,
     sink: &mut K,
-    _gate: &G,
+    gate: &G,
 ) -> Outcome
-    // With Done, AllFailed, Rejected and Spent the sink gained the whole text that the words ask for.
+    // With Done, AllFailed, Rejected, Unreduced and Spent the sink gained the whole text that the words ask for.
     ensures answered { IsAnswered result.status → Answers (map (λ w. w.now) words.now) result.status result.board (S.left source.old) (S.left source.new) (K.written sink.old) (K.written sink.new) }
     // With WriteFault it gained a proper front of such a text.
     ensures write_fault { result.status ≡ Status.WriteFault → AnswersInPart (map (λ w. w.now) words.now) result.board (S.left source.old) (S.left source.new) (K.written sink.old) (K.written sink.new) }
@@ -74,10 +95,14 @@ pub fn run<R: Threads + Wait + Sync, S: Source, K: Sink, G: Gate>(
     // Causes.
     ensures words { result.status ≡ Status.Words → AreBadWords (map (λ w. w.now) words.now) }
     ensures taken { ¬ (result.status ≡ Status.Words) → ¬ (result.status ≡ Status.Memory) → (task : Task) × AskFor task (map (λ w. w.now) words.now) }
+    ensures read_task { result.status ≡ Status.ReadFault → AskToRead (map (λ w. w.now) words.now) }
     ensures read_cause { result.status ≡ Status.ReadFault → Rose (S.faults source.old) (S.faults source.new) }
     ensures write_cause { result.status ≡ Status.WriteFault → Rose (K.faults sink.old) (K.faults sink.new) }
     ensures refused { (kind : _) (at : _) → result.status ≡ Status.Refused kind at → Refuses (map (λ w. w.now) words.now) (S.left source.old) (S.left source.new) kind at }
-    ensures bad_text { (n : _) → result.status ≡ Status.BadText n → AskFor Task.Check (map (λ w. w.now) words.now) × HasBadLine (S.left source.old) (S.left source.new) n }
+    ensures bad_text { (n : _) → result.status ≡ Status.BadText n → HasBadAnswer (map (λ w. w.now) words.now) (S.left source.old) (S.left source.new) n }
+
+    // No board is made where nothing is completed.
+    ensures no_board { HasNoBoard result.status → result.board ≡ None }
 
     // With every other status nothing is written; with Words nothing is read, nor for a mode that reads nothing.
     ensures nothing { WritesNothing result.status (K.written sink.old) (K.written sink.new) }
@@ -87,7 +112,7 @@ pub fn run<R: Threads + Wait + Sync, S: Source, K: Sink, G: Gate>(
     ensures sink_count { K.faults sink.old ≤ K.faults sink.new }
 {
     match asked_task(alloc, words) {
-        Ok(Some(task)) => run_task(alloc, task, source, sink),
+        Ok(Some(task)) => run_task(&Host { rt, alloc, gate }, task, source, sink),
         Ok(None) => Outcome {
             status: Status::Words,
             board: None,

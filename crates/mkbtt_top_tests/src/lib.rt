@@ -2,4 +2,12 @@
 #![tactic(auto)]
 
 #[cfg(test)]
-mod tests;
+mod answers;
+#[cfg(test)]
+mod bench;
+#[cfg(test)]
+mod completions;
+#[cfg(test)]
+mod crews;
+#[cfg(test)]
+mod refusals;

@@ -26,11 +26,13 @@ use Rattle.clap.specs.declared.parser.matches.ArgMatches.{ArgMatches}
 use Rattle.clap.proofs.CallerLemmas.{default_present, present_has_entry, required_present}
 use Rattle.clap.proofs.OnLiterals.{clap_on_literals}
 use Rattle.clap.proofs.WalkLemmas.{both}
-use Rattle.mkbtt_words.specs.Command.{NumberOption, budget, command_with, mode_rule, number, option_rule, workers}
-use Rattle.mkbtt_words.specs.Modes.{mode_names}
-use Rattle.mkbtt_words.specs.Parsed.{HasMode, HasNumber}
+use Rattle.mkbtt_words.specs.Command.{IsCommand, NumberOption, budget, command_with, format_rule, mode_rule, number, option_rule, selection_rule, workers}
+use Rattle.mkbtt_words.specs.Formats.{format_names, formats as all_formats}
+use Rattle.mkbtt_words.specs.Selections.{selection_names, selections as all_selections}
+use Rattle.mkbtt_words.specs.Modes.{mode_names, modes}
+use Rattle.mkbtt_words.specs.Parsed.{HasName, HasNumber}
 use Rattle.mkbtt_words.proofs.Entries.{HasText, entry_text, found_in}
-use Rattle.mkbtt_words.proofs.ModeLists.{known_name}
+use Rattle.mkbtt_words.proofs.NameLists.{known_name}
 
 -- ---- what a rule says of its argument
 
@@ -60,17 +62,19 @@ plain_arg a simple free =
 -- ---- the ids of the command's arguments
 
 abbrev ids : List Text
-ids = codes "mode" ∷ codes "workers" ∷ codes "budget" ∷ codes "number" ∷ []
+ids = codes "mode" ∷ codes "workers" ∷ codes "budget" ∷ codes "number" ∷ codes "to" ∷ codes "select" ∷ []
 
 abbrev place : Text → ℕ
 place id = unwrap_or (position (λ i. bytes_eq i id) ids) 0
 
-place_at : (j : ℕ) (e : Text) → j < 4 → place (slice_index_or ids j e) ≡ j
+place_at : (j : ℕ) (e : Text) → j < 6 → place (slice_index_or ids j e) ≡ j
 place_at zero e lt = refl
 place_at (suc zero) e lt = refl
 place_at (suc (suc zero)) e lt = refl
 place_at (suc (suc (suc zero))) e lt = refl
-place_at (suc (suc (suc (suc n)))) e lt = absurd (omega arith)
+place_at (suc (suc (suc (suc zero)))) e lt = refl
+place_at (suc (suc (suc (suc (suc zero))))) e lt = refl
+place_at (suc (suc (suc (suc (suc (suc n)))))) e lt = absurd (omega arith)
 
 -- the id is none that building adds, and not empty
 abbrev is_own : Text → Bool
@@ -85,36 +89,41 @@ own_id id own = (
   ],
 )
 
-abbrev rules : Bor (List (Bor Text)) → List Rule
-rules names = (command_with names).top.rules
+abbrev rules : Bor (List (Bor Text)) → Bor (List (Bor Text)) → Bor (List (Bor Text)) → List Rule
+rules names formats selections = (command_with names formats selections).top.rules
 
 -- the command is one of which the matches and the faults are exact
-pub simple_command : (names : Bor (List (Bor Text))) → is_simple_and_free (command_with names) ≡ true
+simple_command : (names formats selections : Bor (List (Bor Text))) → is_simple_and_free (command_with names formats selections) ≡ true
 unfolding clap_on_literals
-simple_command names = refl
+simple_command names formats selections = refl
 
-module _ (c : Command) (m : ArgMatches) (p : IsParsedFrom c m) (names : Bor (List (Bor Text))) (is : app_of c ≡ command_with names) (d : Arg) where
-  rules_are : map rule_of (args_of c) ≡ rules names
+pub simple_app : {a : App} → IsCommand a → is_simple_and_free a ≡ true
+simple_app is = ap is_simple_and_free is.is ∙ simple_command is.names is.formats is.selections
+
+module _ (c : Command) (m : ArgMatches) (p : IsParsedFrom c m) (names formats selections : Bor (List (Bor Text))) (is : app_of c ≡ command_with names formats selections) (d : Arg) where
+  rules_are : map rule_of (args_of c) ≡ rules names formats selections
   rules_are = ap (λ (a : App). a.top.rules) is
 
   abbrev arg_at : ℕ → Arg
   arg_at j = slice_index_or (args_of c) j d
 
-  count : length (args_of c) ≡ 4
+  count : length (args_of c) ≡ 6
   count = sym (length-map (args_of c) rule_of) ∙ ap length rules_are
 
-  rule_at : (j : ℕ) (e : Arg) → j < length (args_of c) → rule_of (slice_index_or (args_of c) j e) ≡ slice_index_or (rules names) j (rule_of d)
+  rule_at : (j : ℕ) (e : Arg) → j < length (args_of c) → rule_of (slice_index_or (args_of c) j e) ≡ slice_index_or (rules names formats selections) j (rule_of d)
   rule_at j e lt = sym (get_or-map rule_of (args_of c) j e (rule_of d) lt) ∙ ap (λ (rs : List Rule). slice_index_or rs j (rule_of d)) rules_are
 
   id_at : (j : ℕ) (e : Arg) → j < length (args_of c) → (slice_index_or (args_of c) j e).id.now ≡ slice_index_or ids j []
   id_at j e lt = ap (λ (r : Rule). r.id) (rule_at j e lt) ∙ at_place j (rw (← count) lt)
     where
-      at_place : (j : ℕ) → j < 4 → (slice_index_or (rules names) j (rule_of d)).id ≡ slice_index_or ids j []
+      at_place : (j : ℕ) → j < 6 → (slice_index_or (rules names formats selections) j (rule_of d)).id ≡ slice_index_or ids j []
       at_place zero lt = refl
       at_place (suc zero) lt = refl
       at_place (suc (suc zero)) lt = refl
       at_place (suc (suc (suc zero))) lt = refl
-      at_place (suc (suc (suc (suc n)))) lt = absurd (omega arith)
+      at_place (suc (suc (suc (suc zero)))) lt = refl
+      at_place (suc (suc (suc (suc (suc zero))))) lt = refl
+      at_place (suc (suc (suc (suc (suc (suc n)))))) lt = absurd (omega arith)
 
   unique : (k : ℕ) → k < length (args_of c) → (j : ℕ) (e : Arg) → j < length (args_of c)
       → bytes_eq (slice_index_or (args_of c) j e).id.now (arg_at k).id.now ≡ true → j ≡ k
@@ -144,7 +153,7 @@ module _ (c : Command) (m : ArgMatches) (p : IsParsedFrom c m) (names : Bor (Lis
   negates = ap (λ (a : App). a.top.subcommand_negates_reqs) is
 
   -- the text of the argument with the rule r
-  text_at : (k : ℕ) (r : Rule) (q : ValueParser) → k < 4 → slice_index_or (rules names) k (rule_of d) ≡ r → is_own r.id ≡ true
+  text_at : (k : ℕ) (r : Rule) (q : ValueParser) → k < 6 → slice_index_or (rules names formats selections) k (rule_of d) ≡ r → is_own r.id ≡ true
       → r.action ≡ Some Set → r.range ≡ None → r.parser ≡ Some q → (r.required ≡ true) ⊎ (0 < length r.defaults)
       → HasText (found_of m) r.id r.ignore_case q
   text_at k r q small at own set range parser given =
@@ -167,15 +176,25 @@ module _ (c : Command) (m : ArgMatches) (p : IsParsedFrom c m) (names : Bor (Lis
       has_default : (a : Arg) (r : Rule) → rule_of a ≡ r → 0 < length r.defaults → 0 < length (items_of a.default_vals)
       has_default a r is some = rw (← length-map (items_of a.default_vals) (λ (s : Bor Text). s.now), ap (λ (x : Rule). length x.defaults) is) some
 
-  number_at : (k : ℕ) (o : NumberOption) → k < 4 → slice_index_or (rules names) k (rule_of d) ≡ option_rule o → is_own o.name ≡ true → HasNumber o (found_of m)
+  number_at : (k : ℕ) (o : NumberOption) → k < 6 → slice_index_or (rules names formats selections) k (rule_of d) ≡ option_rule o → is_own o.name ≡ true → HasNumber o (found_of m)
   number_at k o small at own =
       let text = text_at k (option_rule o) (vp.Signed (pos o.low) (pos o.high)) small at own refl refl refl (inr (omega arith)) in
       record { text = text.0; given = text.2; within = text.3 }
 
-  mode_at : map (λ n. n.now) names.now ≡ mode_names → HasMode (found_of m)
+  mode_at : map (λ n. n.now) names.now ≡ mode_names → HasName (codes "mode") modes (found_of m)
   mode_at texts =
       let text = text_at 0 (mode_rule names) (vp.Names names) (omega arith) refl refl refl refl refl (inl refl) in
-      record { name = text.0; given = text.1; known = known_name names.now text.0 texts text.3 }
+      record { name = text.0; given = text.1; known = known_name modes names.now text.0 texts text.3 }
+
+  format_at : map (λ n. n.now) formats.now ≡ format_names → HasName (codes "to") all_formats (found_of m)
+  format_at texts =
+      let text = text_at 4 (format_rule formats) (vp.Names formats) (omega arith) refl refl refl refl refl (inr (omega arith)) in
+      record { name = text.0; given = text.1; known = known_name all_formats formats.now text.0 texts text.3 }
+
+  selection_at : map (λ n. n.now) selections.now ≡ selection_names → HasName (codes "select") all_selections (found_of m)
+  selection_at texts =
+      let text = text_at 5 (selection_rule selections) (vp.Names selections) (omega arith) refl refl refl refl refl (inr (omega arith)) in
+      record { name = text.0; given = text.1; known = known_name all_selections selections.now text.0 texts text.3 }
 
 -- an argument of the command
 first_arg : (xs : List Arg) (r : Rule) (rs : List Rule) → map rule_of xs ≡ r ∷ rs → Arg
@@ -184,18 +203,24 @@ first_arg [] r rs e =
     absurd (omega arith)
 first_arg (x ∷ xs) r rs e = x
 
-module _ (c : Command) (m : ArgMatches) (p : IsParsedFrom c m) (names : Bor (List (Bor Text))) (is : app_of c ≡ command_with names) where
+module _ (c : Command) (m : ArgMatches) (p : IsParsedFrom c m) (is : IsCommand (app_of c)) where
   some_arg : Arg
-  some_arg = first_arg (args_of c) _ _ (ap (λ (a : App). a.top.rules) is)
+  some_arg = first_arg (args_of c) _ _ (ap (λ (a : App). a.top.rules) is.is)
 
-  pub mode_found : map (λ n. n.now) names.now ≡ mode_names → HasMode (found_of m)
-  mode_found = mode_at c m p names is some_arg
+  pub mode_found : HasName (codes "mode") modes (found_of m)
+  mode_found = mode_at c m p is.names is.formats is.selections is.is some_arg is.texts
+
+  pub format_found : HasName (codes "to") all_formats (found_of m)
+  format_found = format_at c m p is.names is.formats is.selections is.is some_arg is.format_texts
+
+  pub selection_found : HasName (codes "select") all_selections (found_of m)
+  selection_found = selection_at c m p is.names is.formats is.selections is.is some_arg is.selection_texts
 
   pub workers_found : HasNumber workers (found_of m)
-  workers_found = number_at c m p names is some_arg 1 workers (omega arith) refl refl
+  workers_found = number_at c m p is.names is.formats is.selections is.is some_arg 1 workers (omega arith) refl refl
 
   pub budget_found : HasNumber budget (found_of m)
-  budget_found = number_at c m p names is some_arg 2 budget (omega arith) refl refl
+  budget_found = number_at c m p is.names is.formats is.selections is.is some_arg 2 budget (omega arith) refl refl
 
   pub number_found : HasNumber number (found_of m)
-  number_found = number_at c m p names is some_arg 3 number (omega arith) refl refl
+  number_found = number_at c m p is.names is.formats is.selections is.is some_arg 3 number (omega arith) refl refl

@@ -1,4 +1,4 @@
-pub mod ModeLists
+pub mod NameLists
 pub mod Entries
 pub mod Numbers
 pub mod Commands

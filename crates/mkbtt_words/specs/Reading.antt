@@ -5,7 +5,9 @@ use Rattle.clap.specs.Walk.{Row, Text, first_of, one_of}
 use Rattle.clap.specs.Simple.{App, matches_of}
 use Rattle.clap.specs.Faults.{fault_of}
 use Rattle.mkbtt_words.specs.Command.{IsCommand, NumberOption, budget, number, workers}
+use Rattle.mkbtt_words.specs.Formats.{format_of}
 use Rattle.mkbtt_words.specs.Modes.{mode_of}
+use Rattle.mkbtt_words.specs.Selections.{selection_of}
 use Rattle.mkbtt_words.specs.declared.words.Words.{Words}
 
 -- n is the number that the option's text writes, and lies within its bounds
@@ -27,6 +29,12 @@ pub record AreRead (words : List Text) (w : Words) : Type 0 where
   pub workers_read : HoldsNumber workers (matches_of app words) w.workers
   pub budget_read : HoldsNumber budget (matches_of app words) w.budget
   pub number_read : HoldsNumber number (matches_of app words) w.number
+  pub format_name : Text
+  pub format_named : first_of (codes "to") (matches_of app words) ≡ Some format_name
+  pub format : format_of format_name ≡ Some w.format
+  pub selection_name : Text
+  pub selection_named : first_of (codes "select") (matches_of app words) ≡ Some selection_name
+  pub selection : selection_of selection_name ≡ Some w.selection
 
 -- the command doesn't take the words, or they ask for its help
 pub record AreRefused (words : List Text) : Type 0 where

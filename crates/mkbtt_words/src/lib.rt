@@ -1,13 +1,18 @@
-//! The words of the command line: a mode, and options with a number each.
+//! The words of the command line: a mode, options with a number each, a selection and a format.
 #![tactic(auto)]
 
 mod command;
 mod fault;
+mod format;
 mod mode;
+mod named;
+mod selection;
 #[cfg(test)]
 mod tests;
 mod words;
 
 pub use fault::WordsFault;
+pub use format::Format;
 pub use mode::Mode;
+pub use selection::Selection;
 pub use words::{Words, read_words};

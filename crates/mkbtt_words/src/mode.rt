@@ -1,7 +1,8 @@
 // The modes of the program and their names.
 ghost use Rattle.std.specs.Prelude.{◌≡◌, IfOk, map};
-ghost use Rattle.mkbtt_words.specs.Modes.{mode_names, mode_of, named};
+ghost use Rattle.mkbtt_words.specs.Modes.{mode_names, mode_of};
 
+use crate::named::named_in;
 use std::alloc::{AllocError, Global};
 
 /// What the program is to do.
@@ -11,6 +12,14 @@ pub enum Mode {
     Complete,
     /// Check an answer.
     Check,
+    /// Write an answer in the newest version of its text.
+    Convert,
+    /// Write an answer's system in its reduced form.
+    Reduce,
+    /// Decide goals by an answer's system.
+    Decide,
+    /// Simplify terms by an answer's system.
+    Simplify,
     /// Complete a generated problem and write the summary of the run.
     Summary,
     /// Complete a problem and write the journal of the run.
@@ -22,9 +31,13 @@ pub enum Mode {
 }
 
 /// Each mode under its name.
-static MODES: [(&str, Mode); 6] = [
+static MODES: [(&str, Mode); 10] = [
     ("complete", Mode::Complete),
     ("check", Mode::Check),
+    ("convert", Mode::Convert),
+    ("reduce", Mode::Reduce),
+    ("decide", Mode::Decide),
+    ("simplify", Mode::Simplify),
     ("summary", Mode::Summary),
     ("journal", Mode::Journal),
     ("replay", Mode::Replay),
@@ -40,18 +53,6 @@ fn names_in<'a>(alloc: Global, modes: &[(&'a str, Mode)]) -> Result<Vec<&'a str>
         names.push(mode.0)?;
     }
     Ok(names)
-}
-
-// The first of these modes that has this name.
-fn named_in(modes: &[(&str, Mode)], name: &str) -> Option<Mode>
-    ensures { result ≡ named (map (λ m. (m.0.now, m.1)) modes.now) name.now }
-{
-    for mode in modes {
-        if mode.0 == name {
-            return Some(mode.1);
-        }
-    }
-    None
 }
 
 /// The names of all modes.

@@ -9,6 +9,8 @@ fn words(mode: Mode, workers: u8, budget: u32, number: u32) -> Words {
         workers,
         budget,
         number,
+        format: Format::Answer,
+        selection: Selection::Stated,
     }
 }
 
@@ -25,6 +27,10 @@ fn every_mode_has_the_standard_numbers(rt: HostRuntime) {
     for (name, mode) in [
         ("complete", Mode::Complete),
         ("check", Mode::Check),
+        ("convert", Mode::Convert),
+        ("reduce", Mode::Reduce),
+        ("decide", Mode::Decide),
+        ("simplify", Mode::Simplify),
         ("summary", Mode::Summary),
         ("journal", Mode::Journal),
         ("replay", Mode::Replay),
@@ -69,6 +75,45 @@ fn options_stand_in_any_place(rt: HostRuntime) {
 }
 
 #[test]
+fn each_selection_has_a_name(rt: HostRuntime) {
+    let alloc = rt.alloc();
+    for (name, selection) in [("stated", Selection::Stated), ("size", Selection::Size)] {
+        let want = Words {
+            selection,
+            ..words(Mode::Complete, 4, 20_000, 8)
+        };
+        assert!(rt;
+            reads(alloc, &["complete", "--select", name], want),
+            "{name}"
+        );
+    }
+    assert!(rt; refuses(alloc, &["complete", "--select", "sizes"]));
+}
+
+#[test]
+fn each_format_has_a_name(rt: HostRuntime) {
+    let alloc = rt.alloc();
+    for (name, format) in [
+        ("answer", Format::Answer),
+        ("trs", Format::Trs),
+        ("dot", Format::Dot),
+    ] {
+        let want = Words {
+            format,
+            ..words(Mode::Convert, 4, 20_000, 8)
+        };
+        assert!(rt; reads(alloc, &["convert", "--to", name], want), "{name}");
+    }
+    assert!(rt;
+        reads(
+            alloc,
+            &["--to=answer", "gen"],
+            words(Mode::Gen, 4, 20_000, 8)
+        )
+    );
+}
+
+#[test]
 fn other_words_are_refused(rt: HostRuntime) {
     let alloc = rt.alloc();
     assert!(rt; refuses(alloc, &[]));
@@ -97,6 +142,10 @@ fn other_words_are_refused(rt: HostRuntime) {
         "--number=0",
         "--number=65",
         "--numbers=1",
+        "--to=",
+        "--to=Trs",
+        "--to=svg",
+        "--to",
         "--help",
         "-w",
         "complete",
@@ -107,4 +156,5 @@ fn other_words_are_refused(rt: HostRuntime) {
     assert!(rt; refuses(alloc, &["complete", "--workers", "17"]));
     assert!(rt; refuses(alloc, &["--number", "complete"]));
     assert!(rt; refuses(alloc, &["complete", "--workers=3", "--workers=3"]));
+    assert!(rt; refuses(alloc, &["convert", "--to=dot", "--to", "trs"]));
 }

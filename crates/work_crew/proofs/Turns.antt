@@ -27,6 +27,7 @@ use Rattle.mkb_board.specs.declared.answers.Finished.{Finished}
 use Rattle.mkb_board.specs.declared.answers.Finished.TheVariants.{Ended, Dropped, Committed}
 use Rattle.mkb_board.proofs.Growing.{halts_more}
 use Rattle.work_crew.specs.Alone.{IsInTurn, IsSameRun, IsAtRest, IsJustTaken, EndsAlone}
+use Rattle.mkb_model.specs.declared.settings.Settings.{Settings}
 
 -- one turn more: a take by worker 1 and the end of its ticket
 pub turn_more : (J : List Entry) (t : ℕ) (j : Job) (e : Entry) → IsTrue (takes_in_turn J) → is_end_of t e ≡ true → IsTrue (takes_in_turn ((J ++ Take 1 t j ∷ []) ++ e ∷ []))
@@ -40,7 +41,7 @@ turn_more (Halt ∷ J) t j e h k = absurd (cc)
 
 -- a ticket more or less in flight makes no other run
 pub unchanged_by : (old new : Seen) (n : ℕ) → new.plain ≡ landed n old.plain → IsSameRun old new
-unchanged_by old new n e = record { problem = ap (λ (z : Plain). z.problem) e; budget = ap (λ (z : Plain). z.budget) e }
+unchanged_by old new n e = record { problem = ap (λ (z : Plain). z.problem) e; settings = ap (λ (z : Plain). z.settings) e }
 
 -- ---- a ticket that was just taken
 
@@ -59,7 +60,7 @@ module _ (s : Seen) (t : Ticket) (snapshot : Snapshot) (h : IsJustTaken s t snap
   no_verdict = subst {A = Plain} (λ z. verdict z ≡ None) (sym h.takes.flies) h.takes.no_verdict
 
   pub same_run : IsSameRun h.before s
-  same_run = record { problem = ap (λ (z : Plain). z.problem) h.takes.flies; budget = ap (λ (z : Plain). z.budget) h.takes.flies }
+  same_run = record { problem = ap (λ (z : Plain). z.problem) h.takes.flies; settings = ap (λ (z : Plain). z.settings) h.takes.flies }
 
   -- what its job proposes by the snapshot may end it
   pub proposal_of : (x : Proposed) → Proposes h.before.plain t.job x → IsProposalOf s t x
@@ -69,7 +70,7 @@ module _ (s : Seen) (t : Ticket) (snapshot : Snapshot) (h : IsJustTaken s t snap
       earlier = h.before.journal;
       later = [];
       parts = h.takes.entered;
-      after = subst {A = Plain} (λ z. After z.problem z.budget h.before.journal h.before.plain) (sym h.takes.flies) h.legal.after;
+      after = subst {A = Plain} (λ z. After z.problem z.settings h.before.journal h.before.plain) (sym h.takes.flies) h.legal.after;
     },
     p,
   )
@@ -92,14 +93,14 @@ module _ (s : Seen) (t : Ticket) (snapshot : Snapshot) (h : IsJustTaken s t snap
   no_halt_more (Abandon w n) J e k = absurd (cc)
   no_halt_more Halt J e k = absurd (cc)
 
-  ended : (e : Entry) (c : Plain) (new : Seen) → is_end_of t.number e ≡ true → c.flight ≡ s.plain.flight → c.problem ≡ s.plain.problem → c.budget ≡ s.plain.budget → new.plain ≡ landed t.number c → new.journal ≡ s.journal ++ e ∷ [] → IsInTurn new × IsSameRun s new
+  ended : (e : Entry) (c : Plain) (new : Seen) → is_end_of t.number e ≡ true → c.flight ≡ s.plain.flight → c.problem ≡ s.plain.problem → c.settings ≡ s.plain.settings → new.plain ≡ landed t.number c → new.journal ≡ s.journal ++ e ∷ [] → IsInTurn new × IsSameRun s new
   ended e c new k f p b lands entered = (
     record {
       grounded = ap (λ (z : Plain). z.flight) lands ∙ ap (filter (λ (x : Ticket). not (x.number == t.number))) (f ∙ flight_is) ∙ same_landed t.number t.worker t.job;
       no_halt = no_halt_more e new.journal entered k;
       in_turn = subst {A = List Entry} (λ J. IsTrue (takes_in_turn J)) (sym (entered ∙ ap (λ (J : List Entry). J ++ e ∷ []) (h.takes.entered ∙ ap (λ w. h.before.journal ++ Take w t.number t.job ∷ []) h.takes.worker_is))) (turn_more h.before.journal t.number t.job e h.in_turn.in_turn k);
     },
-    record { problem = ap (λ (z : Plain). z.problem) lands ∙ p; budget = ap (λ (z : Plain). z.budget) lands ∙ b },
+    record { problem = ap (λ (z : Plain). z.problem) lands ∙ p; settings = ap (λ (z : Plain). z.settings) lands ∙ b },
   )
 
   -- after its end nothing is in flight again
@@ -122,7 +123,7 @@ opened s legal e = record {
     some_entry [] x q = cc
     some_entry (y ∷ J) x q = cc
 
-    go : (ms : List Moment) → journal_of ms ≡ [] → IsRun s.plain.problem s.plain.budget ms s.plain → s.plain.flight ≡ []
+    go : (ms : List Moment) → journal_of ms ≡ [] → IsRun s.plain.problem s.plain.settings ms s.plain → s.plain.flight ≡ []
     go [] q r = ap (λ (z : Plain). z.flight) r
     go (m ∷ ms) q r = absurd (some_entry (journal_of ms) m.entry q)
 
@@ -130,7 +131,8 @@ no_value : (o : Option Verdict) → is_some o ≡ false → o ≡ None
 no_value None e = refl
 no_value (Some v) e = absurd (cc)
 
-halt_made : (J K : List Entry) → K ≡ (if has_halt J then J else J ++ Halt ∷ []) → IsTrue (has_halt K)
+-- after it a halt was made
+pub halt_made : (J K : List Entry) → K ≡ (if has_halt J then J else J ++ Halt ∷ []) → IsTrue (has_halt K)
 halt_made J K e = go (has_halt J) refl (ap has_halt e)
   where
     go : (b : Bool) → has_halt J ≡ b → has_halt K ≡ has_halt (if b then J else J ++ Halt ∷ []) → has_halt K ≡ true
@@ -138,12 +140,12 @@ halt_made J K e = go (has_halt J) refl (ap has_halt e)
     go false h k = k ∙ halts_more J Halt ∙ ap (λ z. z || true) h
 
 -- where no verdict stands there was no memory
-pub broken_off : (old mid end : Seen) (out : Bool) (r : Result (Unit {0}) Memory) → IsSameRun old mid → OnOk r (IsInTurn mid) → OnErr r (IsAtRest mid) → end.plain ≡ mid.plain → end.journal ≡ (if has_halt mid.journal then mid.journal else mid.journal ++ Halt ∷ []) → is_some (verdict mid.plain) ≡ false → out ≡ true → EndsAlone old.plain.problem old.plain.budget (record { board = end; out_of_memory = out })
+pub broken_off : (old mid end : Seen) (out : Bool) (r : Result (Unit {0}) Memory) → IsSameRun old mid → OnOk r (IsInTurn mid) → OnErr r (IsAtRest mid) → end.plain ≡ mid.plain → end.journal ≡ (if has_halt mid.journal then mid.journal else mid.journal ++ Halt ∷ []) → is_some (verdict mid.plain) ≡ false → out ≡ true → EndsAlone old.plain.problem old.plain.settings (record { board = end; out_of_memory = out })
 broken_off old mid end out r same ok err e halted none true_out = (
   λ q. (let clash : true ≡ false = sym true_out ∙ q in absurd (cc)),
   λ q. record {
     problem = ap (λ (z : Plain). z.problem) e ∙ same.problem;
-    budget = ap (λ (z : Plain). z.budget) e ∙ same.budget;
+    settings = ap (λ (z : Plain). z.settings) e ∙ same.settings;
     at_rest = record {
       no_verdict = subst {A = Plain} (λ z. verdict z ≡ None) (sym e) (no_value (verdict mid.plain) none);
       grounded = ap (λ (z : Plain). z.flight) e ∙ grounded r ok err;
@@ -157,7 +159,7 @@ broken_off old mid end out r same ok err e halted none true_out = (
     grounded (Err x) h k = k.grounded
 
 -- where one stands each ticket was ended
-pub all_ended : (old mid end : Seen) (out : Bool) (r : Result (Unit {0}) Memory) → IsSameRun old mid → OnOk r (IsInTurn mid) → OnErr r (IsAtRest mid) → end ≡ mid → IsLegalBoard end → is_some (verdict mid.plain) ≡ true → out ≡ false → EndsAlone old.plain.problem old.plain.budget (record { board = end; out_of_memory = out })
+pub all_ended : (old mid end : Seen) (out : Bool) (r : Result (Unit {0}) Memory) → IsSameRun old mid → OnOk r (IsInTurn mid) → OnErr r (IsAtRest mid) → end ≡ mid → IsLegalBoard end → is_some (verdict mid.plain) ≡ true → out ≡ false → EndsAlone old.plain.problem old.plain.settings (record { board = end; out_of_memory = out })
 all_ended old mid end out r same ok err e legal some false_out = (
   λ q. alone (in_turn r ok err),
   λ q. (let clash : true ≡ false = sym q ∙ false_out in absurd (cc)),
@@ -167,10 +169,10 @@ all_ended old mid end out r same ok err e legal some false_out = (
     in_turn (Ok x) h k = h
     in_turn (Err x) h k = let clash : true ≡ false = sym some ∙ ap is_some k.no_verdict in absurd (cc)
 
-    alone : IsInTurn mid → Alone old.plain.problem old.plain.budget end.journal end.plain
+    alone : IsInTurn mid → Alone old.plain.problem old.plain.settings end.journal end.plain
     alone h = record {
-      legal = subst {A = Problem} (λ p. After p old.plain.budget end.journal end.plain) (ap (λ (z : Seen). z.plain.problem) e ∙ same.problem)
-          (subst {A = ℕ} (λ n. After end.plain.problem n end.journal end.plain) (ap (λ (z : Seen). z.plain.budget) e ∙ same.budget) legal.after);
+      legal = subst {A = Problem} (λ p. After p old.plain.settings end.journal end.plain) (ap (λ (z : Seen). z.plain.problem) e ∙ same.problem)
+          (subst {A = Settings} (λ n. After end.plain.problem n end.journal end.plain) (ap (λ (z : Seen). z.plain.settings) e ∙ same.settings) legal.after);
       in_turn = subst {A = Seen} (λ z. IsTrue (takes_in_turn z.journal)) (sym e) h.in_turn;
       ended = subst {A = Seen} (λ z. IsSome (verdict z.plain)) (sym e) some;
     }

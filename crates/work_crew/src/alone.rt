@@ -3,6 +3,8 @@ ghost use Rattle.std.specs.Prelude.{◌≡◌, [], OnOk, OnErr};
 ghost use Rattle.mkb_board.specs.Boards.{IsLegalBoard};
 ghost use Rattle.work_crew.specs.Alone.{IsInTurn, IsSameRun, IsAtRest, IsJustTaken, EndsAlone};
 
+use crate::gates::ask;
+use kb_io::Gate;
 use kb_jobs::{Snapshot, work};
 use kb_term::Memory;
 use mkb_board::{Board, Taken};
@@ -27,15 +29,16 @@ enum Turn {
 }
 
 /// One worker takes the first job, works it and ends its ticket, again and again, until a verdict stands. Where it finds no
-/// memory it gives its ticket back, halts the board and ends.
-pub fn work_alone(alloc: Global, board: Board) -> Crew
+/// memory it gives its ticket back, halts the board and ends. Between a take and the work it asks the gate, until it lets pass
+/// or was asked 100,000,000 times.
+pub fn work_alone<G: Gate>(alloc: Global, board: Board, gate: &G) -> Crew
     requires { board.journal ≡ [] }
-    ensures alone { EndsAlone board.plain.problem board.plain.budget result }
+    ensures alone { EndsAlone board.plain.problem board.plain.settings result }
     ensures legal { IsLegalBoard result.board }
 {
     let mut board = board;
     let _opening = board.journal();
-    let _worked = take_turns(alloc, &mut board);
+    let _worked = take_turns(alloc, &mut board, gate);
     let out_of_memory = board.verdict().is_none();
     if out_of_memory {
         board.halt();
@@ -48,14 +51,14 @@ pub fn work_alone(alloc: Global, board: Board) -> Crew
 }
 
 // Turns are taken until a verdict stands.
-fn take_turns(alloc: Global, board: &mut Board) -> Result<(), Memory>
+fn take_turns<G: Gate>(alloc: Global, board: &mut Board, gate: &G) -> Result<(), Memory>
     requires { IsInTurn board.old }
     ensures ok { OnOk result (IsInTurn board.new) }
     ensures err { OnErr result (IsAtRest board.new) }
     ensures same { IsSameRun board.old board.new }
 {
     for _ in 0..u64::MAX {
-        match take_turn(alloc, board)? {
+        match take_turn(alloc, board, gate)? {
             Turn::Went => {}
             Turn::Over => return Ok(()),
         }
@@ -64,7 +67,7 @@ fn take_turns(alloc: Global, board: &mut Board) -> Result<(), Memory>
 }
 
 // One ticket is taken, worked and ended, unless a verdict stands.
-fn take_turn(alloc: Global, board: &mut Board) -> Result<Turn, Memory>
+fn take_turn<G: Gate>(alloc: Global, board: &mut Board, gate: &G) -> Result<Turn, Memory>
     requires { IsInTurn board.old }
     ensures ok { OnOk result (IsInTurn board.new) }
     ensures err { OnErr result (IsAtRest board.new) }
@@ -73,6 +76,7 @@ fn take_turn(alloc: Global, board: &mut Board) -> Result<Turn, Memory>
     let _journal = board.journal();
     match board.take(alloc, 1)? {
         Taken::Job(ticket, snapshot) => {
+            ask(gate, ticket.number);
             work_ticket(alloc, board, ticket, &snapshot)?;
             Ok(Turn::Went)
         }

@@ -2,5 +2,9 @@
 #![tactic(auto)]
 
 mod alone;
+mod gates;
+mod shared;
+mod together;
 
 pub use alone::{Crew, work_alone};
+pub use together::work_together;

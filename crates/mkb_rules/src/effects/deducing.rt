@@ -47,7 +47,7 @@ impl State {
                     self.nodes.roll_back();
                     return Err(Memory);
                 }
-                self.commits = counted_up(self.commits, self.budget);
+                self.commits = counted_up(self.commits, self.settings.budget);
                 Ok(Applied::Done)
             }
             Err(NodeFault::Full) => self.give_up(alloc, Reason::Nodes, &names),
@@ -75,7 +75,7 @@ impl State {
         let names = only(alloc, &self.log, p)?;
         match try_pairs(&mut self.nodes, &self.log, &names, pairs) {
             Ok(()) => {
-                self.commits = counted_up(self.commits, self.budget);
+                self.commits = counted_up(self.commits, self.settings.budget);
                 Ok(Applied::Done)
             }
             Err(NodeFault::Full) => self.give_up(alloc, Reason::Nodes, &names),

@@ -102,7 +102,7 @@ impl State {
         self.closed = closed;
         self.over = over;
         self.certificates = certificates;
-        self.commits = counted_up(self.commits, self.budget);
+        self.commits = counted_up(self.commits, self.settings.budget);
     }
 
     // The parts after a fork, in which each child has its order.

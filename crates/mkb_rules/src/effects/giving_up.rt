@@ -29,7 +29,7 @@ impl State {
     {
         let fresh = self.not_over(alloc, names)?;
         self.over.join(&self.log, reason, &fresh)?;
-        self.commits = counted_up(self.commits, self.budget);
+        self.commits = counted_up(self.commits, self.settings.budget);
         Ok(Applied::Over(reason))
     }
 

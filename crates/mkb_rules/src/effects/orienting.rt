@@ -36,7 +36,7 @@ impl State {
         let _count = node_count(&self.nodes);
         let names = only(alloc, &self.log, p)?;
         try_refuse(&mut self.nodes, &self.log, n, &names)?;
-        self.commits = counted_up(self.commits, self.budget);
+        self.commits = counted_up(self.commits, self.settings.budget);
         Ok(Applied::Done)
     }
 
@@ -65,7 +65,7 @@ impl State {
         let rule = RuleRef { node: n.0, dir };
         try_orient(&mut self.nodes, &self.log, rule, &names)?;
         certify(&mut self.certificates, p, certificate);
-        self.commits = counted_up(self.commits, self.budget);
+        self.commits = counted_up(self.commits, self.settings.budget);
         Ok(Applied::Done)
     }
 }

@@ -73,7 +73,7 @@ impl State {
         let sources = self.sources_of(alloc, n, side, kind, names)?;
         match try_moving(&mut self.nodes, &self.log, n, side, &sources, target) {
             Ok(()) => {
-                self.commits = counted_up(self.commits, self.budget);
+                self.commits = counted_up(self.commits, self.settings.budget);
                 Ok(Applied::Done)
             }
             Err(NodeFault::Full) => self.give_up(alloc, Reason::Nodes, &sources.names),

@@ -25,7 +25,7 @@ impl State {
     {
         let _count = node_count(&self.nodes);
         self.facts.extend(facts)?;
-        self.commits = counted_up(self.commits, self.budget);
+        self.commits = counted_up(self.commits, self.settings.budget);
         Ok(Applied::Done)
     }
 
@@ -42,7 +42,7 @@ impl State {
     {
         let _count = node_count(&self.nodes);
         self.closed.add(&self.log, p)?;
-        self.commits = counted_up(self.commits, self.budget);
+        self.commits = counted_up(self.commits, self.settings.budget);
         Ok(Applied::Done)
     }
 }

@@ -8,5 +8,5 @@ use Rattle.mkb_board.proofs.cost.cost.Given as goal
 abbrev pub invariant-loop-n : goal.invariant-loop-n
 invariant-loop-n l = record {
   value : l.total ≡ sum_by (λ m. role_count l.state l.p m * node_size l.state m) (numbers_from 0 l.n);
-  small : l.total ≤ 3072 * l.n;
+  small : l.total ≤ 5120 * l.n;
 }

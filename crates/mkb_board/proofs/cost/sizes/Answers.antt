@@ -5,5 +5,5 @@ use Rattle.mkb_board.proofs.cost.sizes.Goals as goal
 
 pub loop-n-preserved : goal.loop-n-preserved
 loop-n-preserved c =
-    c.in_ok-push.ensures.items ∙ ap₂ (λ (xs : List ℕ) (x : ℕ). xs ++ x ∷ []) c.loop-n.invariant c.in_ok-node_size.ensures
+    c.in_ok-push.ensures.items ∙ ap₂ (λ (xs : List ℕ) (x : ℕ). xs ++ x ∷ []) c.loop-n.invariant c.node_size.ensures
     ∙ sym (map_next (node_size c.args.state.now) c.loop-n.n)

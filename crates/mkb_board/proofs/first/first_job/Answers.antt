@@ -1,32 +1,32 @@
-use Rattle.std.proofs.Common.{◌+◌, ◌<◌, List, Option, Contains, length, drop, get_or, subst, ap, sym, ◌∙◌, arith}
+use Rattle.std.proofs.Common.{◌+◌, ◌<◌, ◌≤◌, List, Option, Contains, length, drop, get_or, subst, ap, sym, ◌∙◌, arith}
 use Rattle.std.specs.Prelude.{option_map}
 use Rattle.std.proofs.lemmas.List.Elements.{Contains-get_or}
 use Rattle.kb_term.proofs.Steps.{contains_first, contains_behind}
 use Rattle.kb_label.specs.Names.{Name, IsInNameOrder}
 use Rattle.mkb_model.specs.Jobs.{job_cmp}
-use Rattle.mkb_model.specs.Plain.{cost}
+use Rattle.mkb_model.specs.Plain.{cost, weight}
 use Rattle.mkb_model.proofs.Endings.{has_in}
 use Rattle.mkb_board.specs.Choosing.{jobs_of, merged}
 use Rattle.mkb_board.specs.declared.first.Choice.{Choice}
-use Rattle.mkb_board.proofs.Better.{best_next, before_next, ordered_from, drop_at}
+use Rattle.mkb_board.proofs.Better.{best_next, best_of_all, before_next, ordered_from, drop_at}
 use Rattle.mkb_board.proofs.Firsts.{least_free}
 use Rattle.mkb_board.proofs.first.first_job.Goals as goal
 
-pub lesser_choice-best-requires-clause-lives : goal.lesser_choice-best-requires-clause-lives
-lesser_choice-best-requires-clause-lives c =
+pub lesser_choice-requires-clause-lives : goal.lesser_choice-requires-clause-lives
+lesser_choice-requires-clause-lives c =
     let living = c.processes-living.result.now in
     let p = c.index-living-i.result in
     has_in c.args.state.now.living p
     (subst {A = List Name} (λ z. Contains z p) (c.processes-living.ensures ∙ c.log.ensures)
     (subst {A = Name} (Contains living) (sym c.index-living-i.is) (Contains-get_or living c.loop-i.i p c.loop-i-test.true)))
 
-pub lesser_choice-best-requires-clause-earlier : goal.lesser_choice-best-requires-clause-earlier
-lesser_choice-best-requires-clause-earlier c =
+pub lesser_choice-requires-clause-earlier : goal.lesser_choice-requires-clause-earlier
+lesser_choice-requires-clause-earlier c =
     let living = c.args.state.now.living in
     let p = c.index-living-i.result in
     let same = c.processes-living.ensures ∙ c.log.ensures in
     let there : c.loop-i.i < length living = omega (arith, c.loop-i-test.true, ap length same) in
-    let from = drop_at living c.loop-i.i p there (c.index-living-i.is ∙ ap (λ (l : List Name). get_or l c.loop-i.i p) same) in
+    let from = drop_at living c.loop-i.i p p there (c.index-living-i.is ∙ ap (λ (l : List Name). get_or l c.loop-i.i p) same) in
     c.loop-i.invariant.before p (subst {A = List Name} (λ z. Contains z p) (sym from) (contains_first p (drop (c.loop-i.i + 1) living)))
 
 pub loop-i-preserved : goal.loop-i-preserved
@@ -37,15 +37,27 @@ loop-i-preserved c =
     let left = drop (c.loop-i.i + 1) b.living in
     let same = c.processes-living.ensures ∙ c.log.ensures in
     let there : c.loop-i.i < length b.living = omega (arith, c.loop-i-test.true, ap length same) in
-    let from = drop_at b.living c.loop-i.i p there (c.index-living-i.is ∙ ap (λ (l : List Name). get_or l c.loop-i.i p) same) in
+    let from = drop_at b.living c.loop-i.i p p there (c.index-living-i.is ∙ ap (λ (l : List Name). get_or l c.loop-i.i p) same) in
     let job_in = λ (o : Option Choice). option_map (λ (k : Choice). k.job) o in
     record {
       least =
-          sym (best_next b flight p left (job_in c.loop-i.best) (job_in c.lesser_choice-best.result) c.lesser_choice-best.ensures.least)
-          ∙ sym (ap (λ (ps : List Name). merged (job_cmp (cost b)) (job_in c.loop-i.best) (least_free b flight ps)) from)
+          sym (best_next b flight p left (job_in c.loop-i.best) (job_in c.in_ok-best.best) c.in_ok-best.ensures.least)
+          ∙ sym (ap (λ (ps : List Name). merged (job_cmp (cost b) (weight b)) (job_in c.loop-i.best) (least_free b flight ps)) from)
           ∙ c.loop-i.invariant.least;
-      costed = c.lesser_choice-best.ensures.costed;
-      before = before_next c.loop-i.best c.lesser_choice-best.result p left (subst {A = List Name} IsInNameOrder from (ordered_from c.loop-i.i b.living c.requires.in_order))
+      costed = c.in_ok-best.ensures.costed;
+      before = before_next c.loop-i.best c.in_ok-best.best p left (subst {A = List Name} IsInNameOrder from (ordered_from c.loop-i.i b.living c.requires.in_order))
           (λ q k. c.loop-i.invariant.before q (subst {A = List Name} (λ z. Contains z q) (sym from) (contains_behind p left q k)))
-          c.lesser_choice-best.ensures.of_either;
+          c.in_ok-best.ensures.of_either;
     }
+
+pub returns-in-Some : goal.returns-in-Some
+returns-in-Some c =
+    let b = c.args.state.now in
+    let all : length b.living ≤ c.loop-i.i = omega (arith, c.loop-i-test.false, ap length (c.processes-living.ensures ∙ c.log.ensures)) in
+    sym (ap (option_map (λ (k : Choice). k.job)) c.in-Some.is) ∙ best_of_all b c.args.flight.now c.loop-i.i c.loop-i.best all c.loop-i.invariant.least
+
+pub returns : goal.returns
+returns c =
+    let b = c.args.state.now in
+    let all : length b.living ≤ c.loop-i.i = omega (arith, c.loop-i-test.false, ap length (c.processes-living.ensures ∙ c.log.ensures)) in
+    sym (ap (option_map (λ (k : Choice). k.job)) c.in-None.is) ∙ best_of_all b c.args.flight.now c.loop-i.i c.loop-i.best all c.loop-i.invariant.least

@@ -1,5 +1,4 @@
 use Rattle.std.proofs.Common.{◌<◌, ◌∙◌, length}
-use Rattle.std.specs.Prelude.{All}
 use Rattle.std.proofs.lemmas.List.Elements.{All-take}
 use Rattle.mkb_rules.specs.declared.nodes.Replaced.{Replaced}
 use Rattle.mkb_rules.proofs.PutBack.{length-with_label, put_back-last}

@@ -1,4 +1,4 @@
-use Rattle.std.proofs.Common.{◌≡◌, length, ap, ◌∙◌, arith}
+use Rattle.std.proofs.Common.{length, ap, arith}
 use Rattle.kb_term.specs.declared.origin.Origin.TheVariants.{Input}
 use Rattle.mkb_rules.proofs.SamePairs.{node-there}
 use Rattle.mkb_rules.proofs.Relabelled.{length_equation, one_more}

@@ -1,6 +1,6 @@
-use Rattle.std.proofs.Common.{◌≡◌, List, [], ◌∷◌, ◌++◌, map, take, Option, Some, None, ap, sym, subst, ◌∙◌}
+use Rattle.std.proofs.Common.{[], ◌∷◌, ◌++◌, map, Option, ap, sym, subst, ◌∙◌}
 use Rattle.kb_label.specs.Names.{root}
-use Rattle.kb_cert.specs.Family.{family, IsFirstOrder}
+use Rattle.kb_cert.specs.Family.{IsFirstOrder}
 use Rattle.kb_cert.specs.declared.certificate.Certificate.{Certificate}
 use Rattle.mkb_model.specs.Plain.{Certified as OrderOf}
 use Rattle.mkb_rules.specs.Kept.{plain_certificates}

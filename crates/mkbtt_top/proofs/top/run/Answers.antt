@@ -1,10 +1,12 @@
 use Rattle.std.proofs.Common.{List, ℕ, map, Some}
-use Rattle.mkbtt_top.proofs.Endings.{answered, write_fault, not_words, read_cause, write_cause, refused, bad_text, nothing, reads}
+use Rattle.mkbtt_top.proofs.Endings.{answered, write_fault, not_words, read_task, read_cause, no_board, write_cause, refused, bad_text, nothing, reads}
 use Rattle.mkbtt_top.proofs.Tasks.{number_of}
 use Rattle.mkbtt_top.proofs.top.run.Goals as goal
 
 pub run_task-requires : goal.run_task-requires
-run_task-requires g c = let a = rw c.in-Ok-Some.field-0-is at c.in-Ok-Some.ensures.asked in number_of c.in-Ok-Some.task _ a
+run_task-requires g c = let a = rw c.in-Ok-Some.field-0-is at c.in-Ok-Some.ensures.asked in
+    let number = number_of c.in-Ok-Some.task _ a in
+    search number
 
 pub returns-in-Ok-Some-clause-answered : goal.returns-in-Ok-Some-clause-answered
 returns-in-Ok-Some-clause-answered g c = let a = rw c.in-Ok-Some.field-0-is at c.in-Ok-Some.ensures.asked in answered _ _ a _ _ _ _ _ _ _ _ _ _ c.run_task.ensures.ends
@@ -14,6 +16,12 @@ returns-in-Ok-Some-clause-write_fault g c = let a = rw c.in-Ok-Some.field-0-is a
 
 pub returns-in-Ok-Some-clause-read_cause : goal.returns-in-Ok-Some-clause-read_cause
 returns-in-Ok-Some-clause-read_cause g c = let a = rw c.in-Ok-Some.field-0-is at c.in-Ok-Some.ensures.asked in read_cause _ _ a _ _ _ _ _ _ _ _ _ _ c.run_task.ensures.ends
+
+pub returns-in-Ok-Some-clause-read_task : goal.returns-in-Ok-Some-clause-read_task
+returns-in-Ok-Some-clause-read_task g c = let a = rw c.in-Ok-Some.field-0-is at c.in-Ok-Some.ensures.asked in read_task _ _ a _ _ _ _ _ _ _ _ _ _ c.run_task.ensures.ends
+
+pub returns-in-Ok-Some-clause-no_board : goal.returns-in-Ok-Some-clause-no_board
+returns-in-Ok-Some-clause-no_board g c = let a = rw c.in-Ok-Some.field-0-is at c.in-Ok-Some.ensures.asked in no_board _ _ a _ _ _ _ _ _ _ _ _ _ c.run_task.ensures.ends
 
 pub returns-in-Ok-Some-clause-write_cause : goal.returns-in-Ok-Some-clause-write_cause
 returns-in-Ok-Some-clause-write_cause g c = let a = rw c.in-Ok-Some.field-0-is at c.in-Ok-Some.ensures.asked in write_cause _ _ a _ _ _ _ _ _ _ _ _ _ c.run_task.ensures.ends
@@ -29,6 +37,9 @@ returns-in-Ok-Some-clause-nothing g c = let a = rw c.in-Ok-Some.field-0-is at c.
 
 pub returns-in-Ok-Some-clause-words : goal.returns-in-Ok-Some-clause-words
 returns-in-Ok-Some-clause-words g c = let a = rw c.in-Ok-Some.field-0-is at c.in-Ok-Some.ensures.asked in λ e. absurd (not_words _ _ a _ _ _ _ _ _ _ _ _ _ c.run_task.ensures.ends e)
+
+pub returns-in-Ok-Some-clause-unread : goal.returns-in-Ok-Some-clause-unread
+returns-in-Ok-Some-clause-unread g c = let a = rw c.in-Ok-Some.field-0-is at c.in-Ok-Some.ensures.asked in λ e. absurd (not_words _ _ a _ _ _ _ _ _ _ _ _ _ c.run_task.ensures.ends e)
 
 pub returns-in-Ok-Some-clause-taken : goal.returns-in-Ok-Some-clause-taken
 returns-in-Ok-Some-clause-taken g c = let a = rw c.in-Ok-Some.field-0-is at c.in-Ok-Some.ensures.asked in λ _ _. (c.in-Ok-Some.task, a)

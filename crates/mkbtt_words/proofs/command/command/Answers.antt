@@ -1,4 +1,4 @@
-use Rattle.std.proofs.Common.{◌∙◌, ◌≡◌, ap, ap₂, true, Some}
+use Rattle.std.proofs.Common.{refl, ◌∙◌, ◌≡◌, ap, ap₂, true, Some}
 use Rattle.std.specs.Prelude.{pos}
 use Rattle.std.proofs.lemmas.Result.{IfOk-weaker}
 use Rattle.clap.specs.Walk.{rule_of}
@@ -20,4 +20,14 @@ returns c =
     let with_mode = c.in_ok-arg.ensures.shape c.mode_argument.ensures.local ∙ ap₂ with_rule start c.mode_argument.ensures.rule in
     let with_workers = c.in_ok-arg-2.ensures.shape c.number_option.ensures.local ∙ ap₂ with_rule with_mode workers_is in
     let with_budget = c.in_ok-arg-3.ensures.shape c.number_option-2.ensures.local ∙ ap₂ with_rule with_workers budget_is in
-    IfOk-weaker c.arg-4.result _ _ (λ r h. h.shape c.number_option-3.ensures.local ∙ ap₂ with_rule with_budget number_is) c.arg-4.ensures
+    let with_number = c.in_ok-arg-4.ensures.shape c.number_option-3.ensures.local ∙ ap₂ with_rule with_budget number_is in
+    let with_format = c.in_ok-arg-5.ensures.shape c.name_option.ensures.local ∙ ap₂ with_rule with_number c.name_option.ensures.rule in
+    IfOk-weaker c.arg-6.result _ _ (λ r h. record {
+      names = c.args.names;
+      texts = c.requires;
+      formats = _;
+      format_texts = refl;
+      selections = _;
+      selection_texts = refl;
+      is = h.shape c.name_option-2.ensures.local ∙ ap₂ with_rule with_format c.name_option-2.ensures.rule;
+    }) c.arg-6.ensures

@@ -1,7 +1,6 @@
-use Rattle.std.proofs.Common.{◌≡◌, ◌<◌, ◌∙◌, Some, length, ap, sym, refl}
-use Rattle.std.specs.Prelude.{slice_get, slice_set, option_map}
-use Rattle.kb_node.specs.Labelled.{label_in, with_label_at}
-use Rattle.kb_node.proofs.Filing.{node_at, pairs-with_label}
+use Rattle.std.proofs.Common.{Some, ap, sym}
+use Rattle.std.specs.Prelude.{slice_set}
+use Rattle.kb_node.proofs.Pairs.{node_at, pairs-with_label}
 use Rattle.kb_node.proofs.table.NodeTable.set_label.Goals as goal
 
 pub invariant_of-self : goal.invariant_of-self

@@ -1,4 +1,4 @@
-use Rattle.std.proofs.Common.{◌≡◌, ◌<◌, ◌++◌, ◌∙◌, List, length, sym, ap, refl, arith}
+use Rattle.std.proofs.Common.{◌<◌, ◌++◌, ◌∙◌, length, sym, ap, arith}
 use Rattle.kb_node.specs.Views.{equation_at, rules_at, constraints_at}
 use Rattle.kb_node.proofs.Viewed.{viewed-more}
 use Rattle.kb_node.proofs.table.NodeTable.view_of.Goals as goal

@@ -1,4 +1,4 @@
-use Rattle.std.proofs.Common.{ℕ, ◌≡◌, ◌∙◌, List, [], refl, sym, subst, arith, false}
+use Rattle.std.proofs.Common.{◌≡◌, ◌∙◌, List, [], refl, sym, subst, arith, false}
 use Rattle.kb_term.specs.Signature.{Problem, IsWithinLimits}
 use Rattle.mkb_model.specs.Plain.{Plain}
 use Rattle.mkb_model.specs.Journals.{opening}
@@ -6,9 +6,10 @@ use Rattle.mkb_model.specs.declared.entry.Ticket.{Ticket}
 use Rattle.mkb_model.specs.declared.entry.Entry.{Entry}
 use Rattle.mkb_board.specs.Boards.{seen, IsBoard}
 use Rattle.mkb_board.proofs.board.Board.start.Goals as goal
+use Rattle.mkb_model.specs.declared.settings.Settings.{Settings}
 
 -- the board before any entry
-opening_board : (P : Problem) (n : ℕ) (b : Plain) (ts : List Ticket) (es : List Entry) → IsWithinLimits P → b ≡ opening P n → ts ≡ [] → es ≡ [] → IsBoard (seen b ts es) 0 0 false
+opening_board : (P : Problem) (n : Settings) (b : Plain) (ts : List Ticket) (es : List Entry) → IsWithinLimits P → b ≡ opening P n → ts ≡ [] → es ≡ [] → IsBoard (seen b ts es) 0 0 false
 opening_board P n b ts es w e f g =
     subst {A = Plain} (λ z. IsBoard (seen z ts es) 0 0 false) (sym e) (subst {A = List Ticket} (λ z. IsBoard (seen (opening P n) z es) 0 0 false) (sym f) (subst {A = List Entry} (λ z. IsBoard (seen (opening P n) [] z) 0 0 false) (sym g) first))
   where
@@ -17,7 +18,7 @@ opening_board P n b ts es w e f g =
 
 pub invariant_of-result : goal.invariant_of-result
 invariant_of-result c = (
-  opening_board c.args.problem c.args.budget c.in_ok-state.state c.new.result.items c.reserve.new.self.items c.requires c.in_ok-state.ensures c.new.ensures.items (c.in_ok-reserve.ensures.items ∙ c.new-journal.ensures.items),
+  opening_board c.args.problem c.args.settings c.in_ok-state.state c.new.result.items c.reserve.new.self.items c.requires c.in_ok-state.ensures c.new.ensures.items (c.in_ok-reserve.ensures.items ∙ c.new-journal.ensures.items),
   omega (arith, c.in_ok-reserve.ensures.ok, c.in_ok-reserve.ensures.len, c.new-journal.ensures.len, c.new.ensures.len),
   c.verdict-verdict.ensures,
 )

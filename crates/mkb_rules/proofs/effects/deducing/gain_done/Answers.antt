@@ -2,7 +2,7 @@ use Rattle.std.proofs.Common.{◌∙◌, List, ap, arith}
 use Rattle.std.specs.Prelude.{◌&&◌, slice_set}
 use Rattle.std.specs.List.{position_or_len}
 use Rattle.std.proofs.lemmas.Result.{on_ok_weaker}
-use Rattle.kb_label.specs.Names.{join, Name}
+use Rattle.kb_label.specs.Names.{Name}
 use Rattle.mkb_model.specs.Jobs.{ref_eq}
 use Rattle.mkb_rules.specs.Kept.{plain_done}
 use Rattle.mkb_rules.specs.declared.state.DonePair.{DonePair}

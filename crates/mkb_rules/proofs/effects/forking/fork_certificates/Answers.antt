@@ -1,7 +1,5 @@
-use Rattle.std.proofs.Common.{ℕ, suc, ◌≡◌, ◌+◌, ◌<◌, ◌≤◌, List, length, get_or, set, ap, sym, ◌∙◌, arith, true, false}
+use Rattle.std.proofs.Common.{suc, ◌≡◌, ◌+◌, ◌<◌, List, length, get_or, set, ap, ◌∙◌, arith}
 use Rattle.std.specs.Prelude.{insert}
-use Rattle.kb_label.specs.Names.{child}
-use Rattle.kb_cert.specs.declared.certificate.Certificate.{Certificate}
 use Rattle.mkb_rules.specs.Kept.{plain_certificates, place_in}
 use Rattle.mkb_rules.specs.declared.state.Certified.{Certified}
 use Rattle.mkb_rules.proofs.Certified.{forked_there, forked_nowhere}

@@ -1,5 +1,5 @@
-use Rattle.std.proofs.Common.{◌≡◌, List, ap, sym, ◌∙◌}
-use Rattle.kb_node.specs.declared.node.LabelKind.TheVariants.{R0, R1, E, C0, C1, X}
+use Rattle.std.proofs.Common.{◌≡◌, ap, ◌∙◌}
+use Rattle.kb_node.specs.declared.node.LabelKind.TheVariants.{R1, E, C0, C1, X}
 use Rattle.mkb_rules.specs.Forking.{fork_at}
 use Rattle.mkb_rules.proofs.Forks.{relabel_at, six_labels}
 use Rattle.mkb_rules.proofs.Answered.{ok_then}

@@ -1,5 +1,4 @@
-use Rattle.std.proofs.Common.{ℕ, ◌≡◌, ◌<◌, ◌≤◌, List, length, get_or, set, ap, sym, subst, ◌∙◌, arith}
-use Rattle.mkb_model.specs.Effects.{certify_in}
+use Rattle.std.proofs.Common.{ℕ, ◌<◌, List, length, get_or, set, ap, ◌∙◌, arith}
 use Rattle.mkb_rules.specs.Kept.{plain_certificates, place_in}
 use Rattle.mkb_rules.specs.declared.state.Certified.{Certified}
 use Rattle.mkb_rules.proofs.Certified.{certified_there, certified_nowhere}

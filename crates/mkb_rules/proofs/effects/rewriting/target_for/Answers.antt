@@ -1,5 +1,4 @@
 use Rattle.std.proofs.Common.{arith}
-use Rattle.kb_term.specs.Pair.{variables_of_pair}
 use Rattle.kb_term.specs.View.{tree_of}
 use Rattle.kb_term.proofs.NameList.{variables_of_pair-swapped}
 use Rattle.mkb_rules.proofs.effects.rewriting.target_for.Goals as goal

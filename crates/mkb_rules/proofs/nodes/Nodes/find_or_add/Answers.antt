@@ -1,4 +1,4 @@
-use Rattle.std.proofs.Common.{◌∙◌, ℕ, ◌<◌, length, take, ap, sym, subst}
+use Rattle.std.proofs.Common.{◌∙◌, ℕ, ◌<◌, take, ap, sym, subst}
 use Rattle.std.specs.Prelude.{All}
 use Rattle.std.proofs.lemmas.List.{map-append, length-map}
 use Rattle.mkb_rules.specs.Parts.{plain_node, plain_nodes}

@@ -1,6 +1,6 @@
-use Rattle.std.proofs.Common.{◌≡◌, List, filter, not, ap, ◌∙◌}
+use Rattle.std.proofs.Common.{◌≡◌, filter, not, ap, ◌∙◌}
 use Rattle.std.specs.List.{list_any}
-use Rattle.kb_label.specs.Names.{Name, has, minus}
+use Rattle.kb_label.specs.Names.{has, minus}
 use Rattle.mkb_model.specs.Plain.{GivenUp as OverFor}
 use Rattle.mkb_rules.specs.Over.{lists_of}
 use Rattle.mkb_rules.proofs.Sets.{out_of_six}

@@ -1,4 +1,4 @@
-use Rattle.std.proofs.Common.{◌≡◌, ◌<◌, ℕ, length, get_or, Some, IsSome, ap, sym, subst, ◌∙◌, arith}
+use Rattle.std.proofs.Common.{◌≡◌, get_or, Some, IsSome, ap, sym, subst, ◌∙◌, arith}
 use Rattle.mkb_model.specs.Plain.{Plain, certificate_of}
 use Rattle.mkb_rules.specs.Kept.{plain_certificates, place_in}
 use Rattle.mkb_rules.specs.declared.state.Certified.{Certified}

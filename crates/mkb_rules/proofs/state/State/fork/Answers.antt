@@ -1,4 +1,4 @@
-use Rattle.std.proofs.Common.{ℕ, ◌≡◌, ◌<◌, ◌≤◌, List, length, ap, subst, ◌∙◌, arith, true, false}
+use Rattle.std.proofs.Common.{◌≤◌, List, length, ap, subst, ◌∙◌, true, false}
 use Rattle.kb_label.specs.Names.{Name, child, has}
 use Rattle.mkb_model.specs.Plain.{Plain, PlainNode}
 use Rattle.mkb_model.specs.Effects.{counted}

@@ -1,5 +1,4 @@
-use Rattle.std.proofs.Common.{ℕ, ◌≡◌, ◌≤◌, List, length, ap, sym, subst, ◌∙◌, arith}
-use Rattle.kb_label.specs.Names.{Name}
+use Rattle.std.proofs.Common.{◌≡◌, ◌≤◌, length, sym, subst, arith}
 use Rattle.kb_label.specs.declared.verdict.Reason.TheVariants.{Processes}
 use Rattle.mkb_model.specs.Plain.{Plain}
 use Rattle.mkb_model.specs.Effects.{counted, give_up}

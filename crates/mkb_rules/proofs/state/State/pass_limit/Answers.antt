@@ -1,7 +1,6 @@
 use Rattle.std.proofs.Common.{◌≡◌, List, ap, ◌∙◌}
 use Rattle.kb_label.specs.Names.{Name}
-use Rattle.mkb_model.specs.Plain.{Plain}
-use Rattle.mkb_model.specs.Effects.{give_up, counted, not_over}
+use Rattle.mkb_model.specs.Effects.{give_up, counted}
 use Rattle.mkb_model.specs.declared.proposed.Proposed.TheVariants.{Limit}
 use Rattle.mkb_rules.specs.Applying.{Commits}
 use Rattle.mkb_rules.specs.declared.applied.Applied.{Applied}

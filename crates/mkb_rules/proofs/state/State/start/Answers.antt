@@ -15,7 +15,7 @@ returns c =
     let orders = c.in_ok-certificates.ensures ∙ ap (λ (s : Signature). map {A = Certificate} {B = OrderOf} (λ q. record { name = root; certificate = q }) (take 1 (family s))) c.signature.ensures in
     (λ i. record {
       problem = c.args.problem;
-      budget = c.args.budget;
+      settings = c.args.settings;
       living = c.in_ok-log.ensures i;
       nodes = nodes i;
       done = plain_done (c.new.ensures.items i);

@@ -1,0 +1,10 @@
+mod Ends
+mod FrontRead
+mod Asked
+mod AskedFaults
+mod GoalLines
+mod DecisionLines
+mod DecisionGoals
+mod Meanings
+mod TermLines
+mod SimplifiedLines

@@ -1,0 +1,14 @@
+pub mod Below
+pub mod Reducible
+pub mod Certified
+pub mod System
+pub mod Thinned
+pub mod Numbering
+pub mod Directions
+pub mod Forms
+pub mod Traced
+pub mod Made
+pub mod Covering
+pub mod Dropping
+pub mod Turn
+pub mod Whole

@@ -1,0 +1,3 @@
+pub mod Reducing
+pub mod Telling
+pub mod Running

@@ -1,0 +1,153 @@
+// The lightest work of a process.
+ghost use Rattle.std.specs.Prelude.{◌≡◌, ◌⊎◌, ◌∷◌, [], true, nat_lt, map, option_map, Some, IfOk, IfSome};
+ghost use Rattle.std.specs.List.{flat_map};
+ghost use Rattle.std.specs.Option.{option_map_or};
+ghost use Rattle.kb_term.specs.declared.origin.RuleRef.{RuleRef as Reference};
+ghost use Rattle.kb_node.specs.declared.job.Job.TheVariants as jobs;
+ghost use Rattle.mkb_model.specs.Jobs.{job_cmp};
+ghost use Rattle.mkb_model.specs.Limits.{AreLimited};
+ghost use Rattle.mkb_model.specs.Plain.{cost, node_numbers, rules_of, weight_by};
+ghost use Rattle.mkb_model.specs.DueJobs.{work_of};
+ghost use Rattle.mkb_model.specs.declared.settings.Selection.TheVariants as selections;
+ghost use Rattle.mkb_board.specs.Choosing.{jobs_of, is_choice, least_choice, merged, sizes_of, HasNodes, IsWeighed, StandsEarlier};
+ghost use Rattle.mkb_board.specs.declared.lightest.Weighed.{Weighed};
+
+use crate::choosing::node_count;
+use crate::due::is_choice;
+use crate::snapshots::named::view_of;
+use kb_label::Process;
+use kb_node::{Job, NodeId};
+use kb_term::{Memory, RuleRef};
+use mkb_model::Ticket;
+use mkb_rules::State;
+
+// A job with its weight.
+#[derive(Clone, Copy)]
+struct Weighed {
+    weight: u32,
+    job: Job,
+}
+
+/// The lightest work of the process that is due by what it sees and clashes with none in flight: of the first kind that has
+/// any, the one whose nodes are the smallest, and of equal ones the first by its numbers. Closing is none of it.
+pub(crate) fn lightest_work(
+    state: &State,
+    flight: &[Ticket],
+    sizes: &[u32],
+    p: &Process,
+) -> Result<Option<Job>, Memory>
+    requires limited { AreLimited state.now.problem.signature state.now.nodes }
+    requires sizes { sizes.now ≡ sizes_of state.now }
+    ensures { IfOk result (λ o. o ≡ least_choice selections.Size state.now (jobs_of flight.now) (work_of state.now p.now)) }
+{
+    if let Some(job) = lightest_reduce(state, flight, sizes, p) {
+        return Ok(Some(job));
+    }
+    if let Some(job) = lightest_orient(state, flight, sizes, p) {
+        return Ok(Some(job));
+    }
+    let view = view_of(state, p)?;
+    Ok(lightest_overlap(state, flight, sizes, p, view.rules.items()))
+}
+
+// The lightest node that may be reduced.
+fn lightest_reduce(state: &State, flight: &[Ticket], sizes: &[u32], p: &Process) -> Option<Job>
+    requires { sizes.now ≡ sizes_of state.now }
+    ensures { result ≡ least_choice selections.Size state.now (jobs_of flight.now) (map (λ n. jobs.Reduce p.now (record { 0 = n })) (node_numbers state.now)) }
+{
+    let mut best = None;
+    for n in 0..node_count(state) {
+        let next = Weighed {
+            weight: sizes[n as usize],
+            job: Job::Reduce(*p, NodeId(n as u16)),
+        };
+        best = lighter(state, flight, best, next);
+    }
+    job_of(best)
+}
+
+// The lightest node that may be oriented.
+fn lightest_orient(state: &State, flight: &[Ticket], sizes: &[u32], p: &Process) -> Option<Job>
+    requires { sizes.now ≡ sizes_of state.now }
+    ensures { result ≡ least_choice selections.Size state.now (jobs_of flight.now) (map (λ n. jobs.Orient p.now (record { 0 = n })) (node_numbers state.now)) }
+{
+    let mut best = None;
+    for n in 0..node_count(state) {
+        let next = Weighed {
+            weight: sizes[n as usize],
+            job: Job::Orient(*p, NodeId(n as u16)),
+        };
+        best = lighter(state, flight, best, next);
+    }
+    job_of(best)
+}
+
+// The lightest two rules of the process that may be overlapped.
+fn lightest_overlap(
+    state: &State,
+    flight: &[Ticket],
+    sizes: &[u32],
+    p: &Process,
+    rules: &[RuleRef],
+) -> Option<Job>
+    requires limited { AreLimited state.now.problem.signature state.now.nodes }
+    requires sizes { sizes.now ≡ sizes_of state.now }
+    requires rules { rules.now ≡ rules_of state.now p.now }
+    ensures { result ≡ least_choice selections.Size state.now (jobs_of flight.now) (flat_map (λ (a : Reference). map (jobs.Overlap p.now a) (rules_of state.now p.now)) (rules_of state.now p.now)) }
+{
+    let mut best = None;
+    for i in 0..rules.len() {
+        let first = rules[i];
+        for j in 0..rules.len() {
+            let second = rules[j];
+            let next = Weighed {
+                weight: sizes[first.node as usize] + sizes[second.node as usize],
+                job: Job::Overlap(*p, first, second),
+            };
+            best = lighter(state, flight, best, next);
+        }
+    }
+    job_of(best)
+}
+
+// The best so far, or the next job where it is lighter and may be chosen.
+fn lighter(
+    state: &State,
+    flight: &[Ticket],
+    best: Option<Weighed>,
+    next: Weighed,
+) -> Option<Weighed>
+    requires nodes { HasNodes state.now next.job }
+    requires next { IsWeighed state.now next }
+    requires best { IfSome best (IsWeighed state.now) }
+    requires earlier { IfSome best (λ (w : Weighed). StandsEarlier next.job w.job) }
+    ensures least { option_map (λ (w : Weighed). w.job) result ≡ merged (job_cmp (cost state.now) (weight_by selections.Size state.now)) (option_map (λ (w : Weighed). w.job) best) (least_choice selections.Size state.now (jobs_of flight.now) (next.job ∷ [])) }
+    ensures weighed { IfSome result (IsWeighed state.now) }
+    ensures of_either { (result ≡ best) ⊎ (result ≡ Some next) }
+{
+    if is_lighter(next.weight, &best) && is_choice(state, flight, &next.job) {
+        Some(next)
+    } else {
+        best
+    }
+}
+
+// Whether the weight is below that of the best so far, if there is one.
+fn is_lighter(weight: u32, best: &Option<Weighed>) -> bool
+    ensures { result ≡ option_map_or (λ (w : Weighed). nat_lt weight w.weight) best.now true }
+{
+    match best {
+        Some(best) => weight < best.weight,
+        None => true,
+    }
+}
+
+// The job alone.
+fn job_of(best: Option<Weighed>) -> Option<Job>
+    ensures { result ≡ option_map (λ (w : Weighed). w.job) best }
+{
+    match best {
+        Some(best) => Some(best.job),
+        None => None,
+    }
+}

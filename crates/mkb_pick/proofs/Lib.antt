@@ -1,0 +1,7 @@
+pub mod Places
+pub mod Turns
+pub mod Offered
+pub mod Viewed
+pub mod Replaced
+pub mod Tasks
+pub mod Firsts

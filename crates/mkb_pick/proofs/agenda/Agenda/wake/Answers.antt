@@ -1,0 +1,12 @@
+use Rattle.std.proofs.Common.{◌≡◌, refl, sym, ap, ap₂, ◌∙◌, subst, true, false}
+use Rattle.mkb_pick.proofs.Viewed.{seats_as_before, jobs_as_before, job_more, job_less, job_seen, task_in, cost_seen, rest_seen, gone_seen, jobs_gone_seen, come_seen, jobs_come_seen, seated, listed_again}
+use Rattle.mkb_pick.proofs.agenda.Agenda.wake.Goals as goal
+
+pub set_resting-requires-clause-seated : goal.set_resting-requires-clause-seated
+set_resting-requires-clause-seated c = seated c.self.inside.queue c.args.self.now.processes (ap (λ v. v.processes) c.self.view_is) c.args.process.now c.requires
+
+pub returns-clause-processes : goal.returns-clause-processes
+returns-clause-processes c = rest_seen c.self.inside.queue c.set_resting.new.self c.args.self.now.processes (ap (λ v. v.processes) c.self.view_is) c.args.process.now false c.set_resting.ensures.seats
+
+pub returns-clause-jobs : goal.returns-clause-jobs
+returns-clause-jobs c = jobs_as_before c.self.inside.queue c.set_resting.new.self c.args.self.now.processes (ap (λ v. v.processes) c.self.view_is) c.set_resting.ensures.tasks

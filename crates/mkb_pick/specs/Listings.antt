@@ -1,0 +1,43 @@
+-- What an agenda lists.
+use Rattle.std.specs.Prelude.{ℕ, ◌≡◌, ◌⊎◌, List, Bool, true, false, Contains}
+use Rattle.std.specs.declared.cmp.Ordering.TheVariants.{Less}
+use Rattle.std.specs.declared.option.Option.{Option}
+use Rattle.std.specs.declared.option.Option.TheVariants.{Some, None}
+use Rattle.kb_label.specs.Names.{Name}
+use Rattle.kb_node.specs.declared.job.Job.{Job}
+use Rattle.mkb_pick.specs.Jobs.{Weighed, process_of, is_free, weighed_cmp}
+
+-- a listed process, and its jobs with their weights
+pub record Listed : Type 0 where
+  pub name : Name
+  pub cost : ℕ
+  pub resting : Bool
+  pub jobs : List (Job × ℕ)
+
+-- the listed processes, and for how many more jobs and processes there is room
+pub record Listing : Type 0 where
+  pub processes : List Listed
+  pub spare_jobs : ℕ
+  pub spare_processes : ℕ
+
+-- the process is listed with this cost, and rests or not
+abbrev pub IsListed : List Listed → Name → ℕ → Bool → Type 0
+IsListed ps n c r = (l : Listed) × Contains ps l × (l.name ≡ n) × (l.cost ≡ c) × (l.resting ≡ r)
+
+-- the process is listed
+abbrev pub IsProcess : List Listed → Name → Type 0
+IsProcess ps n = (l : Listed) × Contains ps l × (l.name ≡ n)
+
+-- the job is listed with this weight
+abbrev pub HasJob : List Listed → Job → ℕ → Type 0
+HasJob ps j w = (l : Listed) × Contains ps l × (l.name ≡ process_of j) × Contains l.jobs (j, w)
+
+-- the job is listed, its process does not rest, and it clashes with none of those in flight
+abbrev pub IsOffered : List Listed → List Job → Weighed → Type 0
+IsOffered ps flight w = IsListed ps (process_of w.job) w.cost false × HasJob ps w.job w.weight × (is_free flight w.job ≡ true)
+
+-- the least job that is offered, or that there is none
+abbrev pub IsLeastOffered : List Listed → List Job → Option Job → Type 0
+IsLeastOffered ps flight None = (w : Weighed) → ¬ IsOffered ps flight w
+IsLeastOffered ps flight (Some job) =
+    (w : Weighed) × (w.job ≡ job) × IsOffered ps flight w × ((v : Weighed) → IsOffered ps flight v → (v ≡ w) ⊎ (weighed_cmp w v ≡ Less))

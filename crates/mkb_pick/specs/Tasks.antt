@@ -1,0 +1,56 @@
+-- Tasks: jobs without their processes, with their weights.
+use Rattle.std.specs.Prelude.{ℕ, List, [], ◌∷◌, Bool, ◌||◌, ◌≡◌, ◌≤◌, false, true}
+use Rattle.std.specs.Ordering.{nat_cmp}
+use Rattle.std.specs.Cmp.Lexicographic.{slice_cmp}
+use Rattle.std.specs.declared.cmp.Ordering.{Ordering}
+use Rattle.kb_label.specs.Names.{Name}
+use Rattle.kb_node.specs.declared.job.Job.{Job}
+use Rattle.kb_node.specs.declared.job.Job.TheVariants.{Reduce, Orient, Overlap, Close}
+use Rattle.mkb_pick.specs.declared.task.Work.{Work}
+use Rattle.mkb_pick.specs.declared.task.Work.TheVariants.{Reducing, Orienting, Overlapping, Closing}
+use Rattle.mkb_pick.specs.declared.task.Task.{Task}
+use Rattle.mkb_pick.specs.Jobs.{is_free}
+
+-- the job of the process
+abbrev pub job_of : Name → Work → Job
+job_of p (Reducing n) = Reduce p n
+job_of p (Orienting n) = Orient p n
+job_of p (Overlapping a b) = Overlap p a b
+job_of p Closing = Close p
+
+-- what a job does, for whichever process
+abbrev pub work_of : Job → Work
+work_of (Reduce p n) = Reducing n
+work_of (Orient p n) = Orienting n
+work_of (Overlap p a b) = Overlapping a b
+work_of (Close p) = Closing
+
+-- the four kinds in their order
+abbrev pub work_kind : Work → ℕ
+work_kind (Reducing n) = 0
+work_kind (Orienting n) = 1
+work_kind (Overlapping a b) = 2
+work_kind Closing = 3
+
+-- the kind, the weight and the numbers, as many for each kind
+abbrev pub work_key : Work → ℕ → List ℕ
+work_key (Reducing n) w = 0 ∷ w ∷ n.0 ∷ 0 ∷ 0 ∷ 0 ∷ []
+work_key (Orienting n) w = 1 ∷ w ∷ n.0 ∷ 0 ∷ 0 ∷ 0 ∷ []
+work_key (Overlapping a b) w = 2 ∷ w ∷ a.node ∷ a.dir ∷ b.node ∷ b.dir ∷ []
+work_key Closing w = 3 ∷ w ∷ 0 ∷ 0 ∷ 0 ∷ 0 ∷ []
+
+-- the order of the tasks of one process
+abbrev pub task_cmp : Task → Task → Ordering
+task_cmp s t = slice_cmp nat_cmp (work_key s.work s.weight) (work_key t.work t.weight)
+
+-- the task is of a kind from low to high
+abbrev pub IsWithin : ℕ → ℕ → Task → Type 0
+IsWithin low high t = (low ≤ work_kind t.work) × (work_kind t.work ≤ high)
+
+-- the task of the process clashes with none of the jobs in flight
+abbrev pub is_open : List Job → Name → Task → Bool
+is_open flight p t = is_free flight (job_of p t.work)
+
+-- the process has an Orient or a Close in flight
+abbrev pub IsHeld : List Job → Name → Type 0
+IsHeld flight p = is_free flight (Close p) ≡ false

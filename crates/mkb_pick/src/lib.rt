@@ -1,0 +1,13 @@
+//! The agenda: which job is taken next.
+#![tactic(auto)]
+
+mod agenda;
+mod changes;
+mod pool;
+mod queue;
+mod search;
+mod stores;
+mod task;
+mod tree;
+
+pub use agenda::Agenda;

@@ -1,0 +1,9 @@
+pub mod Places
+pub mod Linking
+pub mod TermRows
+pub mod CellRows
+pub mod Hashed
+pub mod Arguments
+pub mod Found
+pub mod Missing
+pub mod Coming

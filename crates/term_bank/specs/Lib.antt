@@ -1,0 +1,4 @@
+pub mod Chains
+pub mod Hashing
+pub mod Terms
+pub mod Cells

@@ -1,0 +1,14 @@
+//! Terms by number: a bank keeps each term once, with its subterms.
+#![tactic(auto)]
+
+mod bank;
+mod cell;
+mod chains;
+mod hashing;
+mod interning;
+mod looking;
+#[cfg(test)]
+mod tests;
+
+pub use bank::{Bank, MAX_CELLS};
+pub use cell::{Cell, TermId};

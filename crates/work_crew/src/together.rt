@@ -1,0 +1,244 @@
+// The work of several workers on one board, each in a thread of its own.
+ghost use Rattle.std.specs.Prelude.{◌≡◌, ◌+◌, ◌<◌, ◌≤◌, ◌-◌, ◌*◌, ◌||◌, [], ℕ, true, false, All, IfOk, is_none};
+ghost use Rattle.std.specs.List.{list_any};
+ghost use Rattle.std.specs.Thread.{IsSync};
+ghost use Rattle.kb_jobs.specs.Working.{ProposesBy};
+ghost use Rattle.mkb_model.specs.Journals.{worker_of};
+ghost use Rattle.work_crew.specs.Alone.{IsSameRun};
+ghost use Rattle.work_crew.specs.Together.{EndsTogether, HasJoined, Holds, HoldsNext, IsSameSeat, Rests, is_leaving as leaves};
+
+use crate::alone::Crew;
+use crate::gates::ask;
+use crate::shared::{Assignment, Next, Shared};
+use kb_io::Gate;
+use kb_jobs::work;
+use kb_term::Memory;
+use mkb_board::Board;
+use mkb_model::{Entry, Proposed};
+use std::alloc::Global;
+use std::sync::Wait;
+use std::thread::{Parker, Threads, join, yield_now};
+use std::time::Duration;
+use turn_lock::{Seat, Turns};
+
+/// How often a worker without a job only yields before it sleeps.
+const YIELDS: u32 = 16;
+
+/// The first sleep of a worker without a job, in microseconds. Each further one is twice as long, up to the longest.
+const FIRST_NAP: u64 = 15;
+
+/// How often a sleep is doubled: the longest is of 480 microseconds, so that with what the system adds it is below a millisecond.
+const DOUBLINGS: u32 = 5;
+
+// What the workers share: the lock of the board, and where memory comes from.
+struct Workplace {
+    alloc: Global,
+    turns: Turns<Shared>,
+}
+
+// At a turn: takes the first job, if there is one.
+fn take_one<R: Wait>(rt: &R, place: &Workplace, seat: &mut Seat<Shared>) -> Next
+    requires { Rests place.now.turns seat.old }
+    ensures rests { Rests place.now.turns seat.new }
+    ensures same { IsSameSeat seat.old seat.new }
+    ensures holds { HoldsNext place.now.turns seat.new result }
+{
+    let worker = seat.worker();
+    let mut board = place.turns.enter(rt, seat);
+    let next = board.next(place.alloc, worker);
+    place.turns.leave(seat, board);
+    next
+}
+
+// At a turn: ends the ticket with what its job proposed.
+fn end_one<R: Wait>(
+    rt: &R,
+    place: &Workplace,
+    seat: &mut Seat<Shared>,
+    assignment: &Assignment,
+    worked: Result<Proposed, Memory>,
+) -> Result<(), Memory>
+    requires rests { Rests place.now.turns seat.old }
+    requires holds { Holds place.now.turns seat.old assignment.now }
+    requires worked { IfOk worked (ProposesBy assignment.now.snapshot) }
+    ensures rests { Rests place.now.turns seat.new }
+    ensures same { IsSameSeat seat.old seat.new }
+{
+    let mut board = place.turns.enter(rt, seat);
+    let ended = board.end(place.alloc, assignment, worked);
+    place.turns.leave(seat, board);
+    ended
+}
+
+// Outside the turn: asks the gate, and works the ticket. Then ends it.
+fn work_one<G: Gate, R: Wait>(
+    rt: &R,
+    place: &Workplace,
+    gate: &G,
+    seat: &mut Seat<Shared>,
+    assignment: &Assignment,
+) -> Result<(), Memory>
+    requires rests { Rests place.now.turns seat.old }
+    requires holds { Holds place.now.turns seat.old assignment.now }
+    ensures rests { Rests place.now.turns seat.new }
+    ensures same { IsSameSeat seat.old seat.new }
+{
+    ask(gate, assignment.ticket.number);
+    let worked = work(place.alloc, &assignment.snapshot);
+    end_one(rt, place, seat, assignment, worked)
+}
+
+// Lets others run: at first it yields, then it sleeps, each time twice as long, up to the longest sleep.
+fn rest<R: Wait>(rt: &R, parker: &Parker, round: u32) {
+    if round < YIELDS {
+        yield_now();
+        return;
+    }
+    let nap = FIRST_NAP << (round - YIELDS).min(DOUBLINGS);
+    parker.park_timeout(rt, Duration::from_micros(nap));
+}
+
+// Waits, without the turn, until the journal has more entries than these.
+fn wait_for_more<R: Wait>(rt: &R, place: &Workplace, seat: &mut Seat<Shared>, entries: u64)
+    requires { Rests place.now.turns seat.old }
+    ensures rests { Rests place.now.turns seat.new }
+    ensures same { IsSameSeat seat.old seat.new }
+{
+    let parker = Parker::new();
+    let mut round: u32 = 0;
+    for _ in rt.forever() {
+        if place.turns.seen(seat) > entries {
+            return;
+        }
+        rest(rt, &parker, round);
+        round = round.saturating_add(1);
+    }
+}
+
+// One worker: it takes tickets, works and ends them, until a verdict stands, a halt was made or it finds no memory.
+fn serve<G: Gate, R: Wait>(
+    rt: &R,
+    place: &Workplace,
+    gate: &G,
+    mut seat: Seat<Shared>,
+) -> Seat<Shared>
+    requires { Rests place.now.turns seat }
+    ensures rests { Rests place.now.turns result }
+    ensures same { IsSameSeat seat result }
+{
+    for _ in rt.forever() {
+        match take_one(rt, place, &mut seat) {
+            Next::Work(assignment) => {
+                if work_one(rt, place, gate, &mut seat, &assignment).is_err() {
+                    break;
+                }
+            }
+            Next::Wait(entries) => wait_for_more(rt, place, &mut seat, entries),
+            Next::End => break,
+        }
+    }
+    seat
+}
+
+// The first seat's worker and so many more, each in a thread of its own.
+fn serve_all<G: Gate, R: Threads + Wait + Sync>(
+    rt: &R,
+    place: &Workplace,
+    gate: &G,
+    mut first: Seat<Shared>,
+    more: u8,
+) -> Seat<Shared>
+    requires rests { Rests place.now.turns first }
+    requires first { first.view.worker ≡ 1 }
+    requires room { first.view.drawn + more ≤ 16 }
+    ensures rests { Rests place.now.turns result }
+    ensures first { result.view.worker ≡ 1 }
+    ensures drawn { result.view.drawn ≡ first.view.drawn + more }
+    ensures kept { (n : ℕ) → HasJoined first n → HasJoined result n }
+    ensures joined { (n : ℕ) → first.view.drawn < n → n ≤ result.view.drawn → HasJoined result n }
+{
+    if more == 0 {
+        return serve(rt, place, gate, first);
+    }
+    let other = place.turns.split(&mut first);
+    let (mut first, other) = join(
+        rt,
+        || -> Seat<Shared>
+            requires { IsSync R.row × Rests place.now.turns first × (first.view.worker ≡ 1) × (first.view.drawn + (more - 1) ≤ 16) × (0 < more) }
+            ensures rests { Rests place.entry.now.turns result }
+            ensures first { result.view.worker ≡ 1 }
+            ensures drawn { result.view.drawn ≡ first.view.drawn + (more - 1) }
+            ensures kept { (n : ℕ) → HasJoined first n → HasJoined result n }
+            ensures joined { (n : ℕ) → first.view.drawn < n → n ≤ result.view.drawn → HasJoined result n }
+        { serve_all(rt, place, gate, first, more - 1) },
+        || -> Seat<Shared>
+            requires { Rests place.now.turns other }
+            ensures rests { Rests place.entry.now.turns result }
+            ensures same { IsSameSeat other result }
+        { serve(rt, place, gate, other) },
+    );
+    place.turns.join(&mut first, other);
+    first
+}
+
+// The board on which so many workers have ended; untouched where there is no memory for the lock.
+fn worked_on<G: Gate, R: Threads + Wait + Sync>(
+    rt: &R,
+    alloc: Global,
+    board: Board,
+    workers: u8,
+    gate: &G,
+) -> Board
+    requires least { 1 ≤ workers }
+    requires most { workers ≤ 16 }
+    requires opening { board.journal ≡ [] }
+    ensures same { IsSameRun board result }
+    ensures numbered { All (λ e. worker_of e ≤ workers) result.journal }
+{
+    let (turns, first) = match Turns::new(alloc, Shared::new(board)) {
+        Ok(made) => made,
+        Err(shared) => return shared.into_board(),
+    };
+    let place = Workplace { alloc, turns };
+    let first = serve_all(rt, &place, gate, first, workers - 1);
+    let Workplace { alloc: _, turns } = place;
+    turns.close(first).into_board()
+}
+
+// Whether a ticket was given back or a halt made.
+fn is_left(journal: &[Entry]) -> bool
+    ensures { result ≡ list_any leaves journal.now }
+{
+    journal.iter().any(|entry| matches!(entry, Entry::Abandon { .. } | Entry::Halt))
+}
+
+/// So many workers, of numbers from 1, each in a thread of its own, complete the board: each takes the first job, works it while
+/// others have the turn, and ends its ticket, again and again, until a verdict stands. Where a worker finds no memory it gives
+/// its ticket back, halts the board and ends; so do the others at the halt. Between a take and the work each asks the gate, until
+/// it lets pass or was asked 100,000,000 times. A worker that finds no job waits, first by yielding and then asleep, until the
+/// journal has another entry.
+///
+/// Where there is no memory for the lock the board comes back with a halt alone.
+pub fn work_together<G: Gate, R: Threads + Wait + Sync>(
+    rt: &R,
+    alloc: Global,
+    board: Board,
+    workers: u8,
+    gate: &G,
+) -> Crew
+    requires least { 1 ≤ workers }
+    requires most { workers ≤ 16 }
+    requires opening { board.journal ≡ [] }
+    ensures { EndsTogether board.plain.problem board.plain.settings workers result }
+{
+    let mut board = worked_on(rt, alloc, board, workers, gate);
+    let undecided = board.verdict().is_none();
+    if undecided {
+        board.halt();
+    }
+    let left = is_left(board.journal());
+    Crew {
+        board,
+        out_of_memory: undecided || left,
+    }
+}
