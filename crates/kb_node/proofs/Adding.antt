@@ -10,9 +10,8 @@ use Rattle.kb_term.specs.Pair.{Pair}
 use Rattle.term_bank.proofs.Places.{below_or_at}
 use Rattle.term_bank.proofs.Missing.{IsFront}
 use Rattle.kb_node.specs.Banked.{AreSides, IsPairWithin, IsBanked, with_sides, sides_eq}
-use Rattle.kb_node.specs.Labelled.{pairs_of, HasPair, LacksPair, AreDistinct}
+use Rattle.kb_node.specs.Labelled.{Node, pairs_of, HasPair, LacksPair, AreDistinct}
 use Rattle.kb_node.specs.declared.sides.Sides.{Sides}
-use Rattle.kb_node.specs.declared.node.Node.{Node}
 use Rattle.kb_node.proofs.Pairs.{pair_get, pairs-length}
 use Rattle.kb_node.proofs.Banking.{with_sides-front, banked-push}
 use Rattle.kb_node.proofs.Finding.{compared, new_key}
@@ -51,7 +50,7 @@ module _ {L : Type 0} (nodes : List (Node L)) (pair : Pair) where
 
 -- one node more, of a pair that no node has
 module _ {L : Type 0} (terms : List Tree) (sides : List Sides) (starts : List ℕ) (nodes : List (Node L)) (pair : Pair) (f : IsBanked terms sides starts (pairs_of nodes)) (lacks : LacksPair nodes pair) where
-  absent : (i : ℕ) → slice_get (pairs_of nodes) i ≡ Some pair → ⊥
+  pub absent : (i : ℕ) → slice_get (pairs_of nodes) i ≡ Some pair → ⊥
   absent i g = has-lacks nodes pair i (pair_get nodes i pair g) lacks
 
   pub more_nodes : (s : Sides) (start : ℕ) (new : List Tree) (node : Node L) → length nodes < 4096 → IsPairWithin pair → new ≡ with_sides terms pair → AreSides new s pair → start ≡ length terms → node.pair ≡ pair

@@ -13,7 +13,7 @@ use Rattle.kb_node.specs.Banked.{AreSides, IsPairWithin, IsBanked, with_sides, w
 use Rattle.kb_node.specs.declared.sides.Sides.{Sides}
 
 -- a member of a list with one more is an old one, or the one at the end
-old_or_new : {A : Type 0} (xs : List A) (x y : A) (i : ℕ) → slice_get (xs ++ x ∷ []) i ≡ Some y → ((i < length xs) × (slice_get xs i ≡ Some y)) ⊎ ((i ≡ length xs) × (x ≡ y))
+pub old_or_new : {A : Type 0} (xs : List A) (x y : A) (i : ℕ) → slice_get (xs ++ x ∷ []) i ≡ Some y → ((i < length xs) × (slice_get xs i ≡ Some y)) ⊎ ((i ≡ length xs) × (x ≡ y))
 old_or_new xs x y i g =
     ⊎_elim
     (λ l. inl (l, sym (get_left xs (x ∷ []) i l) ∙ g))

@@ -19,9 +19,8 @@ use Rattle.kb_term.specs.Pair.{Pair, pair_cmp}
 use Rattle.term_bank.specs.Terms.{term_at}
 use Rattle.term_bank.proofs.Missing.{IsFront}
 use Rattle.kb_node.specs.Banked.{AreSides, LacksSide, IsBanked, sides_eq}
-use Rattle.kb_node.specs.Labelled.{pairs_of, HasPair, LacksPair, AreDistinct}
+use Rattle.kb_node.specs.Labelled.{Node, pairs_of, HasPair, LacksPair, AreDistinct}
 use Rattle.kb_node.specs.declared.sides.Sides.{Sides}
-use Rattle.kb_node.specs.declared.node.Node.{Node}
 use Rattle.kb_node.proofs.Pairs.{pair_get, pair_read, pairs-length}
 use Rattle.kb_node.proofs.Banking.{sides_at, sides-front, distinct, start_low, banked-take}
 
@@ -119,12 +118,12 @@ module _ {L : Type 0} (terms : List Tree) (sides : List Sides) (starts : List �
   pub key_at : (i : ℕ) (e : Pair) → slice_get (pairs_of nodes) i ≡ Some e → slice_get sides i ≡ Some (get_or sides i no_sides)
   key_at i e g = slice_get-get_or sides i no_sides (omega (arith, slice_get_within (pairs_of nodes) i e g, f.side_count))
 
-  key_sides : (i : ℕ) (e : Pair) → slice_get (pairs_of nodes) i ≡ Some e → AreSides terms (get_or sides i no_sides) e
+  pub key_sides : (i : ℕ) (e : Pair) → slice_get (pairs_of nodes) i ≡ Some e → AreSides terms (get_or sides i no_sides) e
   key_sides i e g = sides_at terms sides starts (pairs_of nodes) f i (get_or sides i no_sides) e (key_at i e g) g
 
   -- ---- the sizes of a node
 
-  pair_of_node : (n : ℕ) → n < length nodes → (e : Pair) × (slice_get (pairs_of nodes) n ≡ Some e)
+  pub pair_of_node : (n : ℕ) → n < length nodes → (e : Pair) × (slice_get (pairs_of nodes) n ≡ Some e)
   pair_of_node n l = (get_or (pairs_of nodes) n no_pair, slice_get-get_or (pairs_of nodes) n no_pair (omega (arith, pairs-length nodes)))
 
   pub cells_there : (n : ℕ) → n < length nodes → ((get_or sides n no_sides).first.0 < length terms) × ((get_or sides n no_sides).second.0 < length terms)
@@ -160,7 +159,7 @@ module _ {L : Type 0} (terms : List Tree) (sides : List Sides) (starts : List �
 
   -- ---- the first nodes alone
 
-  start_at : (n start : ℕ) → n < length nodes → start ≡ get_or starts n start → slice_get starts n ≡ Some start
+  pub start_at : (n start : ℕ) → n < length nodes → start ≡ get_or starts n start → slice_get starts n ≡ Some start
   start_at n start l is = slice_get_read starts (length starts) n start refl (omega (arith, f.start_count, pairs-length nodes)) is
 
   pub cut_low : (n start : ℕ) → n < length nodes → start ≡ get_or starts n start → start ≤ length terms

@@ -4,8 +4,7 @@ use Rattle.std.specs.Prelude.{slice_get}
 use Rattle.std.proofs.lemmas.List.{get_or-map, length-map, map-set, set-get_or}
 use Rattle.std.proofs.lemmas.Option.{slice_get_read, slice_get-map}
 use Rattle.kb_term.specs.Pair.{Pair}
-use Rattle.kb_node.specs.Labelled.{pairs_of, with_label, HasPair}
-use Rattle.kb_node.specs.declared.node.Node.{Node}
+use Rattle.kb_node.specs.Labelled.{Node, pairs_of, with_label, HasPair}
 use Rattle.kb_node.specs.declared.node.LabelKind.{LabelKind}
 use Rattle.kb_node.specs.declared.node.LabelKind.TheVariants.{R0, R1, E, C0, C1, X}
 

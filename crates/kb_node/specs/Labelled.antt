@@ -4,9 +4,19 @@ use Rattle.std.specs.Option.{option_map_or}
 use Rattle.kb_label.specs.Names.{Name, is_empty}
 use Rattle.kb_term.specs.Pair.{Pair}
 use Rattle.kb_term.specs.declared.origin.Origin.{Origin}
-use Rattle.kb_node.specs.declared.node.Node.{Node}
 use Rattle.kb_node.specs.declared.node.LabelKind.{LabelKind}
 use Rattle.kb_node.specs.declared.node.LabelKind.TheVariants.{R0, R1, E, C0, C1, X}
+
+-- a pair, how it was made first, and for each kind the label of the processes that have it so
+pub record Node (L : Type 0) : Type 0 where
+  pub pair : Pair
+  pub origin : Origin
+  pub rule0 : L
+  pub rule1 : L
+  pub equation : L
+  pub constraint0 : L
+  pub constraint1 : L
+  pub refused : L
 
 -- the label of a node that has this kind
 abbrev pub label_in : {L : Type 0} → Node L → LabelKind → L

@@ -1,3 +1,4 @@
 pub mod Banked
 pub mod Labelled
+pub mod Stored
 pub mod Views

@@ -3,7 +3,7 @@ use Rattle.std.specs.Prelude.{ℕ, Bool, List, [], ◌∷◌, ◌++◌, if◌the
 use Rattle.std.specs.List.{flat_map, enumerate_from}
 use Rattle.kb_label.specs.Names.{Name, has}
 use Rattle.kb_term.specs.declared.origin.RuleRef.{RuleRef}
-use Rattle.kb_node.specs.declared.node.Node.{Node}
+use Rattle.kb_node.specs.Labelled.{Node}
 use Rattle.kb_node.specs.declared.node.NodeId.{NodeId}
 
 -- the member, where the test holds

@@ -1,8 +1,8 @@
-// Nodes: a pair, where it came from, and its six labels.
+// Nodes: what is kept of one, and its six labels.
 ghost use Rattle.std.specs.Prelude.{◌≡◌};
 
 use kb_label::Labels;
-use kb_term::{Origin, Pair};
+use kb_term::Origin;
 use std::alloc::Global;
 use std::mem;
 
@@ -38,10 +38,10 @@ pub enum LabelKind {
     X,
 }
 
-/// A pair, how it was made first, and for each kind the label of the processes that have it so.
+/// What a table keeps of a node beside the cells of its pair: how the pair was made first, and for each kind the label of the
+/// processes that have it so.
 #[derive(Drop)]
-pub struct Node<L> {
-    pub pair: Pair,
+pub struct Entry<L> {
     pub origin: Origin,
     pub rule0: L,
     pub rule1: L,
@@ -51,12 +51,14 @@ pub struct Node<L> {
     pub refused: L,
 }
 
-impl<L> Node<L> {
+impl<L> Entry<L> {
+    ghost use Rattle.kb_term.specs.Pair.{Pair};
     ghost use Rattle.kb_node.specs.Labelled.{label_in, with_label};
+    ghost use Rattle.kb_node.specs.Stored.{node_of};
 
     /// The label of this kind.
     pub fn label(&self, kind: LabelKind) -> &L
-        ensures { result.now ≡ label_in self.now kind }
+        ensures { (e : Pair) → result.now ≡ label_in (node_of e self.now) kind }
     {
         match kind {
             LabelKind::R0 => &self.rule0,
@@ -70,8 +72,8 @@ impl<L> Node<L> {
 
     /// Puts a label in the place of the one of this kind, which it gives.
     pub fn set_label(&mut self, kind: LabelKind, label: L) -> L
-        ensures old { result ≡ label_in self.old kind }
-        ensures new { self.new ≡ with_label self.old kind label }
+        ensures old { (e : Pair) → result ≡ label_in (node_of e self.old) kind }
+        ensures new { (e : Pair) → node_of e self.new ≡ with_label (node_of e self.old) kind label }
     {
         match kind {
             LabelKind::R0 => mem::replace(&mut self.rule0, label),
@@ -84,19 +86,19 @@ impl<L> Node<L> {
     }
 }
 
-impl<L: Labels> Node<L> {
+impl<L: Labels> Entry<L> {
     ghost use Rattle.std.specs.Prelude.{◌≡◌, []};
+    ghost use Rattle.kb_term.specs.Pair.{Pair};
     ghost use Rattle.kb_node.specs.Labelled.{label_in};
+    ghost use Rattle.kb_node.specs.Stored.{node_of};
     ghost use Rattle.kb_node.specs.declared.node.LabelKind.{LabelKind};
 
     /// A node that no process has.
-    pub(crate) fn unlabelled(alloc: Global, pair: Pair, origin: Origin) -> Node<L>
-        ensures pair { result.pair ≡ pair }
+    pub(crate) fn unlabelled(alloc: Global, origin: Origin) -> Entry<L>
         ensures origin { result.origin ≡ origin }
-        ensures unlabelled { (kind : LabelKind) (log : L.Log) → L.names_under log (label_in result kind) ≡ [] }
+        ensures unlabelled { (e : Pair) (kind : LabelKind) (log : L.Log) → L.names_under log (label_in (node_of e result) kind) ≡ [] }
     {
-        Node {
-            pair,
+        Entry {
             origin,
             rule0: L::new(alloc),
             rule1: L::new(alloc),

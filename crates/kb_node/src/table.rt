@@ -7,7 +7,7 @@ ghost use Rattle.kb_node.specs.Labelled.{label_in, with_label_at, pairs_of, is_d
 ghost use Rattle.kb_node.specs.Views.{when, equations_of, rules_of, constraints_of};
 
 use crate::fault::NodeFault;
-use crate::node::{LabelKind, Node, NodeId};
+use crate::node::{Entry, LabelKind, NodeId};
 use crate::sides::{Sides, intern, is_within, sides_in};
 use crate::view::{NodeIds, RuleRefs, View};
 use indexmap::IndexSet;
@@ -22,11 +22,11 @@ pub const MAX_NODES: usize = 4096;
 
 /// The nodes, one for each pair, in the order in which they were added. Contracts see it as the list of its nodes.
 ///
-/// The terms of the pairs stand in a bank, and a node is found by the cells of its sides: in the time that it takes to look
-/// up both sides, expected over hashes.
+/// The terms of the pairs stand in a bank alone, and a node is found by the cells of its sides: in the time that it takes to
+/// look up both sides, expected over hashes.
 #[derive(Drop)]
 pub struct NodeTable<L: Labels> {
-    nodes: Vec<Node<L>>,
+    entries: Vec<Entry<L>>,
     bank: Bank,
     sides: IndexSet<Sides>,
     // How many cells the bank had before each node came in.
@@ -35,7 +35,7 @@ pub struct NodeTable<L: Labels> {
 
 impl<L: Labels> Model for NodeTable<L> {
     ghost use Rattle.std.specs.Prelude.{List};
-    ghost use Rattle.kb_node.specs.declared.node.Node.{Node};
+    ghost use Rattle.kb_node.specs.Labelled.{Node};
     ghost use Rattle.std.specs.Coded.{codes};
     ghost use Rattle.kb_term.specs.Coding.{coded_pair};
 
@@ -43,12 +43,11 @@ impl<L: Labels> Model for NodeTable<L> {
 
     ghost coded = { Prim.hlevel (codes, coded_pair) };
 
-    ghost use Rattle.kb_node.specs.Labelled.{pairs_of};
-    ghost use Rattle.kb_node.specs.Banked.{IsBanked};
+    ghost use Rattle.kb_node.specs.Stored.{nodes_in, IsStored};
 
-    ghost view = { λ t. t.nodes.items };
+    ghost view = { λ t. nodes_in t.bank t.sides.keys t.entries.items };
 
-    ghost invariant = { λ t. IsBanked t.bank t.sides.keys t.starts.items (pairs_of t.nodes.items) };
+    ghost invariant = { λ t. IsStored t.bank t.sides.keys t.starts.items t.entries.items };
 }
 
 impl<L: Labels> NodeTable<L> {
@@ -57,7 +56,7 @@ impl<L: Labels> NodeTable<L> {
         ensures { result ≡ [] }
     {
         NodeTable {
-            nodes: Vec::new(alloc),
+            entries: Vec::new(alloc),
             bank: Bank::new(alloc),
             sides: IndexSet::new(alloc),
             starts: Vec::new(alloc),
@@ -70,7 +69,7 @@ impl<L: Labels> NodeTable<L> {
         ensures most { result ≤ MAX_NODES }
         ensures distinct { AreDistinct self.now }
     {
-        self.nodes.len() as u32
+        self.entries.len() as u32
     }
 
     /// The pair of a node.
@@ -78,8 +77,10 @@ impl<L: Labels> NodeTable<L> {
         requires { n.0 < length self.now }
         ensures { IfOk result (HasPair self.now n.0) }
     {
-        let pair = self.nodes[n.0 as usize].pair.clone()?;
-        Ok(pair)
+        let sides = self.sides.as_slice()[n.0 as usize];
+        let first = self.bank.view(sides.first)?;
+        let second = self.bank.view(sides.second)?;
+        Ok(Pair::from_sides(first, second))
     }
 
     /// The sizes of both sides of a node together, at most 1,024. It takes no memory, and constant time.
@@ -97,7 +98,7 @@ impl<L: Labels> NodeTable<L> {
         requires { n.0 < length self.now }
         ensures { IfOk result (λ origin. option_map (λ node. node.origin) (slice_get self.now n.0) ≡ Some origin) }
     {
-        let origin = self.nodes[n.0 as usize].origin.clone()?;
+        let origin = self.entries[n.0 as usize].origin.clone()?;
         Ok(origin)
     }
 
@@ -106,7 +107,7 @@ impl<L: Labels> NodeTable<L> {
         requires { n.0 < length self.now }
         ensures { option_map (λ node. label_in node kind) (slice_get self.now n.0) ≡ Some result.now }
     {
-        self.nodes[n.0 as usize].label(kind)
+        self.entries[n.0 as usize].label(kind)
     }
 
     /// Puts a label in the place of the node's label of this kind, which it gives. It takes no memory.
@@ -115,8 +116,8 @@ impl<L: Labels> NodeTable<L> {
         ensures old { option_map (λ node. label_in node kind) (slice_get self.old n.0) ≡ Some result }
         ensures new { self.new ≡ with_label_at self.old n.0 kind label }
     {
-        let node = &mut self.nodes[n.0 as usize];
-        node.set_label(kind, label)
+        let entry = &mut self.entries[n.0 as usize];
+        entry.set_label(kind, label)
     }
 
     /// Whether no process has the node as a rule or as an equation.
@@ -124,8 +125,8 @@ impl<L: Labels> NodeTable<L> {
         requires { n.0 < length self.now }
         ensures { option_map (is_dead_under L.names_under log.now) (slice_get self.now n.0) ≡ Some result }
     {
-        let node = &self.nodes[n.0 as usize];
-        node.rule0.is_empty(log) && node.rule1.is_empty(log) && node.equation.is_empty(log)
+        let entry = &self.entries[n.0 as usize];
+        entry.rule0.is_empty(log) && entry.rule1.is_empty(log) && entry.equation.is_empty(log)
     }
 
     /// Keeps the first nodes alone. It takes no memory.
@@ -134,11 +135,11 @@ impl<L: Labels> NodeTable<L> {
         ensures { self.new ≡ take len self.old }
     {
         let len = len as usize;
-        if len < self.nodes.len() {
+        if len < self.entries.len() {
             self.bank.cut(self.starts[len]);
             self.starts.truncate(len);
             self.sides.truncate(len);
-            self.nodes.truncate(len);
+            self.entries.truncate(len);
         }
     }
 
@@ -173,16 +174,16 @@ impl<L: Labels> NodeTable<L> {
         if !is_within(&pair) {
             return Err(NodeFault::Memory);
         }
-        self.nodes.reserve(1)?;
+        self.entries.reserve(1)?;
         self.sides.reserve(1)?;
         self.starts.reserve(1)?;
         let start = self.bank.used();
         let sides = intern(&mut self.bank, &pair)?;
         self.starts.push(start).unwrap();
         self.sides.insert(sides).unwrap();
-        let number = self.nodes.len();
-        let node = Node::unlabelled(*self.nodes.allocator(), pair, origin);
-        self.nodes.push(node).unwrap();
+        let number = self.entries.len();
+        let entry = Entry::unlabelled(*self.entries.allocator(), origin);
+        self.entries.push(entry).unwrap();
         Ok(NodeId(number as u16))
     }
 
@@ -190,7 +191,7 @@ impl<L: Labels> NodeTable<L> {
     fn is_full(&self) -> bool
         ensures { IsTrue result ↔ (length self.now ≡ MAX_NODES) }
     {
-        self.nodes.len() == MAX_NODES
+        self.entries.len() == MAX_NODES
     }
 
     /// What a process sees of the nodes.
@@ -199,22 +200,22 @@ impl<L: Labels> NodeTable<L> {
         ensures rules { IfOk result (λ v. v.rules ≡ rules_of L.names_under log.now p.now self.now) }
         ensures constraints { IfOk result (λ v. v.constraints ≡ constraints_of L.names_under log.now p.now self.now) }
     {
-        let alloc = *self.nodes.allocator();
+        let alloc = *self.entries.allocator();
         let mut equations = NodeIds::new(alloc);
         let mut rules = RuleRefs::new(alloc);
         let mut constraints = RuleRefs::new(alloc);
-        for i in 0..self.nodes.len() {
-            let node = &self.nodes[i];
+        for i in 0..self.entries.len() {
+            let entry = &self.entries[i];
             let number = i as u16;
-            push_equation(&mut equations, log, p, number, &node.equation)?;
-            push_directions(&mut rules, log, p, number, &node.rule0, &node.rule1)?;
+            push_equation(&mut equations, log, p, number, &entry.equation)?;
+            push_directions(&mut rules, log, p, number, &entry.rule0, &entry.rule1)?;
             push_directions(
                 &mut constraints,
                 log,
                 p,
                 number,
-                &node.constraint0,
-                &node.constraint1,
+                &entry.constraint0,
+                &entry.constraint1,
             )?;
         }
         Ok(View {

@@ -8,8 +8,7 @@ use Rattle.std.proofs.lemmas.List.Elements.{filter-append}
 use Rattle.std.proofs.lemmas.List.Concat.{flat_map-append}
 use Rattle.kb_label.specs.Names.{Name, has, is_empty}
 use Rattle.kb_term.specs.declared.origin.RuleRef.{RuleRef}
-use Rattle.kb_node.specs.declared.node.Node.{Node}
-use Rattle.kb_node.specs.Labelled.{is_dead_under}
+use Rattle.kb_node.specs.Labelled.{Node, is_dead_under}
 use Rattle.mkb_model.specs.Plain.{Plain, GivenUp, numbers_from, directions, is_rule, over_in}
 use Rattle.mkb_model.specs.Verdicts.{no_members}
 use Rattle.mkb_rules.specs.Parts.{plain_node, plain_nodes}

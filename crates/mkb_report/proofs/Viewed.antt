@@ -10,8 +10,7 @@ use Rattle.kb_term.specs.Rule.{Rule, rule_of}
 use Rattle.kb_term.specs.declared.origin.RuleRef.{RuleRef}
 use Rattle.kb_term.specs.declared.origin.Origin.{Origin}
 use Rattle.kb_overlap.specs.Trace.{TraceStep}
-use Rattle.kb_node.specs.Labelled.{HasPair}
-use Rattle.kb_node.specs.declared.node.Node.{Node}
+use Rattle.kb_node.specs.Labelled.{Node, HasPair}
 use Rattle.mkb_model.specs.Plain.{Plain, PlainNode, pair_at, rule_at}
 use Rattle.mkb_model.proofs.Lists.{some_is}
 use Rattle.mkb_rules.specs.Parts.{plain_node, plain_nodes}

@@ -5,12 +5,11 @@ use Rattle.std.proofs.lemmas.List.{map-append, length-map, append-nil}
 use Rattle.kb_label.specs.Names.{Name}
 use Rattle.kb_term.specs.Pair.{Pair}
 use Rattle.kb_term.specs.declared.origin.Origin.{Origin}
-use Rattle.kb_node.specs.declared.node.Node.{Node}
 use Rattle.kb_node.specs.declared.node.NodeId.{NodeId}
 use Rattle.kb_node.specs.declared.fault.NodeFault.{NodeFault}
 use Rattle.kb_node.specs.declared.fault.NodeFault.TheVariants.{Full}
 use Rattle.kb_node.specs.declared.node.LabelKind.TheVariants.{R0, R1, E, C0, C1, X}
-use Rattle.kb_node.specs.Labelled.{HasPair, LacksPair, AddsNode}
+use Rattle.kb_node.specs.Labelled.{Node, HasPair, LacksPair, AddsNode}
 use Rattle.kb_node.proofs.Adding.{has-lacks}
 use Rattle.mkb_model.specs.Plain.{PlainNode, pair_in}
 use Rattle.mkb_model.specs.Effects.{pair_eq, node_of, is_present, new_node, with_node, most_nodes}

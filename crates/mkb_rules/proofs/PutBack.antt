@@ -4,10 +4,9 @@ use Rattle.std.specs.Prelude.{All, slice_get, slice_set, option_map}
 use Rattle.std.specs.Option.{option_map_or}
 use Rattle.std.proofs.lemmas.List.{take-append-le, length-map}
 use Rattle.kb_label.specs.Names.{Name}
-use Rattle.kb_node.specs.declared.node.Node.{Node}
 use Rattle.kb_node.specs.declared.node.LabelKind.{LabelKind}
 use Rattle.kb_node.specs.declared.node.LabelKind.TheVariants.{R0, R1, E, C0, C1, X}
-use Rattle.kb_node.specs.Labelled.{with_label_at, label_in as node_label, with_label as node_with_label}
+use Rattle.kb_node.specs.Labelled.{Node, with_label_at, label_in as node_label, with_label as node_with_label}
 use Rattle.mkb_model.specs.Plain.{PlainNode, label_in, label_at}
 use Rattle.mkb_model.specs.Effects.{with_label_in, with_label}
 use Rattle.mkb_model.proofs.Roles.{length-put}

@@ -8,7 +8,7 @@ use Rattle.kb_label.specs.Names.{Name, has}
 use Rattle.kb_term.proofs.Steps.{contains_cases}
 use Rattle.kb_term.specs.Rule.{Rule}
 use Rattle.kb_term.specs.declared.origin.RuleRef.{RuleRef}
-use Rattle.kb_node.specs.declared.node.Node.{Node}
+use Rattle.kb_node.specs.Labelled.{Node}
 use Rattle.kb_node.specs.declared.node.NodeId.{NodeId}
 use Rattle.kb_node.specs.declared.node.LabelKind.TheVariants.{R0, R1, E, C0, C1}
 use Rattle.kb_node.specs.Views as views

@@ -6,7 +6,7 @@ use Rattle.kb_term.specs.declared.origin.RuleRef.{RuleRef}
 use Rattle.kb_term.specs.declared.origin.Found.{Found}
 use Rattle.kb_label.specs.Names.{Name}
 use Rattle.kb_label.specs.declared.verdict.Reason.TheVariants.{Nodes, Processes, Size, Depth, Variables, Steps}
-use Rattle.kb_node.specs.declared.node.Node.{Node}
+use Rattle.kb_node.specs.Labelled.{Node}
 use Rattle.kb_node.specs.declared.job.Fact.{Fact}
 use Rattle.mkb_model.specs.Jobs.{ref_eq}
 use Rattle.kb_node.specs.declared.node.LabelKind.TheVariants.{E}
