@@ -6,3 +6,4 @@ pub mod Irreducible
 pub mod Strategy
 pub mod Runs
 pub mod Determined
+pub mod Indexing

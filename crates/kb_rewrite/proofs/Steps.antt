@@ -1,5 +1,5 @@
 -- What a step makes.
-use Rattle.std.proofs.Common.{ℕ, zero, suc, ◌+◌, ◌-◌, ◌<◌, ◌≡◌, refl, sym, ap, ◌∙◌, arith, subst, List, [], ◌∷◌, length, get_or, set, take, Some}
+use Rattle.std.proofs.Common.{ℕ, zero, suc, ◌<◌, ◌≡◌, refl, sym, ap, ◌∙◌, arith, subst, List, [], ◌∷◌, length, get_or, set, take, Some}
 use Rattle.std.specs.Prelude.{map, Result, IsSomeAnd, false}
 use Rattle.kb_term.specs.Tree.{Tree, variable, more_trees, trees_of}
 use Rattle.kb_term.specs.Position.{subtree_at, replace_at, with_argument}

@@ -1,6 +1,6 @@
 -- Steps of the strategy, argument by argument.
-use Rattle.std.proofs.Common.{ℕ, suc, ◌<◌, ◌≡◌, refl, sym, ap, ◌∙◌, subst, List, [], ◌∷◌, length, get_or, Option, Some, None}
-use Rattle.std.specs.Prelude.{slice_get, MatchOption, false, option_map, option_and_then}
+use Rattle.std.proofs.Common.{ℕ, suc, ◌<◌, ◌≡◌, refl, sym, ap, ◌∙◌, subst, List, [], ◌∷◌, length, get_or, Some}
+use Rattle.std.specs.Prelude.{slice_get, false, option_map, option_and_then}
 use Rattle.std.proofs.lemmas.Bool.{false≢true}
 use Rattle.kb_term.specs.Tree.{Tree, variable, apply, trees_of}
 use Rattle.kb_term.specs.View.{tree_of}
@@ -14,9 +14,9 @@ use Rattle.kb_rewrite.specs.NormalForm.{MatchesAt, IsRedex, IsFirstRedex, HasNoR
 use Rattle.kb_rewrite.specs.Answers.{IsTried}
 use Rattle.kb_rewrite.specs.declared.normalising.Tried.{Tried}
 use Rattle.kb_rewrite.specs.declared.normalising.Tried.TheVariants.{Rewritten, Same}
-use Rattle.kb_rewrite.specs.Search.{IsFirstAt, HasNone}
+use Rattle.kb_rewrite.specs.Search.{IsRootRedex, IsFirstAt, HasNone}
 use Rattle.kb_rewrite.proofs.Positions.{argument-get, subtree-in}
-use Rattle.kb_rewrite.proofs.FirstRedexes.{first_root, first_in, none_variable, none_apply, rule_at}
+use Rattle.kb_rewrite.proofs.FirstRedexes.{first_root, first_in, none_variable, none_apply}
 
 -- the rule with the number i matches the term u itself
 abbrev MatchesRoot : List Rule → Tree → ℕ → Type 0
@@ -92,9 +92,9 @@ no_redex_apply rules f us root inside =
     let whole = apply f (trees_of us) in
     none_from rules whole (none_apply (MatchesRoot rules) f us (λ j q. root j (root_of rules whole j q)) (λ k h. none_to rules (get_or us k (variable 0)) (inside k h)))
 
--- a rule that doesn't match is no redex at the root
-pub no_root : (rules : List Rule) (t : Tree) (i : ℕ) (rule : Rule) → i < length rules → rule ≡ get_or rules i rule → ¬ Matches rule.left t → ¬ IsRedex rules false t [] i
-no_root rules t i rule h is none r = none (subst (λ (q : Rule). Matches q.left t) (rule_at rules i rule r.rule h is r.there) (subst (Matches r.rule.left) (sym (some_same _ _ r.matches.1)) r.matches.2))
+-- a redex at the root is by a rule that applies to the term itself
+pub root_redex : (rules : List Rule) (t : Tree) (i : ℕ) → IsRedex rules false t [] i → IsRootRedex rules false t t i
+root_redex rules t i r = (r.rule, r.there, (subst (Matches r.rule.left) (sym (some_same _ _ r.matches.1)) r.matches.2, r.strict))
 
 -- the same for equal terms
 pub root_same : (rules : List Rule) {t u : Tree} → t ≡ u → ((j : ℕ) → ¬ IsRedex rules false t [] j) → (j : ℕ) → ¬ IsRedex rules false u [] j

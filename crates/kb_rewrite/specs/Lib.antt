@@ -1,3 +1,4 @@
 pub mod NormalForm
 pub mod Search
+pub mod Indexed
 pub mod Answers

@@ -6,6 +6,7 @@ mod laws;
 mod normalising;
 mod redex;
 mod rewriting;
+mod system;
 #[cfg(test)]
 mod tests;
 
@@ -14,3 +15,4 @@ pub use laws::{no_redex_is_normal, normal_forms_are_one, strategy_rewrites};
 pub use normalising::{MAX_STEPS, Normal, normal_form};
 pub use redex::{Redex, first_redex};
 pub use rewriting::step;
+pub use system::System;

@@ -4,7 +4,7 @@ ghost use Rattle.kb_term.specs.View.{tree_of};
 ghost use Rattle.kb_rewrite.specs.NormalForm.{IsRedex, StrategyStep, NormalisesTo};
 ghost use Rattle.kb_rewrite.specs.Answers.{normalised, IsTried};
 
-use kb_match::match_term;
+use crate::system::System;
 use kb_term::{Limit, Memory, Rule, Term, Terms, instance_of, term_limit};
 use std::alloc::Global;
 use std::mem;
@@ -36,22 +36,7 @@ pub enum Normal {
 pub fn normal_form(alloc: Global, rules: &[Rule], t: &Term) -> Result<Normal, Memory>
     ensures { IfOk result (λ r. NormalisesTo rules.now (tree_of t.now) (normalised r)) }
 {
-    let mut term = t.clone()?;
-    for count in 0..MAX_STEPS {
-        match rewrite_first(alloc, rules, term)? {
-            Tried::Same(form) => return Ok(Normal::Form(form, count)),
-            Tried::Rewritten(next) => {
-                if let Some(limit) = term_limit(&next) {
-                    return Ok(Normal::Large(limit));
-                }
-                term = next;
-            }
-        }
-    }
-    match rewrite_first(alloc, rules, term)? {
-        Tried::Same(form) => Ok(Normal::Form(form, MAX_STEPS)),
-        Tried::Rewritten(_) => Ok(Normal::Long(MAX_STEPS)),
-    }
+    System::scanning(rules).normal_form(alloc, t)
 }
 
 /// What becomes of a term of which one step is asked for: the result, or the term itself, which has no redex.
@@ -61,41 +46,62 @@ pub(crate) enum Tried {
     Same(Term),
 }
 
-/// The term after one step of the strategy. The parts beside the redex are moved and not copied.
-fn rewrite_first(alloc: Global, rules: &[Rule], t: Term) -> Result<Tried, Memory>
-    ensures { IfOk result (IsTried rules.now (tree_of t)) }
-{
-    if let Some(made) = rewrite_root(alloc, rules, &t)? {
-        return Ok(Tried::Rewritten(made));
-    }
-    match t {
-        Term::Var(n) => Ok(Tried::Same(Term::Var(n))),
-        Term::App(f, arguments) => {
-            let mut items = arguments.into_items();
-            for k in 0..items.len() {
-                let item = mem::replace(&mut items[k], Term::Var(0));
-                match rewrite_first(alloc, rules, item)? {
-                    Tried::Same(same) => items[k] = same,
-                    Tried::Rewritten(made) => {
-                        items[k] = made;
-                        return Ok(Tried::Rewritten(Term::App(f, Terms::new(items))));
+impl<'a> System<'a> {
+    /// The normal form of the term, as [`normal_form`] says.
+    pub fn normal_form(&self, alloc: Global, t: &Term) -> Result<Normal, Memory>
+        ensures { IfOk result (λ r. NormalisesTo self.now (tree_of t.now) (normalised r)) }
+    {
+        let mut term = t.clone()?;
+        for count in 0..MAX_STEPS {
+            match self.rewrite_first(alloc, term)? {
+                Tried::Same(form) => return Ok(Normal::Form(form, count)),
+                Tried::Rewritten(next) => {
+                    if let Some(limit) = term_limit(&next) {
+                        return Ok(Normal::Large(limit));
                     }
+                    term = next;
                 }
             }
-            Ok(Tried::Same(Term::App(f, Terms::new(items))))
+        }
+        match self.rewrite_first(alloc, term)? {
+            Tried::Same(form) => Ok(Normal::Form(form, MAX_STEPS)),
+            Tried::Rewritten(_) => Ok(Normal::Long(MAX_STEPS)),
         }
     }
-}
 
-/// The term after the first rule that matches it is used at its root; none where no rule matches it.
-fn rewrite_root(alloc: Global, rules: &[Rule], t: &Term) -> Result<Option<Term>, Memory>
-    ensures { IfOk result (λ o. MatchOption o ((i : ℕ) → ¬ IsRedex rules.now false (tree_of t.now) [] i) (λ u. StrategyStep rules.now (tree_of t.now) (tree_of u))) }
-{
-    for i in 0..rules.len() {
-        let rule = &rules[i];
-        if let Some(m) = match_term(alloc, rule.left(), t)? {
-            return Ok(Some(instance_of(alloc, &m, rule.right())?));
+    /// The term after one step of the strategy. The parts beside the redex are moved and not copied.
+    fn rewrite_first(&self, alloc: Global, t: Term) -> Result<Tried, Memory>
+        ensures { IfOk result (IsTried self.now (tree_of t)) }
+    {
+        if let Some(made) = self.rewrite_root(alloc, &t)? {
+            return Ok(Tried::Rewritten(made));
+        }
+        match t {
+            Term::Var(n) => Ok(Tried::Same(Term::Var(n))),
+            Term::App(f, arguments) => {
+                let mut items = arguments.into_items();
+                for k in 0..items.len() {
+                    let item = mem::replace(&mut items[k], Term::Var(0));
+                    match self.rewrite_first(alloc, item)? {
+                        Tried::Same(same) => items[k] = same,
+                        Tried::Rewritten(made) => {
+                            items[k] = made;
+                            return Ok(Tried::Rewritten(Term::App(f, Terms::new(items))));
+                        }
+                    }
+                }
+                Ok(Tried::Same(Term::App(f, Terms::new(items))))
+            }
         }
     }
-    Ok(None)
+
+    /// The term after the first rule that matches it is used at its root; none where no rule matches it.
+    fn rewrite_root(&self, alloc: Global, t: &Term) -> Result<Option<Term>, Memory>
+        ensures { IfOk result (λ o. MatchOption o ((i : ℕ) → ¬ IsRedex self.now false (tree_of t.now) [] i) (λ u. StrategyStep self.now (tree_of t.now) (tree_of u))) }
+    {
+        let Some((i, m)) = self.first_match(alloc, t, false, t)? else {
+            return Ok(None);
+        };
+        Ok(Some(instance_of(alloc, &m, self.rules()[i].right())?))
+    }
 }

@@ -9,7 +9,7 @@ use Rattle.kb_term.proofs.Arguments.{argument-is, argument-depth, arguments-leng
 use Rattle.kb_rewrite.specs.NormalForm.{IsRedex, StrategyStep}
 use Rattle.kb_rewrite.proofs.Steps.{put, put_back}
 use Rattle.kb_rewrite.proofs.Strategy.{tried_step, tried_none, strategy_in, no_redex_variable, no_redex_apply, no_redex_same, root_same, strategy_same}
-use Rattle.kb_rewrite.proofs.normalising.+rewrite_first.Goals as goal
+use Rattle.kb_rewrite.proofs.system.System.+rewrite_first.Goals as goal
 
 -- there is no redex at the root
 root : (rules : List Rule) (t : Tree) {o : Option Term} → o ≡ None → MatchOption o ((i : ℕ) → ¬ IsRedex rules false t [] i) (λ u. StrategyStep rules t (tree_of u)) → (i : ℕ) → ¬ IsRedex rules false t [] i
@@ -34,7 +34,7 @@ rewrite_first-requires t c =
 
 pub returns-in-Rewritten : goal.returns-in-Rewritten
 returns-in-Rewritten t c =
-    let rules = c.args.rules.now in
+    let rules = c.args.self.now in
     let items = c.into_items-items.result.items in
     let us = map tree_of items in
     let k = c.loop-k.k in
@@ -49,7 +49,7 @@ returns-in-Rewritten t c =
 
 pub loop-k-preserved : goal.loop-k-preserved
 loop-k-preserved t c =
-    let rules = c.args.rules.now in
+    let rules = c.args.self.now in
     let items = c.into_items-items.result.items in
     let k = c.loop-k.k in
     let room : k < length items = omega (arith, c.loop-k-test.true, c.len-k-end.ensures, c.into_items-items.result.ok) in
@@ -61,13 +61,13 @@ loop-k-preserved t c =
 
 pub returns-in-Var : goal.returns-in-Var
 returns-in-Var t c =
-    let rules = c.args.rules.now in
+    let rules = c.args.self.now in
     let whole : tree_of c.args.t ≡ variable c.in-Var.n = ap tree_of c.in-Var.is in
     (no_redex_same rules (sym whole) (no_redex_variable rules c.in-Var.n (root_same rules whole (root rules (tree_of c.args.t) c.in_default.is c.in_ok-made.ensures))), sym whole)
 
 pub returns-after-loop-k : goal.returns-after-loop-k
 returns-after-loop-k t c =
-    let rules = c.args.rules.now in
+    let rules = c.args.self.now in
     let items = c.into_items-items.result.items in
     let us = map tree_of items in
     let whole : tree_of c.args.t ≡ apply c.in-App.f.0 (trees_of us) = ap tree_of c.in-App.is ∙ ap (λ vs. apply c.in-App.f.0 (trees_of vs)) (sym c.into_items-items.ensures) in

@@ -1,0 +1,152 @@
+// Rules to rewrite with.
+ghost use Rattle.std.specs.Prelude.{◌≡◌, ◌<◌, ◌^◌, ◌↔◌, IfOk, IsTrue, length};
+ghost use Rattle.kb_term.specs.View.{tree_of};
+ghost use Rattle.kb_rewrite.specs.Search.{IsMatchIfAny, IsFirstMatch};
+ghost use Rattle.kb_rewrite.specs.Indexed.{IsNumbered, IsRepeated};
+
+use kb_match::match_term;
+use kb_term::{Memory, Rule, Subst, Term, is_variant};
+use rule_index::RuleIndex;
+use std::alloc::Global;
+use std::marker::Model;
+
+/// How the rules that may apply to a term are found.
+#[derive(Drop)]
+pub(crate) enum Lookup {
+    /// Each rule is tried.
+    Scan,
+    /// Those are tried whose left sides fit the term. A rule whose left side is an earlier rule's, and which is never the
+    /// first to apply, isn't in the index.
+    Index(RuleIndex),
+}
+
+/// Rules in their order, and how the first of them that applies to a term is found.
+///
+/// Both ways find the same rule. A scan tries each rule at each position and needs no preparation; the index is built once, and
+/// then a position costs what the term and the rules that fit it cost, so it is the one for systems of many rules.
+#[derive(Drop)]
+pub struct System<'a> {
+    rules: &'a [Rule],
+    lookup: Lookup,
+}
+
+impl<'a> Model for System<'a> {
+    ghost use Rattle.std.specs.Prelude.{List};
+    ghost use Rattle.std.specs.Coded.{coded_list};
+    ghost use Rattle.kb_term.specs.Coding.{coded_rule};
+    ghost use Rattle.kb_term.specs.Rule.{Rule};
+    ghost use Rattle.kb_rewrite.specs.Indexed.{Finds};
+
+    ghost Value = { List Rule };
+
+    ghost coded = { coded_list coded_rule };
+
+    ghost view = { λ s. s.rules.now };
+
+    ghost invariant = { λ s. Finds s.rules.now s.lookup };
+}
+
+impl<'a> System<'a> {
+    /// The rules, each of which is tried.
+    pub fn scanning(rules: &'a [Rule]) -> System<'a>
+        ensures { result ≡ rules.now }
+    {
+        System {
+            rules,
+            lookup: Lookup::Scan,
+        }
+    }
+
+    /// The rules with an index of their left sides.
+    ///
+    /// # Errors
+    ///
+    /// Want of memory for the index.
+    pub fn indexed(alloc: Global, rules: &'a [Rule]) -> Result<System<'a>, Memory>
+        requires { length rules.now < 2 ^ 32 }
+        ensures { IfOk result (λ s. s ≡ rules.now) }
+    {
+        let mut index = RuleIndex::new(alloc);
+        for i in 0..rules.len() {
+            let rule = &rules[i];
+            if !is_repeated(rules, &index, rule.left())? {
+                index.add(i as u32, rule)?;
+            }
+        }
+        Ok(System {
+            rules,
+            lookup: Lookup::Index(index),
+        })
+    }
+
+    /// The rules.
+    pub fn rules(&self) -> &[Rule]
+        ensures { result.now ≡ self.now }
+    {
+        self.rules
+    }
+
+    /// The number of the first rule that matches the term and isn't passed over for the whole term, and its match.
+    pub(crate) fn first_match(
+        &self,
+        alloc: Global,
+        whole: &Term,
+        strict_only: bool,
+        t: &Term,
+    ) -> Result<Option<(usize, Subst)>, Memory>
+        ensures { IfOk result (IsFirstMatch self.now strict_only (tree_of whole.now) (tree_of t.now)) }
+    {
+        match &self.lookup {
+            Lookup::Scan => {
+                for i in 0..self.rules.len() {
+                    if let Some(m) = matched(alloc, &self.rules[i], whole, strict_only, t)? {
+                        return Ok(Some((i, m)));
+                    }
+                }
+            }
+            Lookup::Index(index) => {
+                let keys = index.candidates(t)?;
+                for k in 0..keys.len() {
+                    let i = keys[k] as usize;
+                    if let Some(m) = matched(alloc, &self.rules[i], whole, strict_only, t)? {
+                        return Ok(Some((i, m)));
+                    }
+                }
+            }
+        }
+        Ok(None)
+    }
+}
+
+/// Whether a rule in the index has the left side.
+fn is_repeated(rules: &[Rule], index: &RuleIndex, left: &Term) -> Result<bool, Memory>
+    requires { IsNumbered rules.now index.now }
+    ensures { IfOk result (λ b. IsTrue b ↔ IsRepeated rules.now index.now (tree_of left.now)) }
+{
+    let keys = index.candidates(left)?;
+    for k in 0..keys.len() {
+        if *rules[keys[k] as usize].left() == *left {
+            return Ok(true);
+        }
+    }
+    Ok(false)
+}
+
+/// The match of the rule's left side with the term; none where there is none, or the rule is passed over for the whole term.
+fn matched(
+    alloc: Global,
+    rule: &Rule,
+    whole: &Term,
+    strict_only: bool,
+    t: &Term,
+) -> Result<Option<Subst>, Memory>
+    ensures { IfOk result (IsMatchIfAny rule.now strict_only (tree_of whole.now) (tree_of t.now)) }
+{
+    let Some(m) = match_term(alloc, rule.left(), t)? else {
+        return Ok(None);
+    };
+    if strict_only && is_variant(whole, rule.left()) {
+        return Ok(None);
+    }
+    Ok(Some(m))
+}
