@@ -5,6 +5,7 @@ ghost use Rattle.kb_decide.specs.Deciding.{IsGoalFor, IsDecision};
 
 use crate::decision::Decision;
 use crate::normalising::{Run, normalised};
+use kb_rewrite::System;
 use kb_term::{Memory, Rule, Term};
 use std::alloc::Global;
 
@@ -14,6 +15,8 @@ use std::alloc::Global;
 /// limit that normalising the left side passes, or else the right side: 10,000 steps, or a result that is larger than 512 or deeper
 /// than 64. Where the rules are confluent, `Yes` says that they prove the goal, and `No` that they don't.
 ///
+/// The rules are indexed first, so a step doesn't go over them.
+///
 /// # Errors
 ///
 /// Want of memory.
@@ -22,11 +25,26 @@ pub fn decide(alloc: Global, rules: &[Rule], left: &Term, right: &Term) -> Resul
     requires over { IsGoalFor rules.now (tree_of left.now) (tree_of right.now) }
     ensures { IfOk result (IsDecision rules.now (tree_of left.now) (tree_of right.now)) }
 {
-    let (left_form, left_lines) = match normalised(alloc, rules, left)? {
+    let system = System::indexed(alloc, rules)?;
+    decided(alloc, &system, left, right)
+}
+
+/// What the rules of the system say of the goal.
+fn decided(
+    alloc: Global,
+    system: &System<'_>,
+    left: &Term,
+    right: &Term,
+) -> Result<Decision, Memory>
+    requires few { length system.now < 2 ^ 32 }
+    requires over { IsGoalFor system.now (tree_of left.now) (tree_of right.now) }
+    ensures { IfOk result (IsDecision system.now (tree_of left.now) (tree_of right.now)) }
+{
+    let (left_form, left_lines) = match normalised(alloc, system, left)? {
         Run::Form(form, lines) => (form, lines),
         Run::Stopped(reason) => return Ok(Decision::Unknown(reason)),
     };
-    match normalised(alloc, rules, right)? {
+    match normalised(alloc, system, right)? {
         Run::Stopped(reason) => Ok(Decision::Unknown(reason)),
         Run::Form(right_form, right_lines) => {
             if left_form == right_form {

@@ -6,8 +6,8 @@ ghost use Rattle.kb_decide.specs.Deciding.{IsLimitReason};
 ghost use Rattle.kb_decide.specs.Running.{IsOver, IsRun};
 
 use crate::decision::{Line, Reason};
-use kb_rewrite::{MAX_STEPS, Redex, first_redex, step};
-use kb_term::{Limit, Memory, Rule, Term, TermFault};
+use kb_rewrite::{MAX_STEPS, Redex, System, step};
+use kb_term::{Limit, Memory, Term, TermFault};
 use std::alloc::Global;
 
 /// What normalising a term comes to.
@@ -21,25 +21,25 @@ pub(crate) enum Run {
 
 /// The run of the strategy from the term to its normal form: while it has a redex, it is rewritten at the first position in
 /// preorder at which a rule applies, by the first such rule.
-pub(crate) fn normalised(alloc: Global, rules: &[Rule], t: &Term) -> Result<Run, Memory>
-    requires few { length rules.now < 2 ^ 32 }
-    requires over { IsOver rules.now (tree_of t.now) }
-    ensures { IfOk result (IsRun rules.now (tree_of t.now)) }
+pub(crate) fn normalised(alloc: Global, system: &System<'_>, t: &Term) -> Result<Run, Memory>
+    requires few { length system.now < 2 ^ 32 }
+    requires over { IsOver system.now (tree_of t.now) }
+    ensures { IfOk result (IsRun system.now (tree_of t.now)) }
 {
     let mut term = t.clone()?;
     let mut lines = Vec::new(alloc);
     for _ in 0..MAX_STEPS {
-        let Some(redex) = first_redex(alloc, rules, &term, false)? else {
+        let Some(redex) = system.first_redex(alloc, &term, false)? else {
             return Ok(Run::Form(term, lines));
         };
-        match step(alloc, rules, &term, &redex) {
+        match step(alloc, system.rules(), &term, &redex) {
             Ok(next) => term = next,
             Err(TermFault::Large(limit)) => return Ok(Run::Stopped(reason_of(limit))),
             Err(TermFault::Memory) => return Err(Memory),
         }
         lines.push(line_of(redex))?;
     }
-    match first_redex(alloc, rules, &term, false)? {
+    match system.first_redex(alloc, &term, false)? {
         None => Ok(Run::Form(term, lines)),
         Some(_) => Ok(Run::Stopped(Reason::Steps)),
     }

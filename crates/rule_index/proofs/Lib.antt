@@ -1,4 +1,5 @@
 pub mod Entries
 pub mod Leading
+pub mod Meeting
 pub mod Hits
 pub mod Strings

@@ -2,6 +2,7 @@
 use Rattle.std.specs.Prelude.{ℕ, ◌≡◌, ◌⊎◌, ◌↔◌, List}
 use Rattle.kb_term.specs.Tree.{Tree}
 use Rattle.kb_match.specs.Fitting.{Fits}
+use Rattle.rule_index.specs.Agreeing.{Agree}
 use Rattle.rule_index.specs.declared.mark.Mark.{Mark}
 use Rattle.rule_index.specs.Marks.{marks_of}
 use Rattle.rule_index.specs.Branches.{HasEntry}
@@ -26,3 +27,7 @@ IsWithout key old new = (k : ℕ) (marks : List Mark) → Holds new k marks ↔ 
 -- some left side that is held under the key fits the term
 abbrev pub IsCandidate : RuleIndex → Tree → ℕ → Type 0
 IsCandidate index t key = (left : Tree) × Holds index key (marks_of left) × Fits left t
+
+-- some left side that is held under the key agrees with the term
+abbrev pub MayOverlap : RuleIndex → Tree → ℕ → Type 0
+MayOverlap index t key = (left : Tree) × Holds index key (marks_of left) × Agree left t

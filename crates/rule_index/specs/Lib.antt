@@ -1,4 +1,5 @@
 pub mod Marks
+pub mod Agreeing
 pub mod Branches
 pub mod Pending
 pub mod Walk

@@ -1,9 +1,10 @@
 // The index.
-ghost use Rattle.std.specs.Prelude.{ℕ, ◌≡◌, ◌++◌, ◌↔◌, IsTrue, IfOk, OnOk, OnErr, Contains};
+ghost use Rattle.std.specs.Prelude.{ℕ, ◌≡◌, ◌∷◌, [], ◌++◌, ◌↔◌, IsTrue, IfOk, OnOk, OnErr, Contains};
 ghost use Rattle.std.specs.List.Sorted.{IsStrictlyIncreasing};
 ghost use Rattle.kb_term.specs.Tree.{Tree};
 ghost use Rattle.kb_term.specs.View.{tree_of};
 ghost use Rattle.kb_term.specs.Substitution.{Matches};
+ghost use Rattle.rule_index.specs.Agreeing.{HaveCommonInstance};
 ghost use Rattle.rule_index.specs.Marks.{marks_of};
 ghost use Rattle.rule_index.specs.Pending.{pending};
 ghost use Rattle.rule_index.specs.Walk.{hits};
@@ -27,7 +28,7 @@ pub struct RuleIndex {
 }
 
 impl RuleIndex {
-    ghost use Rattle.rule_index.specs.Index.{Holds, IsThere, IsWith, IsWithout, IsCandidate};
+    ghost use Rattle.rule_index.specs.Index.{Holds, IsThere, IsWith, IsWithout, IsCandidate, MayOverlap};
 
     /// The index without a rule. It takes no memory.
     pub fn new(alloc: Global) -> Self
@@ -74,10 +75,37 @@ impl RuleIndex {
         ensures matches { IfOk result (λ keys. (key : ℕ) (left : Tree) → Holds self.now key (marks_of left) → Matches left (tree_of t.now) → Contains keys.items key) }
         ensures rising { IfOk result (λ keys. IsStrictlyIncreasing keys.items) }
     {
+        self.found(t, false)
+    }
+
+    /// The keys whose rules' left sides agree with the term where both have symbols, each once, in rising order: a variable of
+    /// either stands for any term.
+    ///
+    /// Such a left side need not unify with the term, but each that does when it is renamed apart is among them. Like
+    /// [`candidates`](RuleIndex::candidates) it follows the term through the tree, and at a variable it goes over all that is
+    /// stored there.
+    ///
+    /// # Errors
+    ///
+    /// Want of memory for the list.
+    pub fn overlapping(&self, t: &Term) -> Result<Vec<u32>, Memory>
+        ensures keys { IfOk result (λ keys. (key : ℕ) → Contains keys.items key ↔ MayOverlap self.now (tree_of t.now) key) }
+        ensures unifies { IfOk result (λ keys. (key : ℕ) (left : Tree) → Holds self.now key (marks_of left) → HaveCommonInstance left (tree_of t.now) → Contains keys.items key) }
+        ensures rising { IfOk result (λ keys. IsStrictlyIncreasing keys.items) }
+    {
+        self.found(t, true)
+    }
+
+    /// The keys whose marks lead through the term, each once, in rising order.
+    fn found(&self, t: &Term, loose: bool) -> Result<Vec<u32>, Memory>
+        ensures keys { IfOk result (λ keys. (key : ℕ) → Contains keys.items key ↔ Contains (hits loose self.now.root (tree_of t.now ∷ [])) key) }
+        ensures rising { IfOk result (λ keys. IsStrictlyIncreasing keys.items) }
+    {
         let mut keys = Vec::new(self.alloc);
         gather(
             &self.root,
             &Pending::Terms(std::slice::from_ref(t), &Pending::Nothing),
+            loose,
             &mut keys,
         )?;
         keys.sort_unstable();
@@ -86,9 +114,9 @@ impl RuleIndex {
     }
 }
 
-/// Adds the keys of the marks that lead through the terms.
-fn gather(branch: &Branch, stack: &Pending, keys: &mut Vec<u32>) -> Result<(), Memory>
-    ensures { OnOk result (keys.new.items ≡ keys.old.items ++ hits branch.now (pending stack.now)) }
+/// Adds the keys of the marks that lead through the terms; where the walk is loose, a variable of the terms stands for any term.
+fn gather(branch: &Branch, stack: &Pending, loose: bool, keys: &mut Vec<u32>) -> Result<(), Memory>
+    ensures { OnOk result (keys.new.items ≡ keys.old.items ++ hits loose branch.now (pending stack.now)) }
 {
     match branch {
         Branch::End => Ok(()),
@@ -96,23 +124,27 @@ fn gather(branch: &Branch, stack: &Pending, keys: &mut Vec<u32>) -> Result<(), M
             if next(stack).is_none() {
                 keys.push(*key)?;
             }
-            gather(rest, stack, keys)?;
+            gather(rest, stack, loose, keys)?;
             Ok(())
         }
         Branch::Node(mark, inner, rest) => {
             if let Some((t, below)) = next(stack) {
                 match (mark, t) {
-                    (Mark::Any, _) => gather(inner, &below, keys)?,
-                    (Mark::Apply(_, _), Term::Var(_)) => {}
+                    (Mark::Any, _) => gather(inner, &below, loose, keys)?,
+                    (Mark::Apply(_, count), Term::Var(_)) => {
+                        if loose {
+                            gather(inner, &Pending::Repeated(t, *count, &below), loose, keys)?;
+                        }
+                    }
                     (Mark::Apply(f, count), Term::App(g, arguments)) => {
                         let arguments = arguments.items();
                         if *f == g.0 && *count == arguments.len() {
-                            gather(inner, &Pending::Terms(arguments, &below), keys)?;
+                            gather(inner, &Pending::Terms(arguments, &below), loose, keys)?;
                         }
                     }
                 }
             }
-            gather(rest, stack, keys)?;
+            gather(rest, stack, loose, keys)?;
             Ok(())
         }
     }

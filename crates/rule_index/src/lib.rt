@@ -10,4 +10,4 @@ mod pending;
 mod tests;
 
 pub use index::RuleIndex;
-pub use laws::marks_lead_where_left_sides_fit;
+pub use laws::{marks_lead_loosely_where_left_sides_agree, marks_lead_where_left_sides_fit};

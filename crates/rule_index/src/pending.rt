@@ -10,6 +10,8 @@ use kb_term::Term;
 pub(crate) enum Pending<'a> {
     Nothing,
     Terms(&'a [Term], &'a Pending<'a>),
+    /// The term so many times.
+    Repeated(&'a Term, usize, &'a Pending<'a>),
 }
 
 /// The next term and what is left behind it; none where nothing is left.
@@ -22,5 +24,12 @@ pub(crate) fn next<'a>(stack: &Pending<'a>) -> Option<(&'a Term, Pending<'a>)>
             Some((first, rest)) => Some((first, Pending::Terms(rest, below))),
             None => next(below),
         },
+        Pending::Repeated(t, count, below) => {
+            if *count == 0 {
+                next(below)
+            } else {
+                Some((*t, Pending::Repeated(t, *count - 1, below)))
+            }
+        }
     }
 }

@@ -63,3 +63,20 @@ fn candidates_come_in_rising_order_and_go_with_their_keys(rt: HostRuntime) {
     assert!(rt; found.is_empty());
     marks_lead_where_left_sides_fit();
 }
+
+#[test]
+fn overlapping_left_sides_agree_where_both_have_symbols(rt: HostRuntime) {
+    let alloc = rt.alloc();
+    let index = five_rules(alloc).expect(&rt, "memory");
+    let inner = unary(alloc, 1, Term::Var(0)).expect(&rt, "memory");
+    let one = binary(alloc, 2, inner, constant(alloc, 0)).expect(&rt, "memory");
+    let found = index.overlapping(&one).expect(&rt, "memory");
+    assert_eq!(rt; found.as_slice(), [2, 5].as_slice());
+    let inner = unary(alloc, 1, Term::Var(0)).expect(&rt, "memory");
+    let two = binary(alloc, 2, constant(alloc, 0), inner).expect(&rt, "memory");
+    let found = index.overlapping(&two).expect(&rt, "memory");
+    assert_eq!(rt; found.as_slice(), [2, 3, 5].as_slice());
+    let found = index.overlapping(&Term::Var(0)).expect(&rt, "memory");
+    assert_eq!(rt; found.as_slice(), [1, 2, 3, 4, 5].as_slice());
+    marks_lead_loosely_where_left_sides_agree();
+}

@@ -7,7 +7,7 @@ use Rattle.kb_decide.proofs.normalising.normalised.Given as goal
 -- the lines, one for each turn, are the run of the strategy to the term, which is over the signature of the rules
 abbrev pub invariant-loop : goal.invariant-loop
 invariant-loop l = record {
-  over : IsOver l.rules (tree_of l.term);
-  leads : LeadsBy (IsStrategyStepBy l.rules) l.lines.items (tree_of l.t) (tree_of l.term);
+  over : IsOver l.system (tree_of l.term);
+  leads : LeadsBy (IsStrategyStepBy l.system) l.lines.items (tree_of l.t) (tree_of l.term);
   count : length l.lines.items ≡ l.counter;
 }

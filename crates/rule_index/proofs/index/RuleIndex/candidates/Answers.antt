@@ -1,32 +1,21 @@
-use Rattle.std.proofs.Common.{ℕ, ◌≡◌, ◌∷◌, [], ◌++◌, sym, ap, ◌∙◌, subst, List, eqb}
-use Rattle.std.specs.Prelude.{map, Contains}
-use Rattle.std.specs.List.{dedup}
-use Rattle.std.specs.List.Sorted.{IsStrictlyIncreasing, IsPermutation}
-use Rattle.std.proofs.lemmas.List.Filters.{dedup_is}
-use Rattle.std.proofs.lemmas.List.Kept.{Contains-dedup_nat, Contains-from_dedup}
-use Rattle.std.proofs.lemmas.List.Sorted.{Contains-permutation, IsPermutation-sym}
-use Rattle.std.proofs.lemmas.Map.Keys.{IsStrictlyIncreasing-dedup}
+use Rattle.std.proofs.lemmas.Result.{IfOk-weaker}
+use Rattle.std.specs.Prelude.{false}
 use Rattle.kb_term.specs.View.{tree_of}
 use Rattle.kb_match.proofs.FittingLaws.{fits_from_match}
-use Rattle.rule_index.specs.Walk.{hits}
-use Rattle.rule_index.proofs.Hits.{hits_fit}
+use Rattle.rule_index.proofs.Hits.{hits_meet}
+use Rattle.rule_index.proofs.Meeting.{meets_from_fit, fit_from_meeting}
 use Rattle.rule_index.proofs.index.RuleIndex.candidates.Goals as goal
 
 pub returns-clause-keys : goal.returns-clause-keys
-returns-clause-keys c key =
-    let found = hits c.args.self.now.root (tree_of c.args.t.now ∷ []) in
-    let all : c.gather.new.keys.items ≡ found = c.in_ok-gather.ensures ∙ ap (λ (xs : List ℕ). xs ++ hits c.args.self.now.root (map tree_of c.from_ref.result.now ++ [])) c.new-keys.ensures.items ∙ ap (λ ts. hits c.args.self.now.root (map tree_of ts ++ [])) c.from_ref.ensures.value in
-    let last : c.dedup.new.self.items ≡ dedup eqb c.sort_unstable.new.self.items = dedup_is eqb _ _ c.dedup.ensures.filtered in
-    let perm : IsPermutation c.gather.new.keys.items c.sort_unstable.new.self.items = c.sort_unstable.ensures.permutation in
-    let fit = hits_fit c.args.self.now.root (tree_of c.args.t.now) key in (
-      λ h. fit.0 (subst (λ (xs : List ℕ). Contains xs key) all (Contains-permutation _ _ _ (IsPermutation-sym _ _ perm) (Contains-from_dedup eqb _ _ (subst (λ (xs : List ℕ). Contains xs key) last h)))),
-      λ h. subst (λ (xs : List ℕ). Contains xs key) (sym last) (Contains-dedup_nat _ _ (Contains-permutation _ _ _ perm (subst (λ (xs : List ℕ). Contains xs key) (sym all) (fit.1 h)))),
-    )
+returns-clause-keys c =
+    let t = tree_of c.args.t.now in
+    IfOk-weaker c.found.result _ _ (λ keys found key.
+    let meet = hits_meet false c.args.self.now.root t key in (
+      λ h. let m = meet.0 ((found key).0 h) in (m.0, m.1, fit_from_meeting m.0 t m.2),
+      λ (l, held, fit). (found key).1 (meet.1 (l, held, meets_from_fit l t fit)),
+    )) c.found.ensures.keys
 
 pub returns-clause-matches : goal.returns-clause-matches
-returns-clause-matches c key left held m = (returns-clause-keys c key).1 (left, held, fits_from_match left (tree_of c.args.t.now) m)
-
-pub returns-clause-rising : goal.returns-clause-rising
-returns-clause-rising c =
-    let last : c.dedup.new.self.items ≡ dedup eqb c.sort_unstable.new.self.items = dedup_is eqb _ _ c.dedup.ensures.filtered in
-    subst IsStrictlyIncreasing (sym last) (IsStrictlyIncreasing-dedup _ c.sort_unstable.ensures.sorted)
+returns-clause-matches c =
+    let t = tree_of c.args.t.now in
+    IfOk-weaker c.found.result _ _ (λ keys found key left held m. (found key).1 ((hits_meet false c.args.self.now.root t key).1 (left, held, meets_from_fit left t (fits_from_match left t m)))) c.found.ensures.keys
