@@ -21,7 +21,9 @@ pub mod Flights
 pub mod Living
 pub mod Labels
 pub mod Flyers
+pub mod Sleepers
 pub mod LivingLabels
+pub mod Worked
 pub mod Unmoved
 pub mod Resting
 pub mod Restful
