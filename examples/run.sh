@@ -1,8 +1,8 @@
 #!/usr/bin/env bash
-# Completes each example by one worker and compares what is written with the text beside it: expected/NAME.txt by the stated selection,
-# expected/by_size/NAME.txt by size; each answer is also sent to the checker, and where there are goals, NAME.goals, its decisions are
-# compared with expected/decided/NAME.txt. Where Graphviz's `dot` is there, it draws each answer's trace. Examples that take long have no such text and are left out. With the word `write` it writes
-# the texts of completions.
+# Completes each example by one worker and compares what is written with the text beside it: expected/NAME.txt by the stated
+# selection, expected/by_size/NAME.txt by size. Each answer is also sent to the checker, and where there are goals, NAME.goals,
+# its decisions are compared with expected/decided/NAME.txt. Where Graphviz's `dot` is there, it draws each answer's trace.
+# Examples that take long have no such text and are left out. With the word `write` it writes the texts of completions.
 set -u
 here="$(dirname "$(readlink -f "${BASH_SOURCE[0]}")")"
 mkbtt="${MKBTT:-$here/../mkbtt}"
