@@ -51,7 +51,7 @@ fn rest(state: &mut State)
     ensures { state.new ≡ record state.old { asleep = rested state.old } }
 {
     let count = working(state);
-    for i in MOST_AWAKE..count {
+    for _ in MOST_AWAKE..count {
         rest_one(state);
     }
 }
@@ -77,7 +77,7 @@ fn wake(state: &mut State)
     ensures { state.new ≡ record state.old { asleep = iterate (with_one_awake state.old) (most_awake - length (working state.old state.old.asleep)) state.old.asleep } }
 {
     let count = working(state);
-    for i in count..MOST_AWAKE {
+    for _ in count..MOST_AWAKE {
         if !wake_one(state) {
             return;
         }

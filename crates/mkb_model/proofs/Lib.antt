@@ -55,6 +55,7 @@ pub mod KnownFacts
 pub mod Stated
 mod Rows
 mod MoreRows
+mod SleepRows
 mod Runs
 mod EmptyRun
 mod ForkRun

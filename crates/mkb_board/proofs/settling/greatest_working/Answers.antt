@@ -27,7 +27,7 @@ loop-i-preserved c =
     let is = c.index-living-i.is ∙ ap (λ (l : List Name). get_or l c.loop-i.i p) same in
     let step : IsStep b (turned_cmp b) (works b) b.living c.loop-i.i c.loop-i.best c.if-is_working.best =
     elim c.if-is_working.branch [
-      then-is_working w ↦ greater_taken b (works b) b.living c.loop-i.i p there is (sym c.is_working.ensures ∙ w.if-is_working.true) c.loop-i.best c.if-is_working.best w.with_cost.result w.greater.result c.loop-i.invariant.priced w.with_cost.ensures w.greater.ensures w.best-is
-    | else-is_working w ↦ passed b (turned_cmp b) (works b) b.living c.loop-i.i p there is (sym c.is_working.ensures ∙ w.if-is_working.false) c.loop-i.best c.if-is_working.best c.loop-i.invariant.priced w.best-is
+      | then-is_working w ↦ greater_taken b (works b) b.living c.loop-i.i p there is (sym c.is_working.ensures ∙ w.if-is_working.true) c.loop-i.best c.if-is_working.best w.with_cost.result w.greater.result c.loop-i.invariant.priced w.with_cost.ensures w.greater.ensures w.best-is
+      | else-is_working w ↦ passed b (turned_cmp b) (works b) b.living c.loop-i.i p there is (sym c.is_working.ensures ∙ w.if-is_working.false) c.loop-i.best c.if-is_working.best c.loop-i.invariant.priced w.best-is
     ] in
     record { pick = step.pick ∙ c.loop-i.invariant.pick; priced = step.priced }

@@ -24,7 +24,7 @@ loop-i-preserved c =
     let is = c.index-sleepers-i.is ∙ ap (λ (l : List Name). get_or l c.loop-i.i p) same in
     let step : IsStep b (process_cmp b) (is_active b) b.asleep c.loop-i.i c.loop-i.best c.if-is_active.best =
     elim c.if-is_active.branch [
-      then-is_active w ↦ lesser_taken b (is_active b) b.asleep c.loop-i.i p there is (sym c.is_active.ensures ∙ w.if-is_active.true) c.loop-i.best c.if-is_active.best w.with_cost.result w.lesser.result c.loop-i.invariant.priced w.with_cost.ensures w.lesser.ensures w.best-is
-    | else-is_active w ↦ passed b (process_cmp b) (is_active b) b.asleep c.loop-i.i p there is (sym c.is_active.ensures ∙ w.if-is_active.false) c.loop-i.best c.if-is_active.best c.loop-i.invariant.priced w.best-is
+      | then-is_active w ↦ lesser_taken b (is_active b) b.asleep c.loop-i.i p there is (sym c.is_active.ensures ∙ w.if-is_active.true) c.loop-i.best c.if-is_active.best w.with_cost.result w.lesser.result c.loop-i.invariant.priced w.with_cost.ensures w.lesser.ensures w.best-is
+      | else-is_active w ↦ passed b (process_cmp b) (is_active b) b.asleep c.loop-i.i p there is (sym c.is_active.ensures ∙ w.if-is_active.false) c.loop-i.best c.if-is_active.best c.loop-i.invariant.priced w.best-is
     ] in
     record { pick = step.pick ∙ c.loop-i.invariant.pick; priced = step.priced }

@@ -6,9 +6,9 @@ use Rattle.mkb_board.proofs.Sleepers.{DiffersInSleepers}
 use Rattle.mkb_board.proofs.settling.wake.Given as goal
 
 -- who sleeps is a label, and without those that are still to wake it is who sleeps in the end
-abbrev pub invariant-loop-i : goal.invariant-loop-i
-invariant-loop-i l = record {
+abbrev pub invariant-loop : goal.invariant-loop
+invariant-loop l = record {
   differs : DiffersInSleepers l.fn.state l.state;
   label : IsLabel l.fn.state l.state.asleep;
-  left : iterate (with_one_awake l.fn.state) (most_awake - l.i) l.state.asleep ≡ iterate (with_one_awake l.fn.state) (most_awake - length (working l.fn.state l.fn.state.asleep)) l.fn.state.asleep;
+  left : iterate (with_one_awake l.fn.state) (most_awake - l.counter) l.state.asleep ≡ iterate (with_one_awake l.fn.state) (most_awake - length (working l.fn.state l.fn.state.asleep)) l.fn.state.asleep;
 }
