@@ -1,23 +1,20 @@
 -- Which overlaps join, and what of them is proposed; and the variables of normal forms.
-use Rattle.std.proofs.Common.{ℕ, zero, suc, ◌≤◌, ◌<◌, ◌≡◌, ◌≢◌, ◌⊎◌, ◌↔◌, inl, inr, refl, sym, ap, ap₂, ◌∙◌, subst, arith, List, [], ◌∷◌, ◌++◌, map, take, filter, flat_map, length, Contains, append_assoc, Bool, true, false, not, cond, Option, Some, None, Ok, ⊎_elim, eq-eqb, eqb-true, ne_eqb}
-use Rattle.std.specs.Prelude.{IsTrue, ◌==◌, slice_get}
+use Rattle.std.proofs.Common.{ℕ, zero, suc, ◌≡◌, ◌≢◌, ◌⊎◌, ◌↔◌, inl, inr, refl, sym, ap, ap₂, ◌∙◌, subst, arith, List, [], ◌∷◌, ◌++◌, map, take, flat_map, length, Contains, append_assoc, Bool, true, false, cond, Option, Some, None, Ok, ⊎_elim, eq-eqb, ne_eqb}
+use Rattle.std.specs.Prelude.{IsTrue, slice_get}
 use Rattle.std.specs.List.{list_any}
 use Rattle.std.proofs.lemmas.List.{append-nil, map-append}
 use Rattle.std.proofs.lemmas.List.Concat.{flat_map-append}
 use Rattle.std.proofs.lemmas.List.Elements.{Contains-append_cases, Contains-append_left, Contains-append_right}
 use Rattle.kb_term.specs.Tree.{Tree, variable, apply, no_trees, variables_of}
 use Rattle.kb_term.specs.Rule.{Rule}
-use Rattle.kb_term.specs.Pair.{Pair, canonical, canonical_pair, distinct}
+use Rattle.kb_term.specs.Pair.{Pair, canonical, canonical_pair}
 use Rattle.kb_term.specs.Substitution.{instance}
 use Rattle.kb_term.specs.TermOrder.{pair_eq}
 use Rattle.kb_term.specs.Tree.{tree_eq}
 use Rattle.kb_term.specs.declared.origin.RuleRef.{RuleRef}
 use Rattle.mkb_model.proofs.Variables.{put, number_there, few_less}
-use Rattle.kb_term.proofs.Steps.{contains_cases, contains_behind, contains_first, occurs_from, occurs_to, Occurs}
+use Rattle.kb_term.proofs.Steps.{occurs_from, occurs_to, Occurs}
 use Rattle.kb_term.proofs.Instances.{instance-variable, instance-agree, agree_at}
-use Rattle.kb_term.proofs.NameList.{IsUnique, unique-distinct}
-use Rattle.kb_term.proofs.Distinct.{has}
-use Rattle.kb_term.proofs.Variants.{filter_kept, distinct_in, in_distinct}
 use Rattle.kb_term.proofs.OwnPair.{tree_eq-true, tree_eq-same}
 use Rattle.kb_node.proofs.Finding.{pair_eq-same, pair_eq-refl}
 use Rattle.kb_rewrite.specs.NormalForm.{HoldVariables, form, NormalisesTo}
@@ -26,7 +23,7 @@ use Rattle.kb_rewrite.specs.declared.normalising.Normal.{Normal}
 use Rattle.kb_jobs.specs.declared.rules.NamedRules.{NamedRules}
 use Rattle.mkb_model.specs.Plain.{sides}
 use Rattle.mkb_model.specs.Proposals.{NamedRule, as_rules, NamedOverlap, OverlapsOf, deduced_pair, Picks, HasForm, IsJoinedBy, IsFormed, IsJoined, IsUnjoined}
-use Rattle.mkb_model.proofs.Lists.{none_in, none_some, some_is, any_in, in_any, map_in, in_map, clash}
+use Rattle.mkb_model.proofs.Lists.{none_some, some_is, any_in, in_any, map_in, in_map, clash}
 use Rattle.mkb_model.proofs.Alike.{joined_formed, joined_not_unjoined}
 use Rattle.kb_laws.proofs.Renamings.{Back, normalises_instance}
 use Rattle.kb_jobs.specs.Rules.{named, listed}

@@ -8,6 +8,7 @@ mod orienting;
 mod overlapping;
 mod reducing;
 mod rules;
+mod searching;
 #[cfg(test)]
 mod tests;
 mod working;
@@ -18,4 +19,5 @@ pub use orienting::{OrientSnapshot, orient};
 pub use overlapping::{OverlapSnapshot, overlap};
 pub use reducing::{ReduceSnapshot, reduce};
 pub use rules::NamedRules;
-pub use working::{Snapshot, work};
+pub use searching::{FamilySearcher, Searcher};
+pub use working::{Snapshot, work, work_by};
