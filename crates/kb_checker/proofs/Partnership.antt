@@ -1,6 +1,6 @@
 -- Rules that the index doesn't find have no overlap.
-use Rattle.std.proofs.Common.{ℕ, zero, suc, ◌+◌, ◌-◌, ◌<◌, ◌≤◌, ◌≡◌, inl, inr, ⊎_elim, refl, sym, ap, ◌∙◌, arith, subst, List, [], ◌∷◌, ◌++◌, length, take, drop, Bool, true, false, ◌==◌, Some, None, Option, get_or, Contains, All}
-use Rattle.std.specs.Prelude.{slice_get, ◌↔◌, option_map}
+use Rattle.std.proofs.Common.{ℕ, zero, suc, ◌+◌, ◌-◌, ◌<◌, ◌≤◌, ◌≡◌, inl, inr, ⊎_elim, refl, sym, ap, ◌∙◌, arith, subst, List, [], ◌∷◌, ◌++◌, length, take, drop, Bool, true, false, ◌==◌, Some, None, get_or, Contains, All}
+use Rattle.std.specs.Prelude.{slice_get, ◌↔◌}
 use Rattle.std.specs.List.Sorted.{IsStrictlyIncreasing}
 use Rattle.std.proofs.Math.Seq.{take-suc}
 use Rattle.std.proofs.lemmas.List.Elements.{Contains-append_left, Contains-append_right, Contains-append_cases}
@@ -13,11 +13,10 @@ use Rattle.kb_term.specs.Rule.{Rule}
 use Rattle.kb_term.proofs.Instances.{instance-instance}
 use Rattle.kb_term.proofs.Subtrees.{some_same}
 use Rattle.kb_overlap.specs.Overlap.{Overlap, IsRenamedApart, HasNoOverlapAt, ListsOverlaps, overlap_positions}
-use Rattle.rule_index.specs.declared.mark.Mark.{Mark}
 use Rattle.rule_index.specs.declared.index.RuleIndex.{RuleIndex}
 use Rattle.rule_index.specs.Marks.{marks_of}
 use Rattle.rule_index.specs.Agreeing.{HaveCommonInstance}
-use Rattle.rule_index.specs.Index.{Holds, IsThere, IsWith, MayOverlap}
+use Rattle.rule_index.specs.Index.{IsThere, IsWith, MayOverlap}
 use Rattle.rule_index.proofs.Meeting.{agree_from_instance}
 use Rattle.kb_rewrite.proofs.Indexing.{smaller_before}
 use Rattle.std.proofs.lemmas.Bool.{cases_lt}

@@ -1,15 +1,12 @@
-use Rattle.std.proofs.Common.{ℕ, ◌∙◌, ◌+◌, ◌*◌, ◌<◌, ◌≤◌, ◌≡◌, ◌++◌, sym, ap, subst, arith, refl, below_more, All, List, [], length, length-append, map, get_or, Some}
-use Rattle.std.specs.Prelude.{MatchOption, ◌==◌, slice_get, Contains}
+use Rattle.std.proofs.Common.{ℕ, ◌+◌, ◌<◌, ◌≤◌, ◌≡◌, ◌++◌, ap, subst, arith, refl, below_more, All, [], length, length-append, map, get_or, Some}
+use Rattle.std.specs.Prelude.{MatchOption, ◌==◌, slice_get}
 use Rattle.std.proofs.lemmas.List.{length-map}
 use Rattle.std.proofs.lemmas.List.Elements.{All-append, All-nil}
-use Rattle.std.proofs.lemmas.Option.{slice_get-get_or}
 use Rattle.kb_term.specs.Rule.{Rule}
-use Rattle.kb_overlap.specs.Overlap.{Overlap}
 use Rattle.kb_overlap.specs.View.{overlap_of}
 use Rattle.kb_rewrite.proofs.Indexing.{key_at, number_at}
-use Rattle.kb_checker.specs.Answers.{IsReady}
 use Rattle.kb_checker.specs.Partners.{IsPartner}
-use Rattle.kb_checker.specs.Verdicts.{FailsFirst, Closes, FailsToClose, AreOverlapsOf, AreInnerOverlaps}
+use Rattle.kb_checker.specs.Verdicts.{FailsFirst, Closes, FailsToClose, AreOverlapsOf}
 use Rattle.kb_checker.specs.declared.joining.Failure.{Failure}
 use Rattle.kb_checker.proofs.Firsts.{fails_behind, fails_within}
 use Rattle.kb_checker.proofs.Partnership.{reach, none_between, none_behind, partner_inside, ready_at, rule_in, climbs}

@@ -1,4 +1,4 @@
-use Rattle.std.proofs.Common.{ℕ, ◌+◌, ◌≡◌, ◌∷◌, [], ◌++◌, sym, ap, ◌∙◌, subst, arith, List, eqb, take, length, Some, None}
+use Rattle.std.proofs.Common.{ℕ, ◌+◌, ◌≡◌, ◌∷◌, [], ◌++◌, sym, ap, ◌∙◌, subst, arith, List, eqb, take}
 use Rattle.std.specs.Prelude.{Contains, ◌↔◌, option_map}
 use Rattle.std.specs.List.{dedup}
 use Rattle.std.specs.List.Sorted.{IsStrictlyIncreasing, IsPermutation}
@@ -9,7 +9,6 @@ use Rattle.std.proofs.lemmas.Map.Keys.{IsStrictlyIncreasing-dedup}
 use Rattle.kb_term.specs.Tree.{Tree}
 use Rattle.kb_term.specs.Position.{subtree_at, function_positions_of}
 use Rattle.kb_term.specs.View.{tree_of}
-use Rattle.rule_index.specs.Index.{MayOverlap}
 use Rattle.kb_checker.specs.Partners.{IsPartnerAt}
 use Rattle.kb_checker.proofs.Partnership.{partners_more, partners_same, taken_more, taken_all}
 use Rattle.kb_checker.proofs.pairing.partners.Goals as goal
