@@ -6,3 +6,4 @@ pub mod RowsOfOverlaps
 pub mod Ready
 pub mod Rejected
 pub mod OneVerdict
+pub mod Partnership

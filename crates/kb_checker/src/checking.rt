@@ -11,6 +11,7 @@ use crate::closing::first_unclosed;
 use crate::joining::{Failure, join_failure};
 use crate::verdict::{Checked, Reject};
 use kb_cert::{Certificate, orients};
+use kb_rewrite::System;
 use kb_term::{Memory, Pair, Rule, Term, canonical};
 use kb_trace::{Step, TraceFault, replay_trace};
 use std::alloc::Global;
@@ -24,8 +25,9 @@ use std::slice;
 /// what the equations prove. Else `Rejected` with the first item that fails, group by group in this order, and its number in
 /// its group.
 ///
-/// A cited step is found by its number. Apart from normalising it takes time linear in the trace, the rules and the
-/// constraints, and one unification for each two rules and each position of the outer left side.
+/// A cited step is found by its number, and rules by an index of their left sides. So apart from normalising it takes time linear
+/// in the trace, the rules and the constraints, and what the index takes for each position of a left side, with one unification
+/// for each two rules that it finds to agree somewhere and each position of the outer left side.
 pub fn check(alloc: Global, a: &Answer) -> Result<Checked, Memory>
     ensures verdict { IfOk result (IsVerdict a.now) }
     ensures good { IfOk result (λ checked. checked ≡ Checked.Accepted → IsGoodAnswer a.now) }
@@ -49,10 +51,11 @@ pub fn check(alloc: Global, a: &Answer) -> Result<Checked, Memory>
         return Ok(Checked::Rejected(Reject::NotOriented, n));
     }
     let rules = rules_alone(alloc, a.rules())?;
-    if let Some((failure, n)) = first_unclosed(alloc, &rules)? {
+    let system = System::indexed(alloc, &rules)?;
+    if let Some((failure, n)) = first_unclosed(alloc, &system)? {
         return Ok(Checked::Rejected(pair_reject(failure), n));
     }
-    if let Some((failure, n)) = first_unproved(alloc, &rules, a.problem().equations())? {
+    if let Some((failure, n)) = first_unproved(alloc, &system, a.problem().equations())? {
         return Ok(Checked::Rejected(equation_reject(failure), n));
     }
     Ok(Checked::Accepted)
@@ -148,14 +151,14 @@ fn first_unoriented(cert: &Certificate, rules: &[(Rule, u32)]) -> Option<u64>
 /// The first equation whose sides don't have one normal form: why, and its number from 1.
 fn first_unproved(
     alloc: Global,
-    rules: &[Rule],
+    system: &System<'_>,
     equations: &[(Term, Term)],
 ) -> Result<Option<(Failure, u64)>, Memory>
-    ensures { IfOk result (λ o. MatchOption o (All (IsProved rules.now) (equations_of_list equations.now)) (λ f. FailsFirst (IsProved rules.now) (FailsToProve rules.now f.0) (equations_of_list equations.now) f.1)) }
+    ensures { IfOk result (λ o. MatchOption o (All (IsProved system.now) (equations_of_list equations.now)) (λ f. FailsFirst (IsProved system.now) (FailsToProve system.now f.0) (equations_of_list equations.now) f.1)) }
 {
     for k in 0..equations.len() {
         let equation = &equations[k];
-        match join_failure(alloc, rules, &equation.0, &equation.1)? {
+        match join_failure(alloc, system, &equation.0, &equation.1)? {
             None => {}
             Some(failure) => return Ok(Some((failure, (k + 1) as u64))),
         }

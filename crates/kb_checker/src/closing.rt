@@ -3,11 +3,15 @@ ghost use Rattle.std.specs.Prelude.{◌≡◌, ◌+◌, ◌*◌, ◌≤◌, ◌<
 ghost use Rattle.kb_overlap.specs.View.{overlap_of};
 ghost use Rattle.kb_laws.specs.Overlaps.{OverlapsClose};
 ghost use Rattle.kb_checker.specs.Answers.{IsReady};
+ghost use Rattle.kb_checker.specs.Partners.{HoldsLeftSides};
 ghost use Rattle.kb_checker.specs.Verdicts.{FailsFirst, Closes, FailsToClose, IsRowAnswer, FirstUnclosed};
 
 use crate::joining::{Failure, join_failure};
+use crate::pairing::{left_sides, partners};
 use kb_overlap::{Overlap, overlaps};
-use kb_term::{Memory, Rule};
+use kb_rewrite::System;
+use kb_term::Memory;
+use rule_index::RuleIndex;
 use std::alloc::Global;
 
 /// What a look at the overlaps of one outer rule says.
@@ -21,15 +25,16 @@ pub(crate) enum Row {
 /// The first overlap of the rules that doesn't close: why, and its number from 1. None where all close.
 pub(crate) fn first_unclosed(
     alloc: Global,
-    rules: &[Rule],
+    system: &System<'_>,
 ) -> Result<Option<(Failure, u64)>, Memory>
-    requires ready { All IsReady rules.now }
-    requires few { length rules.now ≤ 4096 }
-    ensures { IfOk result (λ o. MatchOption o (OverlapsClose rules.now) (λ f. FirstUnclosed rules.now f.0 f.1)) }
+    requires ready { All IsReady system.now }
+    requires few { length system.now ≤ 4096 }
+    ensures { IfOk result (λ o. MatchOption o (OverlapsClose system.now) (λ f. FirstUnclosed system.now f.0 f.1)) }
 {
+    let index = left_sides(alloc, system.rules())?;
     let mut count = 0;
-    for i in 0..rules.len() {
-        match close_row(alloc, rules, i, count)? {
+    for i in 0..system.rules().len() {
+        match close_row(alloc, system, &index, i, count)? {
             Row::Closed(more) => count = more,
             Row::Open(failure, n) => return Ok(Some((failure, n))),
         }
@@ -37,21 +42,32 @@ pub(crate) fn first_unclosed(
     Ok(None)
 }
 
-/// Whether the overlaps of the outer rule with each rule close, where the earlier outer rules have so many overlaps.
-fn close_row(alloc: Global, rules: &[Rule], i: usize, start: u64) -> Result<Row, Memory>
-    requires ready { All IsReady rules.now }
-    requires few { length rules.now ≤ 4096 }
-    requires there { i < length rules.now }
+/// Whether the overlaps of the outer rule with each rule close, where the earlier outer rules have so many overlaps. Rules
+/// that the index doesn't find have none with it.
+fn close_row(
+    alloc: Global,
+    system: &System<'_>,
+    index: &RuleIndex,
+    i: usize,
+    start: u64,
+) -> Result<Row, Memory>
+    requires index { HoldsLeftSides (length system.now) system.now index.now }
+    requires ready { All IsReady system.now }
+    requires few { length system.now ≤ 4096 }
+    requires there { i < length system.now }
     requires room { start ≤ 2097152 * i }
-    ensures { IfOk result (IsRowAnswer rules.now i start) }
+    ensures { IfOk result (IsRowAnswer system.now i start) }
 {
+    let rules = system.rules();
     let outer = &rules[i];
+    let keys = partners(alloc, index, outer)?;
     let mut count = start;
-    for j in 0..rules.len() {
+    for k in 0..keys.len() {
+        let j = keys[k] as usize;
         let found = overlaps(alloc, outer, &rules[j], i == j)?;
-        match first_open(alloc, rules, &found)? {
+        match first_open(alloc, system, &found)? {
             None => count += found.len() as u64,
-            Some((failure, k)) => return Ok(Row::Open(failure, count + k)),
+            Some((failure, n)) => return Ok(Row::Open(failure, count + n)),
         }
     }
     Ok(Row::Closed(count))
@@ -60,13 +76,13 @@ fn close_row(alloc: Global, rules: &[Rule], i: usize, start: u64) -> Result<Row,
 /// The first of the overlaps that doesn't close: why, and its number from 1.
 fn first_open(
     alloc: Global,
-    rules: &[Rule],
+    system: &System<'_>,
     found: &[Overlap],
 ) -> Result<Option<(Failure, u64)>, Memory>
-    ensures { IfOk result (λ o. MatchOption o (All (Closes rules.now) (map overlap_of found.now)) (λ f. FailsFirst (Closes rules.now) (FailsToClose rules.now f.0) (map overlap_of found.now) f.1)) }
+    ensures { IfOk result (λ o. MatchOption o (All (Closes system.now) (map overlap_of found.now)) (λ f. FailsFirst (Closes system.now) (FailsToClose system.now f.0) (map overlap_of found.now) f.1)) }
 {
     for k in 0..found.len() {
-        match close_failure(alloc, rules, &found[k])? {
+        match close_failure(alloc, system, &found[k])? {
             None => {}
             Some(failure) => return Ok(Some((failure, (k + 1) as u64))),
         }
@@ -77,13 +93,13 @@ fn first_open(
 /// Why the overlap doesn't close; none where it does.
 fn close_failure(
     alloc: Global,
-    rules: &[Rule],
+    system: &System<'_>,
     overlap: &Overlap,
 ) -> Result<Option<Failure>, Memory>
-    ensures { IfOk result (λ o. MatchOption o (Closes rules.now (overlap_of overlap.now)) (λ f. FailsToClose rules.now f (overlap_of overlap.now))) }
+    ensures { IfOk result (λ o. MatchOption o (Closes system.now (overlap_of overlap.now)) (λ f. FailsToClose system.now f (overlap_of overlap.now))) }
 {
     match &overlap.sides {
         Err(_) => Ok(Some(Failure::Large)),
-        Ok((s, t)) => join_failure(alloc, rules, s, t),
+        Ok((s, t)) => join_failure(alloc, system, s, t),
     }
 }

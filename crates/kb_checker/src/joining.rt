@@ -4,8 +4,8 @@ ghost use Rattle.kb_term.specs.View.{tree_of};
 ghost use Rattle.kb_laws.specs.Overlaps.{HaveOneNormalForm};
 ghost use Rattle.kb_checker.specs.Verdicts.{FailToJoin};
 
-use kb_rewrite::{Normal, normal_form};
-use kb_term::{Memory, Rule, Term};
+use kb_rewrite::{Normal, System};
+use kb_term::{Memory, Term};
 use std::alloc::Global;
 
 /// Why two terms don't have one normal form.
@@ -20,18 +20,18 @@ pub enum Failure {
 /// has a normal form.
 pub(crate) fn join_failure(
     alloc: Global,
-    rules: &[Rule],
+    system: &System<'_>,
     s: &Term,
     t: &Term,
 ) -> Result<Option<Failure>, Memory>
-    ensures { IfOk result (λ failure. MatchOption failure (HaveOneNormalForm rules.now (tree_of s.now) (tree_of t.now)) (FailToJoin rules.now (tree_of s.now) (tree_of t.now))) }
+    ensures { IfOk result (λ failure. MatchOption failure (HaveOneNormalForm system.now (tree_of s.now) (tree_of t.now)) (FailToJoin system.now (tree_of s.now) (tree_of t.now))) }
 {
-    let first = match normal_form(alloc, rules, s)? {
+    let first = match system.normal_form(alloc, s)? {
         Normal::Form(u, _) => u,
         Normal::Long(_) => return Ok(Some(Failure::Steps)),
         Normal::Large(_) => return Ok(Some(Failure::Large)),
     };
-    match normal_form(alloc, rules, t)? {
+    match system.normal_form(alloc, t)? {
         Normal::Form(second, _) => {
             if first == second {
                 Ok(None)

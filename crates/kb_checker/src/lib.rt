@@ -8,6 +8,7 @@ mod checking;
 mod closing;
 mod joining;
 mod laws;
+mod pairing;
 mod verdict;
 
 pub use answer::Answer;

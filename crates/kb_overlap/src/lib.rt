@@ -8,3 +8,4 @@ mod positions;
 
 pub use alike::overlaps_alike;
 pub use overlap::{Overlap, overlap_at, overlaps};
+pub use positions::positions_for;

@@ -29,7 +29,7 @@ fn push_positions(t: &Term, path: &Position, found: &mut Vec<Position>) -> Resul
 }
 
 /// The positions of the outer left side at which no variable stands, in preorder; without the root for a rule with itself.
-pub(crate) fn positions_for(
+pub fn positions_for(
     alloc: Global,
     outer: &Rule,
     same: bool,

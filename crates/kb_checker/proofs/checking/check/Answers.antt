@@ -28,7 +28,7 @@ first_unoriented-requires-2 c =
 
 pub first_unclosed-requires-clause-ready : goal.first_unclosed-requires-clause-ready
 first_unclosed-requires-clause-ready c =
-    let rules = c.deref.ensures.value ∙ c.in_ok-rules.ensures ∙ ap rules_of c.rules-3.ensures in
+    let rules = c.in_ok-system.ensures ∙ c.deref.ensures.value ∙ c.in_ok-rules.ensures ∙ ap rules_of c.rules-3.ensures in
     subst (All IsReady) (sym rules) (rules_ready c.args.a.now c.problem.ensures.kept)
 
 pub returns-in-Some-2-clause-verdict : goal.returns-in-Some-2-clause-verdict
@@ -74,9 +74,9 @@ returns-in-Some-3-clause-verdict c =
     let made = c.in_ok-rules.ensures ∙ ap rules_of c.rules-3.ensures in
     let f = c.in-Some-3.failure in
     let n = c.in-Some-3.n in
-    let unclosed : FirstUnclosed c.deref.result.now f n = some_says _ (f, n) _ (λ (f : Failure × ℕ). FirstUnclosed c.deref.result.now f.0 f.1) c.in-Some-3.is c.in_ok-failure.ensures in
+    let unclosed : FirstUnclosed c.in_ok-system.system f n = some_says _ (f, n) _ (λ (f : Failure × ℕ). FirstUnclosed c.in_ok-system.system f.0 f.1) c.in-Some-3.is c.in_ok-failure.ensures in
     subst (λ (r : Reject). IsRejected a r n) (sym c.pair_reject.ensures)
-    (pair_rejected a f n ((((steps, traced), constraints_traced), constraints_oriented), oriented) (subst (λ (rs : List Rule). FirstUnclosed rs f n) (c.deref.ensures.value ∙ made) unclosed))
+    (pair_rejected a f n ((((steps, traced), constraints_traced), constraints_oriented), oriented) (subst (λ (rs : List Rule). FirstUnclosed rs f n) (c.in_ok-system.ensures ∙ c.deref.ensures.value ∙ made) unclosed))
 
 pub returns-in-Some-4-clause-verdict : goal.returns-in-Some-4-clause-verdict
 returns-in-Some-4-clause-verdict c =
@@ -88,16 +88,16 @@ returns-in-Some-4-clause-verdict c =
     let constraints_oriented : All (IsOriented a.cert) a.constraints = subst₂ (λ (k : Certificate) (rs : List (Rule × ℕ)). All (IsOriented k) rs) c.cert.ensures c.constraints-2.ensures c.in_default-first_unoriented.ensures in
     let oriented : All (IsOriented a.cert) a.rules = subst₂ (λ (k : Certificate) (rs : List (Rule × ℕ)). All (IsOriented k) rs) c.cert-2.ensures c.rules-2.ensures c.in_default-first_unoriented-2.ensures in
     let made = c.in_ok-rules.ensures ∙ ap rules_of c.rules-3.ensures in
-    let closes : OverlapsClose c.deref.result.now = none_says _ _ (λ (f : Failure × ℕ). FirstUnclosed c.deref.result.now f.0 f.1) c.in_default-3.is c.in_ok-failure.ensures in
-    let closed = subst OverlapsClose (c.deref.ensures.value ∙ made) closes in
+    let closes : OverlapsClose c.in_ok-system.system = none_says _ _ (λ (f : Failure × ℕ). FirstUnclosed c.in_ok-system.system f.0 f.1) c.in_default-3.is c.in_ok-failure.ensures in
+    let closed = subst OverlapsClose (c.in_ok-system.ensures ∙ c.deref.ensures.value ∙ made) closes in
     let equations = c.equations.ensures ∙ ap (λ (p : Problem). p.equations) c.problem-2.ensures.problem in
-    let rules = c.deref-2.result.now in
+    let rules = c.in_ok-system.system in
     let es = equations_of_list c.equations.result.now in
     let f = c.in-Some-4.failure in
     let n = c.in-Some-4.n in
     let unproved : FailsFirst (IsProved rules) (FailsToProve rules f) es n = some_says _ (f, n) _ (λ (f : Failure × ℕ). FailsFirst (IsProved rules) (FailsToProve rules f.0) es f.1) c.in-Some-4.is c.in_ok-failure-2.ensures in
     subst (λ (r : Reject). IsRejected a r n) (sym c.equation_reject.ensures)
-    (equation_rejected a f n (((((steps, traced), constraints_traced), constraints_oriented), oriented), closed) (subst₂ (λ (rs : List Rule) (xs : List (Tree × Tree)). FailsFirst (IsProved rs) (FailsToProve rs f) xs n) (c.deref-2.ensures.value ∙ made) equations unproved))
+    (equation_rejected a f n (((((steps, traced), constraints_traced), constraints_oriented), oriented), closed) (subst₂ (λ (rs : List Rule) (xs : List (Tree × Tree)). FailsFirst (IsProved rs) (FailsToProve rs f) xs n) (c.in_ok-system.ensures ∙ c.deref.ensures.value ∙ made) equations unproved))
 
 pub returns-clause-verdict : goal.returns-clause-verdict
 returns-clause-verdict c =
@@ -109,10 +109,10 @@ returns-clause-verdict c =
     let constraints_oriented : All (IsOriented a.cert) a.constraints = subst₂ (λ (k : Certificate) (rs : List (Rule × ℕ)). All (IsOriented k) rs) c.cert.ensures c.constraints-2.ensures c.in_default-first_unoriented.ensures in
     let oriented : All (IsOriented a.cert) a.rules = subst₂ (λ (k : Certificate) (rs : List (Rule × ℕ)). All (IsOriented k) rs) c.cert-2.ensures c.rules-2.ensures c.in_default-first_unoriented-2.ensures in
     let made = c.in_ok-rules.ensures ∙ ap rules_of c.rules-3.ensures in
-    let closes : OverlapsClose c.deref.result.now = none_says _ _ (λ (f : Failure × ℕ). FirstUnclosed c.deref.result.now f.0 f.1) c.in_default-3.is c.in_ok-failure.ensures in
-    let closed = subst OverlapsClose (c.deref.ensures.value ∙ made) closes in
+    let closes : OverlapsClose c.in_ok-system.system = none_says _ _ (λ (f : Failure × ℕ). FirstUnclosed c.in_ok-system.system f.0 f.1) c.in_default-3.is c.in_ok-failure.ensures in
+    let closed = subst OverlapsClose (c.in_ok-system.ensures ∙ c.deref.ensures.value ∙ made) closes in
     let equations = c.equations.ensures ∙ ap (λ (p : Problem). p.equations) c.problem-2.ensures.problem in
-    let rules = c.deref-2.result.now in
+    let rules = c.in_ok-system.system in
     let es = equations_of_list c.equations.result.now in
     let proved : All (IsProved rules) es = none_says _ _ (λ (f : Failure × ℕ). FailsFirst (IsProved rules) (FailsToProve rules f.0) es f.1) c.in_default-4.is c.in_ok-failure-2.ensures in
     record {
@@ -122,7 +122,7 @@ returns-clause-verdict c =
       constraints = constraints_oriented;
       orders = oriented;
       overlaps = closed;
-      equations = subst₂ (λ (rs : List Rule) (xs : List (Tree × Tree)). All (IsProved rs) xs) (c.deref-2.ensures.value ∙ made) equations proved;
+      equations = subst₂ (λ (rs : List Rule) (xs : List (Tree × Tree)). All (IsProved rs) xs) (c.in_ok-system.ensures ∙ c.deref.ensures.value ∙ made) equations proved;
     }
 
 pub returns-clause-good : goal.returns-clause-good

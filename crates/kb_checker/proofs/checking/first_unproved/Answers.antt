@@ -14,7 +14,7 @@ trees e = (tree_of e.0, tree_of e.1)
 pub returns-in-Some : goal.returns-in-Some
 unfolding trees
 returns-in-Some c =
-    let rules = c.args.rules.now in
+    let rules = c.args.system.now in
     let e = c.index-equations-k.result in
     let m = mapped_member trees c.args.equations.now c.loop-k.k e c.loop-k-test.true c.index-equations-k.is in
     fails_first (IsProved rules) (FailsToProve rules c.in-Some.failure) (equations_of_list c.args.equations.now) c.loop-k.k (trees e) m.0 m.1 c.loop-k.invariant
@@ -23,7 +23,7 @@ returns-in-Some c =
 pub loop-k-preserved : goal.loop-k-preserved
 unfolding trees
 loop-k-preserved c =
-    let rules = c.args.rules.now in
+    let rules = c.args.system.now in
     let e = c.index-equations-k.result in
     let m = mapped_member trees c.args.equations.now c.loop-k.k e c.loop-k-test.true c.index-equations-k.is in
     good_more (IsProved rules) (equations_of_list c.args.equations.now) c.loop-k.k (trees e) m.0 m.1
@@ -32,4 +32,4 @@ loop-k-preserved c =
 
 pub returns : goal.returns
 unfolding trees
-returns c = good_all (IsProved c.args.rules.now) (equations_of_list c.args.equations.now) c.loop-k.k (omega (arith, length-map c.args.equations.now trees, c.loop-k-test.false)) c.loop-k.invariant
+returns c = good_all (IsProved c.args.system.now) (equations_of_list c.args.equations.now) c.loop-k.k (omega (arith, length-map c.args.equations.now trees, c.loop-k-test.false)) c.loop-k.invariant

@@ -5,4 +5,4 @@ use Rattle.kb_checker.proofs.checking.first_unproved.Given as goal
 
 -- the equations so far are proved
 abbrev pub invariant-loop-k : goal.invariant-loop-k
-invariant-loop-k l = All (IsProved l.rules) (take l.k (equations_of_list l.equations))
+invariant-loop-k l = All (IsProved l.system) (take l.k (equations_of_list l.equations))

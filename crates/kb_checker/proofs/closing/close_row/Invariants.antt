@@ -1,8 +1,10 @@
-use Rattle.std.proofs.Common.{◌≡◌, ◌+◌, ◌*◌, ◌≤◌, All, List, length}
+use Rattle.std.proofs.Common.{ℕ, ◌≡◌, ◌+◌, ◌*◌, ◌<◌, ◌≤◌, All, List, length, get_or}
 use Rattle.kb_overlap.specs.Overlap.{Overlap}
 use Rattle.kb_checker.specs.Verdicts.{Closes, AreInnerOverlaps}
 use Rattle.kb_checker.proofs.closing.close_row.Given as goal
 
--- the overlaps with the inner rules so far close, and are counted
-abbrev pub invariant-loop-j : goal.invariant-loop-j
-invariant-loop-j l = (os : List Overlap) × AreInnerOverlaps l.rules l.i l.j os × All (Closes l.rules) os × (l.count ≡ l.start + length os) × (l.count ≤ l.start + 512 * l.j)
+-- the overlaps with the inner rules below some number close, and are counted; the partners so far are below it, and the others are not
+abbrev pub invariant-loop-k : goal.invariant-loop-k
+invariant-loop-k l =
+    (b : ℕ) × (os : List Overlap) × AreInnerOverlaps l.system l.i b os × All (Closes l.system) os × (l.count ≡ l.start + length os) × (l.count ≤ l.start + 512 * b)
+    × (b ≤ length l.system) × ((m : ℕ) → m < l.k → get_or l.keys.items m 0 < b) × ((m : ℕ) → l.k ≤ m → m < length l.keys.items → b ≤ get_or l.keys.items m 0)

@@ -8,7 +8,7 @@ use Rattle.kb_checker.proofs.closing.first_open.Goals as goal
 
 pub returns-in-Some : goal.returns-in-Some
 returns-in-Some c =
-    let rules = c.args.rules.now in
+    let rules = c.args.system.now in
     let o = c.index-found-k.result in
     let m = mapped_member overlap_of c.args.found.now c.loop-k.k o c.loop-k-test.true c.index-found-k.is in
     fails_first (Closes rules) (FailsToClose rules c.in-Some.failure) (map overlap_of c.args.found.now) c.loop-k.k (overlap_of o) m.0 m.1 c.loop-k.invariant
@@ -16,7 +16,7 @@ returns-in-Some c =
 
 pub loop-k-preserved : goal.loop-k-preserved
 loop-k-preserved c =
-    let rules = c.args.rules.now in
+    let rules = c.args.system.now in
     let o = c.index-found-k.result in
     let m = mapped_member overlap_of c.args.found.now c.loop-k.k o c.loop-k-test.true c.index-found-k.is in
     good_more (Closes rules) (map overlap_of c.args.found.now) c.loop-k.k (overlap_of o) m.0 m.1
@@ -24,4 +24,4 @@ loop-k-preserved c =
     c.loop-k.invariant
 
 pub returns : goal.returns
-returns c = good_all (Closes c.args.rules.now) (map overlap_of c.args.found.now) c.loop-k.k (omega (arith, length-map c.args.found.now overlap_of, c.loop-k-test.false)) c.loop-k.invariant
+returns c = good_all (Closes c.args.system.now) (map overlap_of c.args.found.now) c.loop-k.k (omega (arith, length-map c.args.found.now overlap_of, c.loop-k-test.false)) c.loop-k.invariant

@@ -5,4 +5,4 @@ use Rattle.kb_checker.proofs.closing.first_open.Given as goal
 
 -- the overlaps so far close
 abbrev pub invariant-loop-k : goal.invariant-loop-k
-invariant-loop-k l = All (Closes l.rules) (take l.k (map overlap_of l.found))
+invariant-loop-k l = All (Closes l.system) (take l.k (map overlap_of l.found))
