@@ -1,4 +1,5 @@
 -- In a possible run the certificate of each living process is of the family and orders its constraints, and its rules follow from them.
+use Rattle.mkb_model.specs.Sleeping.{settle}
 use Rattle.std.proofs.Common.{ℕ, zero, suc, ◌≤◌, ◌<◌, ◌≡◌, ◌≢◌, ◌⊎◌, inl, inr, refl, sym, ap, ◌∙◌, subst, arith, List, [], ◌∷◌, ◌++◌, map, length, Contains, Bool, true, false, cond, Option, Some, None, ⊎_elim}
 use Rattle.std.specs.Prelude.{⊤, IsFalse, option_map, take}
 use Rattle.std.specs.List.{find}
@@ -222,9 +223,9 @@ again b d ep ec en el h q lives = kept_certified b d q ep (ap (λ cs. certificat
 certified_effect : (P : Problem) (b : Plain) (x : Proposed) → b.problem ≡ P → IsFalse (is_dropped b x) → Stands b → OrdersNew P b x → AreCertified b → AreCertified (effect b x)
 certified_effect P b x e acts s new h = go (limit_of b x)
   where
-    go : (o : Option Reason) → AreCertified (counted (option_map_or (λ r. give_up r (effect_label b x) b) o (applied b x)))
-    go None = again (applied b x) (counted (applied b x)) refl refl refl refl (certified_applied P b x e acts s new h)
-    go (Some r) = again b (counted (give_up r (effect_label b x) b)) refl refl refl refl h
+    go : (o : Option Reason) → AreCertified (settle (counted (option_map_or (λ r. give_up r (effect_label b x) b) o (applied b x))))
+    go None = again (applied b x) (settle (counted (applied b x))) refl refl refl refl (certified_applied P b x e acts s new h)
+    go (Some r) = again b (settle (counted (give_up r (effect_label b x) b))) refl refl refl refl h
 
 -- the certificates that are proposed order the constraints with the new rule
 orders_new : (P : Problem) (n : Settings) (past : List Moment) (b : Plain) (run : IsPossibleRun P n past b) (within : IsWithinLimits P) (w t : ℕ) (j : Job) (x : Proposed) → IsFinishing past b w t j x → IsFalse (is_dropped b x) → OrdersNew P b x

@@ -1,6 +1,6 @@
 -- Each commit of a possible run of a problem within the limits changes a label, something known or the living names, but for want of room
 -- where all on which it acts have given up.
-use Rattle.std.proofs.Common.{ℕ, ◌≤◌, ◌≡◌, ◌⊎◌, inl, inr, refl, sym, ap, ap₂, ◌∙◌, subst, arith, List, [], ◌∷◌, map, filter, length, length-append, Contains, Bool, true, false, cond, not, ◌&&◌, Option, Some, None, ⊎_elim}
+use Rattle.std.proofs.Common.{ℕ, ◌≤◌, ◌≡◌, ◌⊎◌, inl, inr, refl, sym, ap, ap₂, ◌∙◌, subst, arith, List, [], ◌∷◌, map, length, length-append, Contains, Bool, true, false, cond, not, ◌&&◌, Option, Some, None, ⊎_elim}
 use Rattle.std.specs.Prelude.{IsFalse, nat_lt, option_map}
 use Rattle.std.proofs.lemmas.Bool.Decides.{nat_tests}
 use Rattle.std.specs.List.{find}
@@ -25,6 +25,8 @@ use Rattle.kb_node.specs.declared.job.Job.TheVariants.{Reduce, Orient, Overlap, 
 use Rattle.mkb_model.specs.Jobs.{ref_eq}
 use Rattle.mkb_model.specs.Plain.{Plain, Done, GivenUp, label, label_at, done_in, done_of, is_equation, is_over, pair_at, rule_kind}
 use Rattle.mkb_model.specs.DueJobs.{is_due, is_working, is_work_due}
+use Rattle.mkb_model.specs.Sleeping.{settle}
+use Rattle.mkb_model.specs.Invariants.{SleepersWait}
 use Rattle.mkb_model.specs.Effects.{applied, counted, limit_of, give_up, effect_label, not_over, own_reason, is_crowded, is_full, first_some, some_if, is_dropped, rewritten, rewrite_label, overlap_label, gains_done_in, limit_label, added, reason_eq, most_nodes}
 use Rattle.mkb_model.specs.Proposals.{Proposes}
 use Rattle.mkb_model.specs.Journals.{Moment, IsPossibleRun, IsFreeJob, IsFinishing, IsCommitting, landed}
@@ -34,7 +36,9 @@ use Rattle.mkb_model.specs.declared.proposed.Proposed.{Proposed}
 use Rattle.mkb_model.specs.declared.proposed.Proposed.TheVariants.{Facts, Rewrite, One, Both, Refuse, Deduce, Unjoined, Closed, Limit}
 use Rattle.mkb_model.specs.declared.entry.Effect.{Effect}
 use Rattle.mkb_model.specs.declared.entry.Entry.TheVariants.{Take}
-use Rattle.mkb_model.proofs.Lists.{clash, decide, and_left, and_right, and_both, or_left, or_right, not_true, not_of_false, not_of_true, some_is, none_some}
+use Rattle.mkb_model.proofs.Worked.{sleepers_run}
+use Rattle.mkb_model.proofs.Sleepers.{settled_same}
+use Rattle.mkb_model.proofs.Lists.{all_left_out, clash, decide, and_left, and_right, and_both, or_left, or_right, not_true, not_of_false, not_of_true, some_is, none_some}
 use Rattle.mkb_model.proofs.Roles.{on-gains, on_there}
 use Rattle.mkb_model.proofs.Pairs.{pairs-added}
 use Rattle.mkb_model.proofs.Views.{pair_back}
@@ -237,25 +241,17 @@ module _ (P : Problem) (n : Settings) (within : IsWithinLimits P) (past : List M
 pub commits_change : (P : Problem) (n : Settings) (past : List Moment) (b : Plain) (w t : ℕ) (e : Effect) (d : Plain) → IsWithinLimits P → IsPossibleRun P n past b → (c : IsCommitting past b w t e d) → IsChanged b d ⊎ IsIdleLimit b c.proposal
 commits_change P n past b w t e d within run c = go (limit_of b c.proposal) refl
   where
-    landed_same : (a : Plain) → d ≡ landed t (counted a) → SaysTheSame b d → SaysTheSame b a
+    landed_same : (a : Plain) → d ≡ landed t (settle (counted a)) → SaysTheSame b d → SaysTheSame b a
     landed_same a q s = let k = subst {A = Plain} (SaysTheSame b) q s in record { nodes = k.nodes; overlapped = k.overlapped; facts = k.facts; closed = k.closed; over = k.over; living = k.living }
 
-    leads : (o : Option Reason) → limit_of b c.proposal ≡ o → d ≡ landed t (counted (option_map_or (λ r. give_up r (effect_label b c.proposal) b) o (applied b c.proposal)))
-    leads o q = c.leads_to ∙ ap (λ o. landed t (counted (option_map_or (λ r. give_up r (effect_label b c.proposal) b) o (applied b c.proposal)))) q
+    leads : (o : Option Reason) → limit_of b c.proposal ≡ o → d ≡ landed t (settle (counted (option_map_or (λ r. give_up r (effect_label b c.proposal) b) o (applied b c.proposal))))
+    leads o q = c.leads_to ∙ ap (λ o. landed t (settle (counted (option_map_or (λ r. give_up r (effect_label b c.proposal) b) o (applied b c.proposal))))) q
 
     go : (o : Option Reason) → limit_of b c.proposal ≡ o → IsChanged b d ⊎ IsIdleLimit b c.proposal
     go (Some r) q = ⊎_elim (λ h. inl (λ s. h (landed_same (give_up r (effect_label b c.proposal) b) (leads (Some r) q) s))) (λ h. inr h) (at_limit P n within past b run c.proposal r c.acts q)
     go None q = inl (λ s. applied_seen P n within past b run w t c.job c.proposal c.finishing c.acts q (landed_same (applied b c.proposal) (leads None q) s))
 
 -- ---- idle limits
-
-all_left_out : {A : Type 0} (f : A → Bool) (xs : List A) → ((x : A) → Contains xs x → f x ≡ false) → filter f xs ≡ []
-all_left_out f [] h = refl
-all_left_out {A} f (x ∷ xs) h = go (f x) (h x (contains_first x xs)) (all_left_out f xs (λ y i. h y (contains_behind x xs y i)))
-  where
-    go : (y : Bool) → y ≡ false → filter f xs ≡ [] → cond y (x ∷ filter f xs) (filter f xs) ≡ []
-    go true e k = clash refl e
-    go false e k = k
 
 nobody_more : (r : Reason) (l : List Name) → l ≡ [] → (gs : List GivenUp) → ((g : GivenUp) → Contains gs g → IsInNameOrder g.names) → map (λ (g : GivenUp). cond (reason_eq g.reason r) (record g { names = join g.names l }) g) gs ≡ gs
 nobody_more r l e [] h = refl
@@ -275,5 +271,9 @@ idle_commits P n past b w t e d run c i = ⊎_elim (at Nodes) (at Processes) i.l
     same : (r : Reason) → give_up r (effect_label b c.proposal) b ≡ b
     same r = ap (λ gs. record b { over = gs }) (nobody_more r (not_over b (effect_label b c.proposal)) all b.over (λ g k. ((labelled_run P n past b run).over g k).ordered))
 
+    waits : SleepersWait b
+    waits = sleepers_run P n past b run
+
     at : (r : Reason) → limit_of b c.proposal ≡ Some r → d ≡ landed t (counted b)
-    at r q = c.leads_to ∙ ap (λ o. landed t (counted (option_map_or (λ r. give_up r (effect_label b c.proposal) b) o (applied b c.proposal)))) q ∙ ap (λ z. landed t (counted z)) (same r)
+    at r q = c.leads_to ∙ ap (λ o. landed t (settle (counted (option_map_or (λ r. give_up r (effect_label b c.proposal) b) o (applied b c.proposal))))) q ∙ ap (λ z. landed t (settle (counted z))) (same r)
+        ∙ ap (λ l. landed t (record (counted b) { asleep = l })) (settled_same (counted b) (record { few = waits.few; none_waits = waits.none_waits }))

@@ -1,5 +1,5 @@
 -- What a verdict says, that it stays, and that where none stands and nothing may be taken a ticket is in flight.
-use Rattle.std.proofs.Common.{◌≡◌, ◌≢◌, ◌⊎◌, inl, inr, refl, sym, ◌∙◌, subst, List, [], ◌∷◌, ◌++◌, map, flat_map, Contains, Bool, true, false, cond, not, ◌&&◌, ◌||◌, ◌==◌, Option, Some, None, ⊎_elim}
+use Rattle.std.proofs.Common.{◌≡◌, ◌≢◌, ◌⊎◌, inl, inr, refl, sym, ap, ◌∙◌, subst, arith, List, length, [], ◌∷◌, ◌++◌, map, flat_map, Contains, Bool, true, false, cond, not, ◌&&◌, ◌||◌, ◌==◌, Option, Some, None, ⊎_elim}
 use Rattle.std.specs.Prelude.{option_map, option_and_then}
 use Rattle.std.specs.List.{find, list_any, list_all}
 use Rattle.std.proofs.lemmas.List.Elements.{Contains-append_cases, Contains-append_left, Contains-append_right}
@@ -8,9 +8,11 @@ use Rattle.kb_term.specs.declared.origin.RuleRef.{RuleRef}
 use Rattle.kb_label.specs.Names.{Name, has, name_eq}
 use Rattle.mkb_model.specs.Jobs.{is_free}
 use Rattle.mkb_model.specs.Plain.{Plain, GivenUp, equations_of, rules_of, node_numbers, is_over, over_in, over_reason}
-use Rattle.mkb_model.specs.DueJobs.{is_due, is_work_due, is_close_due, is_working, work_of, due_jobs_of, due_jobs, free_jobs, flying_jobs}
+use Rattle.mkb_model.specs.Invariants.{SleepersWait}
+use Rattle.mkb_model.specs.DueJobs.{awake, is_due, is_work_due, is_close_due, is_working, work_of, due_jobs_of, due_jobs, free_jobs, flying_jobs}
 use Rattle.mkb_model.specs.Effects.{first_some, some_if}
-use Rattle.mkb_model.specs.Verdicts.{verdict, is_complete, is_failed, first_over, no_members}
+use Rattle.mkb_model.specs.Verdicts.{verdict, is_complete, first_over}
+use Rattle.mkb_model.specs.Sleeping.{is_failed, no_members, is_active, working}
 use Rattle.mkb_model.specs.Journals.{Moment, Follows}
 use Rattle.kb_label.specs.declared.verdict.Reason.{Reason}
 use Rattle.kb_label.specs.declared.verdict.Spent.TheVariants.{Commits, Over}
@@ -23,7 +25,7 @@ use Rattle.mkb_model.specs.declared.entry.Entry.{Entry}
 use Rattle.mkb_model.specs.declared.entry.Entry.TheVariants.{Take, Commit, Drop, Abandon, Halt}
 use Rattle.kb_label.proofs.Members.{name_eq-eq, name_eq-refl}
 use Rattle.mkb_model.specs.Journals.{IsLeaving}
-use Rattle.mkb_model.proofs.Lists.{clash, decide, false_unless, and_both, or_one, or_left, or_right, not_of_false, none_some, none_in, in_filter, map_in, flat_map_in, in_flat_map, find_in, find_none, none_any, all_of}
+use Rattle.mkb_model.proofs.Lists.{clash, decide, false_unless, and_left, and_right, and_both, or_one, or_left, or_right, not_of_false, not_of_true, none_some, none_in, filter_in, in_filter, map_in, flat_map_in, in_flat_map, find_in, find_none, none_any, all_of}
 
 -- ---- names in lists
 
@@ -89,14 +91,14 @@ work_is_own b p j c w h = ⊎_elim reduces (λ d. ⊎_elim orients overlaps (Con
         let r = map_in (Overlap p q.0) (rules_of b p) j q.2 in
         due (Overlap p q.0 r.0) r.2 (λ k. and_both (is_working b p) (is_work_due b (Overlap p q.0 r.0)) w k)
 
-module _ (b : Plain) (no_verdict : verdict b ≡ None) (none_free : free_jobs b ≡ []) (nothing_flies : b.flight ≡ []) where
+module _ (b : Plain) (waits : SleepersWait b) (no_verdict : verdict b ≡ None) (none_free : free_jobs b ≡ []) (nothing_flies : b.flight ≡ []) where
   all_free : (j : Job) → is_free (flying_jobs b) j ≡ true
   all_free j = subst {A = List Ticket} (λ ts. is_free (map (λ (t : Ticket). t.job) ts) j ≡ true) (sym nothing_flies) refl
 
-  none_due : (p : Name) → Contains b.living p → (j : Job) → ¬ Contains (due_jobs_of b p) j
-  none_due p i j c = none_in (subst {A = List Job} (λ js. Contains js j) none_free (in_filter (is_free (flying_jobs b)) (due_jobs b) j (in_flat_map (due_jobs_of b) b.living p j i c) (all_free j)))
+  none_due : (p : Name) → Contains (awake b) p → (j : Job) → ¬ Contains (due_jobs_of b p) j
+  none_due p i j c = none_in (subst {A = List Job} (λ js. Contains js j) none_free (in_filter (is_free (flying_jobs b)) (due_jobs b) j (in_flat_map (due_jobs_of b) (awake b) p j i c) (all_free j)))
 
-  is_none : (js : List Job) → ((j : Job) → ¬ Contains js j) → no_members js ≡ true
+  is_none : {A : Type 0} (js : List A) → ((j : A) → ¬ Contains js j) → no_members js ≡ true
   is_none [] h = refl
   is_none (j ∷ js) h = absurd (h j (contains_first j js))
 
@@ -107,21 +109,45 @@ module _ (b : Plain) (no_verdict : verdict b ≡ None) (none_free : free_jobs b 
       empty None e = refl
       empty (Some q) e = none_some (sym e)
 
-  -- a process that has not given up has failed
-  failed_unless_over : (p : Name) → Contains b.living p → is_over b p ≡ false → is_failed b p ≡ true
-  failed_unless_over p i o = and_both (not (is_over b p)) (not (no_members (equations_of b p)) && no_members (due_jobs_of b p)) (not_of_false o)
+  -- a process that is awake and has not given up has failed
+  awake_failed : (p : Name) → Contains (awake b) p → is_over b p ≡ false → is_failed b p ≡ true
+  awake_failed p up o = and_both (not (is_over b p)) (not (no_members (equations_of b p)) && no_members (due_jobs_of b p)) (not_of_false o)
       (and_both (not (no_members (equations_of b p))) (no_members (due_jobs_of b p)) (not_of_false (false_unless (no_members (equations_of b p)) (λ e. clash (and_both (no_members (equations_of b p)) (has b.closed p) e closed) (not_complete p i))))
-      (is_none (due_jobs_of b p) (none_due p i)))
+      (is_none (due_jobs_of b p) (none_due p up)))
     where
-      working : is_working b p ≡ true
-      working = and_both (has b.living p) (not (is_over b p)) (has_in b.living p i) (not_of_false o)
+      i : Contains b.living p
+      i = (filter_in (λ q. not (has b.asleep q)) b.living p up).0
+
+      works : is_working b p ≡ true
+      works = and_both (has b.living p) (not (is_over b p)) (has_in b.living p i) (not_of_false o)
 
       no_work : list_any (is_work_due b) (work_of b p) ≡ false
-      no_work = none_any (is_work_due b) (work_of b p) (λ j c. false_unless (is_work_due b j) (λ h. none_due p i j (in_filter (is_due b) (work_of b p ++ Close p ∷ []) j (Contains-append_left (work_of b p) (Close p ∷ []) j c) (work_is_own b p j c working h))))
+      no_work = none_any (is_work_due b) (work_of b p) (λ j c. false_unless (is_work_due b j) (λ h. none_due p up j (in_filter (is_due b) (work_of b p ++ Close p ∷ []) j (Contains-append_left (work_of b p) (Close p ∷ []) j c) (work_is_own b p j c works h))))
 
       closed : has b.closed p ≡ true
-      closed = ⊎_elim (λ h. h) (λ h. absurd (none_due p i (Close p) (in_filter (is_due b) (work_of b p ++ Close p ∷ []) (Close p) (Contains-append_right (work_of b p) (Close p ∷ []) (Close p) (contains_first (Close p) []))
-          (and_both (is_working b p) (is_close_due b p) working (and_both (not (list_any (is_work_due b) (work_of b p))) (not (has b.closed p)) (not_of_false no_work) (not_of_false h)))))) (decide (has b.closed p))
+      closed = ⊎_elim (λ h. h) (λ h. absurd (none_due p up (Close p) (in_filter (is_due b) (work_of b p ++ Close p ∷ []) (Close p) (Contains-append_right (work_of b p) (Close p ∷ []) (Close p) (contains_first (Close p) []))
+          (and_both (is_working b p) (is_close_due b p) works (and_both (not (list_any (is_work_due b) (work_of b p))) (not (has b.closed p)) (not_of_false no_work) (not_of_false h)))))) (decide (has b.closed p))
+
+  -- no active process is awake, so none sleeps
+  none_works : working b b.asleep ≡ []
+  none_works = no_members_is (working b b.asleep) (is_none (working b b.asleep) (λ p c. let f = filter_in (is_active b) (awake b) p c in inactive p f.0 f.1 (decide (is_over b p))))
+    where
+      inactive : (p : Name) → Contains (awake b) p → is_active b p ≡ true → (is_over b p ≡ true) ⊎ (is_over b p ≡ false) → ⊥
+      inactive p i a (inl o) = clash (and_right (not (is_failed b p)) (not (is_over b p)) a) (not_of_true o)
+      inactive p i a (inr o) = clash (and_left (not (is_failed b p)) (not (is_over b p)) a) (not_of_true (awake_failed p i o))
+
+  none_waits : (p : Name) → has b.asleep p ≡ true → is_active b p ≡ false
+  none_waits = waits.none_waits (let e = ap length none_works in omega (arith, e))
+
+  -- a process that has not given up has failed
+  failed_unless_over : (p : Name) → Contains b.living p → is_over b p ≡ false → is_failed b p ≡ true
+  failed_unless_over p i o = ⊎_elim
+      (λ s. false_unless_not (λ k. clash (and_both (not (is_failed b p)) (not (is_over b p)) (not_of_false k) (not_of_false o)) (none_waits p s)))
+      (λ s. awake_failed p (in_filter (λ q. not (has b.asleep q)) b.living p i (not_of_false s)) o)
+      (decide (has b.asleep p))
+    where
+      false_unless_not : ((is_failed b p ≡ false) → ⊥) → is_failed b p ≡ true
+      false_unless_not h = ⊎_elim (λ k. k) (λ k. absurd (h k)) (decide (is_failed b p))
 
   failed_or_over : list_all (λ p. is_failed b p || is_over b p) b.living ≡ true
   failed_or_over = all_of (λ p. is_failed b p || is_over b p) b.living (λ p i. ⊎_elim (λ o. or_right (is_failed b p) (is_over b p) o) (λ o. or_left (is_failed b p) (is_over b p) (failed_unless_over p i o)) (decide (is_over b p)))
@@ -144,5 +170,5 @@ module _ (b : Plain) (no_verdict : verdict b ≡ None) (none_free : free_jobs b 
           none_some (sym (subst {A = Option Reason} (λ z. option_map (λ r. IsSpent (Over r)) z ≡ None) r.1 k))
 
 -- where no verdict stands and no job may be taken, some ticket is in flight
-pub some_flies : (b : Plain) → verdict b ≡ None → free_jobs b ≡ [] → b.flight ≢ []
-some_flies b h k e = contradiction b h k e
+pub some_flies : (b : Plain) → SleepersWait b → verdict b ≡ None → free_jobs b ≡ [] → b.flight ≢ []
+some_flies b waits h k e = contradiction b waits h k e

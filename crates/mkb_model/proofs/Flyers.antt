@@ -14,7 +14,7 @@ use Rattle.kb_node.specs.declared.job.Job.{Job}
 use Rattle.kb_node.specs.declared.job.Job.TheVariants.{Reduce, Orient, Overlap, Close}
 use Rattle.mkb_model.specs.Jobs.{clashes, process_of, is_free}
 use Rattle.mkb_model.specs.Plain.{Plain, is_over}
-use Rattle.mkb_model.specs.DueJobs.{is_due, is_work_due, is_close_due, is_working, work_of, due_jobs_of, due_jobs, flying_jobs}
+use Rattle.mkb_model.specs.DueJobs.{awake, is_due, is_work_due, is_close_due, is_working, work_of, due_jobs_of, due_jobs, flying_jobs}
 use Rattle.mkb_model.specs.Effects.{applied, effect, limit_of, give_up, effect_label}
 use Rattle.mkb_model.specs.Proposals.{Proposes}
 use Rattle.mkb_model.specs.Invariants.{FlightIsClear}
@@ -73,9 +73,9 @@ owners_differ b clear t u i k d ht hu e = ⊎_elim
 pub free_due : (b : Plain) (j : Job) → IsFreeJob b j → (p : Name) × (has b.living p ≡ true) × Contains (work_of b p ++ Close p ∷ []) j × (is_due b j ≡ true)
 free_due b j free =
     let f = filter_in (is_free (flying_jobs b)) (due_jobs b) j free in
-    let r = flat_map_in (due_jobs_of b) b.living j f.0 in
+    let r = flat_map_in (due_jobs_of b) (awake b) j f.0 in
     let d = filter_in (is_due b) (work_of b r.0 ++ Close r.0 ∷ []) j r.2 in
-    (r.0, has_in b.living r.0 r.1, d.0, d.1)
+    (r.0, has_in b.living r.0 (filter_in (λ q. not (has b.asleep q)) b.living r.0 r.1).0, d.0, d.1)
 
 pub due_working : (b : Plain) (j : Job) → is_due b j ≡ true → is_working b (process_of j) ≡ true
 due_working b (Reduce p n) h = and_left (is_working b p) (is_work_due b (Reduce p n)) h

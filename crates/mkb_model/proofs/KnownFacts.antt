@@ -1,4 +1,4 @@
--- In a run the known facts are true, and none is of a strict redex; and a board without free jobs has a ticket in flight or a verdict.
+-- In a run the known facts are true, and none is of a strict redex.
 use Rattle.std.proofs.Common.{ℕ, ◌≡◌, ◌≢◌, ◌⊎◌, inl, inr, refl, sym, ap, ◌∙◌, subst, List, [], ◌∷◌, map, filter, Option, Some, None, ⊎_elim, Contains}
 use Rattle.std.specs.Prelude.{option_map, option_and_then, is_none}
 use Rattle.std.specs.Option.{option_map_or}
@@ -16,11 +16,9 @@ use Rattle.kb_term.specs.declared.origin.RuleRef.{RuleRef}
 use Rattle.kb_term.specs.declared.origin.Found.{Found}
 use Rattle.kb_term.specs.declared.origin.Found.TheVariants.{Strict}
 use Rattle.kb_term.proofs.Steps.{contains_cases}
-use Rattle.mkb_model.specs.Plain.{Plain, rule_at, known, cost, weight, pair_in}
-use Rattle.mkb_model.specs.Jobs.{job_cmp}
-use Rattle.mkb_model.specs.DueJobs.{reducers, free_jobs, first_job}
+use Rattle.mkb_model.specs.Plain.{Plain, rule_at, known, pair_in}
+use Rattle.mkb_model.specs.DueJobs.{reducers}
 use Rattle.mkb_model.specs.Effects.{applied, effect, limit_of, give_up, effect_label}
-use Rattle.mkb_model.specs.Verdicts.{verdict}
 use Rattle.mkb_model.specs.Proposals.{Proposes, named_rules}
 use Rattle.mkb_model.specs.Invariants.{IsTrueFact, FactsHold}
 use Rattle.mkb_model.specs.Journals.{Moment, Follows, IsRunBy}
@@ -36,13 +34,7 @@ use Rattle.mkb_model.specs.Ready.{KeepsPairs}
 use Rattle.mkb_model.proofs.Lists.{none_some, none_in, in_map, map_in, flat_map_in}
 use Rattle.mkb_model.proofs.Readiness.{named_rule}
 use Rattle.mkb_model.proofs.Fitting.{pairs_follow, pairs_stay}
-use Rattle.mkb_model.proofs.Selections.{least-none}
-use Rattle.mkb_model.proofs.Endings.{some_flies}
 use Rattle.mkb_model.specs.declared.settings.Settings.{Settings}
-
--- where no verdict stands and there is no first job, a ticket is in flight
-pub idle_flies : (b : Plain) → verdict b ≡ None → first_job b ≡ None → b.flight ≢ []
-idle_flies b h k = some_flies b h (least-none (job_cmp (cost b) (weight b)) (free_jobs b) k)
 
 -- what stands at a position can be replaced
 pub replaceable : (p : List ℕ) (t u v : Tree) → subtree_at t p ≡ Some u → (w : Tree) × (replace_at t p v ≡ Some w)

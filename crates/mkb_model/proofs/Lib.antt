@@ -21,7 +21,9 @@ pub mod Flights
 pub mod Living
 pub mod Labels
 pub mod Flyers
+pub mod Sleepers
 pub mod LivingLabels
+pub mod Worked
 pub mod Unmoved
 pub mod Resting
 pub mod Restful
@@ -53,6 +55,7 @@ pub mod KnownFacts
 pub mod Stated
 mod Rows
 mod MoreRows
+mod SleepRows
 mod Runs
 mod EmptyRun
 mod ForkRun

@@ -148,6 +148,15 @@ in_filter_map {X} {Y} f (z ∷ zs) x y c h = go (λ k. in_filter_map f zs x y k 
     go ih (Some w) e (inl q) = subst {A = Y} (Contains (w ∷ filter_map f zs)) (some_is (sym e ∙ ap f q ∙ h)) (contains_first w (filter_map f zs))
     go ih (Some w) e (inr k) = contains_behind w (filter_map f zs) y (ih k)
 
+-- where no element passes the test, none is kept
+pub all_left_out : {A : Type 0} (f : A → Bool) (xs : List A) → ((x : A) → Contains xs x → f x ≡ false) → filter f xs ≡ []
+all_left_out f [] h = refl
+all_left_out {A} f (x ∷ xs) h = go (f x) (h x (contains_first x xs)) (all_left_out f xs (λ y i. h y (contains_behind x xs y i)))
+  where
+    go : (y : Bool) → y ≡ false → filter f xs ≡ [] → cond y (x ∷ filter f xs) (filter f xs) ≡ []
+    go true e k = clash refl e
+    go false e k = k
+
 pub find_in : {X : Type 0} (p : X → Bool) (xs : List X) (x : X) → find p xs ≡ Some x → Contains xs x × (p x ≡ true)
 find_in p [] x h = none_some h
 find_in {X} p (y ∷ ys) x h = go (λ k. find_in p ys x k) (p y) refl h

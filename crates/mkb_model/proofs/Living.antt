@@ -1,4 +1,4 @@
--- The living names are what forks make of the first, and at most 256; tickets are numbered; the commits stay within the budget.
+-- The living names are what forks make of the first, and at most 1,024; tickets are numbered; the commits stay within the budget.
 use Rattle.std.proofs.Common.{ℕ, suc, ◌+◌, ◌≤◌, ◌≡◌, ◌≢◌, refl, sym, ap, ◌∙◌, subst, arith, List, [], ◌∷◌, ◌++◌, filter, length, Contains, Bool, true, false, not, ◌==◌, get_or, Option, Some, None, ⊎_elim}
 use Rattle.std.specs.Prelude.{AllPairs, nat_le}
 use Rattle.std.specs.Option.{option_map_or}
@@ -32,18 +32,18 @@ use Rattle.mkb_model.specs.declared.settings.Settings.{Settings}
 -- ---- living names
 
 abbrev AreFew : List Name → Type 0
-AreFew l = IsForked l × (length l ≤ 256)
+AreFew l = IsForked l × (length l ≤ most_living)
 
 no_test : (r : Reason) (c : Bool) (os : List (Option Reason)) → first_some (some_if c r ∷ os) ≡ None → c ≡ false
 no_test r true os h = none_some (sym h)
 no_test r false os h = refl
 
 -- a fork that comes to no limit finds room
-forked_few : (p : Name) (l : List Name) → nat_le 256 (length l) ≡ false → AreFew l → AreFew (relabel p l)
+forked_few : (p : Name) (l : List Name) → nat_le most_living (length l) ≡ false → AreFew l → AreFew (relabel p l)
 forked_few p l room few = go (has l p) refl
   where
     go : (b : Bool) → has l p ≡ b → AreFew (relabel p l)
-    go true e = (at_fork p l few.0 e, let k = leb-false 256 (length l) room in omega (arith, k, length-relabel p l e (leaves-forked l few.0)))
+    go true e = (at_fork p l few.0 e, let k = leb-false most_living (length l) room in omega (arith, k, length-relabel p l e (leaves-forked l few.0)))
     go false e = subst {A = List Name} AreFew (sym (relabel-absent p l e)) few
 
 applied_few : (b : Plain) (x : Proposed) → limit_of b x ≡ None → AreFew b.living → AreFew (applied b x).living

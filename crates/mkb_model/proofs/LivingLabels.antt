@@ -20,7 +20,7 @@ use Rattle.kb_node.specs.declared.job.LimitCause.{LimitCause}
 use Rattle.kb_node.specs.declared.node.LabelKind.TheVariants.{E, X}
 use Rattle.mkb_model.specs.Jobs.{process_of, ref_eq}
 use Rattle.mkb_model.specs.Plain.{Plain, PlainNode, Done, GivenUp, label_in, label_at, label_or_none, rule_kind, other, pair_at, is_equation, is_over, done_of}
-use Rattle.mkb_model.specs.Effects.{applied, effect, limit_of, give_up, effect_label, rewrite_label, overlap_label, orient_label, redex_label, limit_label, not_over, if_strict, rewritten, oriented, with_node, node_of, gains_done_in, reason_eq, is_dropped, forked_node}
+use Rattle.mkb_model.specs.Effects.{applied, acted, effect, limit_of, give_up, effect_label, rewrite_label, overlap_label, orient_label, redex_label, limit_label, not_over, if_strict, rewritten, oriented, with_node, node_of, gains_done_in, reason_eq, is_dropped, forked_node}
 use Rattle.mkb_model.specs.Proposals.{Proposes}
 use Rattle.mkb_model.specs.Invariants.{IsLabel, LabelsAreLabels}
 use Rattle.mkb_model.specs.Journals.{Moment, Follows, IsPossibleRun, IsFreeJob, opening, with_input, with_inputs}
@@ -32,6 +32,7 @@ use Rattle.mkb_model.specs.declared.entry.Entry.TheVariants.{Take, Commit, Drop,
 use Rattle.mkb_model.proofs.Lists.{none_in, map_in}
 use Rattle.mkb_model.proofs.Labels.{IsLabelOf, AreLabels, label-none, label-one, label-filter, label-join, label-add, label-relabel, child_lives, labels-gains, labels-gains_equation, labels-with_node, labels-oriented, labels-added, labels-rewritten, labels-fork}
 use Rattle.mkb_model.proofs.Commits.{orients}
+use Rattle.mkb_model.proofs.Sleepers.{label_settled}
 use Rattle.mkb_model.proofs.Flyers.{is_own, own_of, OwnersLive, owners_live}
 use Rattle.mkb_model.specs.declared.settings.Settings.{Settings}
 
@@ -42,6 +43,7 @@ pub record IsLabelled (b : Plain) : Type 0 where
   pub done : (d : Done) → Contains b.done d → IsLabelOf b.living d.names
   pub closed : IsLabelOf b.living b.closed
   pub over : (g : GivenUp) → Contains b.over g → IsLabelOf b.living g.names
+  pub asleep : IsLabelOf b.living b.asleep
 
 -- the process that closes lives
 abbrev pub ActorLives : Plain → Proposed → Type 0
@@ -50,7 +52,7 @@ ActorLives b (Closed p) = has b.living p ≡ true
 ActorLives b (Limit j cause) = is_own j ≡ true → has b.living (process_of j) ≡ true
 ActorLives b x = ⊤
 
-actor_lives : (before b : Plain) (t : Ticket) (x : Proposed) → Proposes before t.job x → OwnersLive b → Contains b.flight t → ActorLives b x
+pub actor_lives : (before b : Plain) (t : Ticket) (x : Proposed) → Proposes before t.job x → OwnersLive b → Contains b.flight t → ActorLives b x
 actor_lives before b t (Unjoined p ds) h owners i = let o = own_of before t.job (Unjoined p ds) h in subst {A = Name} (λ z. has b.living z ≡ true) o.1 (owners t i o.0)
 actor_lives before b t (Closed p) h owners i = let o = own_of before t.job (Closed p) h in subst {A = Name} (λ z. has b.living z ≡ true) o.1 (owners t i o.0)
 actor_lives before b t (Limit j cause) h owners i = subst {A = Job} (λ z. is_own z ≡ true → has b.living (process_of z) ≡ true) (sym (own_of before t.job (Limit j cause) h)) (owners t i)
@@ -123,6 +125,7 @@ labelled_over b r l h k = record {
   closed = h.closed;
   over = λ g i. let m = map_in (λ (g : GivenUp). cond (reason_eq g.reason r) (record g { names = join g.names (not_over b l) }) g) b.over g i in
       subst {A = GivenUp} (λ z. IsLabelOf b.living z.names) m.2 (go m.0 (reason_eq m.0.reason r) (h.over m.0 m.1));
+  asleep = h.asleep;
 }
   where
     go : (g : GivenUp) (x : Bool) → IsLabelOf b.living g.names → IsLabelOf b.living (cond x (record g { names = join g.names (not_over b l) }) g).names
@@ -130,13 +133,13 @@ labelled_over b r l h k = record {
     go g false q = q
 
 labelled_applied : (b : Plain) (x : Proposed) → IsFalse (is_dropped b x) → ActorLives b x → IsLabelled b → IsLabelled (applied b x)
-labelled_applied b (Facts fs) acts l h = record { alive = h.alive; nodes = h.nodes; done = h.done; closed = h.closed; over = h.over }
-labelled_applied b (Rewrite n w at a kind t) acts l h = record { alive = h.alive; nodes = go (pair_at b n.0); done = h.done; closed = h.closed; over = h.over }
+labelled_applied b (Facts fs) acts l h = record { alive = h.alive; nodes = h.nodes; done = h.done; closed = h.closed; over = h.over; asleep = h.asleep }
+labelled_applied b (Rewrite n w at a kind t) acts l h = record { alive = h.alive; nodes = go (pair_at b n.0); done = h.done; closed = h.closed; over = h.over; asleep = h.asleep }
   where
     go : (o : Option Pair) → AreLabels b.living (option_map_or (λ q. rewritten (rewrite_label b n.0 w a kind) n.0 w at a kind (tree_of t) q) o (λ xs. xs) b.nodes)
     go None = h.nodes
     go (Some z) = labels-rewritten b.living (rewrite_label b n.0 w a kind) n.0 w at a kind (tree_of t) z b.nodes (rewrite_labelled b h n.0 w a kind) h.nodes
-labelled_applied b (One p n d c) acts l h = record { alive = h.alive; nodes = labels-oriented b.living p (record { node = n.0; dir = d }) b.nodes (orienter_lives b h p n.0 (orients b p n.0 acts)) h.nodes; done = h.done; closed = h.closed; over = h.over }
+labelled_applied b (One p n d c) acts l h = record { alive = h.alive; nodes = labels-oriented b.living p (record { node = n.0; dir = d }) b.nodes (orienter_lives b h p n.0 (orients b p n.0 acts)) h.nodes; done = h.done; closed = h.closed; over = h.over; asleep = h.asleep }
 labelled_applied b (Both p n c0 c1) acts l h = record {
   alive = (label-relabel p b.living b.living (record { ordered = h.alive; lives = λ q k. k })).ordered;
   nodes = labels-oriented (relabel p b.living) (child p true) (record { node = n.0; dir = 1 }) (oriented (child p false) (record { node = n.0; dir = 0 }) (map (forked_node p) b.nodes)) (child_lives p true b.living lives)
@@ -144,31 +147,28 @@ labelled_applied b (Both p n c0 c1) acts l h = record {
   done = λ d i. let m = map_in (λ (d : Done). record d { names = relabel p d.names }) b.done d i in subst {A = Done} (λ z. IsLabelOf (relabel p b.living) z.names) m.2 (label-relabel p b.living m.0.names (h.done m.0 m.1));
   closed = label-relabel p b.living b.closed h.closed;
   over = λ g i. let m = map_in (λ (g : GivenUp). record g { names = relabel p g.names }) b.over g i in subst {A = GivenUp} (λ z. IsLabelOf (relabel p b.living) z.names) m.2 (label-relabel p b.living m.0.names (h.over m.0 m.1));
+  asleep = label-relabel p b.living b.asleep h.asleep;
 }
   where
     lives : has b.living p ≡ true
     lives = orienter_lives b h p n.0 (orients b p n.0 acts)
-labelled_applied b (Refuse p n) acts l h = record { alive = h.alive; nodes = labels-gains b.living n.0 X (p ∷ []) b.nodes h.nodes (label-one b.living p (orienter_lives b h p n.0 (orients b p n.0 acts))); done = h.done; closed = h.closed; over = h.over }
-labelled_applied b (Deduce a c ds) acts l h = record { alive = h.alive; nodes = labels-added b.living (overlap_label b a c) ds b.nodes (overlap_labelled b h a c) h.nodes; done = labelled_done b.living a c (overlap_label b a c) b.done (overlap_labelled b h a c) h.done; closed = h.closed; over = h.over }
-labelled_applied b (Unjoined p ds) acts l h = record { alive = h.alive; nodes = labels-added b.living (p ∷ []) ds b.nodes (label-one b.living p l) h.nodes; done = h.done; closed = h.closed; over = h.over }
-labelled_applied b (Closed p) acts l h = record { alive = h.alive; nodes = h.nodes; done = h.done; closed = label-add b.living p b.closed l h.closed; over = h.over }
+labelled_applied b (Refuse p n) acts l h = record { alive = h.alive; nodes = labels-gains b.living n.0 X (p ∷ []) b.nodes h.nodes (label-one b.living p (orienter_lives b h p n.0 (orients b p n.0 acts))); done = h.done; closed = h.closed; over = h.over; asleep = h.asleep }
+labelled_applied b (Deduce a c ds) acts l h = record { alive = h.alive; nodes = labels-added b.living (overlap_label b a c) ds b.nodes (overlap_labelled b h a c) h.nodes; done = labelled_done b.living a c (overlap_label b a c) b.done (overlap_labelled b h a c) h.done; closed = h.closed; over = h.over; asleep = h.asleep }
+labelled_applied b (Unjoined p ds) acts l h = record { alive = h.alive; nodes = labels-added b.living (p ∷ []) ds b.nodes (label-one b.living p l) h.nodes; done = h.done; closed = h.closed; over = h.over; asleep = h.asleep }
+labelled_applied b (Closed p) acts l h = record { alive = h.alive; nodes = h.nodes; done = h.done; closed = label-add b.living p b.closed l h.closed; over = h.over; asleep = h.asleep }
 labelled_applied b (Limit j cause) acts l h = h
 
-labelled_same : (b c : Plain) → c.living ≡ b.living → c.nodes ≡ b.nodes → c.done ≡ b.done → c.closed ≡ b.closed → c.over ≡ b.over → IsLabelled b → IsLabelled c
-labelled_same b c el en ed ec eo h = record {
-  alive = subst {A = List Name} IsInNameOrder (sym el) h.alive;
-  nodes = subst {A = List Name} (λ l. AreLabels l c.nodes) (sym el) (subst {A = List PlainNode} (AreLabels b.living) (sym en) h.nodes);
-  done = λ d i. subst {A = List Name} (λ l. IsLabelOf l d.names) (sym el) (h.done d (subst {A = List Done} (λ ds. Contains ds d) ed i));
-  closed = subst {A = List Name} (λ l. IsLabelOf l c.closed) (sym el) (subst {A = List Name} (IsLabelOf b.living) (sym ec) h.closed);
-  over = λ g i. subst {A = List Name} (λ l. IsLabelOf l g.names) (sym el) (h.over g (subst {A = List GivenUp} (λ gs. Contains gs g) eo i));
-}
-
-labelled_effect : (b : Plain) (x : Proposed) → IsFalse (is_dropped b x) → ActorLives b x → IsLabelled b → IsLabelled (effect b x)
-labelled_effect b x acts l h = let k = go (limit_of b x) in record { alive = k.alive; nodes = k.nodes; done = k.done; closed = k.closed; over = k.over }
+pub labelled_acted : (b : Plain) (x : Proposed) → IsFalse (is_dropped b x) → ActorLives b x → IsLabelled b → IsLabelled (acted b x)
+labelled_acted b x acts l h = let k = go (limit_of b x) in record { alive = k.alive; nodes = k.nodes; done = k.done; closed = k.closed; over = k.over; asleep = k.asleep }
   where
     go : (o : Option Reason) → IsLabelled (option_map_or (λ r. give_up r (effect_label b x) b) o (applied b x))
     go None = labelled_applied b x acts l h
     go (Some r) = labelled_over b r (effect_label b x) h (effect_labelled b h x l)
+
+labelled_effect : (b : Plain) (x : Proposed) → IsFalse (is_dropped b x) → ActorLives b x → IsLabelled b → IsLabelled (effect b x)
+labelled_effect b x acts l h =
+    let k = labelled_acted b x acts l h in
+    record { alive = k.alive; nodes = k.nodes; done = k.done; closed = k.closed; over = k.over; asleep = label_settled (acted b x) k.alive k.asleep }
 
 -- ---- runs
 
@@ -187,15 +187,16 @@ labelled_opening P n = record {
   done = λ d i. none_in i;
   closed = label-none (root ∷ []);
   over = λ g i. let m = map_in {Y = GivenUp} (λ r. record { reason = r; names = [] }) (Nodes ∷ Processes ∷ Size ∷ Depth ∷ Variables ∷ Steps ∷ []) g i in subst {A = GivenUp} (λ z. IsLabelOf (root ∷ []) z.names) m.2 (label-none (root ∷ []));
+  asleep = label-none (root ∷ []);
 }
 
 labelled_follow : (past : List Moment) (b : Plain) (e : Entry) (c : Plain) → Follows IsFreeJob past b e c → OwnersLive b → IsLabelled b → IsLabelled c
-labelled_follow past b (Take w t j) c f owners h = subst {A = Plain} IsLabelled (sym f.leads_to) (record { alive = h.alive; nodes = h.nodes; done = h.done; closed = h.closed; over = h.over })
+labelled_follow past b (Take w t j) c f owners h = subst {A = Plain} IsLabelled (sym f.leads_to) (record { alive = h.alive; nodes = h.nodes; done = h.done; closed = h.closed; over = h.over; asleep = h.asleep })
 labelled_follow past b (Commit w t e) c f owners h =
     let k = labelled_effect b f.proposal f.acts (actor_lives f.finishing.before b (record { number = t; worker = w; job = f.job }) f.proposal f.finishing.proposed owners f.finishing.flying) h in
-    subst {A = Plain} IsLabelled (sym f.leads_to) (record { alive = k.alive; nodes = k.nodes; done = k.done; closed = k.closed; over = k.over })
-labelled_follow past b (Drop w t p) c f owners h = subst {A = Plain} IsLabelled (sym f.leads_to) (record { alive = h.alive; nodes = h.nodes; done = h.done; closed = h.closed; over = h.over })
-labelled_follow past b (Abandon w t) c f owners h = subst {A = Plain} IsLabelled (sym f.leads_to) (record { alive = h.alive; nodes = h.nodes; done = h.done; closed = h.closed; over = h.over })
+    subst {A = Plain} IsLabelled (sym f.leads_to) (record { alive = k.alive; nodes = k.nodes; done = k.done; closed = k.closed; over = k.over; asleep = k.asleep })
+labelled_follow past b (Drop w t p) c f owners h = subst {A = Plain} IsLabelled (sym f.leads_to) (record { alive = h.alive; nodes = h.nodes; done = h.done; closed = h.closed; over = h.over; asleep = h.asleep })
+labelled_follow past b (Abandon w t) c f owners h = subst {A = Plain} IsLabelled (sym f.leads_to) (record { alive = h.alive; nodes = h.nodes; done = h.done; closed = h.closed; over = h.over; asleep = h.asleep })
 labelled_follow past b Halt c f owners h = subst {A = Plain} IsLabelled (sym f.1) h
 
 pub labelled_run : (P : Problem) (n : Settings) (ms : List Moment) (c : Plain) → IsPossibleRun P n ms c → IsLabelled c
@@ -213,6 +214,7 @@ labels_live P n ms c run = record {
   of_done = λ d i. as_label c d.names (h.done d i);
   of_closed = as_label c c.closed h.closed;
   of_over = λ g i. as_label c g.names (h.over g i);
+  of_asleep = as_label c c.asleep h.asleep;
 }
   where
     h : IsLabelled c

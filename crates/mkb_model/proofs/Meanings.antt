@@ -17,7 +17,8 @@ use Rattle.kb_node.specs.declared.job.Job.TheVariants.{Reduce, Orient, Overlap, 
 use Rattle.mkb_model.specs.Plain.{Plain, label, is_equation, is_rule, equations_of, rules_of, node_numbers, is_over, over_reason}
 use Rattle.mkb_model.specs.DueJobs.{is_due, is_work_due, is_close_due, is_working, is_node_of, is_reducible, work_of, due_jobs_of}
 use Rattle.mkb_model.specs.Effects.{first_some, some_if}
-use Rattle.mkb_model.specs.Verdicts.{verdict, is_complete, is_failed, first_over, no_members, HasFailed, HaveGivenUp, VerdictMeans}
+use Rattle.mkb_model.specs.Verdicts.{verdict, is_complete, first_over, HasFailed, HaveGivenUp, VerdictMeans}
+use Rattle.mkb_model.specs.Sleeping.{is_failed, no_members}
 use Rattle.mkb_model.proofs.Lists.{clash, false_unless, and_left, and_right, and_both, and_false, or_one, or_left, not_true, not_false, not_of_false, some_is, none_some, none_in, in_filter, in_map, find_in, none_any, of_all, in_numbers}
 use Rattle.mkb_model.proofs.Roles.{on_there}
 use Rattle.mkb_model.proofs.Endings.{has_in, in_has, nones, no_members_is, work_is_own}

@@ -70,10 +70,10 @@ forked_once = turns 1 (Both e (node 0) (Lpo (0 ∷ 1 ∷ [])) (Lpo (1 ∷ 0 ∷ 
 raw_pair : label (effect forked_once (Unjoined p0 (fa_is_a (rule 0 0) (rule 0 0) ∷ []))) 1 E ≡ p0 ∷ []
 raw_pair = refl
 
--- ---- a fork with 256 living processes
+-- ---- a fork with 1,024 living processes
 
 abbrev pub crowded : Plain
-crowded = let b : Plain = opening row3 (stated 100) in record b { living = replicate 256 e }
+crowded = let b : Plain = opening row3 (stated 100) in record b { living = replicate 1024 e }
 
 abbrev pub forking : Proposed
 forking = Both e (node 0) (Lpo (0 ∷ 1 ∷ [])) (Lpo (1 ∷ 0 ∷ []))
@@ -87,7 +87,7 @@ crowded_over = refl
 crowded_equation : label (effect crowded forking) 0 E ≡ e ∷ []
 crowded_equation = refl
 
-not_crowded : limit_of (let b : Plain = opening row3 (stated 100) in record b { living = replicate 255 e }) forking ≡ None
+not_crowded : limit_of (let b : Plain = opening row3 (stated 100) in record b { living = replicate 1023 e }) forking ≡ None
 not_crowded = refl
 
 -- ---- 4,096 nodes: a new pair finds no room, one that is there does

@@ -1,4 +1,5 @@
 -- In a possible run each process that is closed or being closed is at rest, and a closed one has no job of its own in flight.
+use Rattle.mkb_model.specs.Sleeping.{settle}
 use Rattle.std.proofs.Common.{ℕ, ◌≡◌, ◌≢◌, ◌⊎◌, inl, inr, refl, sym, ap, ◌∙◌, subst, List, [], ◌∷◌, filter, Contains, true, false, not, ◌==◌, Option, Some, None, ⊎_elim}
 use Rattle.std.specs.Prelude.{IsFalse}
 use Rattle.std.specs.List.{list_any}
@@ -102,7 +103,7 @@ IsForkOfClosed b x = ⊥
 abbrev pub Closes : Plain → Proposed → Plain → Name → Type 0
 Closes b x c p = (x ≡ Closed p) × (Rests b p → Rests c p)
 
-applied_closed : (b : Plain) (x : Proposed) (p : Name) → has (applied b x).closed p ≡ true → (has b.closed p ≡ true) ⊎ (Closes b x (counted (applied b x)) p ⊎ IsForkOfClosed b x)
+applied_closed : (b : Plain) (x : Proposed) (p : Name) → has (applied b x).closed p ≡ true → (has b.closed p ≡ true) ⊎ (Closes b x (settle (counted (applied b x))) p ⊎ IsForkOfClosed b x)
 applied_closed b (Both q n c0 c1) p h = ⊎_elim (λ e. inr (inr e)) (λ e. inl (subst {A = List Name} (λ l. has l p ≡ true) (relabel-absent q b.closed e) h)) (decide (has b.closed q))
 applied_closed b (Closed q) p h = ⊎_elim (λ e. inr (inl (ap Closed (sym (name_eq-eq p q e)), λ r. record { not_over = r.not_over; reduced = r.reduced; refused = r.refused; overlapped = r.overlapped }))) (λ e. inl e) (or_one (name_eq p q) (has b.closed p) (sym (has-add q b.closed p) ∙ h))
 applied_closed b (Facts fs) p h = inl h
@@ -116,7 +117,7 @@ applied_closed b (Limit j cause) p h = inl h
 pub effect_closed : (b : Plain) (x : Proposed) (p : Name) → has (effect b x).closed p ≡ true → (has b.closed p ≡ true) ⊎ (Closes b x (effect b x) p ⊎ IsForkOfClosed b x)
 effect_closed b x p = go (limit_of b x)
   where
-    go : (o : Option Reason) → has (option_map_or (λ r. give_up r (effect_label b x) b) o (applied b x)).closed p ≡ true → (has b.closed p ≡ true) ⊎ (Closes b x (counted (option_map_or (λ r. give_up r (effect_label b x) b) o (applied b x))) p ⊎ IsForkOfClosed b x)
+    go : (o : Option Reason) → has (option_map_or (λ r. give_up r (effect_label b x) b) o (applied b x)).closed p ≡ true → (has b.closed p ≡ true) ⊎ (Closes b x (settle (counted (option_map_or (λ r. give_up r (effect_label b x) b) o (applied b x)))) p ⊎ IsForkOfClosed b x)
     go None h = applied_closed b x p h
     go (Some r) h = inl h
 

@@ -9,6 +9,7 @@ use Rattle.mkb_model.proofs.Living.{living_forked, flight_numbered}
 use Rattle.mkb_model.proofs.KnownFacts.{facts_hold}
 use Rattle.mkb_model.proofs.Stated.{run_pairs_differ}
 use Rattle.mkb_model.proofs.LivingLabels.{labels_live}
+use Rattle.mkb_model.proofs.Worked.{sleepers_run}
 use Rattle.mkb_model.proofs.Restful.{closed_rests}
 use Rattle.mkb_model.proofs.AllFine.{runs_one_role}
 use Rattle.mkb_model.proofs.StillClosed.{closed_run}
@@ -30,4 +31,5 @@ boards_sound P n ms c within run = record {
   closed = closed_run P n ms c run;
   living = living_forked IsFreeJob P n ms c run;
   flight_numbered = flight_numbered IsFreeJob P n ms c run;
+  sleepers_wait = sleepers_run P n ms c run;
 }

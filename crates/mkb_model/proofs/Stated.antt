@@ -5,7 +5,7 @@ use Rattle.std.proofs.lemmas.Option.{slice_get-get_or}
 use Rattle.kb_term.specs.Signature.{Problem}
 use Rattle.mkb_model.specs.Plain.{Plain, PlainNode, pair_in}
 use Rattle.mkb_model.specs.DueJobs.{first_job, free_jobs}
-use Rattle.mkb_model.specs.Invariants.{PairsDiffer}
+use Rattle.mkb_model.specs.Invariants.{PairsDiffer, SleepersWait}
 use Rattle.mkb_model.specs.Verdicts.{verdict}
 use Rattle.mkb_model.specs.Journals.{Moment, IsPossibleRun, IsFreeJob}
 use Rattle.std.specs.declared.option.Option.TheVariants.{None}
@@ -34,5 +34,5 @@ pairs_differ b f = record {
 pub run_pairs_differ : (P : Problem) (n : Settings) (ms : List Moment) (b : Plain) → IsPossibleRun P n ms b → PairsDiffer b
 run_pairs_differ P n ms b run = pairs_differ b (fits_run IsFreeJob P n ms b run)
 
-pub none_first : (b : Plain) → verdict b ≡ None → first_job b ≡ None → b.flight ≢ []
-none_first b h k = some_flies b h (least-none (job_cmp (cost b) (weight b)) (free_jobs b) k)
+pub none_first : (b : Plain) → SleepersWait b → verdict b ≡ None → first_job b ≡ None → b.flight ≢ []
+none_first b waits h k = some_flies b waits h (least-none (job_cmp (cost b) (weight b)) (free_jobs b) k)

@@ -1,4 +1,5 @@
 -- At most one possible run has a given journal.
+use Rattle.mkb_model.specs.Sleeping.{settle}
 use Rattle.std.proofs.Common.{ℕ, ◌+◌, ◌<◌, ◌≡◌, ◌≢◌, ◌⊎◌, inl, inr, refl, sym, ap, ap₂, ◌∙◌, subst, arith, List, [], ◌∷◌, ◌++◌, map, filter, Contains, Bool, true, false, cond, not, get_or, Option, Some, None, Ordering, Less, Equal, Greater, ⊎_elim}
 use Rattle.std.specs.Prelude.{AllPairs}
 use Rattle.std.specs.Option.{option_map_or}
@@ -197,7 +198,7 @@ same_label before b (Close p) x y h k = close_same before b p x h ∙ sym (close
 
 -- what the journal writes of the effect decides it
 same_effect : (b : Plain) (x y : Proposed) → effect_entry b x ≡ effect_entry b y → not_over b (effect_label b x) ≡ not_over b (effect_label b y) → effect b x ≡ effect b y
-same_effect b x y e d = go (limit_of b x) (limit_of b y) e
+same_effect b x y e d = ap settle (go (limit_of b x) (limit_of b y) e)
   where
     go : (o q : Option Reason) → option_map_or Over o (Made x) ≡ option_map_or Over q (Made y) → counted (option_map_or (λ r. give_up r (effect_label b x) b) o (applied b x)) ≡ counted (option_map_or (λ r. give_up r (effect_label b y) b) q (applied b y))
     go None None h = let i : x ≡ y = cc in ap (λ z. counted (applied b z)) i

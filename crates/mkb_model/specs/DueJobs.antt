@@ -3,7 +3,7 @@ use Rattle.std.specs.Prelude.{ℕ, List, [], ◌∷◌, ◌++◌, map, Bool, tru
 use Rattle.std.specs.List.{list_any, flat_map}
 use Rattle.std.specs.declared.option.Option.{Option}
 use Rattle.std.specs.declared.option.Option.TheVariants.{Some, None}
-use Rattle.kb_label.specs.Names.{Name, has}
+use Rattle.kb_label.specs.Names.{Name, has, minus}
 use Rattle.mkb_model.specs.Plain.{Plain, node_numbers, label, other, is_equation, is_rule, rules_of, done_of, known, is_over, cost, weight}
 use Rattle.kb_term.specs.declared.origin.RuleRef.{RuleRef}
 use Rattle.kb_term.specs.declared.origin.Found.{Found}
@@ -77,9 +77,9 @@ due_jobs_of b p = filter (is_due b) (work_of b p ++ Close p ∷ [])
 abbrev pub flying_jobs : Plain → List Job
 flying_jobs b = map (λ (t : Ticket). t.job) b.flight
 
--- the processes that get jobs
+-- the processes that get jobs: those that live and don't sleep
 abbrev pub awake : Plain → List Name
-awake b = b.living
+awake b = minus b.living b.asleep
 
 -- all due jobs of the processes that get jobs
 abbrev pub due_jobs : Plain → List Job

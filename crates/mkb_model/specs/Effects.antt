@@ -10,6 +10,7 @@ use Rattle.kb_term.specs.Pair.{Pair, pair_cmp, canonical_pair, numbered}
 use Rattle.kb_overlap.specs.Trace.{other_side}
 use Rattle.std.specs.Option.{option_map_or}
 use Rattle.mkb_model.specs.Jobs.{ref_eq}
+use Rattle.mkb_model.specs.Sleeping.{settle}
 use Rattle.kb_label.specs.Names.{Name, name_eq, child, add, join, meet, minus, relabel, is_empty}
 use Rattle.mkb_model.specs.Plain.{Plain, label_at, PlainNode, Done, GivenUp, Certified, label, rule_kind, constraint_kind, other, is_equation, done_of, is_over, pair_at}
 use Rattle.kb_term.specs.declared.origin.RuleRef.{RuleRef}
@@ -39,7 +40,7 @@ most_nodes = 4096
 
 -- as many processes as may live
 abbrev pub most_living : ℕ
-most_living = 256
+most_living = 1024
 
 -- ---- parts of the board put anew
 
@@ -125,6 +126,7 @@ fork p b = record b {
   done = map (λ (d : Done). record d { names = relabel p d.names }) b.done;
   closed = relabel p b.closed;
   over = map (λ (g : GivenUp). record g { names = relabel p g.names }) b.over;
+  asleep = relabel p b.asleep;
   certificates = forked_certificates p b.certificates;
 }
 
@@ -322,9 +324,13 @@ limit_of b x = first_some (own_reason x ∷ some_if (is_crowded b x) Processes �
 abbrev pub counted : Plain → Plain
 counted b = record b { commits = b.commits + 1 }
 
--- the board after the commit: at a limit the processes of the effect label give up, else the proposal has its effect
+-- what the commit itself does: at a limit the processes of the effect label give up, else the proposal has its effect
+abbrev pub acted : Plain → Proposed → Plain
+acted b x = counted (option_map_or (λ r. give_up r (effect_label b x) b) (limit_of b x) (applied b x))
+
+-- the board after the commit: then processes fall asleep or wake
 abbrev pub effect : Plain → Proposed → Plain
-effect b x = counted (option_map_or (λ r. give_up r (effect_label b x) b) (limit_of b x) (applied b x))
+effect b x = settle (acted b x)
 
 -- how the journal writes the effect
 abbrev pub effect_entry : Plain → Proposed → Effect

@@ -1,5 +1,5 @@
 -- What holds of every board that a legal journal leads to.
-use Rattle.std.specs.Prelude.{ℕ, ◌≤◌, List, take, length, ◌≡◌, ◌≢◌, IsTrue, IsFalse, Contains, AllPairs, slice_get}
+use Rattle.std.specs.Prelude.{ℕ, ◌≤◌, ◌<◌, List, take, length, ◌≡◌, ◌≢◌, IsTrue, IsFalse, Contains, AllPairs, slice_get}
 use Rattle.std.specs.declared.option.Option.TheVariants.{Some}
 use Rattle.kb_term.specs.Tree.{Tree}
 use Rattle.kb_term.specs.Pair.{Pair, IsCanonical, IsTrivial}
@@ -17,6 +17,7 @@ use Rattle.kb_label.specs.Forks.{IsForked}
 use Rattle.mkb_model.specs.Plain.{Plain, PlainNode, Done, GivenUp, label_in, pair_in, pair_at, rule_at, rules_at, is_equation, is_rule, constraints_of, is_over, certificate_of}
 use Rattle.mkb_model.specs.DueJobs.{work_of, is_work_due}
 use Rattle.mkb_model.specs.Effects.{most_living}
+use Rattle.mkb_model.specs.Sleeping.{most_awake, is_active, working}
 use Rattle.kb_rewrite.specs.NormalForm.{IsFound}
 use Rattle.mkb_model.specs.Proposals.{IsClosedOn}
 use Rattle.kb_node.specs.declared.job.Job.{Job}
@@ -39,6 +40,7 @@ pub record LabelsAreLabels (b : Plain) : Type 0 where
   pub of_done : (d : Done) → Contains b.done d → IsLabel b d.names
   pub of_closed : IsLabel b b.closed
   pub of_over : (g : GivenUp) → Contains b.over g → IsLabel b g.names
+  pub of_asleep : IsLabel b b.asleep
 
 -- 1: a process has a node as an equation, as one of the two rules, or not at all
 pub record HasOneRole (b : Plain) (p : Name) (n : ℕ) : Type 0 where
@@ -103,7 +105,7 @@ PairsFollow b = (n : ℕ) (x : PlainNode) → slice_get b.nodes n ≡ Some x →
 abbrev pub AreApart : List Name → Type 0
 AreApart l = (p q : Name) → IsTrue (has l p) → IsTrue (has l q) → IsTrue (is_beginning p q) → p ≡ q
 
--- 9: the living names are what forks make of the first, none begins another, and they are at most 256
+-- 9: the living names are what forks make of the first, none begins another, and they are at most 1,024
 pub record LivingIsForked (b : Plain) : Type 0 where
   pub forked : IsForked b.living
   pub apart : AreApart b.living
@@ -120,6 +122,11 @@ pub record IsWithinBudget (P : Problem) (s : Settings) (b : Plain) : Type 0 wher
   pub settings : b.settings ≡ s
   pub commits : b.commits ≤ s.budget
 
+-- 12: at most 64 processes are active and awake; where fewer are, no active one sleeps
+pub record SleepersWait (b : Plain) : Type 0 where
+  pub few : length (working b b.asleep) ≤ most_awake
+  pub none_waits : length (working b b.asleep) < most_awake → (p : Name) → IsTrue (has b.asleep p) → IsFalse (is_active b p)
+
 -- all of it, after so many takes
 pub record IsSound (taken : ℕ) (b : Plain) : Type 0 where
   pub labels : LabelsAreLabels b
@@ -135,3 +142,4 @@ pub record IsSound (taken : ℕ) (b : Plain) : Type 0 where
   pub closed : (p : Name) → IsTrue (has b.closed p) → IsClosedOn b p
   pub living : LivingIsForked b
   pub flight_numbered : FlightIsNumbered taken b
+  pub sleepers_wait : SleepersWait b

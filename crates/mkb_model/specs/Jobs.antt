@@ -69,6 +69,10 @@ abbrev pub least : {A : Type 0} → (A → A → Ordering) → List A → Option
 least cmp [] = None
 least cmp (x ∷ xs) = Some (option_map_or (lesser cmp x) (least cmp xs) x)
 
+-- the greatest of a list: the least by the order turned round
+abbrev pub greatest : {A : Type 0} → (A → A → Ordering) → List A → Option A
+greatest cmp xs = least (λ x y. cmp y x) xs
+
 -- ---- clashes
 
 -- two jobs that may not be in flight together

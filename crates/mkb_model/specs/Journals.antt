@@ -51,6 +51,7 @@ opening P s = record {
   facts = [];
   closed = [];
   over = nobody_over;
+  asleep = [];
   commits = 0;
   flight = [];
   certificates = map (λ c. record { name = root; certificate = c }) (take 1 (family P.signature));

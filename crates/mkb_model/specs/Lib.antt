@@ -1,6 +1,7 @@
 pub mod Jobs
 pub mod Plain
 pub mod DueJobs
+pub mod Sleeping
 pub mod Effects
 pub mod Proposals
 pub mod Verdicts

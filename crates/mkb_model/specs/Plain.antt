@@ -66,6 +66,8 @@ pub record Plain : Type 0 where
   pub facts : List Fact
   pub closed : List Name
   pub over : List GivenUp
+  -- the processes that get no job until a place is free
+  pub asleep : List Name
   pub commits : ℕ
   pub flight : List Ticket
   pub certificates : List Certified

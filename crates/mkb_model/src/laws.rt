@@ -1,12 +1,13 @@
 // The laws. A run lists its moments, each a board and the entry made on it, the newest first.
-ghost use Rattle.std.specs.Prelude.{◌≡◌, ◌≢◌, ◌⊎◌, ℕ, List, [], Contains, Some, None, IsTrue};
+ghost use Rattle.std.specs.Prelude.{◌≡◌, ◌≢◌, ◌⊎◌, ◌≤◌, ◌<◌, ℕ, List, [], Contains, Some, None, IsTrue, IsFalse, filter, length};
 ghost use Rattle.kb_term.specs.Signature.{Problem, IsWithinLimits};
 ghost use Rattle.kb_label.specs.Names.{Name, root, has};
 ghost use Rattle.kb_label.specs.declared.verdict.Verdict.{Verdict};
 ghost use Rattle.kb_label.specs.declared.verdict.Verdict.TheVariants.{Complete};
 ghost use Rattle.kb_laws.specs.Completion.{KbReaches, kb_start};
 ghost use Rattle.mkb_model.specs.Plain.{Plain, PlainNode, state_of};
-ghost use Rattle.mkb_model.specs.DueJobs.{first_job, free_jobs};
+ghost use Rattle.mkb_model.specs.DueJobs.{awake, first_job, free_jobs};
+ghost use Rattle.mkb_model.specs.Sleeping.{is_active};
 ghost use Rattle.mkb_model.specs.Verdicts.{verdict, VerdictMeans};
 ghost use Rattle.mkb_model.specs.Journals.{Alone, Moment, Follows, IsFreeJob, IsPossibleRun, IsRun, IsLeaving, IsCommitting, IsDropping, After, journal_of, landed, moves_of, opening, tickets};
 ghost use Rattle.mkb_model.specs.Limits.{AreLimited};
@@ -45,12 +46,12 @@ pub fn flight_is_in_order()
 {}
 
 /// Every label names living processes, each once, in name order: those of the nodes, of the overlapped rules, of the closed
-/// processes and of those that gave up.
+/// processes, of those that gave up and of those that sleep.
 pub fn labels_name_the_living()
     ensures { (problem : Problem) (settings : Settings) (past : List Moment) (board : Plain) → IsPossibleRun problem settings past board → LabelsAreLabels board }
 {}
 
-/// The living names are what forks of living processes make of the first one, none begins another, and they are at most 256.
+/// The living names are what forks of living processes make of the first one, none begins another, and they are at most 1,024.
 pub fn living_names_come_of_forks()
     ensures { (problem : Problem) (settings : Settings) (past : List Moment) (board : Plain) → IsPossibleRun problem settings past board → LivingIsForked board }
 {}
@@ -85,11 +86,18 @@ pub fn verdicts_stay()
     ensures stays { (past : List Moment) (board : Plain) (entry : Entry) (next : Plain) (v : Verdict) → Follows IsFreeJob past board entry next → verdict board ≡ Some v → verdict next ≡ Some v }
 {}
 
-/// Where no verdict stands and no job may be taken, a ticket is in flight, on any board. There is a first job where there is one
-/// that may be taken.
+/// At most 64 processes are active (they live, and have neither failed nor given up) and awake. Where fewer are, no active
+/// process is asleep.
+pub fn sixty_four_are_worked_on()
+    ensures few { (problem : Problem) (settings : Settings) (past : List Moment) (board : Plain) → IsPossibleRun problem settings past board → length (filter (is_active board) (awake board)) ≤ 64 }
+    ensures none_waits { (problem : Problem) (settings : Settings) (past : List Moment) (board : Plain) → IsPossibleRun problem settings past board → length (filter (is_active board) (awake board)) < 64 → (p : Name) → IsTrue (has board.asleep p) → IsFalse (is_active board p) }
+{}
+
+/// Where no verdict stands and no job may be taken, a ticket is in flight: some process is active, so one is active and awake.
+/// There is a first job where there is one that may be taken.
 pub fn work_goes_on()
-    ensures free { (board : Plain) → verdict board ≡ None → free_jobs board ≡ [] → board.flight ≢ [] }
-    ensures first { (board : Plain) → verdict board ≡ None → first_job board ≡ None → board.flight ≢ [] }
+    ensures free { (problem : Problem) (settings : Settings) (past : List Moment) (board : Plain) → IsPossibleRun problem settings past board → verdict board ≡ None → free_jobs board ≡ [] → board.flight ≢ [] }
+    ensures first { (problem : Problem) (settings : Settings) (past : List Moment) (board : Plain) → IsPossibleRun problem settings past board → verdict board ≡ None → first_job board ≡ None → board.flight ≢ [] }
 {}
 
 /// The first process begins with the problem's equations: its state on the opening board is reached from them by completion,

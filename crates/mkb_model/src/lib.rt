@@ -16,7 +16,7 @@ pub use laws::{
     journals_decide_runs, labels_name_the_living, legal_runs_are_possible,
     living_names_come_of_forks, moves_decide_runs, one_worker_has_one_journal, opening_is_reached,
     origins_are_of_form, pairs_are_within_limits, pairs_stay, runs_complete,
-    tickets_are_dropped_after_commits, verdicts_stay, work_goes_on,
+    sixty_four_are_worked_on, tickets_are_dropped_after_commits, verdicts_stay, work_goes_on,
 };
 pub use proposed::{DeducedList, FactList, Proposed};
 pub use settings::{Selection, Settings};

@@ -1,9 +1,10 @@
 use Rattle.mkb_model.proofs.Endings.{some_flies}
 use Rattle.mkb_model.proofs.Stated.{none_first}
+use Rattle.mkb_model.proofs.Worked.{sleepers_run}
 use Rattle.mkb_model.proofs.laws.work_goes_on.Goals as goal
 
 pub returns-clause-free : goal.returns-clause-free
-returns-clause-free c = some_flies
+returns-clause-free c = λ P n ms b run. some_flies b (sleepers_run P n ms b run)
 
 pub returns-clause-first : goal.returns-clause-first
-returns-clause-first c = none_first
+returns-clause-first c = λ P n ms b run. none_first b (sleepers_run P n ms b run)
