@@ -10,14 +10,14 @@ use Rattle.std.proofs.Math.Seq.{drop-nil}
 use Rattle.std.proofs.lemmas.Cmp.{nat_cmp_total}
 use Rattle.std.proofs.lemmas.Bool.Decides.{nat_tests}
 use Rattle.kb_term.proofs.Steps.{contains_cases}
-use Rattle.kb_label.specs.Names.{Name, name_cmp, IsInNameOrder}
+use Rattle.kb_label.specs.Names.{Name, name_cmp, IsInNameOrder, minus}
 use Rattle.kb_label.proofs.Ordered.{rest, skip}
 use Rattle.kb_jobs.proofs.Preorder.{nat_less, nat_same}
 use Rattle.kb_node.specs.declared.job.Job.{Job}
 use Rattle.mkb_model.specs.Jobs.{process_of, kind_number, job_numbers, numbers_cmp, job_cmp}
 use Rattle.mkb_model.specs.Plain.{Plain, cost, weight}
 use Rattle.mkb_model.proofs.Lists.{equal_or_more, none_in, clash}
-use Rattle.mkb_model.specs.DueJobs.{first_job}
+use Rattle.mkb_model.specs.DueJobs.{first_job, awake}
 use Rattle.mkb_model.specs.declared.entry.Ticket.{Ticket}
 use Rattle.mkb_board.specs.Choosing.{jobs_of, first_choice, merged, IsCosted, StandsBefore}
 use Rattle.mkb_board.specs.declared.first.Choice.{Choice}
@@ -122,10 +122,10 @@ drop_at (q ∷ l) (suc n) p d h e =
 
 -- the best of all processes is the first job
 pub best_of_all : (b : Plain) (ts : List Ticket) (i : ℕ) (best : Option Choice) → length b.living ≤ i
-    → merged (job_cmp (cost b) (weight b)) (job_in best) (least_free b (jobs_of ts) (drop i b.living)) ≡ least_free b (jobs_of ts) b.living
+    → merged (job_cmp (cost b) (weight b)) (job_in best) (least_free b (jobs_of ts) (minus (drop i b.living) b.asleep)) ≡ least_free b (jobs_of ts) (awake b)
     → job_in best ≡ first_job (record b { flight = ts })
 best_of_all b ts i best all h =
     sym (merged_none (job_cmp (cost b) (weight b)) (job_in best))
-    ∙ sym (ap (λ (ps : List Name). merged (job_cmp (cost b) (weight b)) (job_in best) (least_free b (jobs_of ts) ps)) (drop_of_length-le b.living all))
+    ∙ sym (ap (λ (ps : List Name). merged (job_cmp (cost b) (weight b)) (job_in best) (least_free b (jobs_of ts) (minus ps b.asleep))) (drop_of_length-le b.living all))
     ∙ h
     ∙ sym (first_as b ts)

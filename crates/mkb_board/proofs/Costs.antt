@@ -1,4 +1,5 @@
 -- What a process costs, node by node.
+use Rattle.mkb_model.specs.declared.entry.Ticket.{Ticket}
 use Rattle.std.proofs.Common.{ℕ, zero, suc, ◌+◌, ◌*◌, ◌≤◌, ◌<◌, ◌≡◌, refl, ap, ap₂, ◌∙◌, arith, List, [], ◌∷◌, ◌++◌, map, filter, flat_map, length, get_or, Bool, true, false, cond, Option, Some, None}
 use Rattle.std.specs.Prelude.{sum_by}
 use Rattle.std.specs.Option.{option_map_or}
@@ -11,7 +12,7 @@ use Rattle.kb_term.specs.Signature.{Signature}
 use Rattle.kb_term.specs.declared.origin.RuleRef.{RuleRef}
 use Rattle.kb_label.specs.Names.{Name}
 use Rattle.mkb_model.specs.Limits.{AreLimited}
-use Rattle.mkb_model.specs.Plain.{Plain, numbers_from, node_numbers, directions, is_equation, is_rule, is_constraint, pair_at, pair_size, node_size, rule_sizes, counted_rules, cost}
+use Rattle.mkb_model.specs.Plain.{Plain, numbers_from, node_numbers, directions, is_equation, is_rule, is_constraint, pair_at, pair_size, node_size, rule_sizes, counted_rules, cost, equations_of, constraints_of}
 use Rattle.mkb_model.specs.declared.settings.Selection.{Selection}
 use Rattle.mkb_model.specs.declared.settings.Selection.TheVariants.{Stated, Size}
 use Rattle.mkb_board.specs.Choosing.{sizes_of, one_if, rule_count, role_count}
@@ -164,3 +165,12 @@ roles_most b p n =
 -- what a node within the limits adds to the cost
 pub share_most : (g : Signature) (b : Plain) (p : Name) → AreLimited g b.nodes → (n : ℕ) → role_count b p n * node_size b n ≤ 5120
 share_most g b p limited n = mul-le (role_count b p n) (node_size b n) 5 1024 (roles_most b p n) (size_most g b limited n)
+
+-- ---- what a process costs doesn't depend on who sleeps or what flies
+
+pub cost_alike : (b : Plain) (f : List Ticket) (a : List Name) → cost (record b { flight = f; asleep = a }) ≡ cost b
+cost_alike b f a = (λ i p. (sum_by (node_size b) (equations_of b p) + rule_sizes b (constraints_of b p)) + rule_sizes b (counted_same b.settings.selection p i))
+  where
+    counted_same : (by : Selection) (p : Name) → counted_rules by (record b { flight = f; asleep = a }) p ≡ counted_rules by b p
+    counted_same Stated p = refl
+    counted_same Size p = refl

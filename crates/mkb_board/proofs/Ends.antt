@@ -1,5 +1,7 @@
 -- A legal board after a ticket ended.
-use Rattle.std.proofs.Common.{ℕ, ◌+◌, ◌≡◌, refl, sym, ap, ◌∙◌, subst, arith, List, [], ◌∷◌, ◌++◌, Contains, Bool, true, false, ◌||◌, Option, Some, None}
+use Rattle.mkb_board.proofs.Asleep.{settled_flying}
+use Rattle.mkb_model.specs.Sleeping.{settle}
+use Rattle.std.proofs.Common.{ℕ, ◌+◌, ◌≡◌, refl, sym, ap, ◌∙◌, subst, arith, List, [], ◌∷◌, ◌++◌, Contains, Bool, true, false, ◌||◌, Option, Some, None, ap₂, filter, not, ◌==◌}
 use Rattle.std.specs.Prelude.{IsFalse, IsTrue}
 use Rattle.std.proofs.lemmas.List.{same_from_push}
 use Rattle.std.specs.Option.{option_map_or}
@@ -9,7 +11,7 @@ use Rattle.kb_label.specs.Names.{Name}
 use Rattle.kb_label.specs.declared.verdict.Reason.{Reason}
 use Rattle.mkb_model.specs.Jobs.{process_of}
 use Rattle.mkb_model.specs.Plain.{Plain}
-use Rattle.mkb_model.specs.Effects.{applied, effect, effect_label, effect_entry, limit_of, is_dropped, give_up, counted}
+use Rattle.mkb_model.specs.Effects.{applied, effect, effect_label, effect_entry, limit_of, is_dropped, give_up, counted, acted}
 use Rattle.mkb_model.specs.Verdicts.{verdict}
 use Rattle.mkb_model.specs.Journals.{Moment, IsRun, After, IsFinishing, journal_of, landed}
 use Rattle.mkb_model.specs.declared.proposed.Proposed.{Proposed}
@@ -112,12 +114,20 @@ applied_flying b f (Unjoined p pairs) = refl
 applied_flying b f (Closed p) = refl
 applied_flying b f (Limit j cause) = refl
 
-pub effect_flying : (b : Plain) (f : List Ticket) (x : Proposed) → effect (record b { flight = f }) x ≡ record (effect b x) { flight = f }
-effect_flying b f x = ap (λ o. counted (option_map_or (λ r. give_up r (effect_label (record b { flight = f }) x) (record b { flight = f })) o (applied (record b { flight = f }) x))) (limit_flying b f x) ∙ go (limit_of b x)
+pub acted_flying : (b : Plain) (f : List Ticket) (x : Proposed) → acted (record b { flight = f }) x ≡ record (acted b x) { flight = f }
+acted_flying b f x = ap (λ o. counted (option_map_or (λ r. give_up r (effect_label (record b { flight = f }) x) (record b { flight = f })) o (applied (record b { flight = f }) x))) (limit_flying b f x) ∙ go (limit_of b x)
   where
     go : (o : Option Reason) → counted (option_map_or (λ r. give_up r (effect_label (record b { flight = f }) x) (record b { flight = f })) o (applied (record b { flight = f }) x)) ≡ record (counted (option_map_or (λ r. give_up r (effect_label b x) b) o (applied b x))) { flight = f }
     go None = ap counted (applied_flying b f x)
     go (Some r) = ap (λ (l : List Name). counted (give_up r l (record b { flight = f }))) (label_flying b f x)
+
+pub effect_flying : (b : Plain) (f : List Ticket) (x : Proposed) → effect (record b { flight = f }) x ≡ record (effect b x) { flight = f }
+effect_flying b f x = ap settle (acted_flying b f x) ∙ ap (λ (l : List Name). record (acted b x) { flight = f; asleep = l }) (settled_flying (acted b x) f)
+
+-- the board after a commit, where the state is that after the effect
+pub lands : (state new : Plain) (flight fewer : List Ticket) (x : Proposed) (n : ℕ) → new ≡ effect state x → fewer ≡ filter (λ (t : Ticket). not (t.number == n)) flight → record new { flight = fewer } ≡ landed n (effect (record state { flight = flight }) x)
+lands state new flight fewer x n e f =
+    ap₂ (λ (z : Plain) (ts : List Ticket). record z { flight = ts }) e f ∙ sym (ap (landed n) (effect_flying state flight x))
 
 pub entry_flying : (b : Plain) (f : List Ticket) (x : Proposed) → effect_entry (record b { flight = f }) x ≡ effect_entry b x
 entry_flying b f x = ap (λ (o : Option Reason). option_map_or Over o (Made x)) (limit_flying b f x)

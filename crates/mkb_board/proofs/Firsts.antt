@@ -1,4 +1,5 @@
 -- The first job is the least of those that the processes would take first.
+use Rattle.mkb_board.proofs.Costs.{cost_alike}
 use Rattle.std.proofs.Common.{◌≡◌, ℕ, ◌+◌, refl, ap, ap₂, ◌∙◌, List, [], ◌∷◌, ◌++◌, filter, flat_map, Bool, true, false, cond, ◌&&◌, Option}
 use Rattle.std.specs.Prelude.{sum_by}
 use Rattle.std.proofs.lemmas.List.Elements.{filter-append}
@@ -7,14 +8,14 @@ use Rattle.kb_node.specs.declared.job.Job.{Job}
 use Rattle.kb_node.specs.declared.job.Job.TheVariants.{Close}
 use Rattle.mkb_model.specs.Jobs.{job_cmp, least, is_free}
 use Rattle.mkb_model.specs.Plain.{Plain, node_size, rule_sizes, equations_of, constraints_of, counted_rules, cost, weight, weight_by}
-use Rattle.mkb_model.specs.DueJobs.{is_due, work_of, due_jobs_of, first_job}
+use Rattle.mkb_model.specs.DueJobs.{is_due, work_of, due_jobs_of, first_job, awake}
 use Rattle.mkb_model.specs.declared.entry.Ticket.{Ticket}
 use Rattle.mkb_model.specs.declared.settings.Selection.{Selection}
 use Rattle.mkb_model.specs.declared.settings.Selection.TheVariants.{Stated, Size}
 use Rattle.mkb_board.specs.Choosing.{jobs_of, first_choice, merged}
 use Rattle.mkb_board.proofs.Least.{least_append, job_cmp-total}
 
-filter_both : {A : Type 0} (s t : A → Bool) (xs : List A) → filter s (filter t xs) ≡ filter (λ x. t x && s x) xs
+pub filter_both : {A : Type 0} (s t : A → Bool) (xs : List A) → filter s (filter t xs) ≡ filter (λ x. t x && s x) xs
 filter_both s t [] = refl
 filter_both s t (x ∷ xs) = go (t x) (filter_both s t xs)
   where
@@ -38,16 +39,9 @@ least_step b flight p ps =
     ∙ ap (λ o. merged (job_cmp (cost b) (weight b)) o (least_free b flight ps)) (one_least b flight p)
 
 -- the first job of the board with these tickets in flight
-pub first_as : (b : Plain) (ts : List Ticket) → first_job (record b { flight = ts }) ≡ least_free b (jobs_of ts) b.living
-first_as b ts = ap₂ (λ (c : Name → ℕ) (w : Job → ℕ). least (job_cmp c w) (filter (is_free (jobs_of ts)) (flat_map (due_jobs_of b) b.living))) cost_same (weight_same b.settings.selection)
+pub first_as : (b : Plain) (ts : List Ticket) → first_job (record b { flight = ts }) ≡ least_free b (jobs_of ts) (awake b)
+first_as b ts = ap₂ (λ (c : Name → ℕ) (w : Job → ℕ). least (job_cmp c w) (filter (is_free (jobs_of ts)) (flat_map (due_jobs_of b) (awake b)))) (cost_alike b ts b.asleep) (weight_same b.settings.selection)
   where
-    counted_same : (by : Selection) (p : Name) → counted_rules by (record b { flight = ts }) p ≡ counted_rules by b p
-    counted_same Stated p = refl
-    counted_same Size p = refl
-
-    cost_same : cost (record b { flight = ts }) ≡ cost b
-    cost_same = (λ i p. (sum_by (node_size b) (equations_of b p) + rule_sizes b (constraints_of b p)) + rule_sizes b (counted_same b.settings.selection p i))
-
     weight_same : (by : Selection) → weight_by by (record b { flight = ts }) ≡ weight_by by b
     weight_same Stated = refl
     weight_same Size = refl

@@ -10,7 +10,7 @@ use Rattle.kb_node.specs.declared.job.Job.{Job}
 use Rattle.kb_node.specs.declared.job.Job.TheVariants.{Reduce, Orient, Overlap, Close}
 use Rattle.mkb_model.specs.Plain.{Plain, GivenUp, node_numbers, rules_of, is_over, over_in, over_reason}
 use Rattle.mkb_model.specs.DueJobs.{is_due, is_working, is_work_due, is_close_due, work_of, due_jobs_of}
-use Rattle.mkb_model.specs.Verdicts.{no_members}
+use Rattle.mkb_model.specs.Sleeping.{no_members}
 use Rattle.mkb_model.proofs.Lists.{map_in, flat_map_in}
 use Rattle.mkb_board.specs.Choosing.{is_choice}
 

@@ -1,3 +1,4 @@
+pub mod Asleep
 pub mod Better
 pub mod Choices
 pub mod Costs
@@ -13,6 +14,7 @@ pub mod Readable
 pub mod Ready
 pub mod Rising
 pub mod There
+pub mod Sleepers
 pub mod Viewed
 pub mod Others
 pub mod Weighing

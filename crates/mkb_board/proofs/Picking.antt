@@ -8,7 +8,7 @@ use Rattle.std.proofs.lemmas.List.Concat.{flat_map_single}
 use Rattle.std.proofs.lemmas.Grind.{flat_map-append}
 use Rattle.kb_term.specs.declared.origin.RuleRef.{RuleRef}
 use Rattle.mkb_model.specs.Plain.{numbers_from, directions}
-use Rattle.mkb_model.specs.Verdicts.{no_members}
+use Rattle.mkb_model.specs.Sleeping.{no_members}
 
 -- ---- numbers
 

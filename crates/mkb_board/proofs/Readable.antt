@@ -1,4 +1,7 @@
 -- What a job reads of a legal board it may read, and what the first job names is there.
+use Rattle.mkb_model.specs.Effects.{most_living}
+use Rattle.mkb_model.proofs.LivingLabels.{labels_live}
+use Rattle.mkb_model.proofs.Worked.{sleepers_run}
 use Rattle.std.proofs.Common.{ℕ, zero, suc, ◌≤◌, ◌<◌, ◌≡◌, refl, sym, ap, ◌∙◌, subst, arith, List, [], ◌∷◌, ◌++◌, map, flat_map, length, Contains, All, Option, Some, None, ⊎_elim}
 use Rattle.std.specs.Prelude.{option_map, IsTrue}
 use Rattle.std.specs.List.{cons_option}
@@ -34,7 +37,7 @@ use Rattle.mkb_model.proofs.Selections.{legal-possible, first-free}
 use Rattle.mkb_model.proofs.Sizes.{limited_run, numbered_within, turned}
 use Rattle.mkb_model.proofs.AllFine.{states_ordered, commits_fine}
 use Rattle.mkb_model.proofs.Certificates.{certified_run}
-use Rattle.mkb_model.specs.Invariants.{IsCertified}
+use Rattle.mkb_model.specs.Invariants.{IsCertified, SleepersWait, IsLabel}
 use Rattle.kb_jobs.specs.Groups.{IsOverlappable}
 use Rattle.kb_jobs.specs.Taken.{IsTakenClose}
 use Rattle.kb_jobs.specs.Working.{IsReadable, IsTaken}
@@ -161,6 +164,28 @@ ordered_on state flight J legal =
     let c = seen state flight J in
     let r = legal.after in
     (leaves-forked state.living (living_forked IsFreeJob c.plain.problem c.plain.settings r.0 c.plain (legal-possible c.plain.problem c.plain.settings r.0 c.plain r.2)).forked).in_order
+
+-- of which there are at most 1,024
+pub few_on : (state : Plain) (flight : List Ticket) (J : List Entry) → IsLegalBoard (seen state flight J) → length state.living ≤ most_living
+few_on state flight J legal =
+    let c = seen state flight J in
+    let r = legal.after in
+    (living_forked IsFreeJob c.plain.problem c.plain.settings r.0 c.plain (legal-possible c.plain.problem c.plain.settings r.0 c.plain r.2)).few
+
+-- at most 64 processes are active and awake, and where fewer are none waits
+pub waits_on : (state : Plain) (flight : List Ticket) (J : List Entry) → IsLegalBoard (seen state flight J) → SleepersWait (record state { flight = flight })
+waits_on state flight J legal =
+    let c = seen state flight J in
+    let r = legal.after in
+    sleepers_run c.plain.problem c.plain.settings r.0 c.plain (legal-possible c.plain.problem c.plain.settings r.0 c.plain r.2)
+
+-- the sleepers are living processes, in the order of names
+pub sleepers_on : (state : Plain) (flight : List Ticket) (J : List Entry) → IsLegalBoard (seen state flight J) → IsLabel state state.asleep
+sleepers_on state flight J legal =
+    let c = seen state flight J in
+    let r = legal.after in
+    let k = (labels_live c.plain.problem c.plain.settings r.0 c.plain (legal-possible c.plain.problem c.plain.settings r.0 c.plain r.2)).of_asleep in
+    record { ordered = k.ordered; living = k.living }
 
 -- the certificate of a living process is of the family and orders its constraints
 pub certified_on : (state : Plain) (flight : List Ticket) (J : List Entry) → IsLegalBoard (seen state flight J) → (p : Name) → IsTrue (has state.living p) → IsCertified (seen state flight J).plain p

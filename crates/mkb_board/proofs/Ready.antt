@@ -1,10 +1,15 @@
 -- Where a ticket may be finished, its proposal may be applied to the state.
-use Rattle.std.proofs.Common.{◌≡◌, List, Contains, None}
+use Rattle.mkb_board.proofs.Readable.{limited_on}
+use Rattle.mkb_model.specs.declared.entry.Entry.TheVariants.{Commit}
+use Rattle.mkb_model.proofs.Worked.{acted_labelled}
+use Rattle.mkb_model.proofs.LivingLabels.{IsLabelled}
+use Rattle.mkb_model.specs.Limits.{AreLimited}
+use Rattle.std.proofs.Common.{◌≡◌, List, Contains, None, subst, refl, filter, not, ◌==◌, ◌++◌, ◌∷◌, []}
 use Rattle.std.specs.Prelude.{IsFalse}
 use Rattle.kb_node.specs.declared.job.Job.TheVariants.{Reduce, Orient, Overlap, Close}
 use Rattle.kb_node.specs.declared.job.LimitCause.{LimitCause}
 use Rattle.mkb_model.specs.Plain.{Plain}
-use Rattle.mkb_model.specs.Effects.{is_dropped}
+use Rattle.mkb_model.specs.Effects.{is_dropped, acted, effect, effect_entry}
 use Rattle.mkb_model.specs.Verdicts.{verdict}
 use Rattle.mkb_model.specs.declared.proposed.Proposed.{Proposed}
 use Rattle.mkb_model.specs.declared.proposed.Proposed.TheVariants.{Facts, Rewrite, One, Both, Refuse, Deduce, Unjoined, Closed, Limit}
@@ -14,9 +19,9 @@ use Rattle.mkb_model.proofs.Selections.{legal-possible}
 use Rattle.mkb_rules.specs.Named.{HasNamed, HasRedexRule}
 use Rattle.mkb_rules.specs.Applying.{HasBudget}
 use Rattle.mkb_rules.specs.Applicable.{HasFewVariablesAfter, IsApplicable}
-use Rattle.mkb_board.specs.Boards.{seen, IsLegalBoard}
+use Rattle.mkb_board.specs.Boards.{seen, IsLegalBoard, IsBoard, takes_in, drops_in, has_halt}
 use Rattle.mkb_board.specs.Takes.{IsProposalOf}
-use Rattle.mkb_board.proofs.Ends.{finishing}
+use Rattle.mkb_board.proofs.Ends.{finishing, acted_flying, commit_board, lands}
 use Rattle.mkb_board.proofs.There.{has_named, has_budget, applicable}
 
 redex_grounded : (b : Plain) (f : List Ticket) (cause : LimitCause) → HasRedexRule (record b { flight = f }) cause.redex → HasRedexRule b cause.redex
@@ -66,3 +71,20 @@ module _ (state : Plain) (flight : List Ticket) (J : List Entry) (t : Ticket) (x
       let s = seen state flight J in
       let r = legal.after in
       has_budget s.plain.problem s.plain.settings r.0 s.plain (legal-possible s.plain.problem s.plain.settings r.0 s.plain r.2) t.worker t.number t.job x (finishing s t x none flying proposal r.0 r.1 r.2)
+
+  -- what the commit itself does leaves labels
+  pub acted_labels : IsFalse (is_dropped (record state { flight = flight }) x) → IsLabelled (acted state x)
+  acted_labels acts =
+      let s = seen state flight J in
+      let r = legal.after in
+      let k = subst {A = Plain} IsLabelled (acted_flying state flight x) (acted_labelled s.plain.problem s.plain.settings r.0 s.plain (legal-possible s.plain.problem s.plain.settings r.0 s.plain r.2) t.worker t.number t.job x (finishing s t x none flying proposal r.0 r.1 r.2) acts) in
+      record { alive = k.alive; nodes = k.nodes; done = k.done; closed = k.closed; over = k.over; asleep = k.asleep }
+
+  -- and pairs within the limits
+  pub acted_limited : IsFalse (is_dropped (record state { flight = flight }) x) → AreLimited (acted state x).problem.signature (acted state x).nodes
+  acted_limited acts =
+      let fewer = filter (λ (u : Ticket). not (u.number == t.number)) flight in
+      let K = J ++ Commit t.worker t.number (effect_entry (record state { flight = flight }) x) ∷ [] in
+      let now : IsBoard (seen state flight J) (takes_in J) (drops_in J) (has_halt J) = record { legal = legal; taken_is = refl; dropped_is = refl; halted_is = refl } in
+      let after = commit_board state (effect state x) flight fewer J K (takes_in J) (drops_in J) (has_halt J) t x now none flying proposal acts (lands state (effect state x) flight fewer x t.number refl refl) refl in
+      limited_on (effect state x) fewer K after.legal

@@ -11,7 +11,8 @@ use Rattle.kb_overlap.specs.Trace.{side, other_side}
 use Rattle.kb_label.specs.Names.{Name}
 use Rattle.kb_label.specs.declared.verdict.Spent.TheVariants.{Commits, Over}
 use Rattle.kb_label.specs.declared.verdict.Verdict.TheVariants.{Complete, AllFailed, Spent as IsSpent}
-use Rattle.mkb_model.specs.Verdicts.{is_complete, is_failed, first_over}
+use Rattle.mkb_model.specs.Verdicts.{is_complete, first_over}
+use Rattle.mkb_model.specs.Sleeping.{is_failed}
 use Rattle.mkb_model.specs.Plain.{is_over, over_reason}
 use Rattle.std.specs.List.{find, list_all}
 use Rattle.std.specs.Prelude.{option_and_then, if◌then◌else◌, ◌||◌}

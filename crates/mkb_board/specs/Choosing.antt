@@ -18,6 +18,8 @@ use Rattle.mkb_model.specs.declared.settings.Selection.{Selection}
 use Rattle.mkb_model.specs.declared.settings.Selection.TheVariants.{Stated, Size}
 use Rattle.mkb_board.specs.declared.first.Choice.{Choice}
 use Rattle.mkb_board.specs.declared.lightest.Weighed.{Weighed}
+use Rattle.mkb_board.specs.declared.settling.Costed.{Costed}
+use Rattle.std.specs.Ordering.{ordering_then, nat_cmp}
 
 -- the jobs of the tickets
 abbrev pub jobs_of : List Ticket → List Job
@@ -94,3 +96,9 @@ IsCosted b c = c.cost ≡ cost b (process_of c.job)
 -- the job is of a process that comes before p by name
 abbrev pub StandsBefore : Name → Choice → Type 0
 StandsBefore p c = name_cmp (process_of c.job) p ≡ Less
+
+-- ---- who sleeps
+
+-- the order of processes by the costs that are kept beside them, then name
+abbrev pub costed_cmp : Costed → Costed → Ordering
+costed_cmp c d = ordering_then (nat_cmp c.cost d.cost) (name_cmp c.process d.process)

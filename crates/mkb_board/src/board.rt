@@ -159,6 +159,13 @@ impl Board {
         self.state.log().living()
     }
 
+    /// How many processes are asleep.
+    pub fn asleep(&self) -> u32
+        ensures { result ≡ length self.now.plain.asleep }
+    {
+        self.state.sleepers().len() as u32
+    }
+
     /// Makes a halt, if none was made: no job is taken from here on. It takes no memory.
     pub fn halt(&mut self)
         ensures plain { self.new.plain ≡ self.old.plain }

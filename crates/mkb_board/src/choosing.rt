@@ -6,7 +6,8 @@ ghost use Rattle.kb_label.specs.Names.{Name, has};
 ghost use Rattle.kb_node.specs.declared.node.LabelKind.TheVariants.{E};
 ghost use Rattle.mkb_model.specs.Plain.{is_equation, is_rule, is_over, over_reason, equations_of, rule_kind, label};
 ghost use Rattle.mkb_model.specs.DueJobs.{due_jobs_of};
-ghost use Rattle.mkb_model.specs.Verdicts.{verdict, is_complete, is_failed, first_over, no_members};
+ghost use Rattle.mkb_model.specs.Verdicts.{verdict, is_complete, first_over};
+ghost use Rattle.mkb_model.specs.Sleeping.{is_active, is_failed, no_members};
 
 use crate::due::first_work;
 use kb_label::{Labels, ListLabels, Process, Reason, Spent, Verdict};
@@ -141,6 +142,14 @@ pub(crate) fn has_label(state: &State, p: &Process, n: NodeId, kind: LabelKind) 
     ensures { result ≡ has (label state.now n.0 kind) p.now }
 {
     state.nodes().label(n, kind).has(state.log(), p)
+}
+
+/// Whether the process has neither failed nor given up. It takes no memory.
+pub(crate) fn is_active(state: &State, p: &Process) -> bool
+    requires { IsTrue (has state.now.living p.now) }
+    ensures { result ≡ is_active state.now p.now }
+{
+    !is_failed(state, p) && !is_over(state, p)
 }
 
 // Whether the process has not given up, has an equation and nothing is due for it.

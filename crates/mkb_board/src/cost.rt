@@ -1,5 +1,5 @@
 // The cost of a process.
-ghost use Rattle.std.specs.Prelude.{◌≡◌, ◌<◌, length, IfOk};
+ghost use Rattle.std.specs.Prelude.{◌≡◌, ◌<◌, ◌≤◌, ◌*◌, length, IfOk};
 ghost use Rattle.mkb_model.specs.Limits.{AreLimited};
 ghost use Rattle.mkb_model.specs.Plain.{node_size, cost};
 ghost use Rattle.mkb_board.specs.Choosing.{sizes_of, one_if, role_count, rule_count};
@@ -23,18 +23,27 @@ pub(crate) fn sizes(alloc: Global, state: &State) -> Result<Vec<u32>, Memory>
     Ok(sizes)
 }
 
-/// The cost of a process by the sizes of the nodes: those of its equations and its constraints, and of its rules where the
-/// selection counts them. It takes no memory.
-pub(crate) fn cost(state: &State, sizes: &[u32], p: &Process) -> u32
-    requires limited { AreLimited state.now.problem.signature state.now.nodes }
-    requires sizes { sizes.now ≡ sizes_of state.now }
+/// The cost of a process: the sizes of its equations and its constraints, and of its rules where the selection counts them. It
+/// takes no memory.
+pub(crate) fn cost(state: &State, p: &Process) -> u32
+    requires { AreLimited state.now.problem.signature state.now.nodes }
     ensures { result ≡ cost state.now p.now }
 {
     let mut total = 0;
     for n in 0..node_count(state) {
-        total += role_count(state, p, NodeId(n as u16)) * sizes[n as usize];
+        total += share(state, p, NodeId(n as u16));
     }
     total
+}
+
+// What a node adds to the cost of a process, at most 5,120: its size, as often as the process has it.
+fn share(state: &State, p: &Process, n: NodeId) -> u32
+    requires limited { AreLimited state.now.problem.signature state.now.nodes }
+    requires there { n.0 < length state.now.nodes }
+    ensures share { result ≡ role_count state.now p.now n.0 * node_size state.now n.0 }
+    ensures most { result ≤ 5120 }
+{
+    role_count(state, p, n) * node_size(state, n)
 }
 
 // The sizes of both sides of a node's pair together.

@@ -13,6 +13,7 @@ ghost use Rattle.mkb_board.specs.Takes.{IsProposalOf, IsFinishedBy};
 use crate::answers::Finished;
 use crate::board::{Board, land};
 use crate::choosing;
+use crate::settling::settle;
 use kb_label::Process;
 use kb_node::Job;
 use mkb_model::{Effect, Entry, Proposed, Ticket};
@@ -69,7 +70,7 @@ impl Board {
         Finished::Dropped(process)
     }
 
-    // Ends the ticket with the effect of the proposal.
+    // Ends the ticket with the effect of the proposal. Then processes fall asleep or wake, which takes no memory.
     fn commit(
         &mut self,
         alloc: Global,
@@ -89,6 +90,7 @@ impl Board {
             Ok(applied) => applied,
             Err(_) => return Err((ticket, proposal)),
         };
+        settle(&mut self.state);
         self.verdict = choosing::verdict(&self.state);
         land(&mut self.flight, ticket.number);
         let entry = Entry::Commit {

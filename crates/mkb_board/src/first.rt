@@ -29,7 +29,8 @@ struct Choice {
     job: Job,
 }
 
-/// The first job beside those in flight, if there is one: the least due job that clashes with none of them.
+/// The first job beside those in flight, if there is one: the least due job of an awake process that clashes with none of
+/// them.
 ///
 /// Each pair is measured once, and a process is searched only where its cost is below that of the best job so far. By the
 /// stated selection the search of a process ends at its first job that serves; by size it goes over its jobs of one kind.
@@ -46,7 +47,11 @@ pub(crate) fn first_job(
     let living = state.log().processes();
     let mut best = None;
     for i in 0..living.len() {
-        best = lesser_choice(state, flight, sizes.as_slice(), best, &living[i])?;
+        let process = &living[i];
+        if state.is_asleep(process) {
+            continue;
+        }
+        best = lesser_choice(state, flight, sizes.as_slice(), best, process)?;
     }
     match best {
         Some(choice) => Ok(Some(choice.job)),
@@ -72,7 +77,7 @@ fn lesser_choice(
     ensures costed { IfOk result (λ o. IfSome o (IsCosted state.now)) }
     ensures of_either { IfOk result (λ o. (o ≡ best) ⊎ IfSome o (λ c. process_of c.job ≡ p.now)) }
 {
-    let cost = cost(state, sizes, p);
+    let cost = cost(state, p);
     if !is_below(cost, &best) {
         return Ok(best);
     }

@@ -11,7 +11,7 @@ use Rattle.kb_term.specs.declared.origin.RuleRef.{RuleRef}
 use Rattle.kb_node.specs.declared.node.Node.{Node}
 use Rattle.kb_node.specs.Labelled.{is_dead_under}
 use Rattle.mkb_model.specs.Plain.{Plain, GivenUp, numbers_from, directions, is_rule, over_in}
-use Rattle.mkb_model.specs.Verdicts.{no_members}
+use Rattle.mkb_model.specs.Sleeping.{no_members}
 use Rattle.mkb_rules.specs.Parts.{plain_node, plain_nodes}
 use Rattle.mkb_report.specs.Summaries.{is_dead}
 use Rattle.mkb_report.proofs.Traces.{mapped_is}

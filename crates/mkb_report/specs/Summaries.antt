@@ -3,7 +3,8 @@ use Rattle.std.specs.Prelude.{ℕ, ◌-◌, ◌&&◌, Bool, length, filter, Opti
 use Rattle.kb_label.specs.declared.verdict.Verdict.{Verdict}
 use Rattle.kb_label.specs.declared.verdict.Verdict.TheVariants as verdicts
 use Rattle.mkb_model.specs.Plain.{Plain, PlainNode, rules_of, is_over}
-use Rattle.mkb_model.specs.Verdicts.{verdict, no_members}
+use Rattle.mkb_model.specs.Verdicts.{verdict}
+use Rattle.mkb_model.specs.Sleeping.{no_members}
 use Rattle.kb_report.specs.declared.summary.Summary.{Summary}
 
 -- the node is no rule and no equation of any process

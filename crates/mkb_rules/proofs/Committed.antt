@@ -8,7 +8,7 @@ use Rattle.kb_label.specs.declared.verdict.Reason.TheVariants.{Nodes, Processes}
 use Rattle.kb_cert.specs.declared.certificate.Certificate.{Certificate}
 use Rattle.kb_node.specs.declared.node.NodeId.{NodeId}
 use Rattle.mkb_model.specs.Plain.{Plain, PlainNode}
-use Rattle.mkb_model.specs.Effects.{applied, counted, effect_label, first_some, forked_node, give_up, limit_of, oriented, some_if}
+use Rattle.mkb_model.specs.Effects.{applied, counted, effect_label, first_some, forked_node, give_up, limit_of, most_living, oriented, some_if}
 use Rattle.mkb_model.specs.declared.proposed.Proposed.{Proposed}
 use Rattle.mkb_model.specs.declared.proposed.Proposed.TheVariants.{Both}
 use Rattle.mkb_rules.specs.Applying.{applied_as, Commits}
@@ -23,15 +23,15 @@ pub stopped : (b c : Plain) (x : Proposed) (r : Reason) (l : List Name) → limi
 stopped b c x r l h k e =
     (e ∙ ap (λ (m : List Name). counted (give_up r m b)) k ∙ sym (ap (λ (o : Option Reason). counted (option_map_or (λ s. give_up s (effect_label b x) b) o (applied b x))) h), sym (ap applied_as h))
 
-pub fork_room : (b : Plain) (p : Name) (n : NodeId) (c0 c1 : Certificate) → length b.living < 256 → length b.nodes ≤ 4096 → limit_of b (Both p n c0 c1) ≡ None
+pub fork_room : (b : Plain) (p : Name) (n : NodeId) (c0 c1 : Certificate) → length b.living < most_living → length b.nodes ≤ 4096 → limit_of b (Both p n c0 c1) ≡ None
 fork_room b p n c0 c1 few room =
-    let e : nat_le 256 (length b.living) ≡ false = grind (arith, nat_tests) in
+    let e : nat_le most_living (length b.living) ≡ false = grind (arith, nat_tests) in
     let f : nat_lt 4096 (length b.nodes) ≡ false = grind (arith, nat_tests) in
     (λ i. first_some (None ∷ some_if (e i) Processes ∷ some_if (f i) Nodes ∷ []))
 
-pub fork_crowded : (b : Plain) (p : Name) (n : NodeId) (c0 c1 : Certificate) → 256 ≤ length b.living → limit_of b (Both p n c0 c1) ≡ Some Processes
+pub fork_crowded : (b : Plain) (p : Name) (n : NodeId) (c0 c1 : Certificate) → most_living ≤ length b.living → limit_of b (Both p n c0 c1) ≡ Some Processes
 fork_crowded b p n c0 c1 many =
-    let e : nat_le 256 (length b.living) ≡ true = grind (arith, nat_tests) in
+    let e : nat_le most_living (length b.living) ≡ true = grind (arith, nat_tests) in
     (λ i. first_some (None ∷ some_if (e i) Processes ∷ some_if (nat_lt 4096 (length b.nodes)) Nodes ∷ []))
 
 -- the nodes after the fork
@@ -50,6 +50,7 @@ fork_made b mid parts p n c0 c1 h e =
       facts = b.facts;
       closed = h.closed i;
       over = h.over i;
+      asleep = h.asleep i;
       commits = b.commits + 1;
       flight = b.flight;
       certificates = h.certificates i;

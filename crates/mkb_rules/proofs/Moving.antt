@@ -17,7 +17,7 @@ use Rattle.kb_node.specs.declared.node.NodeId.{NodeId}
 use Rattle.kb_node.specs.declared.node.LabelKind.{LabelKind}
 use Rattle.kb_node.specs.declared.node.LabelKind.TheVariants.{E}
 use Rattle.mkb_model.specs.Plain.{Plain, PlainNode, label, label_at, pair_at, pair_in, rule_kind, other}
-use Rattle.mkb_model.specs.Effects.{applied, counted, effect, effect_label, first_some, some_if, gains_rule, give_up, if_strict, limit_of, loses, most_nodes, moved_to, on_nodes, rewrite_label, rewritten, wanted, with_label, with_nodes}
+use Rattle.mkb_model.specs.Effects.{acted, applied, counted, effect_label, first_some, some_if, gains_rule, give_up, if_strict, limit_of, loses, most_nodes, moved_to, on_nodes, rewrite_label, rewritten, wanted, with_label, with_nodes}
 use Rattle.mkb_model.specs.declared.proposed.Proposed.TheVariants.{Rewrite}
 use Rattle.mkb_model.proofs.Roles.{length-put}
 use Rattle.mkb_rules.specs.Rewriting.{target_of, wanted_by, lost, gained}
@@ -98,14 +98,14 @@ module _ (b : Plain) (n : NodeId) (w : ℕ) (at : List ℕ) (a : RuleRef) (found
   rewrite-overfull h = limit-is ∙ limit-full (length (with_nodes (wanted_by its_target) b.nodes)) h
 
   -- where there is room, the names are moved
-  pub rewrite-made : length (with_nodes (wanted_by its_target) b.nodes) ≤ most_nodes → counted (on_nodes (λ xs. gained its_target all_sources (lost n.0 w all_sources xs)) b) ≡ effect b (Rewrite n w at a found t)
+  pub rewrite-made : length (with_nodes (wanted_by its_target) b.nodes) ≤ most_nodes → counted (on_nodes (λ xs. gained its_target all_sources (lost n.0 w all_sources xs)) b) ≡ acted b (Rewrite n w at a found t)
   rewrite-made h =
       ap (λ xs. counted (record b { nodes = xs })) (gained-target (canonical_pair (tree_of t) (other_side q w)) (ByRewrite n.0 w at a) (other_side q w) (tree_of t) all_sources (lost n.0 w all_sources b.nodes))
       ∙ ap (λ (o : Option Pair). counted (on_nodes (option_map_or (λ (p : Pair). rewritten acting n.0 w at a found (tree_of t) p) o (λ xs. xs)) b)) (sym here)
       ∙ ap (λ o. counted (option_map_or (λ r. give_up r (effect_label b (Rewrite n w at a found t)) b) o (applied b (Rewrite n w at a found t)))) (sym (rewrite-fits h))
 
   -- where there is none, the processes give up
-  pub rewrite-over : most_nodes < length (with_nodes (wanted_by its_target) b.nodes) → counted (give_up Nodes acting b) ≡ effect b (Rewrite n w at a found t)
+  pub rewrite-over : most_nodes < length (with_nodes (wanted_by its_target) b.nodes) → counted (give_up Nodes acting b) ≡ acted b (Rewrite n w at a found t)
   rewrite-over h = ap (λ o. counted (option_map_or (λ r. give_up r (effect_label b (Rewrite n w at a found t)) b) o (applied b (Rewrite n w at a found t)))) (sym (rewrite-overfull h))
 
   -- the sources as they are found one after the other
@@ -120,14 +120,14 @@ module _ (b : Plain) (n : NodeId) (w : ℕ) (at : List ℕ) (a : RuleRef) (found
   }
 
   pub rewrite-done : (o : Option Target) (s : Sources) → o ≡ its_target → s ≡ all_sources → length (with_nodes (wanted_by o) b.nodes) ≤ most_nodes
-      → (counted (on_nodes (λ xs. gained o s (lost n.0 w s xs)) b) ≡ effect b (Rewrite n w at a found t)) × (limit_of b (Rewrite n w at a found t) ≡ None)
+      → (counted (on_nodes (λ xs. gained o s (lost n.0 w s xs)) b) ≡ acted b (Rewrite n w at a found t)) × (limit_of b (Rewrite n w at a found t) ≡ None)
   rewrite-done o s e d h =
       let f : Option Target → Sources → Plain = λ v u. counted (on_nodes (λ xs. gained v u (lost n.0 w u xs)) b) in
       let room : length (with_nodes (wanted_by its_target) b.nodes) ≤ most_nodes = subst {A = Option Target} (λ v. length (with_nodes (wanted_by v) b.nodes) ≤ most_nodes) e h in
       (ap (λ v. f v s) e ∙ ap (f its_target) d ∙ rewrite-made room, rewrite-fits room)
 
   pub rewrite-given_up : (o : Option Target) (s : Sources) → o ≡ its_target → s ≡ all_sources → most_nodes < length (with_nodes (wanted_by o) b.nodes)
-      → (counted (give_up Nodes s.names b) ≡ effect b (Rewrite n w at a found t)) × (limit_of b (Rewrite n w at a found t) ≡ Some Nodes)
+      → (counted (give_up Nodes s.names b) ≡ acted b (Rewrite n w at a found t)) × (limit_of b (Rewrite n w at a found t) ≡ Some Nodes)
   rewrite-given_up o s e d h =
       let over : most_nodes < length (with_nodes (wanted_by its_target) b.nodes) = subst {A = Option Target} (λ v. most_nodes < length (with_nodes (wanted_by v) b.nodes)) e h in
       (ap (λ (u : Sources). counted (give_up Nodes u.names b)) d ∙ rewrite-over over, rewrite-overfull over)

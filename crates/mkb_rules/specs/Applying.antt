@@ -2,7 +2,7 @@
 use Rattle.std.specs.Prelude.{◌≡◌, ◌<◌, Option, Some, None}
 use Rattle.kb_label.specs.declared.verdict.Reason.{Reason}
 use Rattle.mkb_model.specs.Plain.{Plain}
-use Rattle.mkb_model.specs.Effects.{effect, limit_of}
+use Rattle.mkb_model.specs.Effects.{acted, limit_of}
 use Rattle.mkb_model.specs.declared.proposed.Proposed.{Proposed}
 use Rattle.mkb_rules.specs.declared.applied.Applied.{Applied}
 use Rattle.mkb_rules.specs.declared.applied.Applied.TheVariants.{Done, Over}
@@ -16,6 +16,6 @@ applied_as (Some r) = Over r
 abbrev pub HasBudget : Plain → Type 0
 HasBudget b = b.commits < b.settings.budget
 
--- the new board is that after the commit of the proposal, and the answer tells the limit that it met
+-- the new board is what the commit of the proposal itself makes, before any process falls asleep or wakes, and the answer tells the limit that it met
 abbrev pub Commits : Plain → Proposed → Plain → Applied → Type 0
-Commits b x c answer = (c ≡ effect b x) × (answer ≡ applied_as (limit_of b x))
+Commits b x c answer = (c ≡ acted b x) × (answer ≡ applied_as (limit_of b x))

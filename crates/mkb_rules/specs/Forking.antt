@@ -28,6 +28,7 @@ pub record IsForkOf (b : Plain) (p : Name) (c0 c1 : Certificate) (f : Forked) : 
   pub done : plain_done f.done.items ≡ forked_done p b.done
   pub closed : f.closed ≡ relabel p b.closed
   pub over : lists_of f.over ≡ forked_over p b.over
+  pub asleep : f.asleep ≡ relabel p b.asleep
   pub certificates : plain_certificates f.certificates.items ≡ certify_in (child p true) c1 (certify_in (child p false) c0 (forked_certificates p b.certificates))
 
 -- the board with these parts
@@ -37,5 +38,6 @@ with_parts f b = record b {
   done = plain_done f.done.items;
   closed = f.closed;
   over = lists_of f.over;
+  asleep = f.asleep;
   certificates = plain_certificates f.certificates.items;
 }

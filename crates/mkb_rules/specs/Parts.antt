@@ -39,8 +39,8 @@ given_up nodes processes size depth variables steps =
     ∷ record { reason = Variables; names = variables } ∷ record { reason = Steps; names = steps } ∷ []
 
 -- the board of these parts, with no ticket in flight
-abbrev pub board_of : Problem → Settings → List Name → List PlainNode → List Done → List Fact → List Name → List GivenUp → ℕ → List Certified → Plain
-board_of problem settings living nodes done facts closed over commits certificates = record {
+abbrev pub board_of : Problem → Settings → List Name → List PlainNode → List Done → List Fact → List Name → List GivenUp → List Name → ℕ → List Certified → Plain
+board_of problem settings living nodes done facts closed over asleep commits certificates = record {
   problem = problem;
   settings = settings;
   living = living;
@@ -49,6 +49,7 @@ board_of problem settings living nodes done facts closed over commits certificat
   facts = facts;
   closed = closed;
   over = over;
+  asleep = asleep;
   commits = commits;
   flight = [];
   certificates = certificates;

@@ -7,6 +7,7 @@ mod facts;
 mod labels;
 mod nodes;
 mod opening;
+mod sleepers;
 mod state;
 
 pub use applied::Applied;

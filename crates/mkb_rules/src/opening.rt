@@ -14,6 +14,7 @@ ghost use Rattle.mkb_rules.specs.Over.{lists_of};
 use crate::facts::Facts;
 use crate::labels::only;
 use crate::nodes::Nodes;
+use crate::sleepers::Sleepers;
 use crate::state::{Certified, GivenUp, State};
 use kb_cert::search;
 use kb_label::{Labels, ListLabels, Living, NameLog, Process};
@@ -36,6 +37,7 @@ impl State {
         let log = NameLog::start(alloc)?;
         let nodes = input_nodes(alloc, &log, problem.equations())?;
         let certificates = first_certificates(alloc, problem.signature())?;
+        let asleep = Sleepers::new(alloc)?;
         Ok(State {
             problem,
             settings,
@@ -45,6 +47,7 @@ impl State {
             facts: Facts::new(alloc),
             closed: ListLabels::new(alloc),
             over: nobody(alloc),
+            asleep,
             commits: 0,
             certificates,
         })

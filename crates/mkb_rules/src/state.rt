@@ -1,6 +1,6 @@
 // The state: the board without flight and journal.
-ghost use Rattle.std.specs.Prelude.{◌≡◌, ◌<◌, ◌&&◌, [], length, Some, IsSome, MatchOption};
-ghost use Rattle.kb_label.specs.Names.{has, name_eq};
+ghost use Rattle.std.specs.Prelude.{◌≡◌, ◌<◌, ◌&&◌, [], ◌∷◌, length, Some, IsSome, MatchOption};
+ghost use Rattle.kb_label.specs.Names.{add, has, minus, name_eq};
 ghost use Rattle.kb_node.specs.declared.node.LabelKind.TheVariants.{X};
 ghost use Rattle.mkb_model.specs.Jobs.{ref_eq};
 ghost use Rattle.mkb_model.specs.Plain.{known, done_in, done_of, label, over_reason, certificate_of};
@@ -9,8 +9,9 @@ ghost use Rattle.mkb_rules.specs.Kept.{plain_done, plain_certificates, place_in}
 
 use crate::facts::Facts;
 use crate::nodes::Nodes;
+use crate::sleepers::Sleepers;
 use kb_cert::Certificate;
-use kb_label::{Labels, ListLabels, NameLog, Process, Reason};
+use kb_label::{Labels, ListLabels, MAX_LIVING, NameLog, Process, Reason};
 use kb_node::{LabelKind, NodeId, NodeTable};
 use kb_term::{Found, Problem, RuleRef};
 use mkb_model::Settings;
@@ -53,6 +54,7 @@ pub struct State {
     pub(crate) facts: Facts,
     pub(crate) closed: ListLabels,
     pub(crate) over: GivenUp,
+    pub(crate) asleep: Sleepers,
     pub(crate) commits: u32,
     pub(crate) certificates: Vec<Certified>,
 }
@@ -74,7 +76,7 @@ impl Model for State {
         (map (λ (d : DonePair). record { first = d.first; second = d.second; names = d.names }) s.done.items)
         s.facts s.closed
         (given_up s.over.nodes s.over.processes s.over.size s.over.depth s.over.variables s.over.steps)
-        s.commits
+        s.asleep s.commits
         (map (λ (c : Certified). record { name = c.name; certificate = c.certificate }) s.certificates.items) };
 }
 
@@ -151,6 +153,35 @@ impl State {
         ensures { result ≡ over_reason self.now p.now }
     {
         self.over.reason_of(&self.log, p)
+    }
+
+    /// Whether a process is asleep.
+    pub fn is_asleep(&self, p: &Process) -> bool
+        ensures { result ≡ has self.now.asleep p.now }
+    {
+        self.asleep.has(p)
+    }
+
+    /// The processes that are asleep, in their order.
+    pub fn sleepers(&self) -> &[Process]
+        ensures { result.now ≡ self.now.asleep }
+    {
+        self.asleep.as_slice()
+    }
+
+    /// A process falls asleep. It takes no memory.
+    pub fn put_to_sleep(&mut self, p: &Process)
+        requires { length self.old.asleep < MAX_LIVING }
+        ensures { self.new ≡ record self.old { asleep = add p.now self.old.asleep } }
+    {
+        self.asleep.add(p).unwrap();
+    }
+
+    /// A process wakes. It takes no memory.
+    pub fn wake(&mut self, p: &Process)
+        ensures { self.new ≡ record self.old { asleep = minus self.old.asleep (p.now ∷ []) } }
+    {
+        self.asleep.remove(p);
     }
 
     /// The order by which a process orients.

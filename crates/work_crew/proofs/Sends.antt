@@ -27,6 +27,7 @@ use Rattle.mkb_rules.proofs.facts.Facts.TheSendSync as known
 use Rattle.mkb_rules.proofs.state.Certified.TheSendSync as certified
 use Rattle.mkb_rules.proofs.state.DonePair.TheSendSync as done
 use Rattle.mkb_rules.proofs.state.GivenUp.TheSendSync as over
+use Rattle.mkb_rules.proofs.sleepers.Sleepers.TheSendSync as sleepers
 use Rattle.std.specs.contracts.alloc.Global as Global
 use Rattle.std.specs.contracts.impls.GlobalAllocator.TheImpl as heap
 use Rattle.std.proofs.vec.Vec.TheSendSync as vec
@@ -119,7 +120,7 @@ state_send = view_send StateInside.the_row _ _ _ _ (recorded_send (StateInside.t
     settings.the_field_send,
     (
       log.the_send,
-      (nodes_send, (search (sendable, crosses, done.the_send), (known.the_send, (labels.the_send, (over.the_field_send, (plain_send _ _ _ _ _, (search (sendable, crosses, certified.the_send), tt))))))),
+      (nodes_send, (search (sendable, crosses, done.the_send), (known.the_send, (labels.the_send, (over.the_field_send, (sleepers.the_send, (plain_send _ _ _ _ _, (search (sendable, crosses, certified.the_send), tt)))))))),
     ),
   ),
 )))

@@ -14,15 +14,13 @@ use crate::effects::label::{counted_up, node_count, node_label};
 use crate::effects::orienting::{certify, orient_nodes};
 use crate::labels::{copy_of, only};
 use crate::nodes::Nodes;
+use crate::sleepers::Sleepers;
 use crate::state::{Certified, DonePair, GivenUp, State, certificate_place};
 use kb_cert::Certificate;
-use kb_label::{Labels, ListLabels, Living, MAX_BITS, NameLog, Process, Reason};
+use kb_label::{Labels, ListLabels, Living, MAX_BITS, MAX_LIVING, NameLog, Process, Reason};
 use kb_node::{LabelKind, NodeId};
 use kb_term::{Memory, RuleRef};
 use std::alloc::{AllocError, Global};
-
-// The most processes that live on a board, fewer than the log of forks has room for.
-const MOST_LIVING: u32 = 256;
 
 /// Parts of a state after a fork.
 #[derive(Drop)]
@@ -31,6 +29,7 @@ pub(crate) struct Forked {
     done: Vec<DonePair>,
     closed: ListLabels,
     over: GivenUp,
+    asleep: Sleepers,
     certificates: Vec<Certified>,
 }
 
@@ -55,7 +54,7 @@ impl State {
         ensures ok { IfOk result (Commits self.old (Both p.now n cert0.now cert1.now) self.new) }
         ensures err { OnErr result (self.new ≡ self.old) }
     {
-        if self.log.living() >= MOST_LIVING {
+        if self.log.living() >= MAX_LIVING {
             let names = self.orient_names(alloc, p, n)?;
             return self.give_up(alloc, Reason::Processes, &names);
         }
@@ -74,7 +73,7 @@ impl State {
         requires budget { HasBudget self.old }
         requires lives { IsTrue (has self.old.living p.now) }
         requires there { n.0 < length self.old.nodes }
-        requires room { length self.old.living < MOST_LIVING }
+        requires room { length self.old.living < MAX_LIVING }
         ensures ok { IfOk result (Commits self.old (Both p.now n cert0.now cert1.now) self.new) }
         ensures err { OnErr result (self.new ≡ self.old) }
     {
@@ -95,12 +94,14 @@ impl State {
             done,
             closed,
             over,
+            asleep,
             certificates,
         } = parts;
         self.log = log;
         self.done = done;
         self.closed = closed;
         self.over = over;
+        self.asleep = asleep;
         self.certificates = certificates;
         self.commits = counted_up(self.commits, self.settings.budget);
     }
@@ -114,7 +115,7 @@ impl State {
         cert1: &Certificate,
     ) -> Result<Forked, Memory>
         requires lives { IsTrue (has self.now.living p.now) }
-        requires room { length self.now.living < MOST_LIVING }
+        requires room { length self.now.living < MAX_LIVING }
         ensures parts { IfOk result (IsForkOf self.now p.now cert0.now cert1.now) }
         ensures short { length p.now < MAX_BITS }
     {
@@ -123,21 +124,23 @@ impl State {
         let done = relabelled_done(alloc, &self.log, &self.done, p)?;
         let closed = relabelled(alloc, &self.log, &self.closed, p)?;
         let over = relabelled_over(alloc, &self.log, &self.over, p)?;
+        let asleep = self.asleep.forked(p)?;
         let certificates = certified_children(alloc, &self.certificates, p, cert0, cert1)?;
         Ok(Forked {
             log,
             done,
             closed,
             over,
+            asleep,
             certificates,
         })
     }
 }
 
-// A process that lives beside fewer than 255 others has fewer than 255 bits.
+// A process that lives beside fewer than 1,023 others has fewer than 1,023 bits.
 fn learn_short(log: &NameLog, p: &Process)
     requires lives { IsTrue (has log.now p.now) }
-    requires room { length log.now < MOST_LIVING }
+    requires room { length log.now < MAX_LIVING }
     ensures { length p.now < MAX_BITS }
 {
     let _few = log.living();
@@ -146,7 +149,7 @@ fn learn_short(log: &NameLog, p: &Process)
 // The log after a fork.
 fn forked_log(log: &NameLog, p: &Process) -> Result<NameLog, AllocError>
     requires lives { IsTrue (has log.now p.now) }
-    requires room { length log.now < MOST_LIVING }
+    requires room { length log.now < MAX_LIVING }
     ensures { IfOk result (λ l. l ≡ relabel p.now log.now) }
 {
     let mut copy = log.copy()?;

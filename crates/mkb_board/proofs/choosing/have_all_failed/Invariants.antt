@@ -1,6 +1,6 @@
 use Rattle.std.proofs.Common.{◌≡◌, drop}
 use Rattle.std.specs.List.{list_all}
-use Rattle.mkb_model.specs.Verdicts.{is_failed}
+use Rattle.mkb_model.specs.Sleeping.{is_failed}
 use Rattle.mkb_board.proofs.choosing.have_all_failed.Given as goal
 
 -- those so far have failed

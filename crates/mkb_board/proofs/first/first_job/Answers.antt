@@ -1,8 +1,8 @@
-use Rattle.std.proofs.Common.{◌+◌, ◌<◌, ◌≤◌, List, Option, Contains, length, drop, get_or, subst, ap, sym, ◌∙◌, arith}
+use Rattle.std.proofs.Common.{true, false, not, ◌+◌, ◌<◌, ◌≤◌, List, Option, Contains, length, drop, get_or, subst, ap, sym, ◌∙◌, arith}
 use Rattle.std.specs.Prelude.{option_map}
 use Rattle.std.proofs.lemmas.List.Elements.{Contains-get_or}
 use Rattle.kb_term.proofs.Steps.{contains_first, contains_behind}
-use Rattle.kb_label.specs.Names.{Name, IsInNameOrder}
+use Rattle.kb_label.specs.Names.{Name, has, minus, IsInNameOrder}
 use Rattle.mkb_model.specs.Jobs.{job_cmp}
 use Rattle.mkb_model.specs.Plain.{cost, weight}
 use Rattle.mkb_model.proofs.Endings.{has_in}
@@ -10,6 +10,7 @@ use Rattle.mkb_board.specs.Choosing.{jobs_of, merged}
 use Rattle.mkb_board.specs.declared.first.Choice.{Choice}
 use Rattle.mkb_board.proofs.Better.{best_next, best_of_all, before_next, ordered_from, drop_at}
 use Rattle.mkb_board.proofs.Firsts.{least_free}
+use Rattle.mkb_board.proofs.Sleepers.{filter_at}
 use Rattle.mkb_board.proofs.first.first_job.Goals as goal
 
 pub lesser_choice-requires-clause-lives : goal.lesser_choice-requires-clause-lives
@@ -29,6 +30,22 @@ lesser_choice-requires-clause-earlier c =
     let from = drop_at living c.loop-i.i p p there (c.index-living-i.is ∙ ap (λ (l : List Name). get_or l c.loop-i.i p) same) in
     c.loop-i.invariant.before p (subst {A = List Name} (λ z. Contains z p) (sym from) (contains_first p (drop (c.loop-i.i + 1) living)))
 
+pub loop-i-preserved-then-is_asleep : goal.loop-i-preserved-then-is_asleep
+loop-i-preserved-then-is_asleep c =
+    let b = c.args.state.now in
+    let p = c.index-living-i.result in
+    let left = drop (c.loop-i.i + 1) b.living in
+    let same = c.processes-living.ensures ∙ c.log.ensures in
+    let there : c.loop-i.i < length b.living = omega (arith, c.loop-i-test.true, ap length same) in
+    let is = c.index-living-i.is ∙ ap (λ (l : List Name). get_or l c.loop-i.i p) same in
+    let from = drop_at b.living c.loop-i.i p p there is in
+    let up = filter_at (λ q. not (has b.asleep q)) b.living c.loop-i.i p false there is (ap not (sym c.is_asleep.ensures ∙ c.if-is_asleep.true)) in
+    record {
+      least = sym (ap (λ (ps : List Name). merged (job_cmp (cost b) (weight b)) (option_map (λ (k : Choice). k.job) c.loop-i.best) (least_free b (jobs_of c.args.flight.now) ps)) up) ∙ c.loop-i.invariant.least;
+      costed = c.loop-i.invariant.costed;
+      before = λ q k. c.loop-i.invariant.before q (subst {A = List Name} (λ z. Contains z q) (sym from) (contains_behind p left q k));
+    }
+
 pub loop-i-preserved : goal.loop-i-preserved
 loop-i-preserved c =
     let b = c.args.state.now in
@@ -37,12 +54,14 @@ loop-i-preserved c =
     let left = drop (c.loop-i.i + 1) b.living in
     let same = c.processes-living.ensures ∙ c.log.ensures in
     let there : c.loop-i.i < length b.living = omega (arith, c.loop-i-test.true, ap length same) in
-    let from = drop_at b.living c.loop-i.i p p there (c.index-living-i.is ∙ ap (λ (l : List Name). get_or l c.loop-i.i p) same) in
+    let is = c.index-living-i.is ∙ ap (λ (l : List Name). get_or l c.loop-i.i p) same in
+    let from = drop_at b.living c.loop-i.i p p there is in
+    let up = filter_at (λ q. not (has b.asleep q)) b.living c.loop-i.i p true there is (ap not (sym c.is_asleep.ensures ∙ c.if-is_asleep.false)) in
     let job_in = λ (o : Option Choice). option_map (λ (k : Choice). k.job) o in
     record {
       least =
-          sym (best_next b flight p left (job_in c.loop-i.best) (job_in c.in_ok-best.best) c.in_ok-best.ensures.least)
-          ∙ sym (ap (λ (ps : List Name). merged (job_cmp (cost b) (weight b)) (job_in c.loop-i.best) (least_free b flight ps)) from)
+          sym (best_next b flight p (minus left b.asleep) (job_in c.loop-i.best) (job_in c.in_ok-best.best) c.in_ok-best.ensures.least)
+          ∙ sym (ap (λ (ps : List Name). merged (job_cmp (cost b) (weight b)) (job_in c.loop-i.best) (least_free b flight ps)) up)
           ∙ c.loop-i.invariant.least;
       costed = c.in_ok-best.ensures.costed;
       before = before_next c.loop-i.best c.in_ok-best.best p left (subst {A = List Name} IsInNameOrder from (ordered_from c.loop-i.i b.living c.requires.in_order))

@@ -1,3 +1,7 @@
+use Rattle.kb_label.specs.Names.{IsInNameOrder}
+use Rattle.mkb_model.specs.Limits.{AreLimited}
+use Rattle.mkb_model.specs.Invariants.{IsLabel}
+use Rattle.mkb_model.specs.Sleeping.{settle}
 use Rattle.std.proofs.Common.{ℕ, ◌≡◌, ◌∙◌, ◌++◌, ◌∷◌, [], List, arith, subst, ap, ap₂, refl, sym, vec_len, not, ◌==◌, filter, Contains, None}
 use Rattle.std.specs.Prelude.{IsFalse}
 use Rattle.mkb_model.specs.Plain.{Plain}
@@ -13,8 +17,8 @@ use Rattle.mkb_board.specs.Boards.{Seen, seen}
 use Rattle.mkb_board.specs.Takes.{IsProposalOf, IsFinishedBy}
 use Rattle.mkb_board.specs.declared.answers.Finished.TheVariants.{Committed}
 use Rattle.mkb_board.proofs.Growing.{after_push, owed_less, owed_fewer}
-use Rattle.mkb_board.proofs.Ends.{commit_board, effect_flying, entry_flying, limit_flying}
-use Rattle.mkb_board.proofs.Ready.{state_applicable, state_budget}
+use Rattle.mkb_board.proofs.Ends.{commit_board, effect_flying, entry_flying, limit_flying, lands}
+use Rattle.mkb_board.proofs.Ready.{state_applicable, state_budget, acted_labels, acted_limited}
 use Rattle.mkb_board.proofs.board.Board.commit.Goals as goal
 
 pub apply-requires-clause-budget : goal.apply-requires-clause-budget
@@ -32,10 +36,33 @@ apply-requires-clause-applicable c =
     (subst {A = Seen} (λ z. IsProposalOf z c.args.ticket c.args.proposal) (sym c.self.view_is) c.requires.proposed)
     (subst {A = Seen} (λ z. IsFalse (is_dropped z.plain c.args.proposal)) (sym c.self.view_is) c.requires.acts)
 
--- the new board, where the state is that after the effect
-lands : (state new : Plain) (flight fewer : List Ticket) (x : Proposed) (n : ℕ) → new ≡ effect state x → fewer ≡ filter (λ (t : Ticket). not (t.number == n)) flight → record new { flight = fewer } ≡ landed n (effect (record state { flight = flight }) x)
-lands state new flight fewer x n e f =
-    ap₂ (λ (z : Plain) (ts : List Ticket). record z { flight = ts }) e f ∙ sym (ap (landed n) (effect_flying state flight x))
+pub settle-requires-clause-limited : goal.settle-requires-clause-limited
+settle-requires-clause-limited c =
+    subst {A = Plain} (λ z. AreLimited z.problem.signature z.nodes) (sym c.in-Ok.ensures.ok.0)
+    (acted_limited c.self.inside.state c.self.inside.flight.items c.self.inside.journal.items c.args.ticket c.args.proposal c.self.invariant.0.legal
+    (subst {A = Seen} (λ z. verdict z.plain ≡ None) (sym c.self.view_is) c.requires.no_verdict)
+    (subst {A = Seen} (λ z. Contains z.plain.flight c.args.ticket) (sym c.self.view_is) c.requires.flying)
+    (subst {A = Seen} (λ z. IsProposalOf z c.args.ticket c.args.proposal) (sym c.self.view_is) c.requires.proposed)
+    (subst {A = Seen} (λ z. IsFalse (is_dropped z.plain c.args.proposal)) (sym c.self.view_is) c.requires.acts))
+
+pub settle-requires-clause-in_order : goal.settle-requires-clause-in_order
+settle-requires-clause-in_order c =
+    subst {A = Plain} (λ z. IsInNameOrder z.living) (sym c.in-Ok.ensures.ok.0)
+    (acted_labels c.self.inside.state c.self.inside.flight.items c.self.inside.journal.items c.args.ticket c.args.proposal c.self.invariant.0.legal
+    (subst {A = Seen} (λ z. verdict z.plain ≡ None) (sym c.self.view_is) c.requires.no_verdict)
+    (subst {A = Seen} (λ z. Contains z.plain.flight c.args.ticket) (sym c.self.view_is) c.requires.flying)
+    (subst {A = Seen} (λ z. IsProposalOf z c.args.ticket c.args.proposal) (sym c.self.view_is) c.requires.proposed)
+    (subst {A = Seen} (λ z. IsFalse (is_dropped z.plain c.args.proposal)) (sym c.self.view_is) c.requires.acts)).alive
+
+pub settle-requires-clause-sleepers : goal.settle-requires-clause-sleepers
+settle-requires-clause-sleepers c =
+    let k =
+    (acted_labels c.self.inside.state c.self.inside.flight.items c.self.inside.journal.items c.args.ticket c.args.proposal c.self.invariant.0.legal
+    (subst {A = Seen} (λ z. verdict z.plain ≡ None) (sym c.self.view_is) c.requires.no_verdict)
+    (subst {A = Seen} (λ z. Contains z.plain.flight c.args.ticket) (sym c.self.view_is) c.requires.flying)
+    (subst {A = Seen} (λ z. IsProposalOf z c.args.ticket c.args.proposal) (sym c.self.view_is) c.requires.proposed)
+    (subst {A = Seen} (λ z. IsFalse (is_dropped z.plain c.args.proposal)) (sym c.self.view_is) c.requires.acts)).asleep in
+    subst {A = Plain} (λ z. IsLabel z z.asleep) (sym c.in-Ok.ensures.ok.0) (record { ordered = k.ordered; living = k.lives })
 
 pub invariant_of-self-2 : goal.invariant_of-self-2
 invariant_of-self-2 c =
@@ -49,8 +76,8 @@ invariant_of-self-2 c =
     let len = after_push c.push.result _ _ _ ok c.push.ensures.len in
     let effects : c.effect_of.result ≡ effect_entry (record c.self.inside.state { flight = c.self.inside.flight.items }) c.args.proposal = c.effect_of.ensures (limit_of c.self.inside.state c.args.proposal) c.in-Ok.ensures.ok.1 ∙ sym (entry_flying c.self.inside.state c.self.inside.flight.items c.args.proposal) in
     let entry = items ∙ ap (λ (z : Effect). c.self.inside.journal.items ++ Commit c.args.ticket.worker c.args.ticket.number z ∷ []) effects in (
-      commit_board c.self.inside.state c.apply.new.self c.self.inside.flight.items c.land.new.flight.items c.self.inside.journal.items c.push.new.self.items c.self.inside.taken c.self.inside.dropped c.self.inside.halted c.args.ticket c.args.proposal c.self.invariant.0 none flying proposal acts
-          (lands c.self.inside.state c.apply.new.self c.self.inside.flight.items c.land.new.flight.items c.args.proposal c.args.ticket.number c.in-Ok.ensures.ok.0 c.land.ensures.items) entry,
+      commit_board c.self.inside.state c.settle.new.state c.self.inside.flight.items c.land.new.flight.items c.self.inside.journal.items c.push.new.self.items c.self.inside.taken c.self.inside.dropped c.self.inside.halted c.args.ticket c.args.proposal c.self.invariant.0 none flying proposal acts
+          (lands c.self.inside.state c.settle.new.state c.self.inside.flight.items c.land.new.flight.items c.args.proposal c.args.ticket.number (c.settle.ensures ∙ ap settle c.in-Ok.ensures.ok.0) c.land.ensures.items) entry,
       omega (arith, c.push.ensures.capacity, len, c.self.invariant.1, owed_fewer (vec_len c.land.new.flight) (vec_len c.self.inside.flight) c.self.inside.halted fewer),
       c.verdict-self-inside.ensures,
     )
@@ -63,10 +90,10 @@ returns-clause-ok c =
     let items = after_push c.push.result _ _ _ ok c.push.ensures.items in
     let b : Plain = record c.self.inside.state { flight = c.self.inside.flight.items } in
     let effects : c.effect_of.result ≡ effect_entry b c.args.proposal = c.effect_of.ensures (limit_of c.self.inside.state c.args.proposal) c.in-Ok.ensures.ok.1 ∙ sym (entry_flying c.self.inside.state c.self.inside.flight.items c.args.proposal) in
-    subst {A = Seen} (λ z. IsFinishedBy z (seen c.apply.new.self c.land.new.flight.items c.push.new.self.items) c.args.ticket c.args.proposal (Committed c.in-Ok.applied)) c.self.view_is (
+    subst {A = Seen} (λ z. IsFinishedBy z (seen c.settle.new.state c.land.new.flight.items c.push.new.self.items) c.args.ticket c.args.proposal (Committed c.in-Ok.applied)) c.self.view_is (
       subst {A = Seen} (λ z. verdict z.plain ≡ None) (sym c.self.view_is) c.requires.no_verdict,
       subst {A = Seen} (λ z. IsFalse (is_dropped z.plain c.args.proposal)) (sym c.self.view_is) c.requires.acts,
       c.in-Ok.ensures.ok.1 ∙ ap applied_as (sym (limit_flying c.self.inside.state c.self.inside.flight.items c.args.proposal)),
-      lands c.self.inside.state c.apply.new.self c.self.inside.flight.items c.land.new.flight.items c.args.proposal c.args.ticket.number c.in-Ok.ensures.ok.0 c.land.ensures.items,
+      lands c.self.inside.state c.settle.new.state c.self.inside.flight.items c.land.new.flight.items c.args.proposal c.args.ticket.number (c.settle.ensures ∙ ap settle c.in-Ok.ensures.ok.0) c.land.ensures.items,
       items ∙ ap (λ (z : Effect). c.self.inside.journal.items ++ Commit c.args.ticket.worker c.args.ticket.number z ∷ []) effects,
     )

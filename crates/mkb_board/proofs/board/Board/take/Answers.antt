@@ -5,7 +5,7 @@ use Rattle.mkb_model.specs.Verdicts.{verdict}
 use Rattle.mkb_model.specs.declared.entry.Ticket.{Ticket}
 use Rattle.mkb_model.proofs.Stated.{none_first}
 use Rattle.mkb_board.specs.Boards.{Seen, has_halt}
-use Rattle.mkb_board.proofs.Readable.{limited_on, ordered_on}
+use Rattle.mkb_board.proofs.Readable.{limited_on, ordered_on, waits_on}
 use Rattle.mkb_board.proofs.board.Board.take.Goals as goal
 
 pub returns-in-Some-clause-ok : goal.returns-in-Some-clause-ok
@@ -44,7 +44,7 @@ returns-in-None-clause-ok c =
       subst {A = Seen} (λ z. IsFalse (has_halt z.journal)) c.self.view_is (sym c.self.invariant.0.halted_is ∙ c.if-self.false),
       subst {A = Seen} (λ z. first_job z.plain ≡ None) c.self.view_is first,
       subst {A = Seen} (λ z. c.len.result ≡ length z.plain.flight) c.self.view_is count,
-      some_left c.self.inside.flight.items c.len.result count (none_first (record c.self.inside.state { flight = c.self.inside.flight.items }) none first),
+      some_left c.self.inside.flight.items c.len.result count (none_first (record c.self.inside.state { flight = c.self.inside.flight.items }) (waits_on c.self.inside.state c.self.inside.flight.items c.self.inside.journal.items c.self.invariant.0.legal) none first),
     )
   where
     some_left : (ts : List Ticket) (n : ℕ) → n ≡ length ts → ts ≢ [] → 0 < n

@@ -1,0 +1,213 @@
+-- Processes that fall asleep or wake, one after another.
+use Rattle.std.proofs.Common.{ℕ, zero, suc, ◌+◌, ◌-◌, ◌≤◌, ◌<◌, ◌≡◌, refl, sym, ap, ◌∙◌, subst, arith, List, [], ◌∷◌, filter, drop, length, get_or, Bool, true, false, cond, not, ◌&&◌, ◌||◌, Option, Some, None}
+use Rattle.std.specs.Prelude.{IfSome, option_map}
+use Rattle.std.specs.Fn.{iterate}
+use Rattle.std.specs.Option.{option_map_or}
+use Rattle.std.specs.Cmp.{IsTotalOrder}
+use Rattle.std.specs.Ordering.{ordering_then, is_le, nat_cmp}
+use Rattle.std.specs.declared.cmp.Ordering.{Ordering}
+use Rattle.std.proofs.lemmas.Cmp.{alike_right, on_total, then_total, nat_cmp_total}
+use Rattle.kb_label.specs.Names.{Name, name_cmp, name_eq, has, add, minus, IsInNameOrder}
+use Rattle.kb_label.specs.NameOrder.{name_cmp-total}
+use Rattle.kb_label.proofs.Members.{name_eq-eq, name_eq-refl, has-minus}
+use Rattle.kb_label.proofs.Ordered.{rest, before-absent, ordered-add, ordered-filter, length-add, length-without}
+use Rattle.mkb_model.specs.Jobs.{least, greatest}
+use Rattle.mkb_model.specs.Limits.{AreLimited}
+use Rattle.mkb_model.specs.Plain.{Plain, cost}
+use Rattle.mkb_model.specs.Invariants.{IsLabel, SleepersWait}
+use Rattle.mkb_model.specs.Sleeping.{is_active, most_awake, process_cmp, rested, settle, settled, waiting, with_one_asleep, with_one_awake, working}
+use Rattle.mkb_model.proofs.Lists.{and_both, and_left, and_right, clash, not_true, or_left, or_right, some_is}
+use Rattle.mkb_model.proofs.Labels.{IsLabelOf, label-add}
+use Rattle.mkb_model.proofs.Sleepers.{in_working, label_asleep, label_awake, label_rested, settled_same, working_few}
+use Rattle.mkb_board.specs.Choosing.{costed_cmp, merged}
+use Rattle.mkb_board.specs.declared.settling.Costed.{Costed}
+use Rattle.mkb_board.proofs.Asleep.{asleep_at, awake_at}
+use Rattle.mkb_board.proofs.Better.{drop_at}
+use Rattle.mkb_board.proofs.Firsts.{filter_both}
+use Rattle.mkb_board.proofs.Least.{merged_both}
+
+-- ---- how many names a label has
+
+-- of two labels the one that names no more is no longer
+pub label_short : (l m : List Name) → IsInNameOrder l → IsInNameOrder m → ((q : Name) → has l q ≡ true → has m q ≡ true) → length l ≤ length m
+label_short [] m o w h = omega arith
+label_short (p ∷ l) m o w h =
+    let one = length-without p m w (h p (or_left (name_eq p p) (has l p) (name_eq-refl p))) in
+    let fewer =
+    label_short l (minus m (p ∷ [])) (rest p l o) (ordered-filter (λ q. not (has (p ∷ []) q)) m w)
+    (λ q k. has-minus m (p ∷ []) q ∙ and_both (not (name_eq q p || false)) (has m q) (differs q k (name_eq q p) refl) (h q (or_right (name_eq q p) (has l q) k))) in
+    omega (arith, one, fewer)
+  where
+    differs : (q : Name) → has l q ≡ true → (x : Bool) → name_eq q p ≡ x → not (x || false) ≡ true
+    differs q k false e = refl
+    differs q k true e = clash (subst {A = Name} (λ z. has l z ≡ true) (name_eq-eq q p e) k) (before-absent p l o)
+
+-- no more sleep than live
+pub sleepers_few : (b : Plain) → IsInNameOrder b.living → IsLabel b b.asleep → length b.asleep ≤ length b.living
+sleepers_few b alive h = label_short b.asleep b.living h.ordered alive h.living
+
+-- beside a process that works fewer sleep than live
+pub room_to_sleep : (b : Plain) (p : Name) → IsInNameOrder b.living → IsLabel b b.asleep → has (working b b.asleep) p ≡ true → length b.asleep < length b.living
+room_to_sleep b p alive h works =
+    let w = and_right (is_active b p) (not (has b.asleep p) && has b.living p) (sym (in_working b b.asleep p) ∙ works) in
+    let l = label-add b.living p b.asleep (and_right (not (has b.asleep p)) (has b.living p) w) (record { ordered = h.ordered; lives = h.living }) in
+    let one = length-add p b.asleep (not_true (and_left (not (has b.asleep p)) (has b.living p) w)) in
+    let few = label_short (add p b.asleep) b.living l.ordered alive l.lives in
+    omega (arith, one, few)
+
+-- ---- boards that differ in who sleeps alone
+
+abbrev pub DiffersInSleepers : Plain → Plain → Type 0
+DiffersInSleepers b s = s ≡ record b { asleep = s.asleep }
+
+pub same_limits : (b s : Plain) → DiffersInSleepers b s → AreLimited b.problem.signature b.nodes → AreLimited s.problem.signature s.nodes
+same_limits b s e h = subst {A = Plain} (λ z. AreLimited z.problem.signature z.nodes) (sym e) h
+
+pub same_order : (b s : Plain) → DiffersInSleepers b s → IsInNameOrder b.living → IsInNameOrder s.living
+same_order b s e h = subst {A = Plain} (λ z. IsInNameOrder z.living) (sym e) h
+
+pub same_label : (b s : Plain) → DiffersInSleepers b s → IsLabel b s.asleep → IsLabel s s.asleep
+same_label b s e h = subst {A = Plain} (λ z. IsLabel z s.asleep) (sym e) (record { ordered = h.ordered; living = h.living })
+
+pub with_sleepers : (b s t : Plain) (a : List Name) → DiffersInSleepers b s → t ≡ record s { asleep = a } → DiffersInSleepers b t
+with_sleepers b s t a e f = f ∙ ap (λ (z : Plain). record z { asleep = a }) e ∙ sym (ap (λ l. record b { asleep = l }) (ap (λ (z : Plain). z.asleep) f))
+
+pub asleep_same : (b s : Plain) → DiffersInSleepers b s → with_one_asleep s s.asleep ≡ with_one_asleep b s.asleep
+asleep_same b s e = ap (λ (z : Plain). with_one_asleep z s.asleep) e ∙ asleep_at b s.asleep s.asleep
+
+pub awake_same : (b s : Plain) → DiffersInSleepers b s → with_one_awake s s.asleep ≡ with_one_awake b s.asleep
+awake_same b s e = ap (λ (z : Plain). with_one_awake z s.asleep) e ∙ awake_at b s.asleep s.asleep
+
+pub label_rests : (b : Plain) (l : List Name) → IsInNameOrder b.living → IsLabel b l → IsLabel b (with_one_asleep b l)
+label_rests b l alive h = let k = label_asleep b alive l (record { ordered = h.ordered; lives = h.living }) in record { ordered = k.ordered; living = k.lives }
+
+pub label_wakes : (b : Plain) (l : List Name) → IsInNameOrder b.living → IsLabel b l → IsLabel b (with_one_awake b l)
+label_wakes b l alive h = let k = label_awake b alive l (record { ordered = h.ordered; lives = h.living }) in record { ordered = k.ordered; living = k.lives }
+
+-- ---- one after another
+
+pub one_less : (f : List Name → List Name) (n i : ℕ) (l : List Name) → i < n → iterate f (n - i) l ≡ iterate f (n - (i + 1)) (f l)
+one_less f n i l h = let e : n - i ≡ suc (n - (i + 1)) = omega (arith, h) in ap (λ k. iterate f k l) e
+
+pub none_left : (f : List Name → List Name) (n i : ℕ) (l : List Name) → n ≤ i → iterate f (n - i) l ≡ l
+none_left f n i l h = let e : n - i ≡ 0 = omega (arith, h) in ap (λ k. iterate f k l) e
+
+pub iterate_fixed : (f : List Name → List Name) (n : ℕ) (l : List Name) → f l ≡ l → iterate f n l ≡ l
+iterate_fixed f zero l e = refl
+iterate_fixed f (suc n) l e = ap (iterate f n) e ∙ iterate_fixed f n l e
+
+-- where none waits, none wakes
+pub none_wakes : (b : Plain) (l : List Name) → waiting b l ≡ [] → with_one_awake b l ≡ l
+none_wakes b l h = ap (λ w. option_map_or (λ p. minus l (p ∷ [])) (least (process_cmp b) w) l) h
+
+pub none_waits : (b s : Plain) → DiffersInSleepers b s → waiting s s.asleep ≡ [] → waiting b s.asleep ≡ []
+none_waits b s e h = subst {A = Plain} (λ z. waiting z s.asleep ≡ []) e h
+
+-- ---- the whole
+
+-- where at most 64 live and none sleeps nothing changes
+pub settles_at_once : (b : Plain) → length b.living ≤ most_awake → b.asleep ≡ [] → b ≡ settle b
+settles_at_once b few none = sym (ap (λ l. record b { asleep = l }) (settled_same b waits))
+  where
+    waits : SleepersWait b
+    waits = record { few = let h = working_few b b.asleep in omega (arith, h, few); none_waits = λ l p s. clash (sym (ap (λ l. has l p) none) ∙ s) refl }
+
+pub settles : (b s t : Plain) → s ≡ record b { asleep = rested b } → t ≡ record s { asleep = iterate (with_one_awake s) (most_awake - length (working s s.asleep)) s.asleep } → t ≡ settle b
+settles b s t e f =
+    f ∙ ap (λ (z : Plain). record z { asleep = iterate (with_one_awake z) (most_awake - length (working z z.asleep)) z.asleep }) e
+    ∙ (λ i. record b { asleep = iterate (λ l. awake_at b (rested b) l i) (most_awake - length (working b (rested b))) (rested b) })
+
+pub differs_rested : (b s : Plain) → s ≡ record b { asleep = rested b } → DiffersInSleepers b s
+differs_rested b s e = e ∙ sym (ap (λ l. record b { asleep = l }) (ap (λ (z : Plain). z.asleep) e))
+
+pub rested_label : (b s : Plain) → s ≡ record b { asleep = rested b } → IsInNameOrder b.living → IsLabel b b.asleep → IsLabel s s.asleep
+rested_label b s e alive h =
+    let k = label_rested b alive (record { ordered = h.ordered; lives = h.living }) in
+    subst {A = Plain} (λ z. IsLabel z z.asleep) (sym e) (record { ordered = k.ordered; living = k.lives })
+
+-- ---- the processes one after another
+
+-- the process is active and awake
+abbrev pub works : Plain → Name → Bool
+works b p = not (has b.asleep p) && is_active b p
+
+pub working_as : (b : Plain) → working b b.asleep ≡ filter (works b) b.living
+working_as b = filter_both (is_active b) (λ p. not (has b.asleep p)) b.living
+
+pub filter_at : (t : Name → Bool) (l : List Name) (n : ℕ) (p : Name) (x : Bool) → n < length l → p ≡ get_or l n p → t p ≡ x → filter t (drop n l) ≡ cond x (p ∷ filter t (drop (n + 1) l)) (filter t (drop (n + 1) l))
+filter_at t l n p x h e k = ap (filter t) (drop_at l n p p h e) ∙ ap (λ y. cond y (p ∷ filter t (drop (n + 1) l)) (filter t (drop (n + 1) l))) k
+
+-- ---- the least and the greatest
+
+pub process_cmp-total : (b : Plain) → IsTotalOrder (process_cmp b)
+process_cmp-total b = then_total (on_total (cost b) nat_cmp_total) name_cmp-total
+
+-- the order turned round
+abbrev pub turned_cmp : Plain → Name → Name → Ordering
+turned_cmp b p q = process_cmp b q p
+
+pub turned_cmp-total : (b : Plain) → IsTotalOrder (turned_cmp b)
+turned_cmp-total b =
+    let o = process_cmp-total b in
+    record {
+      antisymm = λ p q. o.antisymm q p;
+      trans = λ p q r h k. o.trans r q p k h;
+      congr = λ p q r h. sym (alike_right o q p r h);
+    }
+
+-- the cost that is kept beside the process is its own
+abbrev pub IsPriced : Plain → Costed → Type 0
+IsPriced b c = c.cost ≡ cost b c.process
+
+abbrev pub process_in : Option Costed → Option Name
+process_in o = option_map (λ (c : Costed). c.process) o
+
+-- the best so far and those left that pass the test give the same after one more
+pub record IsStep (b : Plain) (R : Name → Name → Ordering) (t : Name → Bool) (l : List Name) (n : ℕ) (best new : Option Costed) : Type 0 where
+  pub pick : merged R (process_in new) (least R (filter t (drop (n + 1) l))) ≡ merged R (process_in best) (least R (filter t (drop n l)))
+  pub priced : IfSome new (IsPriced b)
+
+pub passed : (b : Plain) (R : Name → Name → Ordering) (t : Name → Bool) (l : List Name) (n : ℕ) (p : Name) → n < length l → p ≡ get_or l n p → t p ≡ false → (best new : Option Costed) → IfSome best (IsPriced b) → new ≡ best → IsStep b R t l n best new
+passed b R t l n p there is fails best new priced same = subst {A = Option Costed} (IsStep b R t l n best) (sym same) (record {
+  pick = sym (ap (λ (ps : List Name). merged R (process_in best) (least R ps)) (filter_at t l n p false there is fails));
+  priced = priced;
+})
+
+module _ (b : Plain) (order : Costed → Costed → Ordering) (R : Name → Name → Ordering) (agrees : (c d : Costed) → IsPriced b c → IsPriced b d → order c d ≡ R c.process d.process) where
+  -- the better of the best so far and the next one
+  better : (best : Option Costed) (next r : Costed) → IfSome best (IsPriced b) → IsPriced b next → Some r ≡ merged order best (Some next)
+      → (Some r.process ≡ merged R (process_in best) (Some next.process)) × IsPriced b r
+  better None next r k h e = (ap process_in e, subst {A = Costed} (IsPriced b) (sym (some_is e)) h)
+  better (Some c) next r k h e = go (is_le (order c next)) refl
+    where
+      by : (x : Bool) → Some r ≡ Some (cond x c next) → is_le (R c.process next.process) ≡ x → (Some r.process ≡ merged R (Some c.process) (Some next.process)) × IsPriced b r
+      by true f g = (ap process_in f ∙ sym (ap (λ y. Some (cond y c.process next.process)) g), subst {A = Costed} (IsPriced b) (sym (some_is f)) k)
+      by false f g = (ap process_in f ∙ sym (ap (λ y. Some (cond y c.process next.process)) g), subst {A = Costed} (IsPriced b) (sym (some_is f)) h)
+
+      go : (x : Bool) → is_le (order c next) ≡ x → (Some r.process ≡ merged R (Some c.process) (Some next.process)) × IsPriced b r
+      go x f = by x (e ∙ ap (λ y. Some (cond y c next)) f) (sym (ap is_le (agrees c next k h)) ∙ f)
+
+  taken : IsTotalOrder R → (t : Name → Bool) (l : List Name) (n : ℕ) (p : Name) → n < length l → p ≡ get_or l n p → t p ≡ true → (best new : Option Costed) (next r : Costed) → IfSome best (IsPriced b)
+      → next ≡ record { cost = cost b p; process = p } → Some r ≡ merged order best (Some next) → new ≡ Some r → IsStep b R t l n best new
+  taken o t l n p there is passes best new next r priced costs e same =
+      let left = filter t (drop (n + 1) l) in
+      let m = better best next r priced (subst {A = Costed} (IsPriced b) (sym costs) refl) e in
+      subst {A = Option Costed} (IsStep b R t l n best) (sym same) (record {
+        pick =
+            ap (λ z. merged R z (least R left)) m.0
+            ∙ merged_both R o (process_in best) (Some next.process) (least R left)
+            ∙ ap (λ (z : Costed). merged R (process_in best) (least R (z.process ∷ left))) costs
+            ∙ sym (ap (λ (ps : List Name). merged R (process_in best) (least R ps)) (filter_at t l n p true there is passes));
+        priced = m.1;
+      })
+
+pub costed_agrees : (b : Plain) (c d : Costed) → IsPriced b c → IsPriced b d → costed_cmp c d ≡ process_cmp b c.process d.process
+costed_agrees b c d h k = ap (λ n. ordering_then (nat_cmp n d.cost) (name_cmp c.process d.process)) h ∙ ap (λ n. ordering_then (nat_cmp (cost b c.process) n) (name_cmp c.process d.process)) k
+
+pub lesser_taken : (b : Plain) (t : Name → Bool) (l : List Name) (n : ℕ) (p : Name) → n < length l → p ≡ get_or l n p → t p ≡ true → (best new : Option Costed) (next r : Costed) → IfSome best (IsPriced b)
+    → next ≡ record { cost = cost b p; process = p } → Some r ≡ merged costed_cmp best (Some next) → new ≡ Some r → IsStep b (process_cmp b) t l n best new
+lesser_taken b = taken b costed_cmp (process_cmp b) (costed_agrees b) (process_cmp-total b)
+
+pub greater_taken : (b : Plain) (t : Name → Bool) (l : List Name) (n : ℕ) (p : Name) → n < length l → p ≡ get_or l n p → t p ≡ true → (best new : Option Costed) (next r : Costed) → IfSome best (IsPriced b)
+    → next ≡ record { cost = cost b p; process = p } → Some r ≡ merged (λ c d. costed_cmp d c) best (Some next) → new ≡ Some r → IsStep b (turned_cmp b) t l n best new
+greater_taken b = taken b (λ c d. costed_cmp d c) (turned_cmp b) (λ c d h k. costed_agrees b d c k h) (turned_cmp-total b)

@@ -1,0 +1,14 @@
+use Rattle.std.proofs.Common.{◌-◌, ◌≡◌}
+use Rattle.std.specs.Fn.{iterate}
+use Rattle.mkb_model.specs.Invariants.{IsLabel}
+use Rattle.mkb_model.specs.Sleeping.{rested, with_one_asleep}
+use Rattle.mkb_board.proofs.Sleepers.{DiffersInSleepers}
+use Rattle.mkb_board.proofs.settling.rest.Given as goal
+
+-- who sleeps is a label, and with those that are still to fall asleep it is who sleeps in the end
+abbrev pub invariant-loop : goal.invariant-loop
+invariant-loop l = record {
+  differs : DiffersInSleepers l.fn.state l.state;
+  label : IsLabel l.fn.state l.state.asleep;
+  left : iterate (with_one_asleep l.fn.state) (l.count - l.counter) l.state.asleep ≡ rested l.fn.state;
+}

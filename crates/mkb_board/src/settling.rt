@@ -1,0 +1,219 @@
+// Which processes fall asleep, and which wake, after a commit.
+ghost use Rattle.std.specs.Prelude.{◌≡◌, ◌-◌, ◌&&◌, [], false, not, length, option_map, Some, IsTrue};
+ghost use Rattle.std.specs.Fn.{iterate};
+ghost use Rattle.std.specs.Ordering.{is_le};
+ghost use Rattle.kb_label.specs.Names.{has, IsInNameOrder};
+ghost use Rattle.mkb_model.specs.Jobs.{greatest, least};
+ghost use Rattle.mkb_model.specs.Limits.{AreLimited};
+ghost use Rattle.mkb_model.specs.Plain.{cost};
+ghost use Rattle.mkb_model.specs.Invariants.{IsLabel};
+ghost use Rattle.mkb_model.specs.Sleeping.{is_active, most_awake, process_cmp, rested, settle, waiting, with_one_asleep, with_one_awake, working};
+ghost use Rattle.mkb_board.specs.Choosing.{costed_cmp, merged};
+ghost use Rattle.mkb_board.specs.declared.settling.Costed.{Costed};
+
+use crate::choosing::is_active;
+use crate::cost::cost;
+use kb_label::{Living, Process};
+use mkb_rules::State;
+
+// The most processes that are active and awake.
+const MOST_AWAKE: usize = 64;
+
+// A process with its cost.
+#[derive(Clone, Copy)]
+struct Costed {
+    cost: u32,
+    process: Process,
+}
+
+/// While more than 64 processes are active and awake the one that costs most falls asleep; then, while fewer are, the active
+/// sleeper that costs least wakes. It takes no memory.
+///
+/// Where at most 64 processes live and none sleeps nothing is to be done.
+pub(crate) fn settle(state: &mut State)
+    requires limited { AreLimited state.old.problem.signature state.old.nodes }
+    requires in_order { IsInNameOrder state.old.living }
+    requires sleepers { IsLabel state.old state.old.asleep }
+    ensures { state.new ≡ settle state.old }
+{
+    if state.log().processes().len() <= MOST_AWAKE && state.sleepers().is_empty() {
+        return;
+    }
+    rest(state);
+    wake(state);
+}
+
+// The working process that costs most falls asleep, until at most 64 work.
+fn rest(state: &mut State)
+    requires limited { AreLimited state.old.problem.signature state.old.nodes }
+    requires in_order { IsInNameOrder state.old.living }
+    requires sleepers { IsLabel state.old state.old.asleep }
+    ensures { state.new ≡ record state.old { asleep = rested state.old } }
+{
+    let count = working(state);
+    for _ in MOST_AWAKE..count {
+        rest_one(state);
+    }
+}
+
+// The working process that costs most falls asleep, if there is one.
+fn rest_one(state: &mut State)
+    requires limited { AreLimited state.old.problem.signature state.old.nodes }
+    requires in_order { IsInNameOrder state.old.living }
+    requires sleepers { IsLabel state.old state.old.asleep }
+    ensures { state.new ≡ record state.old { asleep = with_one_asleep state.old state.old.asleep } }
+{
+    let _few = state.log().living();
+    if let Some(process) = greatest_working(state) {
+        state.put_to_sleep(&process);
+    }
+}
+
+// The waiting process that costs least wakes, while fewer than 64 work.
+fn wake(state: &mut State)
+    requires limited { AreLimited state.old.problem.signature state.old.nodes }
+    requires in_order { IsInNameOrder state.old.living }
+    requires sleepers { IsLabel state.old state.old.asleep }
+    ensures { state.new ≡ record state.old { asleep = iterate (with_one_awake state.old) (most_awake - length (working state.old state.old.asleep)) state.old.asleep } }
+{
+    let count = working(state);
+    for _ in count..MOST_AWAKE {
+        if !wake_one(state) {
+            return;
+        }
+    }
+}
+
+// The waiting process that costs least wakes, if there is one; whether there is.
+fn wake_one(state: &mut State) -> bool
+    requires limited { AreLimited state.old.problem.signature state.old.nodes }
+    requires sleepers { IsLabel state.old state.old.asleep }
+    ensures state { state.new ≡ record state.old { asleep = with_one_awake state.old state.old.asleep } }
+    ensures none { result ≡ false → waiting state.old state.old.asleep ≡ [] }
+{
+    match least_waiting(state) {
+        Some(process) => {
+            state.wake(&process);
+            true
+        }
+        None => false,
+    }
+}
+
+// How many processes are active and awake.
+fn working(state: &State) -> usize
+    ensures { result ≡ length (working state.now state.now.asleep) }
+{
+    let living = state.log().processes();
+    let mut count = 0;
+    for i in 0..living.len() {
+        if is_working(state, &living[i]) {
+            count += 1;
+        }
+    }
+    count
+}
+
+// Whether the process is active and awake.
+fn is_working(state: &State, p: &Process) -> bool
+    requires { IsTrue (has state.now.living p.now) }
+    ensures { result ≡ (not (has state.now.asleep p.now) && is_active state.now p.now) }
+{
+    !state.is_asleep(p) && is_active(state, p)
+}
+
+// The active and awake process that costs most, and of equal costs the last by name.
+fn greatest_working(state: &State) -> Option<Process>
+    requires { AreLimited state.now.problem.signature state.now.nodes }
+    ensures { result ≡ greatest (process_cmp state.now) (working state.now state.now.asleep) }
+{
+    let living = state.log().processes();
+    let mut best = None;
+    for i in 0..living.len() {
+        let process = &living[i];
+        if is_working(state, process) {
+            best = Some(greater(best, with_cost(state, process)));
+        }
+    }
+    process_in(&best)
+}
+
+// The active sleeper that costs least, and of equal costs the first by name.
+fn least_waiting(state: &State) -> Option<Process>
+    requires limited { AreLimited state.now.problem.signature state.now.nodes }
+    requires sleepers { IsLabel state.now state.now.asleep }
+    ensures { result ≡ least (process_cmp state.now) (waiting state.now state.now.asleep) }
+{
+    let sleepers = state.sleepers();
+    let mut best = None;
+    for i in 0..sleepers.len() {
+        let process = &sleepers[i];
+        if is_active(state, process) {
+            best = Some(lesser(best, with_cost(state, process)));
+        }
+    }
+    process_in(&best)
+}
+
+// The process with its cost.
+fn with_cost(state: &State, p: &Process) -> Costed
+    requires { AreLimited state.now.problem.signature state.now.nodes }
+    ensures { result ≡ record { cost = cost state.now p.now; process = p.now } }
+{
+    Costed {
+        cost: cost(state, p),
+        process: *p,
+    }
+}
+
+// The process of the best, if there is one.
+fn process_in(best: &Option<Costed>) -> Option<Process>
+    ensures { result ≡ option_map (λ (c : Costed). c.process) best.now }
+{
+    match best {
+        Some(costed) => Some(costed.process),
+        None => None,
+    }
+}
+
+// The lesser by cost, then name.
+fn lesser(best: Option<Costed>, next: Costed) -> Costed
+    ensures { Some result ≡ merged costed_cmp best (Some next) }
+{
+    match best {
+        None => next,
+        Some(least) => {
+            if is_at_most(&least, &next) {
+                least
+            } else {
+                next
+            }
+        }
+    }
+}
+
+// The greater by cost, then name.
+fn greater(best: Option<Costed>, next: Costed) -> Costed
+    ensures { Some result ≡ merged (λ one other. costed_cmp other one) best (Some next) }
+{
+    match best {
+        None => next,
+        Some(greatest) => {
+            if is_at_most(&next, &greatest) {
+                greatest
+            } else {
+                next
+            }
+        }
+    }
+}
+
+// Whether the first costs less than the other, or as much and comes before it by name.
+fn is_at_most(one: &Costed, other: &Costed) -> bool
+    ensures { result ≡ is_le (costed_cmp one.now other.now) }
+{
+    one.cost
+        .cmp(&other.cost)
+        .then(one.process.cmp(&other.process))
+        .is_le()
+}
