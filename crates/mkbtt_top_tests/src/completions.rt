@@ -2,7 +2,7 @@
 use crate::bench::{Bench, Want};
 use kb_io::{MemorySource, OpenGate};
 use kb_syntax::{Bound, Kind};
-use mkbtt_top::Status;
+use mkbtt_top::{Outcome, Status};
 
 /// The words for one worker.
 const ONE: &[&str] = &["complete", "--workers", "1"];
@@ -224,4 +224,56 @@ fn a_text_of_1048576_bytes_is_read_and_one_byte_more_is_refused(rt: HostRuntime)
         assert!(rt; outcome.status == status);
         assert!(rt; sink.bytes().len() == written);
     }
+}
+
+/// How many processes live on the board of a run, and how many of them are asleep.
+fn processes(outcome: &Outcome) -> Option<(u32, u32)> {
+    match &outcome.board {
+        Some(board) => Some((board.living(), board.asleep())),
+        None => None,
+    }
+}
+
+#[test]
+fn sixty_four_of_128_processes_are_asleep_where_the_first_is_complete(rt: HostRuntime) {
+    let bench = Bench {
+        rt: &rt,
+        alloc: rt.alloc(),
+    };
+    let text = "(RULES a1 == b1 a2 == b2 a3 == b3 a4 == b4 a5 == b5 a6 == b6 a7 == b7)";
+    let mut source = bench.source(&[text]);
+    let mut sink = bench.sink(100_000);
+    let outcome = bench.perform(ONE, &mut source, &mut sink, &OpenGate);
+    assert!(rt; outcome.status == Status::Done);
+    assert!(rt; processes(&outcome) == Some((128, 64)));
+    let rules =
+        "\nRULES 7\na1 -> b1 : 1\na2 -> b2 : 2\na3 -> b3 : 3\na4 -> b4 : 4\na5 -> b5 : 5\na6 -> b6 : 6\na7 -> b7 : 7\n";
+    assert!(rt; is_part(rules.as_bytes(), sink.bytes()));
+    assert!(rt; bench.is_accepted(&sink));
+}
+
+/// Whether the bytes stand somewhere in the others.
+fn is_part(part: &[u8], bytes: &[u8]) -> bool {
+    for window in bytes.windows(part.len()) {
+        if window == part {
+            return true;
+        }
+    }
+    false
+}
+
+#[test]
+fn sleeping_processes_wake_where_others_fail(rt: HostRuntime) {
+    let bench = Bench {
+        rt: &rt,
+        alloc: rt.alloc(),
+    };
+    let text =
+        "(VAR x y)(RULES a1 == b1 a2 == b2 a3 == b3 a4 == b4 a5 == b5 a6 == b6 a7 == b7 f(x,y) == f(y,x))";
+    let mut source = bench.source(&[text]);
+    let mut sink = bench.sink(1000);
+    let outcome = bench.perform(ONE, &mut source, &mut sink, &OpenGate);
+    assert!(rt; outcome.status == Status::AllFailed);
+    assert!(rt; processes(&outcome) == Some((128, 0)));
+    assert!(rt; sink.bytes() == b"MKBTT 2\nFAILED 128\nEND\n");
 }
