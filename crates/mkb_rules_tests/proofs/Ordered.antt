@@ -1,5 +1,5 @@
 -- Who has an order on the opening board, and after a fork there.
-use Rattle.std.proofs.Common.{ℕ, ◌≡◌, refl, sym, subst, List, [], ◌∷◌, map, Contains, Option, Some, None, true, false}
+use Rattle.std.proofs.Common.{◌≡◌, refl, sym, subst, List, [], ◌∷◌, map, Contains, Option, Some, None, true, false}
 use Rattle.std.specs.Prelude.{take}
 use Rattle.std.specs.Option.{option_map_or}
 use Rattle.kb_cert.specs.Family.{family}
@@ -13,14 +13,15 @@ use Rattle.mkb_model.specs.Plain.{Plain, Certified}
 use Rattle.mkb_model.specs.Effects.{acted, applied, effect_label, limit_of, give_up, counted, certify_in, forked_certificates}
 use Rattle.mkb_model.specs.Journals.{opening}
 use Rattle.mkb_model.specs.declared.proposed.Proposed.{Proposed}
+use Rattle.mkb_model.specs.declared.settings.Settings.{Settings}
 use Rattle.mkb_model.specs.declared.proposed.Proposed.TheVariants.{Both}
 use Rattle.mkb_model.proofs.Lists.{none_in}
 use Rattle.mkb_rules.specs.Applying.{applied_as}
 use Rattle.mkb_rules.specs.declared.applied.Applied.TheVariants.{Done}
 use Rattle.mkb_rules_tests.specs.Orders.{IsRootOrdered, AreChildrenOrdered}
 
-pub opening_ordered : (P : Problem) (n : ℕ) → IsRootOrdered (opening P n)
-opening_ordered P n = go (family P.signature) (nothing_orderable P.signature).0 (nothing_orderable P.signature).1
+pub opening_ordered : (P : Problem) (s : Settings) → IsRootOrdered (opening P s)
+opening_ordered P s = go (family P.signature) (nothing_orderable P.signature).0 (nothing_orderable P.signature).1
   where
     go : (xs : List Certificate) (c : Certificate) → Contains xs c → (d : Certificate) × (map {B = Certified} (λ c. record { name = root; certificate = c }) (take 1 xs) ≡ record { name = root; certificate = d } ∷ [])
     go [] c i = none_in i

@@ -16,5 +16,5 @@ returns c = λ t s k.
     let new = c.halt.new.self in
     let more = with_more (has_halt old.journal) old.journal new.journal c.halt.ensures.journal in
     c.held_tickets_stay.ensures.in_flight old new more.0 t s k more.1
-    (ap (λ (z : Plain). z.problem) c.halt.ensures.plain) (ap (λ (z : Plain). z.budget) c.halt.ensures.plain)
+    (ap (λ (z : Plain). z.problem) c.halt.ensures.plain) (ap (λ (z : Plain). z.settings) c.halt.ensures.plain)
     (subst {A = Plain} (λ z. Contains z.flight t) (sym c.halt.ensures.plain) k.flying)

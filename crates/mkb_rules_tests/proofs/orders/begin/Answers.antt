@@ -8,5 +8,5 @@ use Rattle.mkb_rules_tests.proofs.orders.begin.Goals as goal
 
 pub returns : goal.returns
 returns g c =
-    let e : c.expect.result ≡ opening c.problem-problem.result 100 = subst (λ o. IfOk o (λ state. state ≡ opening c.problem-problem.result 100)) c.expect.ensures c.start.ensures in
-    subst {A = Plain} (λ b. IsRootOrdered b) (sym e) (opening_ordered c.problem-problem.result 100)
+    let e : c.expect.result ≡ opening c.problem-problem.result c.stated.result = subst (λ o. IfOk o (λ state. state ≡ opening c.problem-problem.result c.stated.result)) c.expect.ensures c.start.ensures in
+    subst {A = Plain} (λ b. IsRootOrdered b) (sym e) (opening_ordered c.problem-problem.result c.stated.result)
