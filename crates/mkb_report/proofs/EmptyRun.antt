@@ -5,7 +5,7 @@ use Rattle.kb_term.specs.Signature.{Problem, IsWithinLimits}
 use Rattle.kb_label.specs.declared.verdict.Spent.TheVariants.{Commits}
 use Rattle.kb_label.specs.declared.verdict.Verdict.TheVariants.{Complete, Spent}
 use Rattle.mkb_model.specs.Plain.{Plain}
-use Rattle.mkb_model.specs.Effects.{effect}
+use Rattle.mkb_model.specs.Effects.{acted, effect}
 use Rattle.mkb_model.specs.Proposals.{IsClosedOn}
 use Rattle.mkb_model.specs.Verdicts.{verdict}
 use Rattle.mkb_model.specs.Journals.{Moment, IsFirstJob, IsTaking, IsCommitting, IsFinishing, After, opening, in_flight, landed, stated}
@@ -82,8 +82,8 @@ after = (record { board = taken; entry = Commit 1 1 (Made (Closed [])) } ∷ fir
 ended_reached : IsReached ended
 ended_reached = record { within = within; flight = []; journal = journal; after = after }
 
-pub closed_reached : (b : Plain) → b ≡ effect (opening empty (stated 100)) (Closed []) → IsReached b
+pub closed_reached : (b : Plain) → b ≡ acted (opening empty (stated 100)) (Closed []) → IsReached b
 closed_reached b e = subst {A = Plain} IsReached (sym e) ended_reached
 
-pub complete : (b : Plain) → b ≡ effect (opening empty (stated 100)) (Closed []) → verdict b ≡ Some (Complete [])
+pub complete : (b : Plain) → b ≡ acted (opening empty (stated 100)) (Closed []) → verdict b ≡ Some (Complete [])
 complete b e = ap verdict e

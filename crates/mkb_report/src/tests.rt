@@ -1,6 +1,6 @@
 // The report and the summary of boards without equations: one process alone, which has nothing to do but to close.
 ghost use Rattle.std.specs.Prelude.{◌≡◌, [], IfOk};
-ghost use Rattle.mkb_model.specs.Effects.{effect};
+ghost use Rattle.mkb_model.specs.Effects.{acted};
 ghost use Rattle.mkb_model.specs.Journals.{opening, stated};
 ghost use Rattle.mkb_model.specs.declared.proposed.Proposed.TheVariants.{Closed};
 
@@ -22,7 +22,7 @@ fn opened(alloc: Global, budget: u32) -> Result<State, Memory>
 
 /// The same after its process closed.
 fn closed(alloc: Global) -> Result<State, Memory>
-    ensures { IfOk result (λ state. state ≡ effect (opening (record { signature = []; equations = [] }) (stated 100)) (Closed [])) }
+    ensures { IfOk result (λ state. state ≡ acted (opening (record { signature = []; equations = [] }) (stated 100)) (Closed [])) }
 {
     let mut state = opened(alloc, 100)?;
     let _applied = state.close(alloc, &Process::root())?;

@@ -10,7 +10,7 @@ use Rattle.kb_label.specs.declared.verdict.Reason.{Reason}
 use Rattle.kb_node.specs.declared.node.NodeId.{NodeId}
 use Rattle.kb_term.specs.Signature.{Problem}
 use Rattle.mkb_model.specs.Plain.{Plain, Certified}
-use Rattle.mkb_model.specs.Effects.{applied, effect, effect_label, limit_of, give_up, counted, certify_in, forked_certificates}
+use Rattle.mkb_model.specs.Effects.{acted, applied, effect_label, limit_of, give_up, counted, certify_in, forked_certificates}
 use Rattle.mkb_model.specs.Journals.{opening}
 use Rattle.mkb_model.specs.declared.proposed.Proposed.{Proposed}
 use Rattle.mkb_model.specs.declared.settings.Settings.{Settings}
@@ -27,7 +27,7 @@ opening_ordered P s = go (family P.signature) (nothing_orderable P.signature).0 
     go [] c i = none_in i
     go (x ∷ xs) c i = (x, refl)
 
-pub fork_ordered : (b : Plain) (n : NodeId) (c0 c1 : Certificate) → IsRootOrdered b → applied_as (limit_of b (Both root n c0 c1)) ≡ Done → AreChildrenOrdered (effect b (Both root n c0 c1))
+pub fork_ordered : (b : Plain) (n : NodeId) (c0 c1 : Certificate) → IsRootOrdered b → applied_as (limit_of b (Both root n c0 c1)) ≡ Done → AreChildrenOrdered (acted b (Both root n c0 c1))
 fork_ordered b n c0 c1 h done = go (limit_of b (Both root n c0 c1)) done
   where
     x : Proposed
