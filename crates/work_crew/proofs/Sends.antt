@@ -40,7 +40,7 @@ use Rattle.kb_label.specs.contracts.list_labels.ListLabels as LabelList
 use Rattle.kb_label.specs.contracts.list_labels.NameLog as NameLog
 use Rattle.kb_label.specs.contracts.list_labels.ListLabelsLabels.TheImpl as label_ghosts
 use Rattle.kb_label.specs.contracts.list_labels.NameLogLiving.TheImpl as log_ghosts
-use Rattle.kb_node.specs.contracts.node.Node as Node
+use Rattle.kb_node.specs.contracts.node.Entry as NodeEntry
 use Rattle.kb_node.specs.contracts.table.NodeTable as NodeTable
 use Rattle.kb_node.specs.contracts.table.NodeTable.TheInside as TableInside
 use Rattle.mkb_rules.specs.contracts.nodes.Nodes as Nodes
@@ -98,12 +98,12 @@ entry_send =
       ),
     ))
 
-node_send : (T : RattleType) → IsSend T → IsSend (Node.the_row T)
-node_send T s = recorded_send (Node.the_field T).row _ _ (Node.the_type T).to_one (struct_send (S.shape (Node.the_type T)) (pair_send, (origin.the_field_send, (s, (s, (s, (s, (s, (s, tt)))))))))
+node_send : (T : RattleType) → IsSend T → IsSend (NodeEntry.the_row T)
+node_send T s = recorded_send (NodeEntry.the_field T).row _ _ (NodeEntry.the_type T).to_one (struct_send (S.shape (NodeEntry.the_type T)) (origin.the_field_send, (s, (s, (s, (s, (s, (s, tt))))))))
 
 table_send : (T L : RattleType) (g : Labels.Ghosts T.Denot L.Denot) (h : Living.Ghosts L.Denot) → IsSend T → IsSend (NodeTable.the_row T L g h)
 table_send T L g h s = view_send (TableInside.the_row T L g h) _ _ _ _ (recorded_send (TableInside.the_field T L g h).row _ _ (TableInside.the_type T L g h).to_one (struct_send (S.shape (TableInside.the_type T L g h)) (
-  vec.the_send (Node.the_row T) Global.the_row heap.ghosts (node_send T s) global.the_send (search crosses),
+  vec.the_send (NodeEntry.the_row T) Global.the_row heap.ghosts (node_send T s) global.the_send (search crosses),
   (bank.the_send, (search (sendable, crosses, set.the_send, sides.the_send, global.the_send) depth 20 fits 100000, (search (sendable, crosses), tt))),
 )))
 
