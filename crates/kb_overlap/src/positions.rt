@@ -29,11 +29,7 @@ fn push_positions(t: &Term, path: &Position, found: &mut Vec<Position>) -> Resul
 }
 
 /// The positions of the outer left side at which no variable stands, in preorder; without the root for a rule with itself.
-pub fn positions_for(
-    alloc: Global,
-    outer: &Rule,
-    same: bool,
-) -> Result<Vec<Position>, Memory>
+pub fn positions_for(alloc: Global, outer: &Rule, same: bool) -> Result<Vec<Position>, Memory>
     requires { HasFewArguments outer.now.left }
     ensures { IfOk result (λ ps. ps.items ≡ overlap_positions outer.now same) }
 {
