@@ -275,5 +275,5 @@ fn sleeping_processes_wake_where_others_fail(rt: HostRuntime) {
     let outcome = bench.perform(ONE, &mut source, &mut sink, &OpenGate);
     assert!(rt; outcome.status == Status::AllFailed);
     assert!(rt; processes(&outcome) == Some((128, 0)));
-    assert!(rt; sink.bytes() == b"MKBTT 2\nFAILED 128\nEND\n");
+    assert!(rt; sink.bytes() == "MKBTT 2\nFAILED 128\nEND\n".as_bytes());
 }
