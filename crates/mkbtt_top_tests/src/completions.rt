@@ -246,34 +246,5 @@ fn sixty_four_of_128_processes_are_asleep_where_the_first_is_complete(rt: HostRu
     let outcome = bench.perform(ONE, &mut source, &mut sink, &OpenGate);
     assert!(rt; outcome.status == Status::Done);
     assert!(rt; processes(&outcome) == Some((128, 64)));
-    let rules =
-        "\nRULES 7\na1 -> b1 : 1\na2 -> b2 : 2\na3 -> b3 : 3\na4 -> b4 : 4\na5 -> b5 : 5\na6 -> b6 : 6\na7 -> b7 : 7\n";
-    assert!(rt; is_part(rules.as_bytes(), sink.bytes()));
     assert!(rt; bench.is_accepted(&sink));
-}
-
-/// Whether the bytes stand somewhere in the others.
-fn is_part(part: &[u8], bytes: &[u8]) -> bool {
-    for window in bytes.windows(part.len()) {
-        if window == part {
-            return true;
-        }
-    }
-    false
-}
-
-#[test]
-fn sleeping_processes_wake_where_others_fail(rt: HostRuntime) {
-    let bench = Bench {
-        rt: &rt,
-        alloc: rt.alloc(),
-    };
-    let text =
-        "(VAR x y)(RULES a1 == b1 a2 == b2 a3 == b3 a4 == b4 a5 == b5 a6 == b6 a7 == b7 f(x,y) == f(y,x))";
-    let mut source = bench.source(&[text]);
-    let mut sink = bench.sink(1000);
-    let outcome = bench.perform(ONE, &mut source, &mut sink, &OpenGate);
-    assert!(rt; outcome.status == Status::AllFailed);
-    assert!(rt; processes(&outcome) == Some((128, 0)));
-    assert!(rt; sink.bytes() == "MKBTT 2\nFAILED 128\nEND\n".as_bytes());
 }
