@@ -19,6 +19,7 @@ use Rattle.mkbtt_top.specs.declared.reply.Stop.TheVariants as stops
 use Rattle.mkbtt_top.specs.declared.status.Status.{Status}
 use Rattle.mkbtt_top.specs.declared.status.Status.TheVariants.{Done, Refused, BadText, ReadFault, WriteFault, Memory, Words}
 use Rattle.mkbtt_top.specs.declared.status.Status.TheVariants as status
+use Rattle.mkbtt_top.specs.declared.workers.Workers.{Workers}
 use Rattle.mkbtt_top.specs.declared.task.Task.{Task}
 use Rattle.mkbtt_top.specs.declared.task.Task.TheVariants.{Complete, Check, Convert, Reduce, Decide, Simplify, Summary, Generate}
 use Rattle.mkb_model.specs.declared.settings.Settings.{Settings}
@@ -179,7 +180,7 @@ no_text IsOfForm old new before after stops.ReadFault h = h
 no_text IsOfForm old new before after (stops.Memory board) h = h
 
 -- what the bytes of a problem are refused for, as the refusal of what was read
-pub stop_of_refusal : (settings : Settings) (workers : ℕ) (old new : Option (List ℕ)) (before after : ℕ) (bytes : List ℕ) (stop : Stop) → TakesAll old bytes new → IsRefusal bytes stop → StopsBy (Complete settings workers) old new before after stop
+pub stop_of_refusal : (settings : Settings) (workers : Workers) (old new : Option (List ℕ)) (before after : ℕ) (bytes : List ℕ) (stop : Stop) → TakesAll old bytes new → IsRefusal bytes stop → StopsBy (Complete settings workers) old new before after stop
 stop_of_refusal settings workers old new before after bytes (stops.Refused kind at) t h = by_text bytes t h
 stop_of_refusal settings workers old new before after bytes (stops.BadText n) t h = absurd h
 stop_of_refusal settings workers old new before after bytes stops.ReadFault t h = absurd h

@@ -4,3 +4,4 @@ mod Reported
 mod Generated
 mod Tasks
 mod Handed
+mod ByRounds

@@ -3,7 +3,7 @@ use Rattle.std.proofs.Common.{ℕ, ◌≡◌, ◌≤◌, ◌∙◌, sym, subst, 
 use Rattle.std.specs.Prelude.{Option, IfSome}
 use Rattle.mkbtt_words.specs.Reading.{AreRead}
 use Rattle.mkbtt_words.specs.declared.mode.Mode.{Mode}
-use Rattle.mkbtt_words.specs.declared.mode.Mode.TheVariants.{Complete, Check, Convert, Reduce, Decide, Simplify, Summary, Journal, Replay, Gen}
+use Rattle.mkbtt_words.specs.declared.mode.Mode.TheVariants.{Complete, Rounds, Check, Convert, Reduce, Decide, Simplify, Summary, Journal, Replay, Gen}
 use Rattle.mkbtt_words.specs.declared.words.Words.{Words}
 use Rattle.mkbtt_top.specs.Tasks.{task_by, task_of, AskFor, AskForAnother, HasNumber}
 use Rattle.mkbtt_top.specs.declared.task.Task.{Task}
@@ -14,6 +14,7 @@ same_task s t e = cc
 
 number_in : (m : Mode) (w : Words) (task : Task) → 1 ≤ w.workers → w.workers ≤ 16 → 1 ≤ w.number → w.number ≤ 64 → task_by m w ≡ Some task → HasNumber task
 number_in Complete w task least most low high e = subst {A = Task} HasNumber (same_task _ task e) (least, most)
+number_in Rounds w task least most low high e = subst {A = Task} HasNumber (same_task _ task e) (least, most)
 number_in Check w task least most low high e = subst {A = Task} HasNumber (same_task _ task e) tt
 number_in Convert w task least most low high e = subst {A = Task} HasNumber (same_task _ task e) tt
 number_in Summary w task least most low high e = subst {A = Task} HasNumber (same_task _ task e) (low, high)

@@ -1,5 +1,5 @@
 -- What a completion of a problem comes to.
-use Rattle.std.specs.Prelude.{ℕ, ◌≡◌, ◌≢◌, List, Option, Some, ⊤}
+use Rattle.std.specs.Prelude.{ℕ, ◌≡◌, IsTrue, List, Option, Some, ⊤}
 use Rattle.kb_io.specs.Bytes.{TakesAll}
 use Rattle.kb_term.specs.Signature.{Problem}
 use Rattle.kb_text.specs.Problems.{Spells}
@@ -14,15 +14,16 @@ use Rattle.kb_report.specs.declared.report.Report.{Report}
 use Rattle.kb_report.specs.declared.report.Report.TheVariants.{System}
 use Rattle.mkb_model.specs.Headline.{IsOutcome, HasVerdict}
 use Rattle.mkb_model.specs.Journals.{Alone}
-use Rattle.mkb_board.specs.Boards.{Seen, IsLegalBoard}
-use Rattle.work_crew.specs.Alone.{EndsAlone}
-use Rattle.work_crew.specs.Together.{EndsTogether}
-use Rattle.work_crew.specs.declared.alone.Crew.{Crew}
+use Rattle.mkb_board.specs.Boards.{Seen}
+use Rattle.mkb_rounds.specs.Rounds.{IsRounds}
 use Rattle.mkb_report.specs.Reports.{IsReportOf}
 use Rattle.mkbtt_top.specs.declared.reply.Stop.{Stop}
 use Rattle.mkbtt_top.specs.declared.reply.Stop.TheVariants as stops
+use Rattle.mkbtt_top.specs.Workers.{are_in_rounds, takers_of}
 use Rattle.mkbtt_top.specs.declared.status.Status.{Status}
 use Rattle.mkbtt_top.specs.declared.status.Status.TheVariants.{Done, AllFailed, Spent}
+use Rattle.mkbtt_top.specs.declared.workers.Workers.{Workers}
+use Rattle.mkbtt_top.specs.declared.workers.Workers.TheVariants.{Free}
 use Rattle.mkb_model.specs.declared.settings.Settings.{Settings}
 
 -- how a run ends that writes the report of the verdict
@@ -31,14 +32,11 @@ status_of (verdicts.Complete p) = Done
 status_of verdicts.AllFailed = AllFailed
 status_of (verdicts.Spent s) = Spent s
 
--- so many workers ended the work on the problem: one alone, or several together
-abbrev pub EndsBy : Problem → Settings → ℕ → Crew → Type 0
-EndsBy P n workers crew = (workers ≡ 1 → EndsAlone P n crew × IsLegalBoard crew.board) × (workers ≢ 1 → EndsTogether P n workers crew)
-
--- so many workers worked for the problem on this board until this verdict stood: its journal is legal for the settings and the workers, and the views of each living process are a completion run of that process alone; where one worker worked, each ticket was ended at once
-pub record IsFinished (problem : Problem) (settings : Settings) (workers : ℕ) (board : Seen) (verdict : Verdict) : Type 0 where
-  pub outcome : IsOutcome problem settings workers board.journal board.plain
-  pub alone : workers ≡ 1 → Alone problem settings board.journal board.plain
+-- the workers worked for the problem on this board until this verdict stood: its journal is legal for the settings and the workers, and the views of each living process are a completion run of that process alone; where one worker worked, each ticket was ended at once; where they worked by rounds, it is the journal of rounds
+pub record IsFinished (problem : Problem) (settings : Settings) (workers : Workers) (board : Seen) (verdict : Verdict) : Type 0 where
+  pub outcome : IsOutcome problem settings (takers_of workers) board.journal board.plain
+  pub alone : workers ≡ Free 1 → Alone problem settings board.journal board.plain
+  pub rounds : IsTrue (are_in_rounds workers) → IsRounds problem settings board.journal board.plain
   pub stands : HasVerdict board.plain verdict
 
 -- the text spells the answer, which is good, and which the checker accepts
@@ -59,8 +57,8 @@ pub record IsReported (board : Seen) (verdict : Verdict) (text : List ℕ) : Typ
   pub text_is : text ≡ report_text report
   pub good : IsGoodReport text report
 
--- the board is one on which so many workers completed the problem, and the status and the text tell its verdict
-pub record IsCompletion (problem : Problem) (settings : Settings) (workers : ℕ) (status : Status) (board : Option Seen) (text : List ℕ) : Type 0 where
+-- the board is one on which the workers completed the problem, and the status and the text tell its verdict
+pub record IsCompletion (problem : Problem) (settings : Settings) (workers : Workers) (status : Status) (board : Option Seen) (text : List ℕ) : Type 0 where
   pub end : Seen
   pub verdict : Verdict
   pub board_is : board ≡ Some end
@@ -69,13 +67,13 @@ pub record IsCompletion (problem : Problem) (settings : Settings) (workers : ℕ
   pub reported : IsReported end verdict text
 
 -- the bytes spell a problem, of which this is a completion
-pub record IsCompletionOf (bytes : List ℕ) (settings : Settings) (workers : ℕ) (status : Status) (board : Option Seen) (text : List ℕ) : Type 0 where
+pub record IsCompletionOf (bytes : List ℕ) (settings : Settings) (workers : Workers) (status : Status) (board : Option Seen) (text : List ℕ) : Type 0 where
   pub problem : Problem
   pub spelled : Spells bytes problem
   pub completion : IsCompletion problem settings workers status board text
 
 -- the source was read to its end, and this is a completion of the problem that its bytes spell
-pub record Completes (settings : Settings) (workers : ℕ) (status : Status) (board : Option Seen) (left_old left_new : Option (List ℕ)) (text : List ℕ) : Type 0 where
+pub record Completes (settings : Settings) (workers : Workers) (status : Status) (board : Option Seen) (left_old left_new : Option (List ℕ)) (text : List ℕ) : Type 0 where
   pub bytes : List ℕ
   pub read : TakesAll left_old bytes left_new
   pub completion : IsCompletionOf bytes settings workers status board text

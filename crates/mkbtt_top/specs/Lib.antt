@@ -9,3 +9,4 @@ pub mod Deciding
 pub mod Completing
 pub mod Generating
 pub mod Runs
+pub mod Workers

@@ -4,6 +4,8 @@ use Rattle.mkbtt_words.specs.Reading.{AreRead, AreRefused}
 use Rattle.mkbtt_words.specs.declared.mode.Mode.{Mode}
 use Rattle.mkbtt_words.specs.declared.mode.Mode.TheVariants as modes
 use Rattle.mkbtt_words.specs.declared.words.Words.{Words}
+use Rattle.mkbtt_top.specs.Workers.{FewWorkers}
+use Rattle.mkbtt_top.specs.declared.workers.Workers.TheVariants.{Free, InRounds}
 use Rattle.mkbtt_top.specs.declared.task.Task.{Task}
 use Rattle.mkbtt_top.specs.declared.task.Task.TheVariants.{Complete, Check, Convert, Reduce, Decide, Simplify, Summary, Generate}
 use Rattle.mkb_model.specs.declared.settings.Selection.{Selection}
@@ -26,7 +28,8 @@ settings_of w = record { budget = w.budget; selection = selection_by w.selection
 
 -- what a mode asks for with the numbers and names of the words; nothing where it isn't built yet
 abbrev pub task_by : Mode → Words → Option Task
-task_by modes.Complete w = Some (Complete (settings_of w) w.workers)
+task_by modes.Complete w = Some (Complete (settings_of w) (Free w.workers))
+task_by modes.Rounds w = Some (Complete (settings_of w) (InRounds w.workers))
 task_by modes.Check w = Some Check
 task_by modes.Convert w = Some (Convert w.format)
 task_by modes.Reduce w = Some Reduce
@@ -86,7 +89,7 @@ form_of task bytes = IsSystemText bytes
 
 -- there are from 1 to 16 workers, and the number of a generated problem is from 1 to 64
 abbrev pub HasNumber : Task → Type 0
-HasNumber (Complete settings workers) = (1 ≤ workers) × (workers ≤ 16)
+HasNumber (Complete settings workers) = FewWorkers workers
 HasNumber Check = ⊤
 HasNumber (Convert format) = ⊤
 HasNumber Reduce = ⊤

@@ -4,11 +4,13 @@ ghost use Rattle.kb_term.specs.Signature.{IsWithinLimits};
 ghost use Rattle.mkb_model.specs.Verdicts.{verdict as verdict_on};
 ghost use Rattle.mkbtt_top.specs.Completing.{status_of as status_by, IsFinished, IsReported, IsCompletion, IsCompletionOf, Completes, IsRefusal};
 ghost use Rattle.mkbtt_top.specs.Runs.{StopsBy};
+ghost use Rattle.mkbtt_top.specs.Workers.{FewWorkers};
 
-use crate::host::{Host, worked_on};
+use crate::host::Host;
 use crate::reply::{Reply, Stop};
 use crate::status::Status;
 use crate::task::Task;
+use crate::workers::{Workers, worked_on};
 use kb_io::{Gate, ReadAllFault, Source, read_all};
 use kb_label::Verdict;
 use kb_report::answer_text;
@@ -46,7 +48,7 @@ fn report_text(alloc: Global, board: &Board, verdict: &Verdict) -> Result<Vec<u8
     answer_text(alloc, &report)
 }
 
-/// The board of the problem, on which so many workers have ended their work.
+/// The board of the problem, on which the workers have ended their work.
 ///
 /// # Errors
 ///
@@ -55,11 +57,10 @@ pub(crate) fn finish<R: Threads + Wait + Sync, G: Gate>(
     host: &Host<R, G>,
     problem: Problem,
     settings: Settings,
-    workers: u8,
+    workers: Workers,
 ) -> Result<(Board, Verdict), Option<Board>>
     requires within { IsWithinLimits problem }
-    requires least { 1 ≤ workers }
-    requires most { workers ≤ 16 }
+    requires few { FewWorkers workers }
     ensures { IfOk result (λ end. IsFinished problem settings workers end.0 end.1) }
 {
     let Ok(board) = Board::start(host.alloc, problem, settings) else {
@@ -77,11 +78,10 @@ fn complete_problem<R: Threads + Wait + Sync, G: Gate>(
     host: &Host<R, G>,
     problem: Problem,
     settings: Settings,
-    workers: u8,
+    workers: Workers,
 ) -> Result<Reply, Option<Board>>
     requires within { IsWithinLimits problem }
-    requires least { 1 ≤ workers }
-    requires most { workers ≤ 16 }
+    requires few { FewWorkers workers }
     ensures { IfOk result (λ r. IsCompletion problem settings workers r.status r.board r.text.items) }
 {
     let (board, verdict) = finish(host, problem, settings, workers)?;
@@ -100,10 +100,9 @@ fn complete_bytes<R: Threads + Wait + Sync, G: Gate>(
     host: &Host<R, G>,
     bytes: &[u8],
     settings: Settings,
-    workers: u8,
+    workers: Workers,
 ) -> Result<Reply, Stop>
-    requires least { 1 ≤ workers }
-    requires most { workers ≤ 16 }
+    requires few { FewWorkers workers }
     ensures reply { IfOk result (λ r. IsCompletionOf bytes.now settings workers r.status r.board r.text.items) }
     ensures stop { IfErr result (IsRefusal bytes.now) }
 {
@@ -117,15 +116,14 @@ fn complete_bytes<R: Threads + Wait + Sync, G: Gate>(
     complete_problem(host, problem, settings, workers).map_err(Stop::Memory)
 }
 
-/// Reads a problem from the source and completes it by so many workers; the reply is the report of the verdict.
+/// Reads a problem from the source and completes it by these workers; the reply is the report of the verdict.
 pub(crate) fn complete_source<R: Threads + Wait + Sync, S: Source, G: Gate>(
     host: &Host<R, G>,
     source: &mut S,
     settings: Settings,
-    workers: u8,
+    workers: Workers,
 ) -> Result<Reply, Stop>
-    requires least { 1 ≤ workers }
-    requires most { workers ≤ 16 }
+    requires few { FewWorkers workers }
     ensures reply { IfOk result (λ r. Completes settings workers r.status r.board (S.left source.old) (S.left source.new) r.text.items) }
     ensures stop { IfErr result (StopsBy (Task.Complete settings workers) (S.left source.old) (S.left source.new) (S.faults source.old) (S.faults source.new)) }
     ensures count { S.faults source.old ≤ S.faults source.new }

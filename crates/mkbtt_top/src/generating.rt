@@ -7,6 +7,7 @@ use crate::completing::finish;
 use crate::host::Host;
 use crate::reply::Reply;
 use crate::status::Status;
+use crate::workers::Workers;
 use kb_io::Gate;
 use kb_label::Verdict;
 use kb_report::summary_text;
@@ -54,7 +55,7 @@ pub(crate) fn summarise<R: Threads + Wait + Sync, G: Gate>(
     let Ok(problem) = generate(host.alloc, number as usize) else {
         return Err(None);
     };
-    let (board, verdict) = finish(host, problem, settings, 1)?;
+    let (board, verdict) = finish(host, problem, settings, Workers::Free(1))?;
     match board_text(host.alloc, &board, verdict) {
         Ok(text) => Ok(Reply {
             text,

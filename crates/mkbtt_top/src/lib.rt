@@ -13,6 +13,7 @@ mod reply;
 mod status;
 mod task;
 mod top;
+mod workers;
 
 pub use reply::Outcome;
 pub use status::{Status, status_code, status_line};

@@ -2,6 +2,7 @@
 ghost use Rattle.std.specs.Prelude.{◌≡◌, Ok, None, map, IfOk, IfSome};
 ghost use Rattle.mkbtt_top.specs.Tasks.{selection_by, settings_of as settings_in, task_of as task_in, AskFor, AreBadWords};
 
+use crate::workers::Workers;
 use kb_term::Memory;
 use mkb_model::{Selection, Settings};
 use mkbtt_words::{Format, Mode, Words, WordsFault, read_words};
@@ -10,8 +11,11 @@ use std::alloc::Global;
 /// What is to be done, with the numbers that it needs.
 #[derive(Clone, Copy, PartialEq, Eq)]
 pub enum Task {
-    /// Complete the problem that is read, with these settings and by so many workers, and write the report.
-    Complete { settings: Settings, workers: u8 },
+    /// Complete the problem that is read, with these settings and by these workers, and write the report.
+    Complete {
+        settings: Settings,
+        workers: Workers,
+    },
     /// Check the answer that is read, and write what the checker says.
     Check,
     /// Write the answer that is read in this format.
@@ -54,7 +58,11 @@ fn task_of(words: &Words) -> Option<Task>
     match words.mode {
         Mode::Complete => Some(Task::Complete {
             settings: settings_of(words),
-            workers: words.workers,
+            workers: Workers::Free(words.workers),
+        }),
+        Mode::Rounds => Some(Task::Complete {
+            settings: settings_of(words),
+            workers: Workers::InRounds(words.workers),
         }),
         Mode::Check => Some(Task::Check),
         Mode::Convert => Some(Task::Convert {

@@ -65,8 +65,8 @@ fn run_task<R: Threads + Wait + Sync, S: Source, K: Sink, G: Gate>(
     }
 }
 
-/// Does what the words ask for: `complete` reads a problem from the source, completes it, and writes the report of the verdict to
-/// the sink; `check` reads an answer, checks it, and writes `ACCEPTED`, or `REJECTED` with the reason and the number of the first
+/// Does what the words ask for: `complete` and `rounds` read a problem from the source, complete it, and write the report of the
+/// verdict to the sink; `check` reads an answer, checks it, and writes `ACCEPTED`, or `REJECTED` with the reason and the number of the first
 /// item that fails; `convert` reads an answer of either version and writes
 /// it in the format of the words, its text of version 2, its rules alone, or its trace as a graph;
 /// `reduce` reads an answer and writes it with its rules reduced, `decide` and `simplify` read an answer with goals or terms
@@ -75,7 +75,7 @@ fn run_task<R: Threads + Wait + Sync, S: Source, K: Sink, G: Gate>(
 ///
 /// The words are those of `read_words`; the modes `journal` and `replay` are refused like words that the command doesn't take.
 /// A completion has as many workers as the words say: one alone, or several, each in a thread of its own; each asks the gate
-/// between a take and the work. A summary has one worker. Bytes that spell no problem are refused by the first thing that is
+/// between a take and the work. By `rounds` the journal, and so all that is written, is the same for every number of workers. A summary has one worker. Bytes that spell no problem are refused by the first thing that is
 /// wrong, with its place; bytes that are no answer's text, or have no goals or terms
 /// behind one, by the first line that isn't of its form. Each text is made whole before
 /// its first byte is written. The outcome has the board of a completion, where one was made.

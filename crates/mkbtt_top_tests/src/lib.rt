@@ -11,3 +11,5 @@ mod completions;
 mod crews;
 #[cfg(test)]
 mod refusals;
+#[cfg(test)]
+mod rounds;

@@ -5,7 +5,7 @@ use kb_io::Gate;
 const ASKS: u32 = 100_000_000;
 
 /// Asks the gate for a ticket until it lets pass, for a bounded number of times.
-pub(crate) fn ask<G: Gate>(gate: &G, ticket: u64) {
+pub fn ask<G: Gate>(gate: &G, ticket: u64) {
     for turn in 0..ASKS {
         if gate.pass(ticket, turn) {
             return;

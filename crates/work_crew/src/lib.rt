@@ -7,4 +7,5 @@ mod shared;
 mod together;
 
 pub use alone::{Crew, work_alone};
+pub use gates::ask;
 pub use together::work_together;

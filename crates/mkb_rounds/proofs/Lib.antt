@@ -1,0 +1,5 @@
+pub mod OneJournal
+pub mod Lists
+pub mod Going
+pub mod Playing
+pub mod Takers
