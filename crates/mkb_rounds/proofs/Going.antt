@@ -21,7 +21,7 @@ use Rattle.mkb_rounds.specs.Rounds.{GoByRounds, first_number, next_job, round_mo
 use Rattle.mkb_rounds.specs.Playing.{IsByRounds}
 
 -- a legal run whose journal is that of another and one entry more goes on from it
-goes_on : (P : Problem) (n : Settings) (ms : List Moment) (b : Plain) (J K : List Entry) (e : Entry) (c : Plain) → IsRun P n ms b → journal_of ms ≡ J → K ≡ J ++ e ∷ [] → After P n K c → Follows IsFirstJob ms b e c
+pub goes_on : (P : Problem) (n : Settings) (ms : List Moment) (b : Plain) (J K : List Entry) (e : Entry) (c : Plain) → IsRun P n ms b → journal_of ms ≡ J → K ≡ J ++ e ∷ [] → After P n K c → Follows IsFirstJob ms b e c
 goes_on P n ms b J K e c run j k (ns, q, other) = go ns q other
   where
     go : (ns : List Moment) → journal_of ns ≡ K → IsRun P n ns c → Follows IsFirstJob ms b e c
@@ -32,7 +32,7 @@ goes_on P n ms b J K e c run j k (ns, q, other) = go ns q other
         subst {A = List Moment} (λ zs. Follows IsFirstJob zs b e c) r.0 (subst {A = Plain} (λ z. Follows IsFirstJob past z e c) r.1 (subst {A = Entry} (λ z. Follows IsFirstJob past x.board z c) s.1 f))
 
 -- one entry more, which is what the round does next
-pub one_more : (old new : Seen) (e : Entry) (h : IsByRounds old) → IsLegalBoard new → IsSameRun old new → new.journal ≡ old.journal ++ e ∷ [] → move_of e ≡ round_move h.moments old.plain → IsByRounds new
+abbrev pub one_more : (old new : Seen) (e : Entry) (h : IsByRounds old) → IsLegalBoard new → IsSameRun old new → new.journal ≡ old.journal ++ e ∷ [] → move_of e ≡ round_move h.moments old.plain → IsByRounds new
 one_more old new e h legal same entered move =
     let run : IsRun new.plain.problem new.plain.settings h.moments old.plain = subst {A = Problem} (λ z. IsRun z new.plain.settings h.moments old.plain) (sym same.problem) (subst {A = Settings} (λ z. IsRun old.plain.problem z h.moments old.plain) (sym same.settings) h.run) in
     record {

@@ -58,7 +58,7 @@ same_taken old new w t snapshot h = record { problem = ap (λ (z : Plain). z.pro
 
 module _ (old new : Seen) (round : List Assignment) (t : Ticket) (snapshot : Snapshot) (before : IsLegalBoard old) (legal : IsLegalBoard new) (h : IsTakingRound old round) (takes_it : TakesJob old new 1 t snapshot) (few : length round < 8) where
   few_flying : length old.plain.flight < 8
-  few_flying = let e = ap length h.in_hand.flight ∙ length-map (λ (a : Assignment). a.ticket) round in omega (arith, e, few)
+  few_flying = let e = ap length h.in_hand.flight ∙ length-map round (λ (a : Assignment). a.ticket) in omega (arith, e, few)
 
   next : next_job h.so_far.moments old.plain ≡ Some t.job
   next = if_both (is_taking h.so_far.moments old.plain) (nat_lt (length old.plain.flight) max_tickets) (first_job old.plain) None h.taking (less (length old.plain.flight) 8 few_flying) ∙ takes_it.first
@@ -69,7 +69,7 @@ module _ (old new : Seen) (round : List Assignment) (t : Ticket) (snapshot : Sna
   move : move_of (take_entry t) ≡ round_move h.so_far.moments old.plain
   move = ap₂ (λ (w n : ℕ). takes w n t.job) takes_it.worker_is number ∙ ap (λ (o : Option Job). option_map_or (takes 1 (tickets h.so_far.moments + 1)) o (ends (first_number old.plain.flight))) (sym next)
 
-  one_take : IsByRounds new
+  abbrev one_take : IsByRounds new
   one_take = one_more old new (take_entry t) h.so_far legal (same_taken old new 1 t snapshot takes_it) takes_it.entered move
 
   -- a round takes one ticket more
@@ -90,7 +90,7 @@ module _ (old new : Seen) (round : List Assignment) (t : Ticket) (snapshot : Sna
 -- a round that is full takes no more
 pub full : (s : Seen) (round : List Assignment) → IsTakingRound s round → 8 ≤ length round → IsEndingRound s round
 full s round h l =
-    let e = ap length h.in_hand.flight ∙ length-map (λ (a : Assignment). a.ticket) round in
+    let e = ap length h.in_hand.flight ∙ length-map round (λ (a : Assignment). a.ticket) in
     record {
       so_far = h.so_far;
       no_more = λ v some. if_second_off (is_taking h.so_far.moments s.plain) (nat_lt (length s.plain.flight) max_tickets) (first_job s.plain) None (no_less (length s.plain.flight) 8 (omega (arith, e, l)));
@@ -120,21 +120,21 @@ some_left [] h = absurd (h refl)
 some_left (a ∷ rest) h = refl
 
 -- what holds of the tickets
-of_tickets : {P : Ticket → Type 0} (rest : List Assignment) → All P (tickets_of rest) → All (λ (u : Assignment). P u.ticket) rest
-of_tickets [] h i d l = absurd (omega (arith, l))
-of_tickets {P} (a ∷ rest) h zero d l = all_first P a.ticket (tickets_of rest) h
-of_tickets {P} (a ∷ rest) h (suc i) d l = of_tickets {P} rest (all_rest P a.ticket (tickets_of rest) h) i d (omega (arith, l))
+of_tickets : (P : Ticket → Type 0) (rest : List Assignment) → All P (tickets_of rest) → All (λ (u : Assignment). P u.ticket) rest
+of_tickets P [] h i d l = absurd (omega (arith, l))
+of_tickets P (a ∷ rest) h zero d l = all_first P a.ticket (tickets_of rest) h
+of_tickets P (a ∷ rest) h (suc i) d l = of_tickets P rest (all_rest P a.ticket (tickets_of rest) h) i d (omega (arith, l))
 
-module _ (old new : Seen) (a : Assignment) (rest : List Assignment) (before : IsLegalBoard old) (legal : IsLegalBoard new) (h : IsEndingRound old (a ∷ rest)) (open : verdict old.plain ≡ None) where
+module _ (old new : Seen) (a : Assignment) (rest : List Assignment) (before : IsLegalBoard old) (legal : IsLegalBoard new) (h : IsEndingRound old (a ∷ rest)) (undecided : verdict old.plain ≡ None) where
   end_move : ends a.ticket.number ≡ round_move h.so_far.moments old.plain
   end_move =
       ap (λ (ts : List Ticket). ends (first_number ts)) (sym h.in_hand.flight)
-      ∙ ap (λ (o : Option Job). option_map_or (takes 1 (tickets h.so_far.moments + 1)) o (ends (first_number old.plain.flight))) (sym (h.no_more open (λ e. cc)))
+      ∙ ap (λ (o : Option Job). option_map_or (takes 1 (tickets h.so_far.moments + 1)) o (ends (first_number old.plain.flight))) (sym (h.no_more undecided (λ e. cc)))
 
   others : All (λ (u : Assignment). u.ticket.number ≢ a.ticket.number) rest
   others i d l e =
       let k = differ_first a.ticket (tickets_of rest) (differ old (a.ticket ∷ tickets_of rest) before h.in_hand.flight) in
-      of_tickets {λ (u : Ticket). a.ticket.number ≢ u.number} rest k i d l (sym e)
+      of_tickets (λ (u : Ticket). a.ticket.number ≢ u.number) rest k i d l (sym e)
 
   ended_by : (e : Entry) (c : Plain) (x : Proposed) (f : Finished) → IsFinishedBy old new a.ticket x f → move_of e ≡ ends a.ticket.number → is_take e ≡ false → c.flight ≡ old.plain.flight → c.problem ≡ old.plain.problem → c.settings ≡ old.plain.settings
       → new.plain ≡ landed a.ticket.number c → new.journal ≡ old.journal ++ e ∷ [] → IsEndingRound new rest × IsSameRun old new
@@ -155,13 +155,13 @@ module _ (old new : Seen) (a : Assignment) (rest : List Assignment) (before : Is
       )
 
   ended_as : (x : Proposed) (f : Finished) → IsFinishedBy old new a.ticket x f → IsEndingRound new rest × IsSameRun old new
-  ended_as x (Ended v) r = none_some (sym open ∙ r.1)
+  ended_as x (Ended v) r = none_some (sym undecided ∙ r.1)
   ended_as x (Dropped p) r = ended_by (Drop a.ticket.worker a.ticket.number p) old.plain x (Dropped p) r refl refl refl refl refl r.3 r.4
   ended_as x (Committed b) r = ended_by (Commit a.ticket.worker a.ticket.number (effect_entry old.plain x)) (effect old.plain x) x (Committed b) r refl refl (effect_flight old.plain x) (effect_setting old.plain x).0 (effect_setting old.plain x).1 r.3 r.4
 
 -- a ticket of the round is ended
 pub ends_one : (old new : Seen) (a : Assignment) (rest : List Assignment) → IsEndingRound old (a ∷ rest) → verdict old.plain ≡ None → IsEnded old new a → IsEndingRound new rest × IsSameRun old new
-ends_one old new a rest h open e = ended_as old new a rest e.before e.after h open e.proposal e.answer e.finished
+ends_one old new a rest h undecided e = ended_as old new a rest e.before e.after h undecided e.proposal e.answer e.finished
 
 -- all tickets of a round are ended
 pub ends_all : (s : Seen) → IsEndingRound s [] → IsBetweenRounds s
@@ -197,8 +197,8 @@ gives_one start old new round i a room is legal h lands = (
 -- the ticket at a place is ended
 pub ends_at : (start old new : Seen) (round : List Assignment) (i : ℕ) (a : Assignment) → i < length round → a ≡ get_or round i a → IsEndingRound old (drop i round) → IsSameRun start old → verdict old.plain ≡ None → IsEnded old new a
     → IsEndingRound new (drop (i + 1) round) × IsSameRun start new
-ends_at start old new round i a room is h same open e =
-    let r = ends_one old new a (drop (i + 1) round) (subst {A = List Assignment} (IsEndingRound old) (drop_next round i a room is) h) open e in
+ends_at start old new round i a room is h same undecided e =
+    let r = ends_one old new a (drop (i + 1) round) (subst {A = List Assignment} (IsEndingRound old) (drop_next round i a room is) h) undecided e in
     (r.0, record { problem = r.1.problem ∙ same.problem; settings = r.1.settings ∙ same.settings })
 
 -- it is held before

@@ -50,7 +50,7 @@ fn take_all(alloc: Global, board: &mut Board, round: &mut Vec<Assignment>) -> Re
     requires empty { round.old.items ≡ [] }
     ensures ok { OnOk result (IsEndingRound board.new round.new.items) }
     ensures flight { OnErr result (board.new.plain.flight ≡ tickets_of round.new.items) }
-    ensures open { OnErr result (verdict board.new.plain ≡ None) }
+    ensures undecided { OnErr result (verdict board.new.plain ≡ None) }
     ensures same { IsSameRun board.old board.new }
 {
     for _ in 0..MAX_TICKETS {
@@ -69,7 +69,7 @@ fn take_one(alloc: Global, board: &mut Board, round: &mut Vec<Assignment>) -> Re
     ensures count { IfOk result (λ took. took ≡ true → length round.new.items ≡ length round.old.items + 1) }
     ensures last { IfOk result (λ took. took ≡ false → IsEndingRound board.new round.new.items) }
     ensures err { OnErr result (AreInHand board.new round.new.items) }
-    ensures open { OnErr result (verdict board.new.plain ≡ None) }
+    ensures undecided { OnErr result (verdict board.new.plain ≡ None) }
     ensures same { IsSameRun board.old board.new }
 {
     let _before = board.journal();
