@@ -7,4 +7,5 @@ mod shared;
 mod together;
 
 pub use alone::{Crew, work_alone};
-pub use together::work_together;
+pub use cert_pool::CertPool;
+pub use together::{work_together, work_together_by};
