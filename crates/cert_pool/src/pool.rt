@@ -88,8 +88,8 @@ enum Known {
 ///
 /// What is kept is true, whoever put it there, and nothing is ever removed. An answer decides another search over the same
 /// signature where its rules are among those of that search, and no member orders them, or its member orders all of those.
-/// A look costs little whatever is kept: it goes by hashes to the answers for the same rules, for all but the last, and to those
-/// without a member that end with one of the rules, and passes over others, which may cost a search and never an answer.
+/// A look goes by hashes to the answers for the same rules, for all but the last, and to those without a member that end with
+/// one of the rules. Of each chain it sees the newest 16 answers alone; what it passes over may cost a search and never an answer.
 #[derive(Drop)]
 pub struct CertPool {
     alloc: Global,
