@@ -667,6 +667,12 @@ fn normal_form(rules: &[Rule], t: &Term) -> Result<(Term, u32), u64> {
 
 // ---- the cases, as in crates/kb_bench/src
 
+/// A word of four letters of five over the term, behind a symbol.
+fn word(number: u16, t: Term) -> Term {
+    let letters = (0..4).map(|k| number / 5u16.pow(k) % 5);
+    App(6, vec![letters.fold(t, |t, l| App(l as u8 + 1, vec![t]))])
+}
+
 fn next(seed: &mut u32, bound: u32) -> u32 {
     *seed = seed.wrapping_mul(1664525).wrapping_add(1013904223);
     (*seed >> 16) % bound
@@ -1157,6 +1163,10 @@ fn main() {
             App(2, vec![full_tree(8, 0, 1, 0)]),
             times,
         ),
+        "rewrite_words_index" | "rewrite_words_scan" => {
+            let rules = (0..300).map(|n| (word(n, App(0, vec![])), App(0, vec![]))).collect();
+            normal_case(rules, (0..12).fold(App(0, vec![]), |t, k| word(k * 97 % 300, t)), times)
+        }
         "read_rules" => reading_case(&rules_text(), times),
         "read_variables" => reading_case(&variables_text(), times),
         name => panic!("no case {name}"),

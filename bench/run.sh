@@ -60,6 +60,8 @@ unify_comb 10000
 unify_doubling 10000
 rewrite_product 1000
 rewrite_tree 100
+rewrite_words_index 1000
+rewrite_words_scan 1000
 read_rules 10
 read_variables 10
 CASES

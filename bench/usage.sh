@@ -55,6 +55,14 @@ done <<<"$options"
 agree_on_names to Format
 agree_on_names select Selection
 
+# The words without a value, which say what is shown.
+shown="$(grep -o 'word == "--[a-z]*"' "$top/crates/mkbtt_shown/src/manner.rt" | grep -o -- '--[a-z]*' | tr -d -)"
+[ -n "$shown" ] || lacks "a source of the words that say what is shown"
+for word in $shown; do
+    grep -Eq "^  --$word +[a-z]" "$page" || lacks "the option $word"
+    agree_on "the option" "$word" "$(sed -n "s/^  --$word  *\(shows [a-z]* [a-z]*\).*/\1/p" "$page")"
+done
+
 while read -r status cause; do
     grep -A 1 -x ".It $status" "$manual" | grep -Fqx "$cause" || lacks "agreement of the man page on status $status"
 done < <(sed -n '/^Exit statuses/,/^$/s/^  \([0-9]\)  /\1 /p' "$page")

@@ -1,7 +1,8 @@
 #!/usr/bin/env bash
 # Completes each example by one worker and compares what is written with the text beside it: expected/NAME.txt by the stated
 # selection, expected/by_size/NAME.txt by size. Each answer is also sent to the checker, and where there are goals, NAME.goals,
-# its decisions are compared with expected/decided/NAME.txt. Where Graphviz's `dot` is there, it draws each answer's trace.
+# its decisions are compared with expected/decided/NAME.txt. Every example is completed by rounds, with at most 3,000 commits, by 1, 2,
+# 4 and 16 workers and both selections, and what they write is compared. Where Graphviz's `dot` is there, it draws each answer's trace.
 # Examples that take long have no such text and are left out. With the word `write` it writes the texts of completions.
 set -u
 here="$(dirname "$(readlink -f "${BASH_SOURCE[0]}")")"
@@ -31,11 +32,30 @@ example() {
     fi
 }
 
+# What so many workers write on the example by rounds, with the status.
+by_rounds() {
+    "$mkbtt" rounds --workers "$3" --budget 3000 --select "$2" <"$1"
+    echo "$?"
+}
+
+# Whether by rounds every number of workers writes the same.
+rounds() {
+    local problem="$1" selection="$2" alone workers
+    alone="$(by_rounds "$problem" "$selection" 1)"
+    for workers in 2 4 16; do
+        [ "$(by_rounds "$problem" "$selection" "$workers")" = "$alone" ] || wrong "$(basename "$problem" .trs): $workers workers write another text by rounds"
+    done
+}
+
 for expected in "$here"/expected/*.txt; do
     example stated "$expected"
 done
 for expected in "$here"/expected/by_size/*.txt; do
     example size "$expected"
+done
+for problem in "$here"/*.trs; do
+    rounds "$problem" stated
+    rounds "$problem" size
 done
 for goals in "$here"/*.goals; do
     name="$(basename "$goals" .goals)"

@@ -8,6 +8,6 @@ _mkbtt() {
         --to) mapfile -t COMPREPLY < <(compgen -W "answer trs dot" -- "$word"); return ;;
         --select) mapfile -t COMPREPLY < <(compgen -W "stated size" -- "$word"); return ;;
     esac
-    mapfile -t COMPREPLY < <(compgen -W "complete check convert reduce decide simplify summary journal replay gen --workers --budget --number --to --select --help --version" -- "$word")
+    mapfile -t COMPREPLY < <(compgen -W "complete rounds check convert reduce decide simplify summary journal replay gen --workers --budget --number --to --select --progress --explain --quiet --help --version" -- "$word")
 }
 complete -F _mkbtt mkbtt

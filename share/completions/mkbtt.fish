@@ -1,7 +1,8 @@
 # Completions of mkbtt for fish.
 complete -c mkbtt -f
-set -l modes complete check convert reduce decide simplify summary journal replay gen
+set -l modes complete rounds check convert reduce decide simplify summary journal replay gen
 complete -c mkbtt -n "not __fish_seen_subcommand_from $modes" -a complete -d 'reads a problem and writes an answer'
+complete -c mkbtt -n "not __fish_seen_subcommand_from $modes" -a rounds -d 'as complete, and writes the same for every number of workers'
 complete -c mkbtt -n "not __fish_seen_subcommand_from $modes" -a check -d 'reads an answer and checks it'
 complete -c mkbtt -n "not __fish_seen_subcommand_from $modes" -a convert -d 'reads an answer and writes it in the newest version of its text'
 complete -c mkbtt -n "not __fish_seen_subcommand_from $modes" -a reduce -d 'reads an answer and writes it with reduced rules'
@@ -16,5 +17,8 @@ complete -c mkbtt -l budget -x -d 'the most commits of a run, 1 to 100000' -a "1
 complete -c mkbtt -l number -x -d 'which generated problem, 1 to 64' -a "(seq 1 64)"
 complete -c mkbtt -l to -x -d 'as what convert writes, answer, trs or dot' -a "answer trs dot"
 complete -c mkbtt -l select -x -d 'which job comes first, stated or size' -a "stated size"
+complete -c mkbtt -l progress -d 'shows each second how a run goes on'
+complete -c mkbtt -l explain -d 'shows the line of what is refused'
+complete -c mkbtt -l quiet -d 'shows neither'
 complete -c mkbtt -l help -s h -d 'a page of help'
 complete -c mkbtt -l version -s V -d 'what the program is proved with'

@@ -9,7 +9,7 @@ use crate::comparing::{are_among, is_same_signature};
 use crate::hashing::rule_hash;
 use boxcar::Keeps;
 use boxcar::tag::Tag;
-use kb_cert::{Certificate, more_rules_are_never_earlier, orients};
+use kb_cert::{Certificate, Family, more_rules_are_never_earlier, orients, search_from};
 use kb_jobs::{FamilySearcher, Searcher};
 use kb_term::{Memory, Rule, Signature};
 use std::alloc::Global;
@@ -36,6 +36,7 @@ struct Found {
     key: u64,
     // the answer before it in its chain
     before: usize,
+    family: Family,
     signature: Signature,
     rules: Vec<Rule>,
     answer: Option<Certificate>,
@@ -50,17 +51,22 @@ impl Keeps<Found> for IsTrueFound {
     ghost holds = { λ tag index found. IsTrueResult found };
 }
 
-/// By what the answers are found that may decide a search: the hash of each of its rules, their sum, and the hash of the last.
+/// By what the answers are found that may decide a search: its family, the hash of each of its rules, their sum, and the hash of
+/// the last.
 #[derive(Drop)]
 struct Keys {
+    family: Family,
     each: Vec<u64>,
     all: u64,
     last: u64,
 }
 
 impl Keys {
-    fn of(alloc: Global, rules: &[Rule]) -> Result<Keys, Memory> {
+    fn of(alloc: Global, family: Family, rules: &[Rule]) -> Result<Keys, Memory>
+        ensures { IfOk result (λ keys. keys.family ≡ family) }
+    {
         let mut keys = Keys {
+            family,
             each: Vec::with_capacity(alloc, rules.len())?,
             all: 0,
             last: 0,
@@ -84,10 +90,10 @@ enum Known {
     Nothing,
 }
 
-/// Answers of searches that threads share: which member of the family of orders is the first that orders given rules.
+/// Answers of searches that threads share: which member of a family of orders is the first that orders given rules.
 ///
-/// What is kept is true, whoever put it there, and nothing is ever removed. An answer decides another search over the same
-/// signature where its rules are among those of that search, and no member orders them, or its member orders all of those.
+/// What is kept is true, whoever put it there, and nothing is ever removed. An answer decides another search of the same family
+/// over the same signature where its rules are among those of that search, and no member orders them, or its member orders all of those.
 /// A look goes by hashes to the answers for the same rules, for all but the last, and to those without a member that end with
 /// one of the rules. Of each chain it sees the newest 16 answers alone; what it passes over may cost a search and never an answer.
 #[derive(Drop)]
@@ -118,23 +124,24 @@ impl CertPool {
     pub fn search_by<S: Searcher, R: Wait>(
         &self,
         rt: &R,
+        family: Family,
         sig: &Signature,
         rules: &[Rule],
         miss: &S,
     ) -> Result<Option<Certificate>, Memory>
         requires few { length sig.now ≤ 24 }
         requires measurable { AreMeasurable rules.now }
-        ensures first { IfOk result (λ found. IsFirstOrder sig.now rules.now found) }
+        ensures first { IfOk result (λ found. IsFirstOrder family sig.now rules.now found) }
         ensures text { IfOk result (λ found. IfSome found (λ c. IsTrue (is_certificate sig.now c))) }
     {
-        let keys = Keys::of(self.alloc, rules)?;
+        let keys = Keys::of(self.alloc, family, rules)?;
         if let Some(answer) = self.decided(&keys, sig, rules)? {
             return Ok(answer);
         }
-        let answer = match self.look(keys.all.wrapping_sub(keys.last), sig, rules)? {
+        let answer = match self.look(&keys, keys.all.wrapping_sub(keys.last), sig, rules)? {
             Known::Answer(answer) => answer,
-            Known::Bound(start) => miss.search_from(rt, sig, rules, start)?,
-            Known::Nothing => miss.search(rt, sig, rules)?,
+            Known::Bound(start) => miss.search_from(rt, family, sig, rules, start)?,
+            Known::Nothing => miss.search(rt, family, sig, rules)?,
         };
         let _kept = self.keep(rt, &keys, sig, rules, &answer);
         Ok(answer)
@@ -148,13 +155,13 @@ impl CertPool {
         rules: &[Rule],
     ) -> Result<Option<Option<Certificate>>, Memory>
         requires { AreMeasurable rules.now }
-        ensures { IfOk result (λ decided. IfSome decided (IsAnswer sig.now rules.now)) }
+        ensures { IfOk result (λ decided. IfSome decided (IsAnswer keys.now.family sig.now rules.now)) }
     {
-        if let Known::Answer(answer) = self.look(keys.all, sig, rules)? {
+        if let Known::Answer(answer) = self.look(keys, keys.all, sig, rules)? {
             return Ok(Some(answer));
         }
         for i in 0..keys.each.len() {
-            if let Known::Answer(answer) = self.look(keys.each[i], sig, rules)? {
+            if let Known::Answer(answer) = self.look(keys, keys.each[i], sig, rules)? {
                 return Ok(Some(answer));
             }
         }
@@ -162,24 +169,25 @@ impl CertPool {
     }
 
     // What the newest answer of this key for some of the rules says.
-    fn look(&self, key: u64, sig: &Signature, rules: &[Rule]) -> Result<Known, Memory>
+    fn look(&self, keys: &Keys, key: u64, sig: &Signature, rules: &[Rule]) -> Result<Known, Memory>
         requires { AreMeasurable rules.now }
-        ensures { IfOk result (IsKnown sig.now rules.now) }
+        ensures { IfOk result (IsKnown keys.now.family sig.now rules.now) }
     {
-        match self.kept_for(key, sig, rules) {
+        match self.kept_for(keys, key, sig, rules) {
             Some(found) => told_by(found, rules),
             None => Ok(Known::Nothing),
         }
     }
 
     // The newest answer of this key for some of the rules.
-    fn kept_for(&self, key: u64, sig: &Signature, rules: &[Rule]) -> Option<&Found>
-        ensures { IfSome result (λ found. IsFor sig.now rules.now found.now) }
+    fn kept_for(&self, keys: &Keys, key: u64, sig: &Signature, rules: &[Rule]) -> Option<&Found>
+        ensures { IfSome result (λ found. IsFor keys.now.family sig.now rules.now found.now) }
     {
         let mut index = self.chains.get(chain_of(key))?.load(SeqCst);
         for _ in 0..LOOKS {
             let found = self.kept.get(index)?;
             if found.key == key
+                && found.family == keys.family
                 && is_same_signature(&found.signature, sig)
                 && are_among(&found.rules, rules)
             {
@@ -199,7 +207,7 @@ impl CertPool {
         rules: &[Rule],
         answer: &Option<Certificate>,
     ) -> Result<(), Memory>
-        requires { IsAnswer sig.now rules.now answer.now }
+        requires { IsAnswer keys.now.family sig.now rules.now answer.now }
     {
         let key = if answer.is_some() {
             keys.all
@@ -213,6 +221,7 @@ impl CertPool {
         let found = Found {
             key,
             before: chain.load(SeqCst),
+            family: keys.family,
             signature: sig.clone()?,
             rules: rules.to_vec(self.alloc)?,
             answer: copy_of(answer)?,
@@ -237,8 +246,8 @@ fn copy_of(answer: &Option<Certificate>) -> Result<Option<Certificate>, Memory>
 // What a true result for some of the rules says of a search for all of them.
 fn told_by(found: &Found, rules: &[Rule]) -> Result<Known, Memory>
     requires measurable { AreMeasurable rules.now }
-    requires holds { IsFor found.now.signature rules.now found.now }
-    ensures { IfOk result (IsKnown found.now.signature rules.now) }
+    requires holds { IsFor found.now.family found.now.signature rules.now found.now }
+    ensures { IfOk result (IsKnown found.now.family found.now.signature rules.now) }
 {
     more_rules_are_never_earlier();
     match &found.answer {
@@ -260,12 +269,30 @@ fn chain_of(key: u64) -> usize {
 }
 
 impl Searcher for CertPool {
+    fn search_from<R: Wait>(
+        &self,
+        rt: &R,
+        family: Family,
+        sig: &Signature,
+        rules: &[Rule],
+        start: Certificate,
+    ) -> Result<Option<Certificate>, Memory> {
+        let keys = Keys::of(self.alloc, family, rules)?;
+        if let Some(answer) = self.decided(&keys, sig, rules)? {
+            return Ok(answer);
+        }
+        let answer = search_from(self.alloc, family, sig, rules, start)?;
+        let _kept = self.keep(rt, &keys, sig, rules, &answer);
+        Ok(answer)
+    }
+
     fn search<R: Wait>(
         &self,
         rt: &R,
+        family: Family,
         sig: &Signature,
         rules: &[Rule],
     ) -> Result<Option<Certificate>, Memory> {
-        self.search_by(rt, sig, rules, &FamilySearcher::new(self.alloc))
+        self.search_by(rt, family, sig, rules, &FamilySearcher::new(self.alloc))
     }
 }

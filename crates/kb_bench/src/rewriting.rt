@@ -1,7 +1,9 @@
 // The cases of rewriting, and their answers' checksums.
+ghost use Rattle.std.specs.Prelude.{◌≡◌, length, IfOk};
+
 use crate::runs::with_next;
 use crate::shapes::{binary, full_tree, unary};
-use kb_rewrite::{Normal, normal_form};
+use kb_rewrite::{Normal, System, normal_form};
 use kb_term::{Memory, Rule, Symbol, Term, Terms};
 use std::alloc::Global;
 
@@ -97,4 +99,63 @@ pub(crate) fn product_case(alloc: Global, repetitions: u32) -> Result<u64, Memor
 pub(crate) fn tree_case(alloc: Global, repetitions: u32) -> Result<u64, Memory> {
     let t = unary(alloc, 2, full_tree(alloc, 8, 0, 1, 0)?)?;
     repeat_normal(alloc, &turning_rules(alloc)?, &t, repetitions)
+}
+
+/// How redexes are found.
+#[derive(Clone, Copy, PartialEq, Eq)]
+pub(crate) enum Redexes {
+    /// By an index of left sides.
+    ByIndex,
+    /// Rule by rule.
+    ByScan,
+}
+
+/// The rules of the words.
+const WORDS: u16 = 300;
+
+// The word with this number, of four letters of five, with a symbol before it, over the term: symbols 1 to 5 are letters, 6
+// begins a word.
+fn word(alloc: Global, number: u16, t: Term) -> Result<Term, Memory> {
+    let mut rest = number;
+    let mut t = t;
+    for _ in 0..4 {
+        t = unary(alloc, (rest % 5) as u8 + 1, t)?;
+        rest /= 5;
+    }
+    unary(alloc, 6, t)
+}
+
+// Each of 300 words over zero goes to zero.
+fn word_rules(alloc: Global) -> Result<Vec<Rule>, Memory>
+    ensures { IfOk result (λ rules. length rules.items ≡ 300) }
+{
+    let mut rules = Vec::new(alloc);
+    for number in 0..WORDS {
+        rules.push(Rule::new(word(alloc, number, zero(alloc))?, zero(alloc)))?;
+    }
+    Ok(rules)
+}
+
+// Twelve words over zero, one in the other.
+fn words_term(alloc: Global) -> Result<Term, Memory> {
+    let mut t = zero(alloc);
+    for k in 0..12 {
+        t = word(alloc, k * 97 % WORDS, t)?;
+    }
+    Ok(t)
+}
+
+/// Twelve steps by 300 rules, the innermost word first.
+pub(crate) fn words_case(alloc: Global, redexes: Redexes, repetitions: u32) -> Result<u64, Memory> {
+    let rules = word_rules(alloc)?;
+    let t = words_term(alloc)?;
+    if redexes == Redexes::ByScan {
+        return repeat_normal(alloc, &rules, &t, repetitions);
+    }
+    let system = System::indexed(alloc, &rules)?;
+    let mut sum = 0;
+    for _ in 0..repetitions {
+        sum = with_next(sum, normal_code(&system.normal_form(alloc, &t)?));
+    }
+    Ok(sum)
 }

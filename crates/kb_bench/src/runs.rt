@@ -3,7 +3,7 @@ ghost use Rattle.std.specs.Prelude.{◌≤◌, length};
 ghost use Rattle.kb_linear.specs.Limits.{AreMeasurable};
 
 use crate::reading;
-use crate::rewriting::{product_case, tree_case};
+use crate::rewriting::{Redexes, product_case, tree_case, words_case};
 use crate::rules::{group_rules, linear_rules, path_rules, weighted_rules};
 use crate::sets::selectors;
 use crate::shapes::{comb, eight_doubles, eight_variables, full_tree, signature, unary};
@@ -38,6 +38,8 @@ pub enum Case {
     UnifyDoubling,
     RewriteProduct,
     RewriteTree,
+    RewriteWordsByIndex,
+    RewriteWordsByScan,
     ReadRules,
     ReadVariables,
 }
@@ -66,6 +68,8 @@ pub(crate) fn case_named(name: &str) -> Option<Case> {
         "unify_doubling" => Some(Case::UnifyDoubling),
         "rewrite_product" => Some(Case::RewriteProduct),
         "rewrite_tree" => Some(Case::RewriteTree),
+        "rewrite_words_index" => Some(Case::RewriteWordsByIndex),
+        "rewrite_words_scan" => Some(Case::RewriteWordsByScan),
         "read_rules" => Some(Case::ReadRules),
         "read_variables" => Some(Case::ReadVariables),
         _ => None,
@@ -297,6 +301,8 @@ pub(crate) fn checksum(alloc: Global, case: Case, repetitions: u32) -> Result<u6
         }
         Case::RewriteProduct => product_case(alloc, repetitions),
         Case::RewriteTree => tree_case(alloc, repetitions),
+        Case::RewriteWordsByIndex => words_case(alloc, Redexes::ByIndex, repetitions),
+        Case::RewriteWordsByScan => words_case(alloc, Redexes::ByScan, repetitions),
         Case::ReadRules => reading::rules_case(alloc, repetitions),
         Case::ReadVariables => reading::variables_case(alloc, repetitions),
     }

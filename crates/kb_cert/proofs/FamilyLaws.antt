@@ -1,4 +1,4 @@
--- The members of the family: their interpretations are positive, and what they order is a rule.
+-- The members of a family: their interpretations are positive, and what they order is a rule.
 use Rattle.std.proofs.Common.{ℕ, Option, Some, None, zero-lt-suc, suc-le-suc, zero, suc, ◌+◌, ◌*◌, ◌≡◌, ◌≤◌, ◌⊎◌, inl, inr, refl, ap, ap₂, subst, arith, List, [], ◌∷◌, ◌++◌, map, All, Contains, length, cond, ◌==◌, replicate, ⊎_elim, flat_map, filter, not, sym, ◌∙◌, ◌<◌}
 use Rattle.std.specs.List.{AllZip, range_with_len}
 use Rattle.std.proofs.lemmas.List.Elements.{All-contains, All-weaker, Contains-append_cases, Contains-append_left}
@@ -16,7 +16,9 @@ use Rattle.kb_kbo.specs.Orders.{kbo_orders}
 use Rattle.kb_kbo.proofs.KboLaws.{kbo_chain}
 use Rattle.kb_kbo.proofs.KboHalting.{kbo_rule, terminating_by_kbo}
 use Rattle.kb_kbo.proofs.KboMembers.{order_weighs}
-use Rattle.kb_cert.specs.Family.{family, Orders, IsOrderable}
+use Rattle.kb_cert.specs.Family.{family, IsMember, Orders, IsOrderable}
+use Rattle.kb_cert.specs.declared.family.Family.{Family}
+use Rattle.kb_cert.specs.declared.family.Family.TheVariants.{Stated}
 use Rattle.kb_cert.proofs.Ordering.{nothing_ordered, all_from}
 use Rattle.kb_cert.specs.declared.certificate.Certificate.{Certificate}
 use Rattle.kb_cert.specs.declared.certificate.Certificate.TheVariants.{Lpo, Linear, Kbo}
@@ -69,19 +71,23 @@ interpretation_fits g i c = interpretation_up_to g (top_constant g) i c
 no_member : {X : Type 0} (f : X → Certificate) (xs : List X) (c : Certificate) → ((x : X) → ¬ (f x ≡ c)) → ¬ Contains (map f xs) c
 no_member f xs c differs i = let r = contains_map_back f xs c i in differs r.0 r.2
 
--- where a member stands in the family
-member_cases : (g : Signature) (c : Certificate) → Contains (family g) c → Contains (map Lpo (precedences (length g))) c ⊎ (Contains (map Linear (interpretations g)) c ⊎ Contains (map Kbo (kbo_orders g)) c)
-member_cases g c m =
+-- there is one family
+pub one_family : (f : Family) → f ≡ Stated
+one_family Stated = refl
+
+-- where a member stands in its family
+member_cases : (g : Signature) (c : Certificate) → IsMember g c → Contains (map Lpo (precedences (length g))) c ⊎ (Contains (map Linear (interpretations g)) c ⊎ Contains (map Kbo (kbo_orders g)) c)
+member_cases g c (Stated, m) =
     ⊎_elim (λ i. inl i) (λ i. inr (Contains-append_cases (map Linear (interpretations g)) (map Kbo (kbo_orders g)) c i)) (Contains-append_cases (map Lpo (precedences (length g))) (map Linear (interpretations g) ++ map Kbo (kbo_orders g)) c m)
 
-pub member_fits : (g : Signature) (i : Interpretation) → Contains (family g) (Linear i) → IsInterpretationOf g i
+pub member_fits : (g : Signature) (i : Interpretation) → IsMember g (Linear i) → IsInterpretationOf g i
 member_fits g i m =
     ⊎_elim (λ d. absurd (no_member Lpo (precedences (length g)) (Linear i) (λ x e. cc) d))
     (λ d. ⊎_elim (λ b. let r = contains_map_back Linear (interpretations g) (Linear i) b in let e : r.0 ≡ i = cc in interpretation_fits g i (subst (Contains (interpretations g)) e r.1))
     (λ b. absurd (no_member Kbo (kbo_orders g) (Linear i) (λ x e. cc) b)) d)
     (member_cases g (Linear i) m)
 
-pub member_weighs : (g : Signature) (o : KboOrder) → Contains (family g) (Kbo o) → HasWeights o
+pub member_weighs : (g : Signature) (o : KboOrder) → IsMember g (Kbo o) → HasWeights o
 member_weighs g o m =
     ⊎_elim (λ d. absurd (no_member Lpo (precedences (length g)) (Kbo o) (λ x e. cc) d))
     (λ d. ⊎_elim (λ b. absurd (no_member Linear (interpretations g) (Kbo o) (λ x e. cc) b))
@@ -146,8 +152,8 @@ linear_rule g i fit r w h = record {
 pub linear_rules : (g : Signature) (i : Interpretation) → IsInterpretationOf g i → (rules : List Rule) → All (λ (r : Rule). IsWellFormed g r.right) rules → LinearOrients i rules → All IsRule rules
 linear_rules g i fit rules well h = λ k d l. linear_rule g i fit _ (well k d l) (h k d l)
 
--- so is what a member of the family orders
-pub ordered_rules : (g : Signature) (c : Certificate) → Contains (family g) c → (rules : List Rule) → All (λ (r : Rule). IsWellFormed g r.right) rules → Orders c rules → All IsRule rules
+-- so is what a member of a family orders
+pub ordered_rules : (g : Signature) (c : Certificate) → IsMember g c → (rules : List Rule) → All (λ (r : Rule). IsWellFormed g r.right) rules → Orders c rules → All IsRule rules
 ordered_rules g (Lpo p) m rules well h = All-weaker (λ (r : Rule). LpoGreater p r.left r.right) IsRule (lpo_rule p) rules h
 ordered_rules g (Linear i) m rules well h = linear_rules g i (member_fits g i m) rules well h
 ordered_rules g (Kbo o) m rules well h = All-weaker (λ (r : Rule). KboGreater o r.left r.right) IsRule (kbo_rule o (member_weighs g o m)) rules h
@@ -171,15 +177,21 @@ arranged (suc k) n =
     Contains-append_left (map (n ∷◌) (arrangements k (filter (λ y. not (y == n)) xs))) (flat_map (λ x. map (x ∷◌) (arrangements k (filter (λ y. not (y == x)) xs))) (range_with_len (n + 1) k)) xs
     (contains_map (n ∷◌) (arrangements k (filter (λ y. not (y == n)) xs)) (range_with_len (n + 1) k) (subst (λ ys. Contains (arrangements k ys) (range_with_len (n + 1) k)) (sym (filter_first n k)) (arranged k (n + 1))))
 
--- the family has a member for each signature
-pub first_member : (g : Signature) → Contains (family g) (Lpo (range_with_len 0 (length g)))
-first_member g = Contains-append_left (map Lpo (precedences (length g))) (map Linear (interpretations g) ++ map Kbo (kbo_orders g)) (Lpo (range_with_len 0 (length g))) (contains_map Lpo (precedences (length g)) (range_with_len 0 (length g)) (arranged (length g) 0))
+-- each family has a member for each signature
+stated_member : (g : Signature) → Contains (family Stated g) (Lpo (range_with_len 0 (length g)))
+stated_member g = Contains-append_left (map Lpo (precedences (length g))) (map Linear (interpretations g) ++ map Kbo (kbo_orders g)) (Lpo (range_with_len 0 (length g))) (contains_map Lpo (precedences (length g)) (range_with_len 0 (length g)) (arranged (length g) 0))
+
+pub some_member : (f : Family) (g : Signature) → (c : Certificate) × Contains (family f g) c
+some_member Stated g = (Lpo (range_with_len 0 (length g)), stated_member g)
+
+pub first_member : (g : Signature) → IsMember g (Lpo (range_with_len 0 (length g)))
+first_member g = (Stated, stated_member g)
 
 pub nothing_orderable : (g : Signature) → IsOrderable g []
 nothing_orderable g = (Lpo (range_with_len 0 (length g)), first_member g, nothing_ordered (Lpo (range_with_len 0 (length g))))
 
 -- rules that are chains of ordered ones are ordered
-pub chains_ordered : (g : Signature) (c : Certificate) → Contains (family g) c → (qs rs : List Rule) → All (IsRuleOver g) qs → ((r : Rule) → Contains rs r → IsWellFormed g r.left × ((n : ℕ) × Steps (Step (Contains qs)) (suc n) r.left r.right)) → Orders c qs → Orders c rs
+pub chains_ordered : (g : Signature) (c : Certificate) → IsMember g c → (qs rs : List Rule) → All (IsRuleOver g) qs → ((r : Rule) → Contains rs r → IsWellFormed g r.left × ((n : ℕ) × Steps (Step (Contains qs)) (suc n) r.left r.right)) → Orders c qs → Orders c rs
 chains_ordered g (Lpo p) m qs rs over chained h = all_from (λ (r : Rule). LpoGreater p r.left r.right) rs (λ r i.
     let k = (chained r i).1 in
     lpo_from_path p (chain_greater p (Contains qs) (λ q j. path_from_lpo p (All-contains (λ (q : Rule). LpoGreater p q.left q.right) qs q h j)) k.0 r.left r.right k.1))
@@ -190,8 +202,8 @@ chains_ordered g (Kbo o) m qs rs over chained h = all_from (λ (r : Rule). KboGr
     let k = (chained r i).1 in
     kbo_chain o (member_weighs g o m) (Contains qs) (λ q j. All-contains (λ (q : Rule). KboGreater o q.left q.right) qs q h j) k.0 r.left r.right k.1)
 
--- what a member of the family orders is terminating
-pub terminating_by_member : (g : Signature) (c : Certificate) → Contains (family g) c → (rules : List Rule) → All (IsRuleOver g) rules → Orders c rules → IsTerminating g rules
+-- what a member of a family orders is terminating
+pub terminating_by_member : (g : Signature) (c : Certificate) → IsMember g c → (rules : List Rule) → All (IsRuleOver g) rules → Orders c rules → IsTerminating g rules
 terminating_by_member g (Lpo p) m rules over h = terminating_by_lpo p g rules over h
 terminating_by_member g (Linear n) m rules over h = λ t w. halts_to rules t (linear_halts g n (Contains rules) (member_fits g n m) (λ r j. All-contains (λ r. LinearGreater n r.left r.right) rules r h j) (keeps_well g rules over) t w)
 terminating_by_member g (Kbo o) m rules over h = terminating_by_kbo g o (member_weighs g o m) rules over h

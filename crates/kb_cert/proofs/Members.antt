@@ -1,4 +1,4 @@
--- The members of the family have texts: they have exactly the symbols of the signature, and numbers within the limits.
+-- The members of a family have texts: they have exactly the symbols of the signature, and numbers within the limits.
 use Rattle.std.proofs.Common.{ℕ, zero, suc, ◌≤◌, ◌≡◌, ⊎_elim, refl, sym, ap, ap₂, ◌∙◌, subst, arith, List, [], ◌∷◌, ◌++◌, All, length, map, filter, Contains, Bool, true, false, ◌==◌, cond, IsTrue}
 use Rattle.std.specs.Prelude.{not, ◌&&◌, nat_eq, nat_le, nat_lt, replicate, Some}
 use Rattle.std.specs.List.{list_all, range_with_len}
@@ -19,7 +19,9 @@ use Rattle.kb_linear.proofs.Ready.{tried_to_three}
 use Rattle.kb_kbo.specs.KnuthBendix.{KboOrder}
 use Rattle.kb_kbo.specs.Orders.{kbo_orders}
 use Rattle.kb_kbo.proofs.KboMembers.{IsSmallWeight, order_tried}
-use Rattle.kb_cert.specs.Family.{family, IsFirstOrder}
+use Rattle.kb_cert.specs.Family.{family, IsMember, IsFirstOrder}
+use Rattle.kb_cert.specs.declared.family.Family.{Family}
+use Rattle.kb_cert.specs.declared.family.Family.TheVariants.{Stated}
 use Rattle.kb_cert.specs.CertificateText.{is_certificate, is_precedence, are_rows, is_between}
 use Rattle.kb_cert.specs.declared.certificate.Certificate.{Certificate}
 use Rattle.kb_cert.specs.declared.certificate.Certificate.TheVariants.{Lpo, Linear, Kbo}
@@ -105,9 +107,9 @@ kbo_text sig order c =
     let p = precedence_text sig order.precedence t.precedence in
     λ i. (l i && w i) && p i
 
--- each member of the family has a text
-pub member_text : (sig : Signature) (c : Certificate) → Contains (family sig) c → IsTrue (is_certificate sig c)
-member_text sig c m = ⊎_elim
+-- each member of a family has a text
+pub member_text : (sig : Signature) (c : Certificate) → IsMember sig c → IsTrue (is_certificate sig c)
+member_text sig c (Stated, m) = ⊎_elim
     (λ d. let r = contains_map_back Lpo (precedences (length sig)) c d in subst (λ z. IsTrue (is_certificate sig z)) r.2 (precedence_text sig r.0 r.1))
     (λ b. ⊎_elim
     (λ d. let r = contains_map_back Linear (interpretations sig) c d in let t = tried_to_three sig r.0 r.1 in subst (λ z. IsTrue (is_certificate sig z)) r.2 (rows_text sig t.0 r.0 t.1 t.2))
@@ -115,9 +117,9 @@ member_text sig c m = ⊎_elim
     (Contains-append_cases (map Linear (interpretations sig)) (map Kbo (kbo_orders sig)) c b))
     (Contains-append_cases (map Lpo (precedences (length sig))) (map Linear (interpretations sig) ++ map Kbo (kbo_orders sig)) c m)
 
-pub first_contained : (sig : Signature) (rules : List Rule) (c : Certificate) → IsFirstOrder sig rules (Some c) → Contains (family sig) c
-first_contained sig rules c (h, before, after, e, n) = subst (λ z. Contains z c) (sym e) (Contains-append_right before (c ∷ after) c (contains_first c after))
+pub first_contained : (f : Family) (sig : Signature) (rules : List Rule) (c : Certificate) → IsFirstOrder f sig rules (Some c) → Contains (family f sig) c
+first_contained f sig rules c (h, before, after, e, n) = subst (λ z. Contains z c) (sym e) (Contains-append_right before (c ∷ after) c (contains_first c after))
 
 -- so has the first that orders rules
-pub first_text : (sig : Signature) (rules : List Rule) (c : Certificate) → IsFirstOrder sig rules (Some c) → IsTrue (is_certificate sig c)
-first_text sig rules c h = member_text sig c (first_contained sig rules c h)
+pub first_text : (f : Family) (sig : Signature) (rules : List Rule) (c : Certificate) → IsFirstOrder f sig rules (Some c) → IsTrue (is_certificate sig c)
+first_text f sig rules c h = member_text sig c (f, first_contained f sig rules c h)

@@ -10,6 +10,7 @@ use Rattle.kb_kbo.specs.Orders.{kbo_orders}
 use Rattle.kb_cert.specs.Family.{family, Orders}
 use Rattle.kb_lpo.specs.Precedences.{precedences}
 use Rattle.kb_cert.specs.declared.certificate.Certificate.TheVariants.{Lpo, Linear, Kbo}
+use Rattle.kb_cert.specs.declared.family.Family.TheVariants.{Stated}
 use Rattle.kb_term.proofs.PairRows.{one}
 use Rattle.kb_term.proofs.Trees.{apply≢variable, each-more, each-none}
 
@@ -42,10 +43,10 @@ abbrev pub f1-g1 : Signature
 f1-g1 = record { name = codes "f"; arity = 1 } ∷ record { name = codes "g"; arity = 1 } ∷ []
 
 -- two precedences, 64 interpretations and 18 Knuth-Bendix orders
-pub family-length : length (family f1-g1) ≡ 84
+pub family-length : length (family Stated f1-g1) ≡ 84
 family-length = refl
 
-pub family-first : take 4 (family f1-g1) ≡ Lpo (0 ∷ 1 ∷ []) ∷ Lpo (1 ∷ 0 ∷ []) ∷ Linear ((0, 1 ∷ []) ∷ (0, 1 ∷ []) ∷ []) ∷ Linear ((0, 1 ∷ []) ∷ (0, 2 ∷ []) ∷ []) ∷ []
+pub family-first : take 4 (family Stated f1-g1) ≡ Lpo (0 ∷ 1 ∷ []) ∷ Lpo (1 ∷ 0 ∷ []) ∷ Linear ((0, 1 ∷ []) ∷ (0, 1 ∷ []) ∷ []) ∷ Linear ((0, 1 ∷ []) ∷ (0, 2 ∷ []) ∷ []) ∷ []
 family-first = refl
 
 pub precedences-3 : precedences 3 ≡ (0 ∷ 1 ∷ 2 ∷ []) ∷ (0 ∷ 2 ∷ 1 ∷ []) ∷ (1 ∷ 0 ∷ 2 ∷ []) ∷ (1 ∷ 2 ∷ 0 ∷ []) ∷ (2 ∷ 0 ∷ 1 ∷ []) ∷ (2 ∷ 1 ∷ 0 ∷ []) ∷ []
@@ -59,7 +60,7 @@ pub kbo-first : take 3 (kbo_orders f1-g1) ≡ kbo (1 ∷ 1 ∷ []) (0 ∷ 1 ∷ 
 kbo-first = refl
 
 -- the empty signature has the empty precedence, the empty interpretation and the order of no weights
-pub family-empty : family [] ≡ Lpo [] ∷ Linear [] ∷ Kbo (kbo [] []) ∷ []
+pub family-empty : family Stated [] ≡ Lpo [] ∷ Linear [] ∷ Kbo (kbo [] []) ∷ []
 family-empty = refl
 
 -- of the family, LINEAR 1,2 0,2 orders f(f(x)) -> g(x) and g(f(x)) -> f(g(x)); it is number 27
@@ -68,5 +69,5 @@ orders-row zero d p a = omega arith
 orders-row (suc zero) d p a = omega arith
 orders-row (suc (suc k)) d p a = absurd (omega (arith, p))
 
-pub family-row : Contains (family f1-g1) (Linear ((1, 2 ∷ []) ∷ (0, 2 ∷ []) ∷ []))
+pub family-row : Contains (family Stated f1-g1) (Linear ((1, 2 ∷ []) ∷ (0, 2 ∷ []) ∷ []))
 family-row = (27, omega arith, refl)

@@ -19,6 +19,8 @@ use Rattle.kb_kbo.specs.Orders.{kbo_orders, IsFirstKbo, IsLowerBound as IsKboBou
 use Rattle.kb_linear.proofs.Sorted.{contains_map_back}
 use Rattle.kb_term.proofs.Steps.{contains_first}
 use Rattle.kb_cert.specs.Family.{family, Orders, IsFirstOrder, IsLowerBound, FirstBoundsMore, NoneForMore}
+use Rattle.kb_cert.specs.declared.family.Family.{Family}
+use Rattle.kb_cert.specs.declared.family.Family.TheVariants.{Stated}
 use Rattle.kb_cert.specs.declared.certificate.Certificate.{Certificate}
 use Rattle.kb_cert.specs.declared.certificate.Certificate.TheVariants.{Lpo, Linear, Kbo}
 
@@ -63,12 +65,12 @@ abbrev pub later_members : Signature → List Certificate
 later_members sig = map Linear (interpretations sig) ++ map Kbo (kbo_orders sig)
 
 -- what the searches answered: a first precedence is the first member
-pub precedence_found : (sig : Signature) (rules : List Rule) (found : Option (List ℕ)) (prec : List ℕ) → found ≡ Some prec → IsFirst (λ p. LpoOrients p rules) (precedences (length sig)) found → IsFirstOrder sig rules (Some (Lpo prec))
+pub precedence_found : (sig : Signature) (rules : List Rule) (found : Option (List ℕ)) (prec : List ℕ) → found ≡ Some prec → IsFirst (λ p. LpoOrients p rules) (precedences (length sig)) found → IsFirstOrder Stated sig rules (Some (Lpo prec))
 precedence_found sig rules found prec e h =
     first_in_part (λ c. Orders c rules) Lpo (precedences (length sig)) (later_members sig) prec (subst (IsFirst (λ p. LpoOrients p rules) (precedences (length sig))) e h)
 
 -- without one the first behind the precedences is
-pub later_found : (sig : Signature) (rules : List Rule) (before : Option (List ℕ)) (result : Option Certificate) → before ≡ None → IsFirst (λ p. LpoOrients p rules) (precedences (length sig)) before → IsFirst (λ c. Orders c rules) (later_members sig) result → IsFirstOrder sig rules result
+pub later_found : (sig : Signature) (rules : List Rule) (before : Option (List ℕ)) (result : Option Certificate) → before ≡ None → IsFirst (λ p. LpoOrients p rules) (precedences (length sig)) before → IsFirst (λ c. Orders c rules) (later_members sig) result → IsFirstOrder Stated sig rules result
 later_found sig rules before result e n h =
     first_behind_part (λ c. Orders c rules) Lpo (precedences (length sig)) (later_members sig) result (subst (IsFirst (λ p. LpoOrients p rules) (precedences (length sig))) e n) h
 
@@ -133,7 +135,7 @@ no_member : {X : Type 0} (f : X → Certificate) (xs : List X) (c : Certificate)
 no_member f xs c differs i = let r = contains_map_back f xs c i in differs r.0 r.2
 
 -- a lower bound of the family is one of its part, and no member of the parts before orders the rules
-pub precedence_bound : (sig : Signature) (rules : List Rule) (prec : List ℕ) → IsLowerBound sig rules (Lpo prec) → IsLpoBound (length sig) rules prec
+pub precedence_bound : (sig : Signature) (rules : List Rule) (prec : List ℕ) → IsLowerBound Stated sig rules (Lpo prec) → IsLpoBound (length sig) rules prec
 precedence_bound sig rules prec (before, after, e, n) =
     let later : ¬ Contains (later_members sig) (Lpo prec) = λ i. ⊎_elim (no_member Linear (interpretations sig) (Lpo prec) (λ x d. cc)) (no_member Kbo (kbo_orders sig) (Lpo prec) (λ x d. cc)) (Contains-append_cases (map Linear (interpretations sig)) (map Kbo (kbo_orders sig)) (Lpo prec) i) in
     let r = split_part Lpo (λ x y d. cc) (precedences (length sig)) (later_members sig) prec later before after e in
@@ -157,16 +159,16 @@ record IsLater (sig : Signature) (rules : List Rule) (start : Certificate) : Typ
   none : All (λ c. ¬ Orders c rules) before
   no_precedence : IsFirst (λ p. LpoOrients p rules) (precedences (length sig)) None
 
-later_bound : (sig : Signature) (rules : List Rule) (start : Certificate) → ((prec : List ℕ) → ¬ (Lpo prec ≡ start)) → IsLowerBound sig rules start → IsLater sig rules start
+later_bound : (sig : Signature) (rules : List Rule) (start : Certificate) → ((prec : List ℕ) → ¬ (Lpo prec ≡ start)) → IsLowerBound Stated sig rules start → IsLater sig rules start
 later_bound sig rules start differs (before, after, e, n) =
     let r = split_behind Lpo (precedences (length sig)) (later_members sig) start differs before after e in
     let m = none_in_both rules Lpo (precedences (length sig)) r.more before r.before_is n in
     record { before = r.more; after = after; whole = r.whole; none = m.1; no_precedence = m.0 }
 
-pub no_precedence_before : (sig : Signature) (rules : List Rule) (start : Certificate) → ((prec : List ℕ) → ¬ (Lpo prec ≡ start)) → IsLowerBound sig rules start → IsFirst (λ p. LpoOrients p rules) (precedences (length sig)) None
+pub no_precedence_before : (sig : Signature) (rules : List Rule) (start : Certificate) → ((prec : List ℕ) → ¬ (Lpo prec ≡ start)) → IsLowerBound Stated sig rules start → IsFirst (λ p. LpoOrients p rules) (precedences (length sig)) None
 no_precedence_before sig rules start differs b = (later_bound sig rules start differs b).no_precedence
 
-pub interpretation_bound : (sig : Signature) (rules : List Rule) (i : Interpretation) → IsLowerBound sig rules (Linear i) → IsLinearBound sig rules i
+pub interpretation_bound : (sig : Signature) (rules : List Rule) (i : Interpretation) → IsLowerBound Stated sig rules (Linear i) → IsLinearBound sig rules i
 interpretation_bound sig rules i b =
     let l = later_bound sig rules (Linear i) (λ p d. cc) b in
     let r = split_part Linear (λ x y d. cc) (interpretations sig) (map Kbo (kbo_orders sig)) i (no_member Kbo (kbo_orders sig) (Linear i) (λ x d. cc)) l.before l.after l.whole in
@@ -177,7 +179,7 @@ record IsLast (sig : Signature) (rules : List Rule) (order : KboOrder) : Type 0 
   bound : IsKboBound sig rules order
   no_interpretation : IsFirst (λ i. LinearOrients i rules) (interpretations sig) None
 
-last_bound : (sig : Signature) (rules : List Rule) (order : KboOrder) → IsLowerBound sig rules (Kbo order) → IsLast sig rules order
+last_bound : (sig : Signature) (rules : List Rule) (order : KboOrder) → IsLowerBound Stated sig rules (Kbo order) → IsLast sig rules order
 last_bound sig rules order b =
     let l = later_bound sig rules (Kbo order) (λ p d. cc) b in
     let q = split_behind Linear (interpretations sig) (map Kbo (kbo_orders sig)) (Kbo order) (λ x d. cc) l.before l.after l.whole in
@@ -185,26 +187,26 @@ last_bound sig rules order b =
     let r = split_last Kbo (λ x y d. cc) (kbo_orders sig) order q.more l.after q.whole in
     record { bound = (r.some, r.others, r.whole, none_of_some rules Kbo r.some q.more r.before_is s.1); no_interpretation = s.0 }
 
-pub kbo_bound : (sig : Signature) (rules : List Rule) (order : KboOrder) → IsLowerBound sig rules (Kbo order) → IsKboBound sig rules order
+pub kbo_bound : (sig : Signature) (rules : List Rule) (order : KboOrder) → IsLowerBound Stated sig rules (Kbo order) → IsKboBound sig rules order
 kbo_bound sig rules order b = (last_bound sig rules order b).bound
 
-pub no_interpretation_before : (sig : Signature) (rules : List Rule) (order : KboOrder) → IsLowerBound sig rules (Kbo order) → IsFirst (λ i. LinearOrients i rules) (interpretations sig) None
+pub no_interpretation_before : (sig : Signature) (rules : List Rule) (order : KboOrder) → IsLowerBound Stated sig rules (Kbo order) → IsFirst (λ i. LinearOrients i rules) (interpretations sig) None
 no_interpretation_before sig rules order b = (last_bound sig rules order b).no_interpretation
 
 -- a first member, if there is one, has a text
-pub found_text : (sig : Signature) (rules : List Rule) (result : Option Certificate) → IsFirstOrder sig rules result → IfSome result (λ c. IsTrue (is_certificate sig c))
+pub found_text : (sig : Signature) (rules : List Rule) (result : Option Certificate) → IsFirstOrder Stated sig rules result → IfSome result (λ c. IsTrue (is_certificate sig c))
 found_text sig rules None h = tt
-found_text sig rules (Some c) h = first_text sig rules c h
+found_text sig rules (Some c) h = first_text Stated sig rules c h
 
 -- what orders all rules orders some of them
 some_ordered : (c : Certificate) (some rules : List Rule) → All (Contains rules) some → Orders c rules → Orders c some
 some_ordered c some rules h o = orders_among c rules some (λ r i. All-contains (Contains rules) some r h i) o
 
-pub bounds_more : (sig : Signature) → FirstBoundsMore sig
-bounds_more sig some rules start h (o, before, after, e, n) = (before, after, e, λ k d p q. n k d p (some_ordered (slice_index_or before k d) some rules h q))
+pub bounds_more : (f : Family) (sig : Signature) → FirstBoundsMore f sig
+bounds_more f sig some rules start h (o, before, after, e, n) = (before, after, e, λ k d p q. n k d p (some_ordered (slice_index_or before k d) some rules h q))
 
-pub none_more : (sig : Signature) → NoneForMore sig
-none_more sig some rules h n k d p q = n k d p (some_ordered (slice_index_or (family sig) k d) some rules h q)
+pub none_more : (f : Family) (sig : Signature) → NoneForMore f sig
+none_more f sig some rules h n k d p q = n k d p (some_ordered (slice_index_or (family f sig) k d) some rules h q)
 
-pub first_bounds : (sig : Signature) (rules : List Rule) (start : Certificate) → IsFirstOrder sig rules (Some start) → IsLowerBound sig rules start
-first_bounds sig rules start (o, before, after, e, n) = (before, after, e, n)
+pub first_bounds : (f : Family) (sig : Signature) (rules : List Rule) (start : Certificate) → IsFirstOrder f sig rules (Some start) → IsLowerBound f sig rules start
+first_bounds f sig rules start (o, before, after, e, n) = (before, after, e, n)

@@ -6,7 +6,7 @@ use kb_linear::Interp;
 use kb_lpo::Precedence;
 use std::alloc::AllocError;
 
-/// A member of the family of orders.
+/// A member of a family of orders.
 #[derive(Drop)]
 pub enum Certificate {
     Lpo(Precedence),

@@ -220,8 +220,8 @@ fn found_again(
     requires few { length sig.now ≤ 24 }
     requires measurable { AreMeasurable rules.now }
 {
-    match search(alloc, sig, rules)? {
-        Some(start) => search_from(alloc, sig, rules, start),
+    match search(alloc, Family::Stated, sig, rules)? {
+        Some(start) => search_from(alloc, Family::Stated, sig, rules, start),
         None => Ok(None),
     }
 }
@@ -231,7 +231,7 @@ fn first_text(alloc: Global, sig: &Signature, rules: &[Rule]) -> Result<Vec<u8>,
     requires few { length sig.now ≤ 24 }
     requires measurable { AreMeasurable rules.now }
 {
-    match search(alloc, sig, rules)? {
+    match search(alloc, Family::Stated, sig, rules)? {
         Some(c) => cert_text(alloc, &c, sig),
         None => Ok(Vec::new(alloc)),
     }
@@ -261,7 +261,7 @@ fn agreements(alloc: Global) -> Result<(u32, u32), Memory> {
             (n % 5) as u8,
         )?;
         let wanted = first_of_all(alloc, &sig, &rules)?;
-        if is_same(&search(alloc, &sig, &rules)?, &wanted) {
+        if is_same(&search(alloc, Family::Stated, &sig, &rules)?, &wanted) {
             agreed += 1;
         }
         if wanted.is_some() {
@@ -276,7 +276,7 @@ fn a_precedence_comes_before_interpretations(rt: HostRuntime) -> Result<(), Fail
     let alloc = rt.alloc();
     let sig = two_symbols(alloc)?;
     let rules = two_rules(alloc, 3, 4, 3, 4)?;
-    let found = search(alloc, &sig, &rules)?;
+    let found = search(alloc, Family::Stated, &sig, &rules)?;
     assert!(rt; is_same(&found, &Some(precedence(alloc, 0, 1)?)));
     assert!(rt; first_text(alloc, &sig, &rules)?.as_slice() == b"LPO f g".as_slice());
     Ok(())
@@ -287,7 +287,7 @@ fn an_interpretation_is_found_where_no_precedence_orders(rt: HostRuntime) -> Res
     let alloc = rt.alloc();
     let sig = two_symbols(alloc)?;
     let rules = two_rules(alloc, 2, 1, 4, 3)?;
-    let found = search(alloc, &sig, &rules)?;
+    let found = search(alloc, Family::Stated, &sig, &rules)?;
     let wanted = Some(linear(alloc, 1, 2, 0, 2)?);
     assert!(rt; is_same(&found, &wanted));
     assert!(rt; is_same(&wanted.clone()?, &found));
@@ -310,7 +310,7 @@ fn no_member_orders_a_growing_rule(rt: HostRuntime) -> Result<(), Fail> {
     let alloc = rt.alloc();
     let sig = two_symbols(alloc)?;
     let rules = growing_rule(alloc)?;
-    assert!(rt; search(alloc, &sig, &rules)?.is_none());
+    assert!(rt; search(alloc, Family::Stated, &sig, &rules)?.is_none());
     Ok(())
 }
 

@@ -2,13 +2,28 @@
 ghost use Rattle.std.specs.Prelude.{◌≡◌, ◌≢◌, true};
 
 use std::hint::spin_loop;
-use std::sync::atomic::AtomicBool;
 use std::sync::atomic::Ordering::SeqCst;
+use std::sync::atomic::{AtomicBool, AtomicU32};
+
+/// How a board stands as a ticket is taken.
+#[derive(Clone, Copy, Debug, PartialEq, Eq)]
+pub struct Moment {
+    /// The number of the ticket.
+    pub ticket: u64,
+    /// How many commits were made.
+    pub commits: u32,
+    /// How many nodes there are.
+    pub nodes: u32,
+    /// How many processes live.
+    pub living: u32,
+    /// How many of them aren't asleep.
+    pub awake: u32,
+}
 
 /// What a worker asks between taking a ticket and working it: may it go on? It carries no promise.
 pub trait Gate: Sync {
-    /// Asked with the ticket's number, and with 0, 1, .. for each time that it is asked for this ticket.
-    fn pass(&self, ticket: u64, turn: u32) -> bool;
+    /// Asked with the moment at which the ticket was taken, and with 0, 1, .. for each time that it is asked for this ticket.
+    fn pass(&self, moment: &Moment, turn: u32) -> bool;
 }
 
 /// The gate that always lets pass.
@@ -16,7 +31,7 @@ pub trait Gate: Sync {
 pub struct OpenGate;
 
 impl Gate for OpenGate {
-    fn pass(&self, _ticket: u64, _turn: u32) -> bool
+    fn pass(&self, _moment: &Moment, _turn: u32) -> bool
         ensures passes { result ≡ true }
     {
         true
@@ -85,16 +100,69 @@ impl HoldGate {
 }
 
 impl Gate for HoldGate {
-    fn pass(&self, ticket: u64, turn: u32) -> bool
+    fn pass(&self, moment: &Moment, turn: u32) -> bool
         ensures passes { result ≡ true }
     {
         if turn == 0 {
-            if ticket == self.first.ticket {
+            if moment.ticket == self.first.ticket {
                 self.first.hold(&self.second);
-            } else if ticket == self.second.ticket {
+            } else if moment.ticket == self.second.ticket {
                 self.second.hold(&self.first);
             }
         }
+        true
+    }
+}
+
+/// A gate that lets every call pass, and keeps what it was told last, for whoever shows how a run goes on. Of calls at one time it
+/// may keep a part of each.
+#[derive(Drop)]
+pub struct TallyGate {
+    commits: AtomicU32,
+    nodes: AtomicU32,
+    living: AtomicU32,
+    awake: AtomicU32,
+}
+
+/// What a `TallyGate` was told last.
+#[derive(Clone, Copy, Debug, PartialEq, Eq)]
+pub struct Tally {
+    pub commits: u32,
+    pub nodes: u32,
+    pub living: u32,
+    pub awake: u32,
+}
+
+impl TallyGate {
+    /// A gate that was told nothing yet: its counts are 0.
+    pub fn new() -> TallyGate {
+        TallyGate {
+            commits: AtomicU32::new(0),
+            nodes: AtomicU32::new(0),
+            living: AtomicU32::new(0),
+            awake: AtomicU32::new(0),
+        }
+    }
+
+    /// What it was told last.
+    pub fn tally(&self) -> Tally {
+        Tally {
+            commits: self.commits.load(SeqCst),
+            nodes: self.nodes.load(SeqCst),
+            living: self.living.load(SeqCst),
+            awake: self.awake.load(SeqCst),
+        }
+    }
+}
+
+impl Gate for TallyGate {
+    fn pass(&self, moment: &Moment, _turn: u32) -> bool
+        ensures passes { result ≡ true }
+    {
+        self.commits.store(moment.commits, SeqCst);
+        self.nodes.store(moment.nodes, SeqCst);
+        self.living.store(moment.living, SeqCst);
+        self.awake.store(moment.awake, SeqCst);
         true
     }
 }

@@ -1,5 +1,5 @@
 -- What jobs propose by snapshots is what they propose on the board.
-use Rattle.std.proofs.Common.{ℕ, zero, suc, ◌≡◌, ◌⊎◌, inl, inr, refl, sym, ap, subst, ⊎_elim, List, Bool, Option, Some, None}
+use Rattle.std.proofs.Common.{ℕ, zero, suc, ◌≡◌, ◌⊎◌, inl, inr, refl, sym, ap, subst, ⊎_elim, List, [], ◌∷◌, ◌++◌, Bool, Option, Some, None}
 use Rattle.kb_term.specs.Pair.{Pair}
 use Rattle.kb_term.specs.Rule.{Rule}
 use Rattle.kb_term.specs.Signature.{Signature}
@@ -9,7 +9,7 @@ use Rattle.kb_term.specs.declared.origin.Found.TheVariants.{No, Variant, Strict}
 use Rattle.kb_cert.specs.Family.{IsFirstOrder}
 use Rattle.kb_cert.specs.declared.certificate.Certificate.{Certificate}
 use Rattle.kb_node.specs.declared.job.Job.TheVariants.{Reduce, Orient, Overlap, Close}
-use Rattle.mkb_model.specs.Plain.{Plain, other}
+use Rattle.mkb_model.specs.Plain.{Plain, other, rules_at, constraints_of}
 use Rattle.mkb_model.specs.DueJobs.{is_usable}
 use Rattle.mkb_model.specs.Proposals.{NamedRule, unknown, IsRewriting, IsLargeRewriting, AreMissingFacts, OnReduce, OrientsBy, Proposes, equations_on, IsUnjoining, IsClosed, IsOverlapStop, IsInputStop}
 use Rattle.mkb_model.specs.declared.proposed.Proposed.{Proposed}
@@ -47,13 +47,17 @@ reduce_taken b s (Rewrite m w at a kind result) t h = (h.0, on_reduce b s t (λ 
 reduce_taken b s (Limit j cause) t h = (h.0, on_reduce b s t (λ rules pair may. IsLargeRewriting rules pair may cause) h.1)
 reduce_taken b s x t h = absurd h
 
+-- the first order by what the snapshot has is the first on the board
+taken_order : (b : Plain) (s : OrientSnapshot) (rules there : List Rule) (o : Option Certificate) → IsTakenOrient b s → rules ≡ there → IsFirstOrder s.family s.signature rules o → IsFirstOrder b.settings.family b.problem.signature there o
+taken_order b s rules there o t e h = subst (λ z. z) (λ i. IsFirstOrder (t.family i) (t.signature i) (e i) o) h
+
 towards_taken : (b : Plain) (s : OrientSnapshot) → IsTakenOrient b s → (d : ℕ) (o : Option Certificate) → (d ≡ 0) ⊎ (d ≡ 1) → OrientsTowards s d o → OrientsBy b s.process s.node.0 d o
 towards_taken b s t d o (inl e) h =
     subst {A = ℕ} (λ z. OrientsBy b s.process s.node.0 z o) (sym e)
-    (subst {A = List Rule} (λ z. IsFirstOrder b.problem.signature z o) t.forth (subst {A = Signature} (λ z. IsFirstOrder z s.forth.items o) t.signature (subst {A = ℕ} (λ z. OrientsTowards s z o) e h)))
+    (taken_order b s s.forth.items (rules_at b (constraints_of b s.process ++ record { node = s.node.0; dir = 0 } ∷ [])) o t t.forth (subst {A = ℕ} (λ z. OrientsTowards s z o) e h))
 towards_taken b s t d o (inr e) h =
     subst {A = ℕ} (λ z. OrientsBy b s.process s.node.0 z o) (sym e)
-    (subst {A = List Rule} (λ z. IsFirstOrder b.problem.signature z o) t.back (subst {A = Signature} (λ z. IsFirstOrder z s.back.items o) t.signature (subst {A = ℕ} (λ z. OrientsTowards s z o) e h)))
+    (taken_order b s s.back.items (rules_at b (constraints_of b s.process ++ record { node = s.node.0; dir = 1 } ∷ [])) o t t.back (subst {A = ℕ} (λ z. OrientsTowards s z o) e h))
 
 other_way : (d : ℕ) → (d ≡ 0) ⊎ (d ≡ 1) → (other d ≡ 0) ⊎ (other d ≡ 1)
 other_way d (inl e) = inr (ap other e)

@@ -1,6 +1,6 @@
 -- Snapshots that are taken from a board.
 use Rattle.std.specs.Prelude.{◌≡◌, ◌||◌, [], ◌∷◌, ◌++◌, Some}
-use Rattle.mkb_model.specs.Plain.{Plain, pair_at, rule_at, rules_at, constraints_of, is_equation, is_rule}
+use Rattle.mkb_model.specs.Plain.{Plain, certificate_of, pair_at, rule_at, rules_at, constraints_of, is_equation, is_rule}
 use Rattle.mkb_model.specs.DueJobs.{reducers}
 use Rattle.mkb_model.specs.Proposals.{named_rules, unknown, rules_on, equations_on}
 use Rattle.kb_jobs.specs.Rules.{listed}
@@ -19,9 +19,11 @@ pub record IsTakenReduce (b : Plain) (s : ReduceSnapshot) : Type 0 where
   pub any_second : s.any_second ≡ (is_equation b s.process s.node.0 || is_rule b s.process (record { node = s.node.0; dir = 0 }))
   pub unknown : unknown_of s ≡ unknown b s.process s.node.0
 
--- the snapshot has the board's signature, and the process's constraints with the rule of each direction of the node behind them
+-- the snapshot has the run's family, the board's signature, the order in force, and the process's constraints with the rule of each direction of the node behind them
 pub record IsTakenOrient (b : Plain) (s : OrientSnapshot) : Type 0 where
+  pub family : s.family ≡ b.settings.family
   pub signature : s.signature ≡ b.problem.signature
+  pub in_force : certificate_of b s.process ≡ Some s.in_force
   pub forth : s.forth.items ≡ rules_at b (constraints_of b s.process ++ record { node = s.node.0; dir = 0 } ∷ [])
   pub back : s.back.items ≡ rules_at b (constraints_of b s.process ++ record { node = s.node.0; dir = 1 } ∷ [])
 

@@ -7,7 +7,7 @@ use Rattle.kb_term.specs.Rule.{Rule, IsRule, IsVariantRule}
 use Rattle.kb_term.specs.Signature.{Signature, Problem, HasArity, IsWellFormed, AreWellFormed}
 use Rattle.kb_term.specs.Proving.{RewritesAt, IsPath, Proves, equations_of, IsTerminating, IsConfluent, IsJoinable}
 use Rattle.kb_term.specs.Proving as Proving
-use Rattle.kb_cert.specs.Family.{Orders, family}
+use Rattle.kb_cert.specs.Family.{Orders, IsMember}
 use Rattle.kb_cert.specs.declared.certificate.Certificate.{Certificate}
 use Rattle.kb_term.specs.Pair.{IsSameEquation}
 use Rattle.kb_laws.specs.Complete.{IsCompleteSystem}
@@ -203,7 +203,7 @@ run_sound problem states run well a i = follows_sound problem.signature states (
 }) a i
 
 -- a member that orders the constraint rules orders the rules
-pub orders_chained : (g : Signature) (c : Certificate) → Contains (family g) c → (a : KbState) → IsSoundState g a → AreChains a → Orders c a.constraints → Orders c a.rules
+pub orders_chained : (g : Signature) (c : Certificate) → IsMember g c → (a : KbState) → IsSoundState g a → AreChains a → Orders c a.constraints → Orders c a.rules
 orders_chained g c m a z chained h =
     chains_ordered g c m a.constraints a.rules (all_from (IsRuleOver g) a.constraints z.constraints) (λ r i. let k = chained r i in ((z.rules r i).left, (k.2.0, (k.0, k.1, k.2.1)))) h
 
@@ -217,7 +217,7 @@ proved_by_joining rules s t j =
 -- a state of a run that has no equation left, whose constraint rules a member orders and whose overlaps are joinable, is a complete system
 pub complete_state : (problem : Problem) (states : List KbState) → IsKbRun problem states
     → All (λ (d : Tree × Tree). IsWellFormed problem.signature d.0 × IsWellFormed problem.signature d.1) problem.equations
-    → (a : KbState) → Contains states a → a.equations ≡ [] → (c : Certificate) → Contains (family problem.signature) c → Orders c a.constraints → OverlapsJoin a.rules
+    → (a : KbState) → Contains states a → a.equations ≡ [] → (c : Certificate) → IsMember problem.signature c → Orders c a.constraints → OverlapsJoin a.rules
     → IsCompleteSystem problem c a.rules
 complete_state problem states run well a i none c m h joins =
     let g : Signature = problem.signature in

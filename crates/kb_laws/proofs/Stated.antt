@@ -12,9 +12,10 @@ use Rattle.kb_term.specs.Signature.{Signature, Problem, IsRuleOver}
 use Rattle.kb_term.proofs.Steps.{Step}
 use Rattle.kb_term.proofs.Bridge.{halts_to, step_from_position, step_to_position, reaches_from, reaches_to}
 use Rattle.kb_cert.specs.declared.certificate.Certificate.{Certificate}
+use Rattle.kb_cert.specs.declared.family.Family.{Family}
 use Rattle.kb_kbo.specs.KnuthBendix.{KboOrder}
 use Rattle.kb_kbo.proofs.KboHalting.{lighter_few, chains_short}
-use Rattle.kb_cert.proofs.FamilyLaws.{ordered_rules, first_member, member_weighs}
+use Rattle.kb_cert.proofs.FamilyLaws.{ordered_rules, some_member, member_weighs}
 use Rattle.kb_laws.specs.Completion.{KbState}
 use Rattle.kb_laws.specs.Confluence.{ChurchRosser}
 use Rattle.kb_laws.specs.Runs.{ReachesByStep, IsEquationOver, IsStateOver, StepKeepsOver, StepKeepsChained, RunIsChained, RunIsOver}
@@ -62,8 +63,8 @@ run_is_over problem states run over a i = over_to problem.signature a (run_sound
 pub complete_state_is_system : (problem : Problem) (states : List KbState) (order : Certificate) (state : KbState) → CompleteStateIsSystem problem states order state
 complete_state_is_system problem states c a h = complete_state problem states h.run h.over a h.reached h.no_equations c h.member h.ordered h.joinable
 
-pub has_member : (signature : Signature) → HasMember signature
-has_member g = (Lpo (range_with_len 0 (length g)), first_member g)
+pub has_member : (f : Family) (signature : Signature) → HasMember f signature
+has_member f g = some_member f g
 
 pub member_orders_rules_only : (signature : Signature) (order : Certificate) → MemberOrdersRulesOnly signature order
 member_orders_rules_only g c m rules well h = ordered_rules g c m rules well h

@@ -5,7 +5,7 @@ use Rattle.kb_term.specs.Pair.{Pair, canonical_pair, IsSameEquation}
 use Rattle.kb_term.specs.Rule.{Rule, rule_of}
 use Rattle.kb_term.specs.Signature.{Signature, Problem, IsWellFormed, IsRuleOver}
 use Rattle.kb_term.specs.Proving.{IsTerminating, IsConfluent, IsJoinable, Proves, equations_of}
-use Rattle.kb_cert.specs.Family.{family, Orders}
+use Rattle.kb_cert.specs.Family.{IsMember, Orders}
 use Rattle.kb_cert.specs.declared.certificate.Certificate.{Certificate}
 use Rattle.kb_overlap.specs.Overlap.{IsOverlapList}
 use Rattle.kb_laws.specs.Completion.{KbState, IsKbRun}
@@ -22,13 +22,13 @@ pub record IsCompleteSystem (problem : Problem) (order : Certificate) (rules : L
   pub proves_same : ProveSame problem.equations (equations_of rules)
   pub decides : (s t : Tree) → IsWellFormed problem.signature s → IsWellFormed problem.signature t → Proves problem.equations s t ↔ IsJoinable rules s t
 
--- a state of a run that has no equations, whose constraint rules the member of the family orders, and whose overlaps are joinable
+-- a state of a run that has no equations, whose constraint rules a member of a family orders, and whose overlaps are joinable
 pub record IsCompleteState (problem : Problem) (states : List KbState) (order : Certificate) (state : KbState) : Type 0 where
   pub run : IsKbRun problem states
   pub over : All (IsEquationOver problem.signature) problem.equations
   pub reached : Contains states state
   pub no_equations : state.equations ≡ []
-  pub member : Contains (family problem.signature) order
+  pub member : IsMember problem.signature order
   pub ordered : Orders order state.constraints
   pub joinable : OverlapsJoin state.rules
 
@@ -36,10 +36,10 @@ pub record IsCompleteState (problem : Problem) (states : List KbState) (order : 
 abbrev pub CompleteStateIsSystem : Problem → List KbState → Certificate → KbState → Type 0
 CompleteStateIsSystem problem states order state = IsCompleteState problem states order state → IsCompleteSystem problem order state.rules
 
--- a rule between terms over the signature that the member of the family orders and that doesn't overlap itself
+-- a rule between terms over the signature that a member of a family orders and that doesn't overlap itself
 pub record IsLoneRule (signature : Signature) (order : Certificate) (rule : Rule) : Type 0 where
   pub over : IsEquationOver signature (rule.left, rule.right)
-  pub member : Contains (family signature) order
+  pub member : IsMember signature order
   pub ordered : Orders order (rule ∷ [])
   pub no_overlap : IsOverlapList rule rule true []
 

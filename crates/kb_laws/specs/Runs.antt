@@ -45,7 +45,7 @@ StepKeepsOver signature = (old new : KbState) → KbStep signature old new → I
 abbrev pub StepKeepsChained : Signature → Type 0
 StepKeepsChained signature = (old new : KbState) → KbStep signature old new → IsChained old → IsChained new
 
--- a step keeps that some member of the family orders the constraint rules
+-- a step keeps that some member of a family orders the constraint rules
 abbrev pub StepKeepsOrderable : Signature → Type 0
 StepKeepsOrderable signature = (old new : KbState) → KbStep signature old new → IsOrderable signature old.constraints → IsOrderable signature new.constraints
 
@@ -62,6 +62,6 @@ abbrev pub RunIsOver : Problem → List KbState → Type 0
 RunIsOver problem states =
     IsKbRun problem states → All (IsEquationOver problem.signature) problem.equations → (state : KbState) → Contains states state → IsStateOver problem.signature state
 
--- some member of the family orders the constraint rules of each state
+-- some member of a family orders the constraint rules of each state
 abbrev pub RunIsOrderable : Problem → List KbState → Type 0
 RunIsOrderable problem states = IsKbRun problem states → (state : KbState) → Contains states state → IsOrderable problem.signature state.constraints

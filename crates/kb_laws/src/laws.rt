@@ -5,6 +5,7 @@ ghost use Rattle.kb_term.specs.Rule.{Rule};
 ghost use Rattle.kb_term.specs.Signature.{Signature, Problem};
 ghost use Rattle.kb_kbo.specs.KnuthBendix.{KboOrder};
 ghost use Rattle.kb_cert.specs.declared.certificate.Certificate.{Certificate};
+ghost use Rattle.kb_cert.specs.declared.family.Family.{Family};
 ghost use Rattle.kb_linear.specs.LinearOrder.{Interpretation};
 ghost use Rattle.kb_laws.specs.Halting.{HasMember, MemberOrdersRulesOnly, MemberHalts, InterpretationHalts, LighterAreFew, ChainsAreShort};
 ghost use Rattle.kb_laws.specs.Completion.{KbState};
@@ -33,7 +34,7 @@ pub fn church_rosser()
 {}
 
 /// Each step of completion keeps what equations and rules together prove, that all are over the signature, that each rule is a chain of
-/// constraint rules, and that some member of the family orders the constraint rules.
+/// constraint rules, and that some member of a family orders the constraint rules.
 pub fn completion_keeps()
     ensures proved { (signature : Signature) → StepKeepsProved signature }
     ensures over { (signature : Signature) → StepKeepsOver signature }
@@ -50,13 +51,13 @@ pub fn runs_keep()
     ensures orderable { (problem : Problem) (states : List KbState) → RunIsOrderable problem states }
 {}
 
-/// A state of a run without equations, whose constraint rules some member of the family orders and whose overlaps are joinable, is a
+/// A state of a run without equations, whose constraint rules some member of a family orders and whose overlaps are joinable, is a
 /// terminating and confluent system that proves exactly what the problem proves.
 pub fn complete_state()
     ensures { (problem : Problem) (states : List KbState) (order : Certificate) (state : KbState) → CompleteStateIsSystem problem states order state }
 {}
 
-/// One rule between terms over a signature that some member of the family orders, and that doesn't overlap itself, is such a system for its
+/// One rule between terms over a signature that some member of a family orders, and that doesn't overlap itself, is such a system for its
 /// own equation, read either way round and up to variants; so the rule that is the canonical pair of an equation in either direction is one
 /// for that equation.
 pub fn lone_rule()
@@ -64,11 +65,11 @@ pub fn lone_rule()
     ensures pair { (signature : Signature) (order : Certificate) (rule : Rule) (e : Tree × Tree) → PairRuleIsSystem signature order rule e }
 {}
 
-/// Each signature's family has a member. What a member orders are rules, and they halt: a number bounds the steps of every chain from
-/// each term over the signature. So do rules that any linear interpretation of the signature orders. By a Knuth-Bendix order of the family a
+/// Each family has a member for each signature. What a member orders are rules, and they halt: a number bounds the steps of every chain from
+/// each term over the signature. So do rules that any linear interpretation of the signature orders. By a Knuth-Bendix order of a family a
 /// chain has fewer steps than there are terms over the variables of its first one that are no heavier, and these are finitely many.
 pub fn ordered_rules_halt()
-    ensures exists { (signature : Signature) → HasMember signature }
+    ensures exists { (f : Family) (signature : Signature) → HasMember f signature }
     ensures rules { (signature : Signature) (order : Certificate) → MemberOrdersRulesOnly signature order }
     ensures halts { (signature : Signature) (order : Certificate) → MemberHalts signature order }
     ensures linear { (signature : Signature) (i : Interpretation) → InterpretationHalts signature i }

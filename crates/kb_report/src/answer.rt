@@ -30,12 +30,12 @@ fn push_infix(
     line.push(term_text(alloc, signature, sides.1)?)
 }
 
-pub(crate) fn push_counted(
-    alloc: Global,
-    out: &mut Vec<u8>,
-    word: &[u8],
-    n: u64,
-) -> Result<(), Memory>
+/// Adds a line: the word and a number behind it.
+///
+/// # Errors
+///
+/// Want of memory.
+pub fn push_counted(alloc: Global, out: &mut Vec<u8>, word: &[u8], n: u64) -> Result<(), Memory>
     ensures { OnOk result (out.new.items ≡ out.old.items ++ counted word.now n) }
 {
     let mut line = Fields::new(alloc);
@@ -62,7 +62,12 @@ fn push_entries(alloc: Global, line: &mut Fields, symbols: &[(Vec<u8>, u8)]) -> 
     Ok(())
 }
 
-fn push_symbols(alloc: Global, out: &mut Vec<u8>, signature: &Signature) -> Result<(), Memory>
+/// Adds the line of the symbols: the name of each with its arity.
+///
+/// # Errors
+///
+/// Want of memory.
+pub fn push_symbols(alloc: Global, out: &mut Vec<u8>, signature: &Signature) -> Result<(), Memory>
     ensures { OnOk result (out.new.items ≡ out.old.items ++ symbols_line signature.now) }
 {
     let mut line = Fields::new(alloc);
@@ -104,7 +109,12 @@ fn push_each_equation(
     Ok(())
 }
 
-fn push_equations(alloc: Global, out: &mut Vec<u8>, problem: &Problem) -> Result<(), Memory>
+/// Adds the lines of the equations: how many there are, and each on its line.
+///
+/// # Errors
+///
+/// Want of memory.
+pub fn push_equations(alloc: Global, out: &mut Vec<u8>, problem: &Problem) -> Result<(), Memory>
     ensures { OnOk result (out.new.items ≡ out.old.items ++ equation_lines problem.now) }
 {
     push_counted(alloc, out, b"EQUATIONS", problem.equations().len() as u64)?;

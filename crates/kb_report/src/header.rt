@@ -9,7 +9,7 @@ use kb_text::{TextFault, line_length, read_number};
 pub(crate) const LINES: u32 = 4096;
 
 /// Whether the bytes are the word.
-pub(crate) fn is_word(bytes: &[u8], word: &[u8]) -> bool
+pub fn is_word(bytes: &[u8], word: &[u8]) -> bool
     ensures { IsTrue result ↔ (bytes.now ≡ word.now) }
 {
     bytes == word

@@ -13,12 +13,14 @@ mod summary;
 mod symbols;
 mod version;
 
-pub use header::{first_line, read_count, read_word};
+pub use answer::{push_counted, push_equations, push_symbols};
+pub use header::{first_line, is_word, read_count, read_word};
 pub use laws::texts_are_one;
 pub use read::read_answer;
-pub use report::{Report, answer_text};
+pub use report::{Report, answer_text, reason_word};
 pub use sides::{are_numbered, read_equations};
-pub use summary::{Summary, summary_text};
+pub use summary::{Summary, process_text, summary_text};
+pub use symbols::read_symbols;
 pub use version::Version;
 
 #[cfg(test)]

@@ -25,7 +25,7 @@ pub enum Report {
 }
 
 /// The word for what stopped a process.
-pub(crate) fn reason_word(reason: Reason) -> &'static [u8]
+pub fn reason_word(reason: Reason) -> &'static [u8]
     ensures { result.now ≡ word_of_reason reason }
 {
     match reason {

@@ -39,8 +39,12 @@ fn bit_digit(bit: bool) -> u8
     if bit { b'1' } else { b'0' }
 }
 
-// The name of a process: e for the first, else its bits.
-fn process_text(alloc: Global, process: &Process) -> Result<Vec<u8>, Memory>
+/// The name of a process: `e` for the first, else its bits as digits, the first bit first.
+///
+/// # Errors
+///
+/// Want of memory.
+pub fn process_text(alloc: Global, process: &Process) -> Result<Vec<u8>, Memory>
     ensures { IfOk result (λ text. text.items ≡ text_of_process process.now) }
 {
     if process.is_empty() {

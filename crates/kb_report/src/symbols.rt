@@ -147,12 +147,14 @@ fn symbols_of(alloc: Global, line: &[u8]) -> Result<Option<Signature>, Memory>
     Ok(Some(Signature::new(symbols)))
 }
 
-/// The symbols on the line that the text begins with, and how many bytes it takes.
-pub(crate) fn read_symbols(
-    alloc: Global,
-    text: &[u8],
-    first: u64,
-) -> Result<(Signature, usize), TextFault>
+/// The symbols on the line that the text begins with, and how many bytes it takes. The time is linear in the bytes but for the
+/// names, which are compared with each other.
+///
+/// # Errors
+///
+/// `BadText(first)` where the text begins with another line or with none: `first` is the number of that line in a whole text.
+/// `Memory` for want of memory.
+pub fn read_symbols(alloc: Global, text: &[u8], first: u64) -> Result<(Signature, usize), TextFault>
     ensures read { IfOk result (λ p. BeginsWith Symbols text.now p.0 1 (drop p.1 text.now)) }
     ensures size { IfOk result (λ p. p.1 ≤ length text.now) }
     ensures fault { IfErr result (IsSectionFault Symbols text.now first) }

@@ -1,17 +1,18 @@
 -- What a process would take first.
-use Rattle.std.proofs.Common.{◌≡◌, refl, sym, ap, ◌∙◌, List, [], ◌∷◌, ◌++◌, map, filter, flat_map, Contains, ⊎_elim, subst, Bool, true, false, cond, not, ◌&&◌, Some, None}
+use Rattle.std.proofs.Common.{Option, ◌≡◌, refl, sym, ap, ◌∙◌, List, [], ◌∷◌, ◌++◌, map, filter, flat_map, Contains, ⊎_elim, subst, Bool, true, false, cond, not, ◌&&◌, Some, None}
 use Rattle.std.specs.List.{find, list_any}
 use Rattle.std.specs.Option.{is_none}
 use Rattle.std.proofs.lemmas.List.Elements.{Contains-append_cases, filter-append}
 use Rattle.kb_term.specs.declared.origin.RuleRef.{RuleRef}
-use Rattle.mkb_model.proofs.Lists.{map_in, flat_map_in, filter_in, find_none, some_is, none_some}
+use Rattle.mkb_model.proofs.Lists.{and_left, clash, map_in, flat_map_in, filter_in, find_none, some_is, none_some}
 use Rattle.kb_term.proofs.Steps.{contains_first, contains_behind}
 use Rattle.kb_label.specs.Names.{Name, has}
 use Rattle.kb_node.specs.declared.job.Job.{Job}
 use Rattle.kb_node.specs.declared.job.Job.TheVariants.{Reduce, Orient, Overlap, Close}
 use Rattle.mkb_model.specs.Jobs.{process_of, job_cmp, least, is_free}
-use Rattle.mkb_model.specs.Plain.{Plain, node_numbers, rules_of, is_over, cost, weight}
+use Rattle.mkb_model.specs.Plain.{Plain, node_numbers, rules_of, is_over, cost, weight, weight_by}
 use Rattle.mkb_model.specs.DueJobs.{is_due, is_working, is_work_due, is_close_due, work_of}
+use Rattle.mkb_model.specs.declared.settings.Selection.{Selection}
 use Rattle.mkb_model.specs.declared.settings.Selection.TheVariants.{Stated}
 use Rattle.mkb_board.specs.Choosing.{is_choice, first_choice, least_choice, merged}
 use Rattle.mkb_board.proofs.Idle.{due_as, working_so, true_and, and_true, none_found}
@@ -145,3 +146,14 @@ choice_process b flight p j e =
 -- by the stated selection the least work is the first
 pub stated_choice : (b : Plain) (flight : List Job) (p : Name) → least_choice Stated b flight (work_of b p) ≡ find (is_choice b flight) (work_of b p)
 stated_choice b flight p = least_found (job_cmp (cost b) (λ j. 0)) (is_choice b flight) (work_of b p) (work_rises b p (cost b))
+
+-- where some work may be chosen beside those in flight, some is due
+pub work_due : (b : Plain) (flight : List Job) (p : Name) (by : Selection) (j : Job) → least_choice by b flight (work_of b p) ≡ Some j → (i : Job) × (find (is_choice b []) (work_of b p) ≡ Some i)
+work_due b flight p by j e = go (find (is_choice b []) (work_of b p)) refl
+  where
+    chosen : Contains (work_of b p) j × (is_choice b flight j ≡ true)
+    chosen = filter_in (is_choice b flight) (work_of b p) j (least_in (job_cmp (cost b) (weight_by by b)) (filter (is_choice b flight) (work_of b p)) j e)
+
+    go : (o : Option Job) → find (is_choice b []) (work_of b p) ≡ o → (i : Job) × (find (is_choice b []) (work_of b p) ≡ Some i)
+    go (Some i) h = (i, h)
+    go None h = clash (and_left (is_work_due b j) (is_free flight j) chosen.1) (sym (and_true (is_work_due b j)) ∙ find_none (is_choice b []) (work_of b p) h j chosen.0)

@@ -1,11 +1,10 @@
 -- What a process costs, node by node.
 use Rattle.mkb_model.specs.declared.entry.Ticket.{Ticket}
-use Rattle.std.proofs.Common.{ℕ, zero, suc, ◌+◌, ◌*◌, ◌≤◌, ◌<◌, ◌≡◌, refl, ap, ap₂, ◌∙◌, arith, List, [], ◌∷◌, ◌++◌, map, filter, flat_map, length, get_or, Bool, true, false, cond, Option, Some, None}
+use Rattle.std.proofs.Common.{ℕ, zero, suc, ◌+◌, ◌*◌, ◌≤◌, ◌≡◌, refl, ap, ap₂, ◌∙◌, arith, List, [], ◌∷◌, ◌++◌, filter, flat_map, length, Bool, true, false, cond, Option, Some, None}
 use Rattle.std.specs.Prelude.{sum_by}
 use Rattle.std.specs.Option.{option_map_or}
 use Rattle.std.proofs.Math.Nat.{add-mul}
 use Rattle.std.proofs.lemmas.Nat.{mul-le}
-use Rattle.std.proofs.lemmas.List.{map-append}
 use Rattle.std.proofs.lemmas.List.Sums.{sum_by-cons, sum_by_push}
 use Rattle.kb_term.specs.Pair.{Pair}
 use Rattle.kb_term.specs.Signature.{Signature}
@@ -15,7 +14,7 @@ use Rattle.mkb_model.specs.Limits.{AreLimited}
 use Rattle.mkb_model.specs.Plain.{Plain, numbers_from, node_numbers, directions, is_equation, is_rule, is_constraint, pair_at, pair_size, node_size, rule_sizes, counted_rules, cost, equations_of, constraints_of}
 use Rattle.mkb_model.specs.declared.settings.Selection.{Selection}
 use Rattle.mkb_model.specs.declared.settings.Selection.TheVariants.{Stated, Size}
-use Rattle.mkb_board.specs.Choosing.{sizes_of, one_if, rule_count, role_count}
+use Rattle.mkb_board.specs.Choosing.{one_if, rule_count, role_count}
 
 -- ---- numbers
 
@@ -33,29 +32,8 @@ numbers_next n =
     ap (numbers_from 0) e ∙ numbers_more 0 n ∙ ap (λ (z : ℕ). numbers_from 0 n ++ z ∷ []) f
 
 -- one node's more
-pub map_next : (f : ℕ → ℕ) (n : ℕ) → map f (numbers_from 0 (n + 1)) ≡ map f (numbers_from 0 n) ++ f n ∷ []
-map_next f n = ap (map f) (numbers_next n) ∙ map-append f (numbers_from 0 n) (n ∷ [])
-
 pub sum_next : (f : ℕ → ℕ) (n : ℕ) → sum_by f (numbers_from 0 (n + 1)) ≡ sum_by f (numbers_from 0 n) + f n
 sum_next f n = ap (sum_by f) (numbers_next n) ∙ sum_by_push f (numbers_from 0 n) n
-
-at_from : (f : ℕ → ℕ) (m k n d : ℕ) → n < k → get_or (map f (numbers_from m k)) n d ≡ f (m + n)
-at_from f m zero n d h = absurd (omega (arith, h))
-at_from f m (suc k) zero d h = let e : m ≡ m + 0 = omega arith in ap f e
-at_from f m (suc k) (suc n) d h =
-    let e : (m + 1) + n ≡ m + suc n = omega arith in
-    at_from f (m + 1) k n d (omega (arith, h)) ∙ ap f e
-
--- the size of a node among those of all
-pub size_at : (b : Plain) (n d : ℕ) → n < length b.nodes → get_or (sizes_of b) n d ≡ node_size b n
-size_at b n d h = let e : 0 + n ≡ n = omega arith in at_from (node_size b) 0 (length b.nodes) n d h ∙ ap (node_size b) e
-
-length_from : (f : ℕ → ℕ) (m k : ℕ) → length (map f (numbers_from m k)) ≡ k
-length_from f m zero = refl
-length_from f m (suc k) = omega (arith, length_from f (m + 1) k)
-
-pub sizes_long : (b : Plain) → length (sizes_of b) ≡ length b.nodes
-sizes_long b = length_from (node_size b) 0 (length b.nodes)
 
 -- ---- sums
 

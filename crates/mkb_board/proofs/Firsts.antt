@@ -1,13 +1,12 @@
 -- The first job is the least of those that the processes would take first.
 use Rattle.mkb_board.proofs.Costs.{cost_alike}
-use Rattle.std.proofs.Common.{◌≡◌, ℕ, ◌+◌, refl, ap, ap₂, ◌∙◌, List, [], ◌∷◌, ◌++◌, filter, flat_map, Bool, true, false, cond, ◌&&◌, Option}
-use Rattle.std.specs.Prelude.{sum_by}
+use Rattle.std.proofs.Common.{◌≡◌, ℕ, refl, ap, ap₂, ◌∙◌, List, [], ◌∷◌, ◌++◌, filter, flat_map, Bool, true, false, cond, ◌&&◌, Option}
 use Rattle.std.proofs.lemmas.List.Elements.{filter-append}
 use Rattle.kb_label.specs.Names.{Name}
 use Rattle.kb_node.specs.declared.job.Job.{Job}
 use Rattle.kb_node.specs.declared.job.Job.TheVariants.{Close}
 use Rattle.mkb_model.specs.Jobs.{job_cmp, least, is_free}
-use Rattle.mkb_model.specs.Plain.{Plain, node_size, rule_sizes, equations_of, constraints_of, counted_rules, cost, weight, weight_by}
+use Rattle.mkb_model.specs.Plain.{Plain, cost, weight, weight_by}
 use Rattle.mkb_model.specs.DueJobs.{is_due, work_of, due_jobs_of, first_job, awake}
 use Rattle.mkb_model.specs.declared.entry.Ticket.{Ticket}
 use Rattle.mkb_model.specs.declared.settings.Selection.{Selection}

@@ -11,8 +11,8 @@ use Rattle.kb_node.specs.declared.job.Job.TheVariants.{Reduce, Orient, Overlap, 
 use Rattle.mkb_model.specs.Plain.{Plain, GivenUp, node_numbers, rules_of, is_over, over_in, over_reason}
 use Rattle.mkb_model.specs.DueJobs.{is_due, is_working, is_work_due, is_close_due, work_of, due_jobs_of}
 use Rattle.mkb_model.specs.Sleeping.{no_members}
-use Rattle.mkb_model.proofs.Lists.{map_in, flat_map_in}
-use Rattle.mkb_board.specs.Choosing.{is_choice}
+use Rattle.mkb_model.proofs.Lists.{map_in, flat_map_in, none_any}
+use Rattle.mkb_board.specs.Choosing.{is_choice, ClosedRest}
 
 -- ---- lists
 
@@ -83,6 +83,16 @@ nothing_due b p lives going =
     ∙ ap (λ z. not (list_any (is_work_due b) (work_of b p)) && not z) (true_and (is_close_due b p) working)
     ∙ idle_or (list_any (is_work_due b) (work_of b p)) (has b.closed p)
     ∙ ap (λ z. has b.closed p && z) (sym (none_found (is_choice b []) (is_work_due b) (work_of b p) (λ j. and_true (is_work_due b j))))
+
+-- where nothing is due for who is closed, nothing is due for a process just where it is closed
+pub idle_closed : (b : Plain) (p : Name) → ClosedRest b → has b.living p ≡ true → is_over b p ≡ false → has b.closed p ≡ no_members (due_jobs_of b p)
+idle_closed b p rest lives going = sym (nothing_due b p lives going ∙ go (has b.closed p) refl)
+  where
+    go : (t : Bool) → has b.closed p ≡ t → (t && is_none (find (is_choice b []) (work_of b p))) ≡ t
+    go false e = refl
+    go true e =
+        none_found (is_choice b []) (is_work_due b) (work_of b p) (λ j. and_true (is_work_due b j))
+        ∙ ap not (none_any (is_work_due b) (work_of b p) (rest p e).no_work)
 
 -- ---- giving up
 

@@ -18,3 +18,5 @@ pub mod Sleepers
 pub mod Viewed
 pub mod Others
 pub mod Weighing
+pub mod Irreducible
+pub mod AtRest

@@ -1,14 +1,12 @@
 -- Searches over the numbers of nodes, node by node.
-use Rattle.std.proofs.Common.{ℕ, suc, ◌+◌, ◌-◌, ◌≤◌, ◌<◌, ◌≡◌, refl, sym, ap, ◌∙◌, arith, List, [], ◌∷◌, ◌++◌, map, filter, flat_map, Bool, true, false, cond, ◌&&◌, ◌||◌, Option, Some, None}
+use Rattle.std.proofs.Common.{ℕ, suc, ◌+◌, ◌-◌, ◌≤◌, ◌<◌, ◌≡◌, refl, sym, ap, ◌∙◌, arith, List, [], ◌∷◌, ◌++◌, map, filter, flat_map, length, drop, get_or, Bool, true, false, cond, ◌&&◌, ◌||◌, Option, Some, None}
 use Rattle.std.specs.List.{find, list_any}
 use Rattle.std.specs.Option.{option_or}
-use Rattle.std.proofs.lemmas.List.Folds.{find-append, list_any-append}
-use Rattle.std.proofs.lemmas.List.Elements.{filter-append}
+use Rattle.std.proofs.lemmas.List.Folds.{find-append}
 use Rattle.std.proofs.lemmas.List.Concat.{flat_map_single}
-use Rattle.std.proofs.lemmas.Grind.{flat_map-append}
-use Rattle.kb_term.specs.declared.origin.RuleRef.{RuleRef}
-use Rattle.mkb_model.specs.Plain.{numbers_from, directions}
+use Rattle.mkb_model.specs.Plain.{numbers_from}
 use Rattle.mkb_model.specs.Sleeping.{no_members}
+use Rattle.mkb_board.proofs.Better.{drop_at}
 
 -- ---- numbers
 
@@ -42,64 +40,28 @@ find_end q G n len h = ap (λ ns. find q (flat_map G ns)) (numbers_end n len h)
 pub map_parts : {A : Type 0} (q : A → Bool) (f : ℕ → A) (len : ℕ) → find q (map f (numbers_from 0 len)) ≡ find q (flat_map (λ n. f n ∷ []) (numbers_from 0 (len - 0)))
 map_parts q f len = ap (find q) (sym (flat_map_single f (numbers_from 0 len))) ∙ ap (λ ns. find q (flat_map (λ n. f n ∷ []) ns)) (numbers_all len)
 
-rule_parts : {A : Type 0} (r : RuleRef → Bool) (g : RuleRef → List A) (ns : List ℕ) → flat_map g (filter r (flat_map directions ns)) ≡ flat_map (λ n. flat_map g (filter r (directions n))) ns
-rule_parts r g [] = refl
-rule_parts r g (n ∷ ns) =
-    ap (flat_map g) (filter-append r (directions n) (flat_map directions ns))
-    ∙ flat_map-append g (filter r (directions n)) (filter r (flat_map directions ns))
-    ∙ ap (λ xs. flat_map g (filter r (directions n)) ++ xs) (rule_parts r g ns)
+-- the first of a rule's, or of the rules that are left
+pub find_part : {A B : Type 0} (q : B → Bool) (G : A → List B) (xs : List A) (i : ℕ) (x d : A) → i < length xs → x ≡ get_or xs i d → find q (flat_map G (drop i xs)) ≡ option_or (find q (G x)) (find q (flat_map G (drop (i + 1) xs)))
+find_part q G xs i x d there is = ap (λ ys. find q (flat_map G ys)) (drop_at xs i x d there is) ∙ find-append q (G x) (flat_map G (drop (i + 1) xs))
 
--- what stands for each rule, as parts
-pub find_rule_parts : {A : Type 0} (q : A → Bool) (r : RuleRef → Bool) (g : RuleRef → List A) (len : ℕ)
-    → find q (flat_map g (filter r (flat_map directions (numbers_from 0 len)))) ≡ find q (flat_map (λ n. flat_map g (filter r (directions n))) (numbers_from 0 (len - 0)))
-find_rule_parts q r g len = ap (find q) (rule_parts r g (numbers_from 0 len)) ∙ ap (λ ns. find q (flat_map (λ n. flat_map g (filter r (directions n))) ns)) (numbers_all len)
+pub find_mapped : {A B : Type 0} (q : B → Bool) (f : A → B) (xs : List A) (i : ℕ) (x d : A) → i < length xs → x ≡ get_or xs i d → find q (map f (drop i xs)) ≡ cond (q (f x)) (Some (f x)) (find q (map f (drop (i + 1) xs)))
+find_mapped q f xs i x d there is = ap (λ ys. find q (map f ys)) (drop_at xs i x d there is)
 
--- the same, where one thing stands for each rule
-pub find_rule_maps : {A : Type 0} (q : A → Bool) (r : RuleRef → Bool) (f : RuleRef → A) (len : ℕ)
-    → find q (map f (filter r (flat_map directions (numbers_from 0 len)))) ≡ find q (flat_map (λ n. flat_map (λ a. f a ∷ []) (filter r (directions n))) (numbers_from 0 (len - 0)))
-find_rule_maps q r f len = ap (find q) (sym (flat_map_single f (filter r (flat_map directions (numbers_from 0 len))))) ∙ find_rule_parts q r (λ a. f a ∷ []) len
+pub find_one : {A : Type 0} (q : A → Bool) (x : A) → q x ≡ true → find q (x ∷ []) ≡ Some x
+find_one q x e = ap (λ z. cond z (Some x) None) e
 
--- of two rules, the first and then the second
-pub find_two : {A : Type 0} (q : A → Bool) (r : RuleRef → Bool) (g : RuleRef → List A) (x y : RuleRef)
-    → find q (flat_map g (filter r (x ∷ y ∷ []))) ≡ option_or (find q (flat_map g (filter r (x ∷ [])))) (find q (flat_map g (filter r (y ∷ []))))
-find_two q r g x y =
-    ap (λ xs. find q (flat_map g xs)) (filter-append r (x ∷ []) (y ∷ []))
-    ∙ ap (find q) (flat_map-append g (filter r (x ∷ [])) (filter r (y ∷ [])))
-    ∙ find-append q (flat_map g (filter r (x ∷ []))) (flat_map g (filter r (y ∷ [])))
+pub find_not : {A : Type 0} (q : A → Bool) (x : A) → q x ≡ false → find q (x ∷ []) ≡ None
+find_not q x e = ap (λ z. cond z (Some x) None) e
 
 -- ---- whether any passes
 
-any_filter : {A : Type 0} (t s : A → Bool) (xs : List A) → list_any t (filter s xs) ≡ list_any (λ x. s x && t x) xs
+pub any_filter : {A : Type 0} (t s : A → Bool) (xs : List A) → list_any t (filter s xs) ≡ list_any (λ x. s x && t x) xs
 any_filter t s [] = refl
 any_filter t s (x ∷ xs) = go (s x) (any_filter t s xs)
   where
     go : (b : Bool) → list_any t (filter s xs) ≡ list_any (λ x. s x && t x) xs → list_any t (cond b (x ∷ filter s xs) (filter s xs)) ≡ ((b && t x) || list_any (λ x. s x && t x) xs)
     go true h = ap (λ z. t x || z) h
     go false h = h
-
--- among the rules that pass both tests
-pub any_rule_parts : (t s r : RuleRef → Bool) (len : ℕ)
-    → list_any t (filter s (filter r (flat_map directions (numbers_from 0 len)))) ≡ list_any (λ a. r a && (s a && t a)) (flat_map directions (numbers_from 0 (len - 0)))
-any_rule_parts t s r len =
-    any_filter t s (filter r (flat_map directions (numbers_from 0 len)))
-    ∙ any_filter (λ a. s a && t a) r (flat_map directions (numbers_from 0 len))
-    ∙ ap (λ ns. list_any (λ a. r a && (s a && t a)) (flat_map directions ns)) (numbers_all len)
-
-pub any_step : (u : RuleRef → Bool) (n len : ℕ) → n < len
-    → list_any u (flat_map directions (numbers_from n (len - n))) ≡ (list_any u (directions n) || list_any u (flat_map directions (numbers_from (n + 1) (len - (n + 1)))))
-any_step u n len h =
-    ap (λ ns. list_any u (flat_map directions ns)) (numbers_step n len h)
-    ∙ list_any-append u (directions n) (flat_map directions (numbers_from (n + 1) (len - (n + 1))))
-
-pub any_on : (u : RuleRef → Bool) (n len : ℕ) → n < len → list_any u (directions n) ≡ false
-    → list_any u (flat_map directions (numbers_from n (len - n))) ≡ list_any u (flat_map directions (numbers_from (n + 1) (len - (n + 1))))
-any_on u n len h e = any_step u n len h ∙ ap (λ z. z || list_any u (flat_map directions (numbers_from (n + 1) (len - (n + 1))))) e
-
-pub any_here : (u : RuleRef → Bool) (n len : ℕ) → n < len → list_any u (directions n) ≡ true → list_any u (flat_map directions (numbers_from n (len - n))) ≡ true
-any_here u n len h e = any_step u n len h ∙ ap (λ z. z || list_any u (flat_map directions (numbers_from (n + 1) (len - (n + 1))))) e
-
-pub any_end : (u : RuleRef → Bool) (n len : ℕ) → len ≤ n → list_any u (flat_map directions (numbers_from n (len - n))) ≡ false
-any_end u n len h = ap (λ ns. list_any u (flat_map directions ns)) (numbers_end n len h)
 
 -- ---- which numbers pass
 
@@ -124,11 +86,3 @@ or_some o r x e = sym (ap (λ z. option_or z r) e)
 
 pub or_none : {A : Type 0} (o r : Option A) → o ≡ None → r ≡ option_or o r
 or_none o r e = sym (ap (λ z. option_or z r) e)
-
-pub any_two : (u : RuleRef → Bool) (x y : RuleRef) → (u x || u y) ≡ list_any u (x ∷ y ∷ [])
-any_two u x y = go (u x) (u y)
-  where
-    go : (s t : Bool) → (s || t) ≡ (s || (t || false))
-    go true t = refl
-    go false true = refl
-    go false false = refl

@@ -2,8 +2,8 @@
 use Rattle.mkb_model.specs.Effects.{most_living}
 use Rattle.mkb_model.proofs.LivingLabels.{labels_live}
 use Rattle.mkb_model.proofs.Worked.{sleepers_run}
-use Rattle.std.proofs.Common.{ℕ, zero, suc, ◌≤◌, ◌<◌, ◌≡◌, refl, sym, ap, ◌∙◌, subst, arith, List, [], ◌∷◌, ◌++◌, map, flat_map, length, Contains, All, Option, Some, None, ⊎_elim}
-use Rattle.std.specs.Prelude.{option_map, IsTrue}
+use Rattle.std.proofs.Common.{ℕ, zero, suc, ◌≤◌, ◌<◌, ◌≡◌, true, refl, sym, ap, ◌∙◌, subst, arith, List, [], ◌∷◌, ◌++◌, map, flat_map, length, Contains, All, Option, Some, None, ⊎_elim}
+use Rattle.std.specs.Prelude.{option_map, IsTrue, IsSome}
 use Rattle.std.specs.List.{cons_option}
 use Rattle.std.proofs.lemmas.List.Elements.{Contains-append_cases}
 use Rattle.kb_term.proofs.Steps.{contains_cases}
@@ -23,9 +23,9 @@ use Rattle.kb_laws.proofs.Cleaning.{length-instances}
 use Rattle.kb_laws.proofs.Complete.{all_from}
 use Rattle.kb_node.specs.declared.job.Job.{Job}
 use Rattle.kb_node.specs.declared.job.Job.TheVariants as jobs
-use Rattle.mkb_model.specs.Plain.{Plain, node_numbers, pair_at, rule_at, rules_at, rules_of, is_rule}
+use Rattle.mkb_model.specs.Plain.{Plain, constraints_of, node_numbers, pair_at, rule_at, rules_at, rules_of, is_rule}
 use Rattle.mkb_model.specs.DueJobs.{work_of, is_due, due_jobs, due_jobs_of, awake, flying_jobs, first_job}
-use Rattle.mkb_model.specs.Jobs.{is_free}
+use Rattle.mkb_model.specs.Jobs.{is_free, process_of}
 use Rattle.mkb_model.specs.Limits.{AreLimited, IsLimitedPair}
 use Rattle.mkb_model.specs.Proposals.{as_rules, named_rules}
 use Rattle.mkb_model.specs.Journals.{Moment, IsPossibleRun, IsFreeJob}
@@ -35,20 +35,25 @@ use Rattle.mkb_model.proofs.Lists.{filter_in, filter_map_in, flat_map_in, map_in
 use Rattle.mkb_model.proofs.Living.{within_budget, living_forked}
 use Rattle.mkb_model.proofs.Selections.{legal-possible, first-free}
 use Rattle.mkb_model.proofs.Sizes.{limited_run, numbered_within, turned}
-use Rattle.mkb_model.proofs.AllFine.{states_ordered, commits_fine}
+use Rattle.mkb_model.proofs.AllFine.{states_ordered, commits_fine, pair_there}
+use Rattle.mkb_model.proofs.Flyers.{free_lives}
 use Rattle.mkb_model.proofs.Certificates.{certified_run}
 use Rattle.mkb_model.specs.Invariants.{IsCertified, SleepersWait, IsLabel}
 use Rattle.kb_jobs.specs.Groups.{IsOverlappable}
-use Rattle.kb_jobs.specs.Taken.{IsTakenClose}
-use Rattle.kb_jobs.specs.Working.{IsReadable, IsTaken}
+use Rattle.kb_cert.specs.Family.{IsFirstOrder}
+use Rattle.kb_cert.specs.declared.certificate.Certificate.{Certificate}
+use Rattle.kb_jobs.specs.Taken.{IsTakenOrient, IsTakenClose}
+use Rattle.kb_jobs.specs.Orienting.{AreOneMore}
+use Rattle.kb_jobs.specs.declared.orienting.OrientSnapshot.{OrientSnapshot}
+use Rattle.kb_jobs.specs.Working.{IsReadable, IsTaken, job_of}
 use Rattle.kb_jobs.specs.declared.closing.CloseSnapshot.{CloseSnapshot}
 use Rattle.kb_jobs.specs.declared.working.Snapshot.{Snapshot}
 use Rattle.kb_jobs.specs.declared.working.Snapshot.TheVariants.{Reduce, Orient, Overlap, Close}
 use Rattle.kb_jobs.proofs.Settling.{as_listed}
 use Rattle.mkb_board.specs.Boards.{seen, IsLegalBoard}
-use Rattle.mkb_board.specs.Snapshots.{HasJobNodes, IsWhole}
+use Rattle.mkb_board.specs.Snapshots.{HasJobNodes, HasOrder, IsWhole}
 use Rattle.mkb_board.proofs.Flying.{taken_flying}
-use Rattle.mkb_board.proofs.Viewed.{passing_there}
+use Rattle.mkb_board.proofs.Viewed.{passing_there, rules_behind}
 use Rattle.mkb_model.specs.declared.settings.Settings.{Settings}
 
 -- ---- rules of pairs within the limits
@@ -121,20 +126,37 @@ module _ (P : Problem) (n : Settings) (ms : List Moment) (b : Plain) (within : I
   closing_rules : (s : CloseSnapshot) → IsTakenClose b s → length s.rules.names.items ≡ length s.rules.rules.items → s.rules.rules.items ≡ rules_at b (rules_of b s.process)
   closing_rules s h w = sym (as_listed s.rules.names.items s.rules.rules.items w) ∙ ap as_rules h.rules ∙ as_named b (rules_of b s.process)
 
+  -- the order in force is the first for the constraints
+  first_taken : (s : OrientSnapshot) → IsTakenOrient b s → has b.living s.process ≡ true → IsFirstOrder s.family s.signature (rules_at b (constraints_of b s.process)) (Some s.in_force)
+  first_taken s h lives =
+      let k = certified_run P n ms b within run s.process lives in
+      let same : k.certificate ≡ s.in_force = some_is (sym k.there ∙ h.in_force) in
+      subst (λ z. z) (λ i. IsFirstOrder (sym h.family i) (sym h.signature i) (rules_at b (constraints_of b s.process)) (Some (same i))) k.first
+
+  -- the constraints with the rule of a direction of the node behind them
+  one_more : (s : OrientSnapshot) → IsTakenOrient b s → has b.living s.process ≡ true → s.node.0 < length b.nodes → (rules : List Rule) (d : ℕ) → rules ≡ rules_at b (constraints_of b s.process ++ record { node = s.node.0; dir = d } ∷ []) → AreOneMore s rules
+  one_more s h lives there rules d e =
+      let q = pair_there b.nodes s.node.0 there in
+      let a : RuleRef = record { node = s.node.0; dir = d } in
+      let r : rule_at b a ≡ Some (rule_of q.0 d) = ap (option_map (λ (z : Pair). rule_of z d)) q.1 in
+      (rules_at b (constraints_of b s.process), rule_of q.0 d, e ∙ rules_behind b (constraints_of b s.process) a (rule_of q.0 d) r, first_taken s h lives)
+
   -- a whole snapshot of the board may be read
-  pub readable : (s : Snapshot) → IsTaken b s → IsWhole s → IsReadable s
-  readable (Reduce s) h w =
+  pub readable : (s : Snapshot) → IsTaken b s → IsWhole s → has b.living (process_of (job_of s)) ≡ true → HasJobNodes b (job_of s) → IsReadable s
+  readable (Reduce s) h w lives there =
       let l = limited s.node.0 s.pair h.pair in
       record { rules = w.rules; few = w.few; first = few P.signature within.arities s.pair.first l.first; second = few P.signature within.arities s.pair.second l.second; unknown = w.unknown }
-  readable (Orient s) h w =
+  readable (Orient s) h w lives there =
       let of_problem : b.problem ≡ P = (within_budget IsFreeJob P n ms b run).problem in
       record {
         few = omega (arith, ap length h.signature, ap (λ (z : Problem). length z.signature) of_problem, within.symbols);
         forth = subst {A = List Rule} AreMeasurable (sym h.forth) (measurable _);
         back = subst {A = List Rule} AreMeasurable (sym h.back) (measurable _);
+        forth_more = one_more s h lives there s.forth.items 0 h.forth;
+        back_more = one_more s h lives there s.back.items 1 h.back;
       }
-  readable (Overlap s) h w = record { first = overlappable s.first s.first_rule h.first; second = overlappable s.second s.second_rule h.second }
-  readable (Close s) h w =
+  readable (Overlap s) h w lives there = record { first = overlappable s.first s.first_rule h.first; second = overlappable s.second s.second_rule h.second }
+  readable (Close s) h w lives there =
       let e = closing_rules s h w in
       record {
         overlappable = record {
@@ -143,13 +165,6 @@ module _ (P : Problem) (n : Settings) (ms : List Moment) (b : Plain) (within : I
         };
         held = λ r i. (((states_ordered P n ms b within run (commits_fine P n ms b within run)) s.process).sound.rules r (subst {A = List Rule} (λ rs. Contains rs r) e i)).is_rule.holds_variables;
       }
-
--- a whole snapshot of a legal board may be read
-pub readable_on : (state : Plain) (flight : List Ticket) (J : List Entry) → IsLegalBoard (seen state flight J) → (s : Snapshot) → IsTaken state s → IsWhole s → IsReadable s
-readable_on state flight J legal s h w =
-    let c = seen state flight J in
-    let r = legal.after in
-    readable c.plain.problem c.plain.settings r.0 c.plain legal.within (legal-possible c.plain.problem c.plain.settings r.0 c.plain r.2) s (taken_flying state flight s h) w
 
 -- the pairs of a legal board are within the limits
 pub limited_on : (state : Plain) (flight : List Ticket) (J : List Entry) → IsLegalBoard (seen state flight J) → AreLimited state.problem.signature state.nodes
@@ -187,7 +202,7 @@ sleepers_on state flight J legal =
     let k = (labels_live c.plain.problem c.plain.settings r.0 c.plain (legal-possible c.plain.problem c.plain.settings r.0 c.plain r.2)).of_asleep in
     record { ordered = k.ordered; living = k.living }
 
--- the certificate of a living process is of the family and orders its constraints
+-- the certificate of a living process is of the run's family and orders its constraints
 pub certified_on : (state : Plain) (flight : List Ticket) (J : List Entry) → IsLegalBoard (seen state flight J) → (p : Name) → IsTrue (has state.living p) → IsCertified (seen state flight J).plain p
 certified_on state flight J legal p lives =
     let c = seen state flight J in
@@ -233,3 +248,23 @@ grounded state flight (jobs.Close p) h = h
 -- the nodes that the first job names are there
 pub first_there : (state : Plain) (flight : List Ticket) (j : Job) → first_job (record state { flight = flight }) ≡ Some j → HasJobNodes state j
 first_there state flight j e = let b : Plain = record state { flight = flight } in grounded state flight j (free_there b j (first-free b j e))
+
+-- a whole snapshot of the first job may be read
+pub readable_on : (state : Plain) (flight : List Ticket) (J : List Entry) → IsLegalBoard (seen state flight J) → (j : Job) → first_job (record state { flight = flight }) ≡ Some j → (s : Snapshot) → job_of s ≡ j → IsTaken state s → IsWhole s → IsReadable s
+readable_on state flight J legal j first s job h w =
+    let c = seen state flight J in
+    let r = legal.after in
+    let free = first-free c.plain j first in
+    readable c.plain.problem c.plain.settings r.0 c.plain legal.within (legal-possible c.plain.problem c.plain.settings r.0 c.plain r.2) s (taken_flying state flight s h) w
+    (subst {A = Job} (λ z. has c.plain.living (process_of z) ≡ true) (sym job) (free_lives c.plain j free))
+    (subst {A = Job} (HasJobNodes c.plain) (sym job) (free_there c.plain j free))
+
+-- the process of an Orient that is the first job has an order
+pub first_ordered : (state : Plain) (flight : List Ticket) (J : List Entry) → IsLegalBoard (seen state flight J) → (j : Job) → first_job (record state { flight = flight }) ≡ Some j → HasOrder state j
+first_ordered state flight J legal (jobs.Reduce p n) e = tt
+first_ordered state flight J legal (jobs.Overlap p a c) e = tt
+first_ordered state flight J legal (jobs.Close p) e = tt
+first_ordered state flight J legal (jobs.Orient p n) e =
+    let b : Plain = record state { flight = flight } in
+    let k = certified_on state flight J legal p (free_lives b (jobs.Orient p n) (first-free b (jobs.Orient p n) e)) in
+    subst {A = Option Certificate} IsSome (sym k.there) refl

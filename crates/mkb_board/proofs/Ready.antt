@@ -1,5 +1,8 @@
 -- Where a ticket may be finished, its proposal may be applied to the state.
+use Rattle.mkb_board.proofs.AtRest.{legal_rest, rest_from}
+use Rattle.mkb_board.specs.Choosing.{ClosedRest}
 use Rattle.mkb_board.proofs.Readable.{limited_on}
+use Rattle.mkb_model.specs.Sleeping.{settled}
 use Rattle.mkb_model.specs.declared.entry.Entry.TheVariants.{Commit}
 use Rattle.mkb_model.proofs.Worked.{acted_labelled}
 use Rattle.mkb_model.proofs.LivingLabels.{IsLabelled}
@@ -80,11 +83,24 @@ module _ (state : Plain) (flight : List Ticket) (J : List Entry) (t : Ticket) (x
       let k = subst {A = Plain} IsLabelled (acted_flying state flight x) (acted_labelled s.plain.problem s.plain.settings r.0 s.plain (legal-possible s.plain.problem s.plain.settings r.0 s.plain r.2) t.worker t.number t.job x (finishing s t x none flying proposal r.0 r.1 r.2) acts) in
       record { alive = k.alive; nodes = k.nodes; done = k.done; closed = k.closed; over = k.over; asleep = k.asleep }
 
-  -- and pairs within the limits
-  pub acted_limited : IsFalse (is_dropped (record state { flight = flight }) x) → AreLimited (acted state x).problem.signature (acted state x).nodes
-  acted_limited acts =
+  -- the board after the commit is legal
+  legal_after : IsFalse (is_dropped (record state { flight = flight }) x)
+      → IsLegalBoard (seen (effect state x) (filter (λ (u : Ticket). not (u.number == t.number)) flight) (J ++ Commit t.worker t.number (effect_entry (record state { flight = flight }) x) ∷ []))
+  legal_after acts =
       let fewer = filter (λ (u : Ticket). not (u.number == t.number)) flight in
       let K = J ++ Commit t.worker t.number (effect_entry (record state { flight = flight }) x) ∷ [] in
       let now : IsBoard (seen state flight J) (takes_in J) (drops_in J) (has_halt J) = record { legal = legal; taken_is = refl; dropped_is = refl; halted_is = refl } in
-      let after = commit_board state (effect state x) flight fewer J K (takes_in J) (drops_in J) (has_halt J) t x now none flying proposal acts (lands state (effect state x) flight fewer x t.number refl refl) refl in
-      limited_on (effect state x) fewer K after.legal
+      (commit_board state (effect state x) flight fewer J K (takes_in J) (drops_in J) (has_halt J) t x now none flying proposal acts (lands state (effect state x) flight fewer x t.number refl refl) refl).legal
+
+  -- what the commit itself does leaves pairs within the limits
+  pub acted_limited : IsFalse (is_dropped (record state { flight = flight }) x) → AreLimited (acted state x).problem.signature (acted state x).nodes
+  acted_limited acts =
+      limited_on (effect state x) (filter (λ (u : Ticket). not (u.number == t.number)) flight) (J ++ Commit t.worker t.number (effect_entry (record state { flight = flight }) x) ∷ []) (legal_after acts)
+
+  -- and after it nothing is to be done for who is closed
+  pub effect_rest : IsFalse (is_dropped (record state { flight = flight }) x) → ClosedRest (effect state x)
+  effect_rest acts =
+      legal_rest (effect state x) (filter (λ (u : Ticket). not (u.number == t.number)) flight) (J ++ Commit t.worker t.number (effect_entry (record state { flight = flight }) x) ∷ []) (legal_after acts)
+
+  pub acted_rest : IsFalse (is_dropped (record state { flight = flight }) x) → ClosedRest (acted state x)
+  acted_rest acts = rest_from (acted state x) (acted state x).flight (settled (acted state x)) (effect_rest acts)

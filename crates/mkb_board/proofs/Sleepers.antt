@@ -10,14 +10,14 @@ use Rattle.std.proofs.lemmas.Cmp.{alike_right, on_total, then_total, nat_cmp_tot
 use Rattle.kb_label.specs.Names.{Name, name_cmp, name_eq, has, add, minus, IsInNameOrder}
 use Rattle.kb_label.specs.NameOrder.{name_cmp-total}
 use Rattle.kb_label.proofs.Members.{name_eq-eq, name_eq-refl, has-minus}
-use Rattle.kb_label.proofs.Ordered.{rest, before-absent, ordered-add, ordered-filter, length-add, length-without}
-use Rattle.mkb_model.specs.Jobs.{least, greatest}
+use Rattle.kb_label.proofs.Ordered.{rest, before-absent, ordered-filter, length-add, length-without}
+use Rattle.mkb_model.specs.Jobs.{least}
 use Rattle.mkb_model.specs.Limits.{AreLimited}
 use Rattle.mkb_model.specs.Plain.{Plain, cost}
 use Rattle.mkb_model.specs.Invariants.{IsLabel, SleepersWait}
-use Rattle.mkb_model.specs.Sleeping.{is_active, most_awake, process_cmp, rested, settle, settled, waiting, with_one_asleep, with_one_awake, working}
+use Rattle.mkb_model.specs.Sleeping.{is_active, most_awake, process_cmp, rested, settle, waiting, with_one_asleep, with_one_awake, working}
 use Rattle.mkb_model.proofs.Lists.{and_both, and_left, and_right, clash, not_true, or_left, or_right, some_is}
-use Rattle.mkb_model.proofs.Labels.{IsLabelOf, label-add}
+use Rattle.mkb_model.proofs.Labels.{label-add}
 use Rattle.mkb_model.proofs.Sleepers.{in_working, label_asleep, label_awake, label_rested, settled_same, working_few}
 use Rattle.mkb_board.specs.Choosing.{costed_cmp, merged}
 use Rattle.mkb_board.specs.declared.settling.Costed.{Costed}

@@ -1,18 +1,17 @@
 -- Which jobs may be chosen.
-use Rattle.std.specs.Prelude.{ℕ, List, [], ◌∷◌, ◌++◌, length, map, Bool, ◌&&◌, ◌<◌, ◌==◌, ◌≡◌, ◌+◌, not, filter, if◌then◌else◌}
-use Rattle.std.specs.List.{list_any}
+use Rattle.std.specs.Prelude.{ℕ, List, [], ◌∷◌, ◌++◌, length, map, Bool, ◌&&◌, ◌<◌, ◌≡◌, ◌+◌, filter, if◌then◌else◌, IsTrue}
 use Rattle.std.specs.Option.{option_map_or}
 use Rattle.std.specs.declared.cmp.Ordering.{Ordering}
 use Rattle.std.specs.declared.cmp.Ordering.TheVariants.{Less}
 use Rattle.std.specs.declared.option.Option.{Option}
 use Rattle.std.specs.declared.option.Option.TheVariants.{Some, None}
-use Rattle.kb_label.specs.Names.{Name, name_cmp}
-use Rattle.kb_term.specs.declared.origin.RuleRef.{RuleRef}
+use Rattle.kb_label.specs.Names.{Name, name_cmp, has}
 use Rattle.kb_node.specs.declared.job.Job.{Job}
 use Rattle.kb_node.specs.declared.job.Job.TheVariants.{Reduce, Orient, Overlap, Close}
 use Rattle.mkb_model.specs.Jobs.{process_of, kind_number, job_numbers, numbers_cmp, job_cmp, is_free, lesser, least}
-use Rattle.mkb_model.specs.Plain.{Plain, node_numbers, is_rule, is_equation, is_constraint, known, node_size, cost, weight, weight_by}
-use Rattle.mkb_model.specs.DueJobs.{is_work_due, is_due, is_open, work_of}
+use Rattle.mkb_model.specs.Plain.{Plain, is_rule, is_equation, is_constraint, cost, weight, weight_by}
+use Rattle.mkb_model.specs.Invariants.{IsAtRest}
+use Rattle.mkb_model.specs.DueJobs.{is_work_due, is_due, work_of}
 use Rattle.mkb_model.specs.declared.entry.Ticket.{Ticket}
 use Rattle.mkb_model.specs.declared.settings.Selection.{Selection}
 use Rattle.mkb_model.specs.declared.settings.Selection.TheVariants.{Stated, Size}
@@ -36,10 +35,6 @@ HasNodes b (Orient p n) = n.0 < length b.nodes
 HasNodes b (Overlap p a c) = (a.node < length b.nodes) × (c.node < length b.nodes)
 HasNodes b (Close p) = Unit {0}
 
--- p has the rule, and some side of node n, which is another, is open to it
-abbrev pub is_open_rule : Plain → Name → ℕ → RuleRef → Bool
-is_open_rule b p n a = is_rule b p a && (not (a.node == n) && list_any (λ w. is_open b p n w (known b n w a)) (0 ∷ 1 ∷ []))
-
 -- the least job of the process that is due and clashes with none of these
 abbrev pub first_choice : Plain → List Job → Name → Option Job
 first_choice b flight p = least (job_cmp (cost b) (weight b)) (filter (λ j. is_due b j && is_free flight j) (work_of b p ++ Close p ∷ []))
@@ -61,10 +56,6 @@ pub record StandsEarlier (j i : Job) : Type 0 where
   pub numbers : numbers_cmp (job_numbers i) (job_numbers j) ≡ Less
 
 -- ---- what processes cost
-
--- the size of each node
-abbrev pub sizes_of : Plain → List ℕ
-sizes_of b = map (node_size b) (node_numbers b)
 
 -- one where it is so
 abbrev pub one_if : Bool → ℕ
@@ -102,3 +93,9 @@ StandsBefore p c = name_cmp (process_of c.job) p ≡ Less
 -- the order of processes by the costs that are kept beside them, then name
 abbrev pub costed_cmp : Costed → Costed → Ordering
 costed_cmp c d = ordering_then (nat_cmp c.cost d.cost) (name_cmp c.process d.process)
+
+-- ---- who has nothing to do
+
+-- nothing but a closing is due for a process that is closed
+abbrev pub ClosedRest : Plain → Type 0
+ClosedRest b = (p : Name) → IsTrue (has b.closed p) → IsAtRest b p

@@ -3,3 +3,4 @@ pub mod Boards
 pub mod Held
 pub mod Takes
 pub mod Snapshots
+pub mod Normal

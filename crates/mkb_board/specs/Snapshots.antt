@@ -1,10 +1,10 @@
 -- What a job reads of a board.
-use Rattle.std.specs.Prelude.{ℕ, ◌≡◌, ◌<◌, ◌≤◌, ◌^◌, List, map, length, filter, is_none, slice_get, All, ⊤}
+use Rattle.std.specs.Prelude.{ℕ, ◌≡◌, ◌<◌, ◌≤◌, ◌^◌, List, map, length, filter, is_none, slice_get, All, IsSome, ⊤}
 use Rattle.std.specs.Option.{option_map_or}
 use Rattle.kb_term.specs.declared.origin.RuleRef.{RuleRef}
 use Rattle.kb_node.specs.declared.job.Job.{Job}
 use Rattle.kb_node.specs.declared.job.Job.TheVariants as jobs
-use Rattle.mkb_model.specs.Plain.{Plain, known}
+use Rattle.mkb_model.specs.Plain.{Plain, certificate_of, known}
 use Rattle.mkb_rules.specs.Named.{IsRuleThere}
 use Rattle.kb_jobs.specs.Rules.{AreNamed}
 use Rattle.kb_jobs.specs.Reducing.{no_name}
@@ -18,6 +18,13 @@ HasJobNodes b (jobs.Reduce p n) = n.0 < length b.nodes
 HasJobNodes b (jobs.Orient p n) = n.0 < length b.nodes
 HasJobNodes b (jobs.Overlap p a c) = IsRuleThere b a × IsRuleThere b c
 HasJobNodes b (jobs.Close p) = ⊤
+
+-- the process of an Orient has an order
+abbrev pub HasOrder : Plain → Job → Type 0
+HasOrder b (jobs.Reduce p n) = ⊤
+HasOrder b (jobs.Orient p n) = IsSome (certificate_of b p)
+HasOrder b (jobs.Overlap p a c) = ⊤
+HasOrder b (jobs.Close p) = ⊤
 
 -- sides with the names of rules, for sides with the numbers of rules
 abbrev pub with_names : List RuleRef → List (ℕ × ℕ) → List (ℕ × RuleRef)

@@ -2,10 +2,10 @@
 ghost use Rattle.std.specs.Prelude.{◌≡◌, ◌≤◌, ◌+◌, ◌++◌, ◌∷◌, ◌==◌, [], length, map, filter, not, Some, Contains, IsTrue, IfOk, if◌then◌else◌, vec_len};
 ghost use Rattle.mkb_model.specs.declared.entry.Ticket.{Ticket};
 ghost use Rattle.kb_term.specs.Signature.{IsWithinLimits};
-ghost use Rattle.kb_cert.specs.Family.{family, Orders};
+ghost use Rattle.kb_cert.specs.Family.{Orders, IsFirstOrder};
 ghost use Rattle.kb_label.specs.Names.{has};
 ghost use Rattle.kb_node.specs.declared.node.NodeId.{NodeId as Numbered};
-ghost use Rattle.mkb_model.specs.Plain.{equations_of, rules_of, constraints_of, rules_at, certificate_of};
+ghost use Rattle.mkb_model.specs.Plain.{orders_of, equations_of, rules_of, constraints_of, rules_at, certificate_of};
 ghost use Rattle.mkb_model.specs.Journals.{opening, landed};
 ghost use Rattle.mkb_model.specs.Verdicts.{verdict};
 ghost use Rattle.mkb_model.specs.declared.entry.Entry.TheVariants.{Abandon, Halt};
@@ -13,6 +13,7 @@ ghost use Rattle.mkb_rules.specs.Parts.{plain_nodes};
 ghost use Rattle.mkb_board.specs.Boards.{IsLegalBoard, takes_in, drops_in, has_halt};
 
 use crate::choosing;
+use crate::normal::Normal;
 use crate::snapshots::named::view_of;
 use kb_cert::Certificate;
 use kb_label::{Labels, ListLabels, Living, NameLog, Process, Verdict};
@@ -36,6 +37,7 @@ pub struct Board {
     pub(crate) taken: u64,
     pub(crate) dropped: u64,
     pub(crate) halted: bool,
+    pub(crate) normal: Normal,
 }
 
 impl Model for Board {
@@ -44,6 +46,7 @@ impl Model for Board {
     ghost use Rattle.kb_term.specs.Coding.{coded_pair, coded_problem, coded_tree};
     ghost use Rattle.mkb_model.specs.Verdicts.{verdict as verdict_on};
     ghost use Rattle.mkb_board.specs.Boards.{Seen, seen, IsBoard, owed};
+    ghost use Rattle.mkb_board.specs.Normal.{AreNormal};
 
     ghost Value = { Seen };
 
@@ -51,7 +54,7 @@ impl Model for Board {
 
     ghost view = { λ b. seen b.state b.flight.items b.journal.items };
 
-    ghost invariant = { λ b. IsBoard (seen b.state b.flight.items b.journal.items) b.taken b.dropped b.halted × (vec_len b.journal + owed (vec_len b.flight) b.halted ≤ vec_capacity b.journal) × (b.verdict ≡ verdict_on b.state) };
+    ghost invariant = { λ b. IsBoard (seen b.state b.flight.items b.journal.items) b.taken b.dropped b.halted × (vec_len b.journal + owed (vec_len b.flight) b.halted ≤ vec_capacity b.journal) × (b.verdict ≡ verdict_on b.state) × AreNormal b.state b.normal };
 }
 
 impl Board {
@@ -77,6 +80,7 @@ impl Board {
             taken: 0,
             dropped: 0,
             halted: false,
+            normal: Normal::new(alloc),
         })
     }
 
@@ -116,7 +120,7 @@ impl Board {
         view_of(&self.state, p)
     }
 
-    /// The order by which a living process orients. It is of the family of orders, and orders the constraints of the process.
+    /// The order by which a living process orients: the first of the run's family that orders the constraints of the process.
     ///
     /// # Errors
     ///
@@ -124,8 +128,9 @@ impl Board {
     pub fn certificate(&self, p: &Process) -> Result<Certificate, Memory>
         requires { IsTrue (has self.now.plain.living p.now) }
         ensures of_process { IfOk result (λ c. certificate_of self.now.plain p.now ≡ Some c) }
-        ensures member { IfOk result (Contains (family self.now.plain.problem.signature)) }
+        ensures member { IfOk result (Contains (orders_of self.now.plain)) }
         ensures orders { IfOk result (λ c. Orders c (rules_at self.now.plain (constraints_of self.now.plain p.now))) }
+        ensures first { IfOk result (λ c. IsFirstOrder self.now.plain.settings.family self.now.plain.problem.signature (rules_at self.now.plain (constraints_of self.now.plain p.now)) (Some c)) }
     {
         let certificate = self.state.certificate(p).clone()?;
         Ok(certificate)

@@ -8,8 +8,8 @@ ghost use Rattle.mkb_model.specs.Plain.{is_equation, is_rule, is_over, over_reas
 ghost use Rattle.mkb_model.specs.DueJobs.{due_jobs_of};
 ghost use Rattle.mkb_model.specs.Verdicts.{verdict, is_complete, first_over};
 ghost use Rattle.mkb_model.specs.Sleeping.{is_active, is_failed, no_members};
+ghost use Rattle.mkb_board.specs.Choosing.{ClosedRest};
 
-use crate::due::first_work;
 use kb_label::{Labels, ListLabels, Process, Reason, Spent, Verdict};
 use kb_node::{LabelKind, NodeId};
 use kb_term::RuleRef;
@@ -17,6 +17,7 @@ use mkb_rules::State;
 
 /// The verdict, if one stands. It takes no memory.
 pub(crate) fn verdict(state: &State) -> Option<Verdict>
+    requires rest { ClosedRest state.now }
     ensures { result ≡ verdict state.now }
 {
     if let Some(process) = first_complete(state) {
@@ -52,6 +53,7 @@ fn first_complete(state: &State) -> Option<Process>
 
 // Whether each process has failed.
 fn have_all_failed(state: &State) -> bool
+    requires rest { ClosedRest state.now }
     ensures { result ≡ list_all (is_failed state.now) state.now.living }
 {
     let living = state.log().processes();
@@ -65,6 +67,7 @@ fn have_all_failed(state: &State) -> bool
 
 // Whether each process has failed or given up.
 fn have_all_stopped(state: &State) -> bool
+    requires rest { ClosedRest state.now }
     ensures { result ≡ list_all (λ (p : Name). is_failed state.now p || is_over state.now p) state.now.living }
 {
     let living = state.log().processes();
@@ -100,7 +103,7 @@ pub(crate) fn is_over(state: &State, p: &Process) -> bool
 fn is_complete(state: &State, p: &Process) -> bool
     ensures { result ≡ is_complete state.now p.now }
 {
-    !has_equation(state, p) && state.is_closed(p)
+    state.is_closed(p) && !has_equation(state, p)
 }
 
 // Whether the process has an equation.
@@ -146,7 +149,8 @@ pub(crate) fn has_label(state: &State, p: &Process, n: NodeId, kind: LabelKind) 
 
 /// Whether the process has neither failed nor given up. It takes no memory.
 pub(crate) fn is_active(state: &State, p: &Process) -> bool
-    requires { IsTrue (has state.now.living p.now) }
+    requires rest { ClosedRest state.now }
+    requires lives { IsTrue (has state.now.living p.now) }
     ensures { result ≡ is_active state.now p.now }
 {
     !is_failed(state, p) && !is_over(state, p)
@@ -154,22 +158,24 @@ pub(crate) fn is_active(state: &State, p: &Process) -> bool
 
 // Whether the process has not given up, has an equation and nothing is due for it.
 fn is_failed(state: &State, p: &Process) -> bool
-    requires { IsTrue (has state.now.living p.now) }
+    requires rest { ClosedRest state.now }
+    requires lives { IsTrue (has state.now.living p.now) }
     ensures { result ≡ is_failed state.now p.now }
 {
     if is_over(state, p) {
         return false;
     }
-    has_equation(state, p) && has_no_job(state, p)
+    has_no_job(state, p) && has_equation(state, p)
 }
 
-// Whether nothing is due for the process.
+// Whether nothing is due for the process: where it is closed.
 fn has_no_job(state: &State, p: &Process) -> bool
+    requires rest { ClosedRest state.now }
     requires lives { IsTrue (has state.now.living p.now) }
     requires going { IsFalse (is_over state.now p.now) }
     ensures { result ≡ no_members (due_jobs_of state.now p.now) }
 {
-    state.is_closed(p) && first_work(state, &[], p).is_none()
+    state.is_closed(p)
 }
 
 /// How many nodes there are.

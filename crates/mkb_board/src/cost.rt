@@ -1,27 +1,14 @@
 // The cost of a process.
-ghost use Rattle.std.specs.Prelude.{◌≡◌, ◌<◌, ◌≤◌, ◌*◌, length, IfOk};
+ghost use Rattle.std.specs.Prelude.{◌≡◌, ◌<◌, ◌≤◌, ◌*◌, length};
 ghost use Rattle.mkb_model.specs.Limits.{AreLimited};
 ghost use Rattle.mkb_model.specs.Plain.{node_size, cost};
-ghost use Rattle.mkb_board.specs.Choosing.{sizes_of, one_if, role_count, rule_count};
+ghost use Rattle.mkb_board.specs.Choosing.{one_if, role_count, rule_count};
 
 use crate::choosing::{has_label, node_count};
 use kb_label::Process;
 use kb_node::{LabelKind, NodeId};
-use kb_term::Memory;
 use mkb_model::Selection;
 use mkb_rules::State;
-use std::alloc::Global;
-
-/// The size of each node: of both sides of its pair together.
-pub(crate) fn sizes(alloc: Global, state: &State) -> Result<Vec<u32>, Memory>
-    ensures { IfOk result (λ sizes. sizes.items ≡ sizes_of state.now) }
-{
-    let mut sizes = Vec::new(alloc);
-    for n in 0..node_count(state) {
-        sizes.push(node_size(state, NodeId(n as u16)))?;
-    }
-    Ok(sizes)
-}
 
 /// The cost of a process: the sizes of its equations and its constraints, and of its rules where the selection counts them. It
 /// takes no memory.
@@ -43,15 +30,16 @@ fn share(state: &State, p: &Process, n: NodeId) -> u32
     ensures share { result ≡ role_count state.now p.now n.0 * node_size state.now n.0 }
     ensures most { result ≤ 5120 }
 {
-    role_count(state, p, n) * node_size(state, n)
+    role_count(state, p, n) * node_size(state, n.0)
 }
 
-// The sizes of both sides of a node's pair together.
-fn node_size(state: &State, n: NodeId) -> u32
-    requires { n.0 < length state.now.nodes }
-    ensures { result ≡ node_size state.now n.0 }
+/// The sizes of both sides of a node's pair together, at most 1,024.
+pub(crate) fn node_size(state: &State, n: u16) -> u32
+    requires { n < length state.now.nodes }
+    ensures size { result ≡ node_size state.now n }
+    ensures most { result ≤ 1024 }
 {
-    state.nodes().size(n)
+    state.nodes().size(NodeId(n))
 }
 
 // How often the node counts for the process: as an equation, as a constraint in each direction, and as a rule.

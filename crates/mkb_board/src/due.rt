@@ -1,44 +1,55 @@
 // Which jobs are due.
-ghost use Rattle.std.specs.Prelude.{ℕ, ◌≡◌, ◌<◌, ◌≤◌, ◌&&◌, ◌||◌, ◌==◌, ◌∷◌, [], not, length, map, filter};
-ghost use Rattle.std.specs.List.{find, list_any, flat_map};
+ghost use Rattle.std.specs.Prelude.{◌≡◌, ◌<◌, ◌&&◌, length, map};
+ghost use Rattle.std.specs.List.{find, flat_map};
 ghost use Rattle.kb_label.specs.Names.{has};
-ghost use Rattle.kb_term.specs.declared.origin.RuleRef.{RuleRef};
-ghost use Rattle.kb_node.specs.declared.node.NodeId.{NodeId};
-ghost use Rattle.kb_node.specs.declared.job.Job.{Job};
+ghost use Rattle.kb_term.specs.declared.origin.RuleRef.{RuleRef as Reference};
 ghost use Rattle.kb_node.specs.declared.job.Job.TheVariants as jobs;
-ghost use Rattle.mkb_model.specs.declared.entry.Ticket.{Ticket};
-ghost use Rattle.mkb_model.specs.Jobs.{clashes, is_free, ref_eq, ref_le};
-ghost use Rattle.mkb_model.specs.Plain.{Plain, node_numbers, directions, rules_of, is_equation, is_rule, known, other};
-ghost use Rattle.mkb_model.specs.DueJobs.{is_open, is_node_of, is_reducible, is_work_due, work_of};
-ghost use Rattle.mkb_board.specs.Choosing.{jobs_of, is_choice, HasNodes, is_open_rule};
+ghost use Rattle.mkb_model.specs.Jobs.{clashes, is_free, process_of, ref_eq, ref_le};
+ghost use Rattle.mkb_model.specs.Plain.{node_numbers, rules_of};
+ghost use Rattle.mkb_model.specs.DueJobs.{is_work_due, work_of};
+ghost use Rattle.mkb_board.specs.Choosing.{jobs_of, is_choice, HasNodes};
+ghost use Rattle.mkb_board.specs.Normal.{Serves};
 
 use crate::choosing::{is_equation, is_rule, node_count};
+use crate::normal::Normal;
 use kb_label::Process;
 use kb_node::{Job, NodeId};
-use kb_term::{Found, RuleRef};
+use kb_term::RuleRef;
 use mkb_model::Ticket;
 use mkb_rules::State;
 
 /// The first job of the process, in their order, that is due by what it sees and clashes with none in flight; closing is
 /// none of them. It takes no memory.
-pub(crate) fn first_work(state: &State, flight: &[Ticket], p: &Process) -> Option<Job>
-    ensures { result ≡ find (is_choice state.now (jobs_of flight.now)) (work_of state.now p.now) }
+pub(crate) fn first_work(
+    state: &State,
+    flight: &[Ticket],
+    normal: &mut Normal,
+    p: &Process,
+    rules: &[RuleRef],
+) -> Option<Job>
+    requires serves { Serves state.now p.now normal.old }
+    requires rules { rules.now ≡ rules_of state.now p.now }
+    ensures first { result ≡ find (is_choice state.now (jobs_of flight.now)) (work_of state.now p.now) }
+    ensures serves { Serves state.now p.now normal.new }
 {
-    if let Some(job) = first_reduce(state, flight, p) {
+    if let Some(job) = first_reduce(state, flight, normal, p) {
         return Some(job);
     }
     if let Some(job) = first_orient(state, flight, p) {
         return Some(job);
     }
-    first_overlap(state, flight, p)
+    first_overlap(state, flight, p, rules)
 }
 
 // The first node that may be reduced.
-fn first_reduce(state: &State, flight: &[Ticket], p: &Process) -> Option<Job>
-    ensures { result ≡ find (is_choice state.now (jobs_of flight.now)) (map (λ n. jobs.Reduce p.now (record { 0 = n })) (node_numbers state.now)) }
+fn first_reduce(state: &State, flight: &[Ticket], normal: &mut Normal, p: &Process) -> Option<Job>
+    requires { Serves state.now p.now normal.old }
+    ensures first { result ≡ find (is_choice state.now (jobs_of flight.now)) (map (λ n. jobs.Reduce p.now (record { 0 = n })) (node_numbers state.now)) }
+    ensures serves { Serves state.now p.now normal.new }
 {
     for n in 0..node_count(state) {
-        if let Some(job) = chosen(state, flight, &Job::Reduce(*p, NodeId(n as u16))) {
+        let job = Job::Reduce(*p, NodeId(n as u16));
+        if is_choice(state, flight, normal, &job) {
             return Some(job);
         }
     }
@@ -50,135 +61,87 @@ fn first_orient(state: &State, flight: &[Ticket], p: &Process) -> Option<Job>
     ensures { result ≡ find (is_choice state.now (jobs_of flight.now)) (map (λ n. jobs.Orient p.now (record { 0 = n })) (node_numbers state.now)) }
 {
     for n in 0..node_count(state) {
-        if let Some(job) = chosen(state, flight, &Job::Orient(*p, NodeId(n as u16))) {
+        let n = NodeId(n as u16);
+        if is_orient_choice(state, flight, p, n) {
+            return Some(Job::Orient(*p, n));
+        }
+    }
+    None
+}
+
+// The first two of the rules that may be overlapped.
+fn first_overlap(state: &State, flight: &[Ticket], p: &Process, rules: &[RuleRef]) -> Option<Job>
+    requires { rules.now ≡ rules_of state.now p.now }
+    ensures { result ≡ find (is_choice state.now (jobs_of flight.now)) (flat_map (λ (a : Reference). map (jobs.Overlap p.now a) (rules_of state.now p.now)) (rules_of state.now p.now)) }
+{
+    for i in 0..rules.len() {
+        if let Some(job) = first_second(state, flight, p, rules[i], rules) {
             return Some(job);
         }
     }
     None
 }
 
-// The first two rules of the process that may be overlapped.
-fn first_overlap(state: &State, flight: &[Ticket], p: &Process) -> Option<Job>
-    ensures { result ≡ find (is_choice state.now (jobs_of flight.now)) (flat_map (λ (a : RuleRef). map (jobs.Overlap p.now a) (rules_of state.now p.now)) (rules_of state.now p.now)) }
-{
-    for n in 0..node_count(state) {
-        if let Some(job) = first_overlap_at(state, flight, p, NodeId(n as u16)) {
-            return Some(job);
-        }
-    }
-    None
-}
-
-// The first overlap of a rule of this node with any other.
-fn first_overlap_at(state: &State, flight: &[Ticket], p: &Process, n: NodeId) -> Option<Job>
-    requires { n.0 < length state.now.nodes }
-    ensures { result ≡ find (is_choice state.now (jobs_of flight.now)) (flat_map (λ (a : RuleRef). map (jobs.Overlap p.now a) (rules_of state.now p.now)) (filter (is_rule state.now p.now) (directions n.0))) }
-{
-    if let Some(job) = first_overlap_of(state, flight, p, RuleRef { node: n.0, dir: 0 }) {
-        return Some(job);
-    }
-    first_overlap_of(state, flight, p, RuleRef { node: n.0, dir: 1 })
-}
-
-// The first overlap of this rule with any other, if the process has it.
-fn first_overlap_of(state: &State, flight: &[Ticket], p: &Process, first: RuleRef) -> Option<Job>
-    requires { first.node < length state.now.nodes }
-    ensures { result ≡ find (is_choice state.now (jobs_of flight.now)) (flat_map (λ (a : RuleRef). map (jobs.Overlap p.now a) (rules_of state.now p.now)) (filter (is_rule state.now p.now) (first ∷ []))) }
-{
-    if !is_rule(state, p, first) {
-        return None;
-    }
-    first_second(state, flight, p, first)
-}
-
-// The first overlap of this rule with one of the process's.
-fn first_second(state: &State, flight: &[Ticket], p: &Process, first: RuleRef) -> Option<Job>
-    requires { first.node < length state.now.nodes }
+// The first overlap of this rule with one of the rules.
+fn first_second(
+    state: &State,
+    flight: &[Ticket],
+    p: &Process,
+    first: RuleRef,
+    rules: &[RuleRef],
+) -> Option<Job>
+    requires there { first.node < length state.now.nodes }
+    requires rules { rules.now ≡ rules_of state.now p.now }
     ensures { result ≡ find (is_choice state.now (jobs_of flight.now)) (map (jobs.Overlap p.now first) (rules_of state.now p.now)) }
 {
-    for n in 0..node_count(state) {
-        if let Some(job) = first_second_at(state, flight, p, first, NodeId(n as u16)) {
-            return Some(job);
+    for j in 0..rules.len() {
+        if is_overlap_choice(state, flight, p, first, rules[j]) {
+            return Some(Job::Overlap(*p, first, rules[j]));
         }
     }
     None
 }
 
-// The first overlap of this rule with one of the node's.
-fn first_second_at(
-    state: &State,
-    flight: &[Ticket],
-    p: &Process,
-    first: RuleRef,
-    n: NodeId,
-) -> Option<Job>
-    requires first { first.node < length state.now.nodes }
-    requires second { n.0 < length state.now.nodes }
-    ensures { result ≡ find (is_choice state.now (jobs_of flight.now)) (flat_map (λ (a : RuleRef). jobs.Overlap p.now first a ∷ []) (filter (is_rule state.now p.now) (directions n.0))) }
+// Whether the node may be oriented, and that clashes with nothing in flight.
+fn is_orient_choice(state: &State, flight: &[Ticket], p: &Process, n: NodeId) -> bool
+    requires { n.0 < length state.now.nodes }
+    ensures { result ≡ is_choice state.now (jobs_of flight.now) (jobs.Orient p.now n) }
 {
-    if let Some(job) = overlap(state, flight, p, first, RuleRef { node: n.0, dir: 0 }) {
-        return Some(job);
-    }
-    overlap(state, flight, p, first, RuleRef { node: n.0, dir: 1 })
+    is_orient_due(state, p, n) && is_free(flight, &Job::Orient(*p, n))
 }
 
-// The overlap of these two rules, if the process has the second and it may be chosen.
-fn overlap(
-    state: &State,
-    flight: &[Ticket],
-    p: &Process,
-    first: RuleRef,
-    second: RuleRef,
-) -> Option<Job>
-    requires first { first.node < length state.now.nodes }
-    requires second { second.node < length state.now.nodes }
-    ensures { result ≡ find (is_choice state.now (jobs_of flight.now)) (flat_map (λ (a : RuleRef). jobs.Overlap p.now first a ∷ []) (filter (is_rule state.now p.now) (second ∷ []))) }
+// Whether these two rules may be overlapped, and that clashes with nothing in flight.
+fn is_overlap_choice(state: &State, flight: &[Ticket], p: &Process, a: RuleRef, c: RuleRef) -> bool
+    requires first { a.node < length state.now.nodes }
+    requires second { c.node < length state.now.nodes }
+    ensures { result ≡ is_choice state.now (jobs_of flight.now) (jobs.Overlap p.now a c) }
 {
-    if !is_rule(state, p, second) {
-        return None;
-    }
-    chosen(state, flight, &Job::Overlap(*p, first, second))
-}
-
-// The job, if it may be chosen.
-fn chosen(state: &State, flight: &[Ticket], job: &Job) -> Option<Job>
-    requires { HasNodes state.now job.now }
-    ensures { result ≡ find (is_choice state.now (jobs_of flight.now)) (job.now ∷ []) }
-{
-    if is_choice(state, flight, job) {
-        Some(*job)
-    } else {
-        None
-    }
+    is_overlap_due(state, p, a, c) && is_free(flight, &Job::Overlap(*p, a, c))
 }
 
 // Whether the job is due by what its process sees, and clashes with none in flight.
-pub(crate) fn is_choice(state: &State, flight: &[Ticket], job: &Job) -> bool
-    requires { HasNodes state.now job.now }
-    ensures { result ≡ is_choice state.now (jobs_of flight.now) job.now }
+pub(crate) fn is_choice(state: &State, flight: &[Ticket], normal: &mut Normal, job: &Job) -> bool
+    requires there { HasNodes state.now job.now }
+    requires serves { Serves state.now (process_of job.now) normal.old }
+    ensures choice { result ≡ is_choice state.now (jobs_of flight.now) job.now }
+    ensures serves { Serves state.now (process_of job.now) normal.new }
 {
-    is_work_due(state, job) && is_free(flight, job)
+    is_work_due(state, normal, job) && is_free(flight, job)
 }
 
 // Whether the job is due by what its process sees.
-fn is_work_due(state: &State, job: &Job) -> bool
-    requires { HasNodes state.now job.now }
-    ensures { result ≡ is_work_due state.now job.now }
+fn is_work_due(state: &State, normal: &mut Normal, job: &Job) -> bool
+    requires there { HasNodes state.now job.now }
+    requires serves { Serves state.now (process_of job.now) normal.old }
+    ensures due { result ≡ is_work_due state.now job.now }
+    ensures serves { Serves state.now (process_of job.now) normal.new }
 {
     match job {
-        Job::Reduce(p, n) => is_reduce_due(state, p, *n),
+        Job::Reduce(p, n) => normal.is_reduce_due(state, p, *n),
         Job::Orient(p, n) => is_orient_due(state, p, *n),
         Job::Overlap(p, a, c) => is_overlap_due(state, p, *a, *c),
         Job::Close(_) => false,
     }
-}
-
-// Whether the process has the node and may reduce it.
-fn is_reduce_due(state: &State, p: &Process, n: NodeId) -> bool
-    requires { n.0 < length state.now.nodes }
-    ensures { result ≡ is_work_due state.now (jobs.Reduce p.now n) }
-{
-    is_node_of(state, p, n) && is_reducible(state, p, n)
 }
 
 // Whether the process has the node as an equation that it has not refused.
@@ -196,86 +159,6 @@ fn is_overlap_due(state: &State, p: &Process, a: RuleRef, c: RuleRef) -> bool
     ensures { result ≡ is_work_due state.now (jobs.Overlap p.now a c) }
 {
     (is_rule(state, p, a) && is_rule(state, p, c)) && (is_ordered(a, c) && !state.is_done(p, a, c))
-}
-
-// Whether the process has the node as an equation or a rule.
-fn is_node_of(state: &State, p: &Process, n: NodeId) -> bool
-    requires { n.0 < length state.now.nodes }
-    ensures { result ≡ is_node_of state.now p.now n.0 }
-{
-    is_equation(state, p, n)
-        || (is_rule(state, p, RuleRef { node: n.0, dir: 0 })
-            || is_rule(state, p, RuleRef { node: n.0, dir: 1 }))
-}
-
-// Whether some side of the node and some rule elsewhere are open.
-fn is_reducible(state: &State, p: &Process, n: NodeId) -> bool
-    requires { n.0 < length state.now.nodes }
-    ensures { result ≡ is_reducible state.now p.now n.0 }
-{
-    for m in 0..node_count(state) {
-        if is_reducible_at(state, p, n, NodeId(m as u16)) {
-            return true;
-        }
-    }
-    false
-}
-
-// Whether some side of the node is open to a rule of another node.
-fn is_reducible_at(state: &State, p: &Process, n: NodeId, m: NodeId) -> bool
-    requires node { n.0 < length state.now.nodes }
-    requires rule { m.0 < length state.now.nodes }
-    ensures { result ≡ list_any (is_open_rule state.now p.now n.0) (directions m.0) }
-{
-    is_open_rule(state, p, n, RuleRef { node: m.0, dir: 0 })
-        || is_open_rule(state, p, n, RuleRef { node: m.0, dir: 1 })
-}
-
-// Whether the process has the rule, and some side of another node is open to it.
-fn is_open_rule(state: &State, p: &Process, n: NodeId, rule: RuleRef) -> bool
-    requires node { n.0 < length state.now.nodes }
-    requires rule { rule.node < length state.now.nodes }
-    ensures { result ≡ is_open_rule state.now p.now n.0 rule }
-{
-    is_rule(state, p, rule)
-        && (rule.node != n.0
-            && (is_open_side(state, p, n, 0, rule) || is_open_side(state, p, n, 1, rule)))
-}
-
-// Whether the side is open to the rule.
-fn is_open_side(state: &State, p: &Process, n: NodeId, w: u8, rule: RuleRef) -> bool
-    requires { n.0 < length state.now.nodes }
-    ensures { result ≡ is_open state.now p.now n.0 w (known state.now n.0 w rule) }
-{
-    match state.known(n, w, rule) {
-        None => true,
-        Some(Found::No) => false,
-        Some(Found::Variant) => is_usable_variant(state, p, n, w),
-        Some(Found::Strict) => true,
-    }
-}
-
-// Whether the process has the node as an equation, or as the rule with this side on the right.
-fn is_usable_variant(state: &State, p: &Process, n: NodeId, w: u8) -> bool
-    requires { n.0 < length state.now.nodes }
-    ensures { result ≡ (is_equation state.now p.now n.0 || is_rule state.now p.now (record { node = n.0; dir = other w })) }
-{
-    is_equation(state, p, n)
-        || is_rule(
-            state,
-            p,
-            RuleRef {
-                node: n.0,
-                dir: other(w),
-            },
-        )
-}
-
-// The other side.
-fn other(w: u8) -> u8
-    ensures { result ≡ other w }
-{
-    if w == 0 { 1 } else { 0 }
 }
 
 // Whether the first rule does not come after the second.
@@ -312,8 +195,8 @@ fn clashes(a: &Job, b: &Job) -> bool
     }
 }
 
-// Whether both name one rule.
-fn is_same(a: RuleRef, b: RuleRef) -> bool
+/// Whether both name one rule.
+pub(crate) fn is_same(a: RuleRef, b: RuleRef) -> bool
     ensures { result ≡ ref_eq a b }
 {
     a.node == b.node && a.dir == b.dir

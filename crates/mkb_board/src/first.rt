@@ -1,26 +1,27 @@
 // The first job.
 ghost use Rattle.std.specs.Prelude.{◌≡◌, ◌⊎◌, ◌&&◌, [], true, not, nat_lt, if◌then◌else◌, option_map, Some, None, IsTrue, IfOk, IfSome};
-ghost use Rattle.std.specs.List.{find};
 ghost use Rattle.std.specs.Option.{option_map_or};
 ghost use Rattle.kb_label.specs.Names.{has, IsInNameOrder};
 ghost use Rattle.mkb_model.specs.Limits.{AreLimited};
 ghost use Rattle.kb_node.specs.declared.job.Job.TheVariants.{Close};
 ghost use Rattle.mkb_model.specs.Jobs.{process_of, job_cmp, is_free};
-ghost use Rattle.mkb_model.specs.Plain.{cost, weight};
+ghost use Rattle.mkb_model.specs.Plain.{cost, weight, rules_of};
 ghost use Rattle.mkb_model.specs.DueJobs.{first_job, work_of};
-ghost use Rattle.mkb_board.specs.Choosing.{jobs_of, is_choice, first_choice, least_choice, sizes_of, merged, IsCosted, StandsBefore};
+ghost use Rattle.mkb_board.specs.Choosing.{jobs_of, first_choice, least_choice, merged, IsCosted, StandsBefore};
+ghost use Rattle.mkb_board.specs.Normal.{AreNormal, Serves};
 ghost use Rattle.mkb_board.specs.declared.first.Choice.{Choice};
 
 use crate::choosing::is_over;
-use crate::cost::{cost, sizes};
+use crate::cost::cost;
 use crate::due::{first_work, is_free};
 use crate::lightest::lightest_work;
+use crate::normal::Normal;
+use crate::snapshots::named::view_of;
 use kb_label::Process;
 use kb_node::Job;
-use kb_term::Memory;
+use kb_term::{Memory, RuleRef};
 use mkb_model::{Selection, Ticket};
 use mkb_rules::State;
-use std::alloc::Global;
 
 // What a process would take first, with the cost of the process.
 #[derive(Clone, Copy)]
@@ -32,18 +33,19 @@ struct Choice {
 /// The first job beside those in flight, if there is one: the least due job of an awake process that clashes with none of
 /// them.
 ///
-/// Each pair is measured once, and a process is searched only where its cost is below that of the best job so far. By the
-/// stated selection the search of a process ends at its first job that serves; by size it goes over its jobs of one kind.
+/// A process is searched only where its cost is below that of the best job so far. By the stated selection the search of a
+/// process ends at its first job that serves; by size it goes over its jobs of one kind.
 pub(crate) fn first_job(
-    alloc: Global,
     state: &State,
     flight: &[Ticket],
+    normal: &mut Normal,
 ) -> Result<Option<Job>, Memory>
     requires limited { AreLimited state.now.problem.signature state.now.nodes }
     requires in_order { IsInNameOrder state.now.living }
-    ensures { IfOk result (λ o. o ≡ first_job (record state.now { flight = flight.now })) }
+    requires normal { AreNormal state.now normal.old }
+    ensures first { IfOk result (λ o. o ≡ first_job (record state.now { flight = flight.now })) }
+    ensures normal { AreNormal state.now normal.new }
 {
-    let sizes = sizes(alloc, state)?;
     let living = state.log().processes();
     let mut best = None;
     for i in 0..living.len() {
@@ -51,7 +53,7 @@ pub(crate) fn first_job(
         if state.is_asleep(process) {
             continue;
         }
-        best = lesser_choice(state, flight, sizes.as_slice(), best, process)?;
+        best = lesser_choice(state, flight, normal, best, process)?;
     }
     match best {
         Some(choice) => Ok(Some(choice.job)),
@@ -64,24 +66,25 @@ pub(crate) fn first_job(
 fn lesser_choice(
     state: &State,
     flight: &[Ticket],
-    sizes: &[u32],
+    normal: &mut Normal,
     best: Option<Choice>,
     p: &Process,
 ) -> Result<Option<Choice>, Memory>
     requires limited { AreLimited state.now.problem.signature state.now.nodes }
-    requires sizes { sizes.now ≡ sizes_of state.now }
+    requires normal { AreNormal state.now normal.old }
     requires lives { IsTrue (has state.now.living p.now) }
     requires costed { IfSome best (IsCosted state.now) }
     requires earlier { IfSome best (StandsBefore p.now) }
     ensures least { IfOk result (λ o. option_map (λ (c : Choice). c.job) o ≡ merged (job_cmp (cost state.now) (weight state.now)) (option_map (λ (c : Choice). c.job) best) (first_choice state.now (jobs_of flight.now) p.now)) }
     ensures costed { IfOk result (λ o. IfSome o (IsCosted state.now)) }
     ensures of_either { IfOk result (λ o. (o ≡ best) ⊎ IfSome o (λ c. process_of c.job ≡ p.now)) }
+    ensures normal { AreNormal state.now normal.new }
 {
     let cost = cost(state, p);
     if !is_below(cost, &best) {
         return Ok(best);
     }
-    match first_choice(state, flight, sizes, p)? {
+    match first_choice(state, flight, normal, p)? {
         Some(job) => Ok(Some(Choice { cost, job })),
         None => Ok(best),
     }
@@ -101,51 +104,48 @@ fn is_below(cost: u32, best: &Option<Choice>) -> bool
 fn first_choice(
     state: &State,
     flight: &[Ticket],
-    sizes: &[u32],
+    normal: &mut Normal,
     p: &Process,
 ) -> Result<Option<Job>, Memory>
     requires limited { AreLimited state.now.problem.signature state.now.nodes }
-    requires sizes { sizes.now ≡ sizes_of state.now }
+    requires normal { AreNormal state.now normal.old }
     requires lives { IsTrue (has state.now.living p.now) }
-    ensures { IfOk result (λ o. o ≡ first_choice state.now (jobs_of flight.now) p.now) }
+    ensures first { IfOk result (λ o. o ≡ first_choice state.now (jobs_of flight.now) p.now) }
+    ensures normal { AreNormal state.now normal.new }
 {
     if is_over(state, p) {
         return Ok(None);
     }
-    match first_work(state, &[], p) {
+    let view = view_of(state, p)?;
+    let rules = view.rules.items();
+    normal.turn_to(state, p, rules)?;
+    if let Some(job) = selected_work(state, flight, normal, p, rules) {
+        return Ok(Some(job));
+    }
+    match first_work(state, &[], normal, p, rules) {
+        Some(_) => Ok(None),
         None => Ok(first_close(state, flight, p)),
-        Some(job) => selected_work(state, flight, sizes, p, job),
     }
 }
 
-// The least work of the process by the selection that clashes with none in flight, where this is the first that is due.
+// The least work of the process by the selection that clashes with none in flight.
 fn selected_work(
     state: &State,
     flight: &[Ticket],
-    sizes: &[u32],
+    normal: &mut Normal,
     p: &Process,
-    first: Job,
-) -> Result<Option<Job>, Memory>
+    rules: &[RuleRef],
+) -> Option<Job>
     requires limited { AreLimited state.now.problem.signature state.now.nodes }
-    requires sizes { sizes.now ≡ sizes_of state.now }
-    requires first { find (is_choice state.now []) (work_of state.now p.now) ≡ Some first }
-    ensures { IfOk result (λ o. o ≡ least_choice state.now.settings.selection state.now (jobs_of flight.now) (work_of state.now p.now)) }
+    requires serves { Serves state.now p.now normal.old }
+    requires rules { rules.now ≡ rules_of state.now p.now }
+    ensures least { result ≡ least_choice state.now.settings.selection state.now (jobs_of flight.now) (work_of state.now p.now) }
+    ensures serves { Serves state.now p.now normal.new }
 {
     match state.settings().selection {
-        Selection::Stated => Ok(free_work(state, flight, p, first)),
-        Selection::Size => lightest_work(state, flight, sizes, p),
+        Selection::Stated => first_work(state, flight, normal, p, rules),
+        Selection::Size => lightest_work(state, flight, normal, p, rules),
     }
-}
-
-// The first work of the process that clashes with none in flight, where this is the first that is due.
-fn free_work(state: &State, flight: &[Ticket], p: &Process, first: Job) -> Option<Job>
-    requires { find (is_choice state.now []) (work_of state.now p.now) ≡ Some first }
-    ensures { result ≡ find (is_choice state.now (jobs_of flight.now)) (work_of state.now p.now) }
-{
-    if is_free(flight, &first) {
-        return Some(first);
-    }
-    first_work(state, flight, p)
 }
 
 // The closing of the process, where it is not closed and clashes with none in flight.

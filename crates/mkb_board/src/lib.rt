@@ -10,6 +10,7 @@ mod finishing;
 mod first;
 mod laws;
 mod lightest;
+mod normal;
 mod settling;
 mod snapshots;
 mod taking;

@@ -1,23 +1,25 @@
 // The lightest work of a process.
-ghost use Rattle.std.specs.Prelude.{◌≡◌, ◌⊎◌, ◌∷◌, [], true, nat_lt, map, option_map, Some, IfOk, IfSome};
+ghost use Rattle.std.specs.Prelude.{◌≡◌, ◌⊎◌, ◌∷◌, [], true, nat_lt, map, option_map, Some, IfSome};
 ghost use Rattle.std.specs.List.{flat_map};
 ghost use Rattle.std.specs.Option.{option_map_or};
 ghost use Rattle.kb_term.specs.declared.origin.RuleRef.{RuleRef as Reference};
 ghost use Rattle.kb_node.specs.declared.job.Job.TheVariants as jobs;
-ghost use Rattle.mkb_model.specs.Jobs.{job_cmp};
+ghost use Rattle.mkb_model.specs.Jobs.{job_cmp, process_of};
 ghost use Rattle.mkb_model.specs.Limits.{AreLimited};
 ghost use Rattle.mkb_model.specs.Plain.{cost, node_numbers, rules_of, weight_by};
 ghost use Rattle.mkb_model.specs.DueJobs.{work_of};
 ghost use Rattle.mkb_model.specs.declared.settings.Selection.TheVariants as selections;
-ghost use Rattle.mkb_board.specs.Choosing.{jobs_of, is_choice, least_choice, merged, sizes_of, HasNodes, IsWeighed, StandsEarlier};
+ghost use Rattle.mkb_board.specs.Choosing.{jobs_of, is_choice, least_choice, merged, HasNodes, IsWeighed, StandsEarlier};
+ghost use Rattle.mkb_board.specs.Normal.{Serves};
 ghost use Rattle.mkb_board.specs.declared.lightest.Weighed.{Weighed};
 
 use crate::choosing::node_count;
+use crate::cost::node_size;
 use crate::due::is_choice;
-use crate::snapshots::named::view_of;
+use crate::normal::Normal;
 use kb_label::Process;
 use kb_node::{Job, NodeId};
-use kb_term::{Memory, RuleRef};
+use kb_term::RuleRef;
 use mkb_model::Ticket;
 use mkb_rules::State;
 
@@ -33,51 +35,65 @@ struct Weighed {
 pub(crate) fn lightest_work(
     state: &State,
     flight: &[Ticket],
-    sizes: &[u32],
+    normal: &mut Normal,
     p: &Process,
-) -> Result<Option<Job>, Memory>
+    rules: &[RuleRef],
+) -> Option<Job>
     requires limited { AreLimited state.now.problem.signature state.now.nodes }
-    requires sizes { sizes.now ≡ sizes_of state.now }
-    ensures { IfOk result (λ o. o ≡ least_choice selections.Size state.now (jobs_of flight.now) (work_of state.now p.now)) }
+    requires serves { Serves state.now p.now normal.old }
+    requires rules { rules.now ≡ rules_of state.now p.now }
+    ensures lightest { result ≡ least_choice selections.Size state.now (jobs_of flight.now) (work_of state.now p.now) }
+    ensures serves { Serves state.now p.now normal.new }
 {
-    if let Some(job) = lightest_reduce(state, flight, sizes, p) {
-        return Ok(Some(job));
+    if let Some(job) = lightest_reduce(state, flight, normal, p) {
+        return Some(job);
     }
-    if let Some(job) = lightest_orient(state, flight, sizes, p) {
-        return Ok(Some(job));
+    if let Some(job) = lightest_orient(state, flight, normal, p) {
+        return Some(job);
     }
-    let view = view_of(state, p)?;
-    Ok(lightest_overlap(state, flight, sizes, p, view.rules.items()))
+    lightest_overlap(state, flight, normal, p, rules)
 }
 
 // The lightest node that may be reduced.
-fn lightest_reduce(state: &State, flight: &[Ticket], sizes: &[u32], p: &Process) -> Option<Job>
-    requires { sizes.now ≡ sizes_of state.now }
-    ensures { result ≡ least_choice selections.Size state.now (jobs_of flight.now) (map (λ n. jobs.Reduce p.now (record { 0 = n })) (node_numbers state.now)) }
+fn lightest_reduce(
+    state: &State,
+    flight: &[Ticket],
+    normal: &mut Normal,
+    p: &Process,
+) -> Option<Job>
+    requires { Serves state.now p.now normal.old }
+    ensures lightest { result ≡ least_choice selections.Size state.now (jobs_of flight.now) (map (λ n. jobs.Reduce p.now (record { 0 = n })) (node_numbers state.now)) }
+    ensures serves { Serves state.now p.now normal.new }
 {
     let mut best = None;
     for n in 0..node_count(state) {
         let next = Weighed {
-            weight: sizes[n as usize],
+            weight: node_size(state, n as u16),
             job: Job::Reduce(*p, NodeId(n as u16)),
         };
-        best = lighter(state, flight, best, next);
+        best = lighter(state, flight, normal, best, next);
     }
     job_of(best)
 }
 
 // The lightest node that may be oriented.
-fn lightest_orient(state: &State, flight: &[Ticket], sizes: &[u32], p: &Process) -> Option<Job>
-    requires { sizes.now ≡ sizes_of state.now }
-    ensures { result ≡ least_choice selections.Size state.now (jobs_of flight.now) (map (λ n. jobs.Orient p.now (record { 0 = n })) (node_numbers state.now)) }
+fn lightest_orient(
+    state: &State,
+    flight: &[Ticket],
+    normal: &mut Normal,
+    p: &Process,
+) -> Option<Job>
+    requires { Serves state.now p.now normal.old }
+    ensures lightest { result ≡ least_choice selections.Size state.now (jobs_of flight.now) (map (λ n. jobs.Orient p.now (record { 0 = n })) (node_numbers state.now)) }
+    ensures serves { Serves state.now p.now normal.new }
 {
     let mut best = None;
     for n in 0..node_count(state) {
         let next = Weighed {
-            weight: sizes[n as usize],
+            weight: node_size(state, n as u16),
             job: Job::Orient(*p, NodeId(n as u16)),
         };
-        best = lighter(state, flight, best, next);
+        best = lighter(state, flight, normal, best, next);
     }
     job_of(best)
 }
@@ -86,14 +102,15 @@ fn lightest_orient(state: &State, flight: &[Ticket], sizes: &[u32], p: &Process)
 fn lightest_overlap(
     state: &State,
     flight: &[Ticket],
-    sizes: &[u32],
+    normal: &mut Normal,
     p: &Process,
     rules: &[RuleRef],
 ) -> Option<Job>
     requires limited { AreLimited state.now.problem.signature state.now.nodes }
-    requires sizes { sizes.now ≡ sizes_of state.now }
+    requires serves { Serves state.now p.now normal.old }
     requires rules { rules.now ≡ rules_of state.now p.now }
-    ensures { result ≡ least_choice selections.Size state.now (jobs_of flight.now) (flat_map (λ (a : Reference). map (jobs.Overlap p.now a) (rules_of state.now p.now)) (rules_of state.now p.now)) }
+    ensures lightest { result ≡ least_choice selections.Size state.now (jobs_of flight.now) (flat_map (λ (a : Reference). map (jobs.Overlap p.now a) (rules_of state.now p.now)) (rules_of state.now p.now)) }
+    ensures serves { Serves state.now p.now normal.new }
 {
     let mut best = None;
     for i in 0..rules.len() {
@@ -101,10 +118,10 @@ fn lightest_overlap(
         for j in 0..rules.len() {
             let second = rules[j];
             let next = Weighed {
-                weight: sizes[first.node as usize] + sizes[second.node as usize],
+                weight: node_size(state, first.node) + node_size(state, second.node),
                 job: Job::Overlap(*p, first, second),
             };
-            best = lighter(state, flight, best, next);
+            best = lighter(state, flight, normal, best, next);
         }
     }
     job_of(best)
@@ -114,18 +131,21 @@ fn lightest_overlap(
 fn lighter(
     state: &State,
     flight: &[Ticket],
+    normal: &mut Normal,
     best: Option<Weighed>,
     next: Weighed,
 ) -> Option<Weighed>
     requires nodes { HasNodes state.now next.job }
+    requires serves { Serves state.now (process_of next.job) normal.old }
     requires next { IsWeighed state.now next }
     requires best { IfSome best (IsWeighed state.now) }
     requires earlier { IfSome best (λ (w : Weighed). StandsEarlier next.job w.job) }
     ensures least { option_map (λ (w : Weighed). w.job) result ≡ merged (job_cmp (cost state.now) (weight_by selections.Size state.now)) (option_map (λ (w : Weighed). w.job) best) (least_choice selections.Size state.now (jobs_of flight.now) (next.job ∷ [])) }
     ensures weighed { IfSome result (IsWeighed state.now) }
     ensures of_either { (result ≡ best) ⊎ (result ≡ Some next) }
+    ensures serves { Serves state.now (process_of next.job) normal.new }
 {
-    if is_lighter(next.weight, &best) && is_choice(state, flight, &next.job) {
+    if is_lighter(next.weight, &best) && is_choice(state, flight, normal, &next.job) {
         Some(next)
     } else {
         best

@@ -8,7 +8,7 @@ ghost use Rattle.mkb_model.specs.Limits.{AreLimited};
 ghost use Rattle.mkb_model.specs.Plain.{cost};
 ghost use Rattle.mkb_model.specs.Invariants.{IsLabel};
 ghost use Rattle.mkb_model.specs.Sleeping.{is_active, most_awake, process_cmp, rested, settle, waiting, with_one_asleep, with_one_awake, working};
-ghost use Rattle.mkb_board.specs.Choosing.{costed_cmp, merged};
+ghost use Rattle.mkb_board.specs.Choosing.{costed_cmp, merged, ClosedRest};
 ghost use Rattle.mkb_board.specs.declared.settling.Costed.{Costed};
 
 use crate::choosing::is_active;
@@ -31,6 +31,7 @@ struct Costed {
 ///
 /// Where at most 64 processes live and none sleeps nothing is to be done.
 pub(crate) fn settle(state: &mut State)
+    requires rest { ClosedRest state.old }
     requires limited { AreLimited state.old.problem.signature state.old.nodes }
     requires in_order { IsInNameOrder state.old.living }
     requires sleepers { IsLabel state.old state.old.asleep }
@@ -45,6 +46,7 @@ pub(crate) fn settle(state: &mut State)
 
 // The working process that costs most falls asleep, until at most 64 work.
 fn rest(state: &mut State)
+    requires rest { ClosedRest state.old }
     requires limited { AreLimited state.old.problem.signature state.old.nodes }
     requires in_order { IsInNameOrder state.old.living }
     requires sleepers { IsLabel state.old state.old.asleep }
@@ -58,6 +60,7 @@ fn rest(state: &mut State)
 
 // The working process that costs most falls asleep, if there is one.
 fn rest_one(state: &mut State)
+    requires rest { ClosedRest state.old }
     requires limited { AreLimited state.old.problem.signature state.old.nodes }
     requires in_order { IsInNameOrder state.old.living }
     requires sleepers { IsLabel state.old state.old.asleep }
@@ -71,6 +74,7 @@ fn rest_one(state: &mut State)
 
 // The waiting process that costs least wakes, while fewer than 64 work.
 fn wake(state: &mut State)
+    requires rest { ClosedRest state.old }
     requires limited { AreLimited state.old.problem.signature state.old.nodes }
     requires in_order { IsInNameOrder state.old.living }
     requires sleepers { IsLabel state.old state.old.asleep }
@@ -86,6 +90,7 @@ fn wake(state: &mut State)
 
 // The waiting process that costs least wakes, if there is one; whether there is.
 fn wake_one(state: &mut State) -> bool
+    requires rest { ClosedRest state.old }
     requires limited { AreLimited state.old.problem.signature state.old.nodes }
     requires sleepers { IsLabel state.old state.old.asleep }
     ensures state { state.new ≡ record state.old { asleep = with_one_awake state.old state.old.asleep } }
@@ -102,6 +107,7 @@ fn wake_one(state: &mut State) -> bool
 
 // How many processes are active and awake.
 fn working(state: &State) -> usize
+    requires rest { ClosedRest state.now }
     ensures { result ≡ length (working state.now state.now.asleep) }
 {
     let living = state.log().processes();
@@ -116,7 +122,8 @@ fn working(state: &State) -> usize
 
 // Whether the process is active and awake.
 fn is_working(state: &State, p: &Process) -> bool
-    requires { IsTrue (has state.now.living p.now) }
+    requires rest { ClosedRest state.now }
+    requires lives { IsTrue (has state.now.living p.now) }
     ensures { result ≡ (not (has state.now.asleep p.now) && is_active state.now p.now) }
 {
     !state.is_asleep(p) && is_active(state, p)
@@ -124,7 +131,8 @@ fn is_working(state: &State, p: &Process) -> bool
 
 // The active and awake process that costs most, and of equal costs the last by name.
 fn greatest_working(state: &State) -> Option<Process>
-    requires { AreLimited state.now.problem.signature state.now.nodes }
+    requires rest { ClosedRest state.now }
+    requires limited { AreLimited state.now.problem.signature state.now.nodes }
     ensures { result ≡ greatest (process_cmp state.now) (working state.now state.now.asleep) }
 {
     let living = state.log().processes();
@@ -140,6 +148,7 @@ fn greatest_working(state: &State) -> Option<Process>
 
 // The active sleeper that costs least, and of equal costs the first by name.
 fn least_waiting(state: &State) -> Option<Process>
+    requires rest { ClosedRest state.now }
     requires limited { AreLimited state.now.problem.signature state.now.nodes }
     requires sleepers { IsLabel state.now state.now.asleep }
     ensures { result ≡ least (process_cmp state.now) (waiting state.now state.now.asleep) }

@@ -7,7 +7,7 @@ mod reducing;
 
 ghost use Rattle.std.specs.Prelude.{◌≡◌, IfOk};
 ghost use Rattle.kb_jobs.specs.Working.{IsTaken, job_of};
-ghost use Rattle.mkb_board.specs.Snapshots.{HasJobNodes, IsWhole};
+ghost use Rattle.mkb_board.specs.Snapshots.{HasJobNodes, HasOrder, IsWhole};
 
 use closing::close_snapshot;
 use kb_jobs::Snapshot;
@@ -21,7 +21,8 @@ use std::alloc::Global;
 
 /// What a job reads of the board.
 pub(crate) fn snapshot(alloc: Global, state: &State, job: &Job) -> Result<Snapshot, Memory>
-    requires { HasJobNodes state.now job.now }
+    requires there { HasJobNodes state.now job.now }
+    requires ordered { HasOrder state.now job.now }
     ensures job { IfOk result (λ s. job_of s ≡ job.now) }
     ensures taken { IfOk result (IsTaken state.now) }
     ensures whole { IfOk result IsWhole }

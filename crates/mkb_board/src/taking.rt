@@ -39,7 +39,7 @@ impl Board {
         if self.halted {
             return Ok(Taken::Halted);
         }
-        match first_job(alloc, &self.state, self.flight.as_slice())? {
+        match first_job(&self.state, self.flight.as_slice(), &mut self.normal)? {
             None => Ok(Taken::Idle(self.flight.len())),
             Some(job) => self.take_job(alloc, worker, &job),
         }

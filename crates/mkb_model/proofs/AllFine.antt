@@ -1,5 +1,5 @@
 -- What is committed in a possible run of a problem within the limits is fine, and each process has each node in one role.
-use Rattle.std.proofs.Common.{ℕ, zero, suc, ◌+◌, ◌<◌, ◌≡◌, ◌≢◌, ◌⊎◌, inl, inr, refl, sym, ap, ◌∙◌, subst, arith, List, [], ◌∷◌, ◌++◌, filter, flat_map, length, Contains, All, Bool, true, false, not, Option, Some, None, ⊎_elim}
+use Rattle.std.proofs.Common.{ℕ, zero, suc, ◌+◌, ◌<◌, ◌≡◌, ◌≢◌, ◌⊎◌, inl, inr, refl, sym, ap, ◌∙◌, subst, arith, List, [], ◌∷◌, ◌++◌, filter, flat_map, length, slice_index_or, Contains, All, Bool, true, false, not, Option, Some, None, ⊎_elim}
 use Rattle.std.specs.Prelude.{IsFalse, option_map}
 use Rattle.std.specs.List.{filter_map}
 use Rattle.std.specs.Option.{option_map_or}
@@ -14,6 +14,8 @@ use Rattle.kb_term.specs.declared.origin.Origin.TheVariants.{Input}
 use Rattle.kb_cert.specs.Family.{Orders, family}
 use Rattle.kb_cert.specs.declared.certificate.Certificate.{Certificate}
 use Rattle.kb_cert.proofs.FamilyLaws.{nothing_orderable}
+use Rattle.kb_cert.proofs.Members.{first_contained}
+use Rattle.kb_term.specs.First.{IsFirst}
 use Rattle.kb_cert.proofs.Ordering.{orders_among}
 use Rattle.kb_laws.proofs.Complete.{all_from, run_sound}
 use Rattle.kb_laws.proofs.RunLaws.{run_chained}
@@ -27,7 +29,7 @@ use Rattle.kb_node.specs.declared.node.LabelKind.TheVariants.{R0, R1, E, C0, C1,
 use Rattle.kb_node.specs.declared.job.Deduced.{Deduced}
 use Rattle.kb_node.specs.declared.job.Job.{Job}
 use Rattle.kb_node.specs.declared.job.Job.TheVariants.{Reduce, Orient, Overlap, Close}
-use Rattle.mkb_model.specs.Plain.{Plain, PlainNode, label, label_at, rule_kind, constraint_kind, directions, node_numbers, is_equation, is_constraint, rules_of, constraints_of, pair_in, pair_at, rule_at, rules_at, state_of, done_of}
+use Rattle.mkb_model.specs.Plain.{Plain, orders_of, PlainNode, label, label_at, rule_kind, constraint_kind, directions, node_numbers, is_equation, is_constraint, rules_of, constraints_of, pair_in, pair_at, rule_at, rules_at, state_of, done_of}
 use Rattle.mkb_model.specs.DueJobs.{is_work_due, is_working}
 use Rattle.mkb_model.specs.Effects.{applied, effect, limit_of, give_up, effect_label, is_dropped, overlap_label, with_node, node_of}
 use Rattle.mkb_model.specs.Proposals.{NamedRule, Proposes, OrientsBy, both_ways, all_ways, rules_on}
@@ -51,10 +53,11 @@ use Rattle.mkb_model.proofs.Ancestors.{ancestor_is, begins-refl}
 use Rattle.mkb_model.proofs.Simulation.{begins-child, forked_names, apart_from}
 use Rattle.mkb_model.proofs.Readiness.{named_rule, rewrite_ready, rewriting_ready}
 use Rattle.mkb_model.proofs.Openings.{run_completes}
-use Rattle.mkb_model.proofs.Living.{within_budget}
+use Rattle.mkb_model.proofs.Living.{run_orders, within_budget}
 use Rattle.mkb_model.proofs.Flyers.{taken_free, free_due}
 use Rattle.mkb_model.proofs.LivingLabels.{IsLabelled, labelled_run}
 use Rattle.mkb_model.proofs.Resting.{rules_in}
+use Rattle.mkb_model.proofs.KnownFacts.{rule_stays}
 use Rattle.mkb_model.proofs.Restful.{Stands, stands_run}
 use Rattle.mkb_model.proofs.Staying.{closers_stay, orienters_stay, KeepsConstraints}
 use Rattle.mkb_model.proofs.Deductions.{HasNamed, overlaps_deduced, both_ways_in, all_ways_in, picks_in}
@@ -132,16 +135,19 @@ constraints_in b p a i =
 pub in_constraints : (b : Plain) (p : Name) (a : RuleRef) → IsOn b.nodes p a.node (constraint_kind a.dir) → Contains (directions a.node) a → Contains (constraints_of b p) a
 in_constraints b p a o i = in_filter (is_constraint b p) (flat_map directions (node_numbers b)) a (in_flat_map directions (node_numbers b) a.node a (in_numbers 0 (length b.nodes) a.node (omega arith) (let l = on_there b.nodes p a.node (constraint_kind a.dir) o in omega (arith, l))) i) o
 
--- the member of the family orders the constraints of the process with the new rule
-abbrev pub OrdersWith : Signature → Plain → Name → ℕ → ℕ → Certificate → Type 0
-OrdersWith g b p n d c = Contains (family g) c × Orders c (rules_at b (constraints_of b p ++ record { node = n; dir = d } ∷ []))
+-- the first of the orders that orders the constraints of the process with the new rule
+abbrev pub FirstWith : List Certificate → Plain → Name → ℕ → ℕ → Certificate → Type 0
+FirstWith cs b p n d c = IsFirst (λ e. Orders e (rules_at b (constraints_of b p ++ record { node = n; dir = d } ∷ []))) cs (Some c)
 
--- what orders them at the take orders them at the commit
-orders_with : (g : Signature) (before b : Plain) (p : Name) (n d : ℕ) (c : Certificate) → before.problem.signature ≡ g → OrientsBy before p n d (Some c) → KeepsPairs before.nodes b.nodes → KeepsConstraints before.nodes b.nodes p → n < length before.nodes → OrdersWith g b p n d c
-orders_with g before b p n d c e first keeps same l = (
-  subst {A = Signature} (λ z. Contains (family z) c) e (subst {A = List Certificate} (λ xs. Contains xs c) (sym first.3) (Contains-append_right first.1 (c ∷ first.2) c (contains_first c first.2))),
-  orders_among c (rules_at before (constraints_of before p ++ new ∷ [])) (rules_at b (constraints_of b p ++ new ∷ [])) back first.0,
-)
+-- what is the first for some rules is the first for the same rules in any order
+pub first_same : (cs : List Certificate) (xs ys : List Rule) (c : Certificate) → ((r : Rule) → Contains xs r → Contains ys r) → ((r : Rule) → Contains ys r → Contains xs r) → IsFirst (λ e. Orders e xs) cs (Some c) → IsFirst (λ e. Orders e ys) cs (Some c)
+first_same cs xs ys c forth back (h, before, after, e, n) = (orders_among c xs ys back h, before, after, e, λ k d i q. n k d i (orders_among (slice_index_or before k d) ys xs forth q))
+
+-- what is the first for them at the take is the first at the commit
+first_with : (cs : List Certificate) (before b : Plain) (p : Name) (n d : ℕ) (c : Certificate) → orders_of before ≡ cs → OrientsBy before p n d (Some c) → KeepsPairs before.nodes b.nodes → KeepsConstraints before.nodes b.nodes p → n < length before.nodes → FirstWith cs b p n d c
+first_with cs before b p n d c e first keeps same l =
+    first_same cs (rules_at before (constraints_of before p ++ new ∷ [])) (rules_at b (constraints_of b p ++ new ∷ [])) c forth back
+    (subst {A = List Certificate} (λ z. IsFirst (λ e. Orders e (rules_at before (constraints_of before p ++ new ∷ []))) z (Some c)) e first)
   where
     new : RuleRef
     new = record { node = n; dir = d }
@@ -155,6 +161,15 @@ orders_with g before b p n d c e first keeps same l = (
         in_filter_map (rule_at before) (constraints_of before p ++ new ∷ []) f.0 r (Contains-append_left (constraints_of before p) (new ∷ []) f.0 (in_constraints before p f.0 u o.1)) (rule_back before b f.0 r keeps (on_there before.nodes p f.0.node (constraint_kind f.0.dir) u) f.2))
         (λ k. ⊎_elim (λ q. in_filter_map (rule_at before) (constraints_of before p ++ new ∷ []) new r (Contains-append_right (constraints_of before p) (new ∷ []) new (contains_first new [])) (rule_back before b new r keeps l (subst {A = RuleRef} (λ z. rule_at b z ≡ Some r) (sym q) f.2))) (λ q. none_in q) (contains_cases new [] f.0 k))
         (Contains-append_cases (constraints_of b p) (new ∷ []) f.0 f.1)
+
+    forth : (r : Rule) → Contains (rules_at before (constraints_of before p ++ new ∷ [])) r → Contains (rules_at b (constraints_of b p ++ new ∷ [])) r
+    forth r i =
+        let f = filter_map_in (rule_at before) (constraints_of before p ++ new ∷ []) r i in
+        ⊎_elim
+        (λ k. let o = constraints_in before p f.0 k in
+        in_filter_map (rule_at b) (constraints_of b p ++ new ∷ []) f.0 r (Contains-append_left (constraints_of b p) (new ∷ []) f.0 (in_constraints b p f.0 ((same f.0.node f.0.dir).1 o.0) o.1)) (rule_stays before b f.0 r keeps f.2))
+        (λ k. ⊎_elim (λ q. in_filter_map (rule_at b) (constraints_of b p ++ new ∷ []) new r (Contains-append_right (constraints_of b p) (new ∷ []) new (contains_first new [])) (rule_stays before b new r keeps (subst {A = RuleRef} (λ z. rule_at before z ≡ Some r) (sym q) f.2))) (λ q. none_in q) (contains_cases new [] f.0 k))
+        (Contains-append_cases (constraints_of before p) (new ∷ []) f.0 f.1)
 
 -- ---- forks
 
@@ -224,16 +239,16 @@ module _ (P : Problem) (n : Settings) (past : List Moment) (b : Plain) (run : Is
   keeps : KeepsPairs f.before.nodes b.nodes
   keeps = pairs_stay IsFreeJob P n past b run (record { board = f.before; entry = Take w t j }) f.taken
 
-  same_signature : f.before.problem.signature ≡ P.signature
-  same_signature = ap (λ (z : Problem). z.signature) (let r = earlier_run IsFreeJob P n past b run (record { board = f.before; entry = Take w t j }) f.taken in (within_budget IsFreeJob P n r.0 f.before r.1).problem)
+  same_orders : orders_of f.before ≡ family n.family P.signature
+  same_orders = let r = earlier_run IsFreeJob P n past b run (record { board = f.before; entry = Take w t j }) f.taken in run_orders IsFreeJob P n r.0 f.before r.1
 
-  pub orient_orders : (p : Name) (m : NodeId) (d : ℕ) (c : Certificate) → j ≡ Orient p m → OrientsBy f.before p m.0 d (Some c) → OrdersWith P.signature b p m.0 d c
-  orient_orders p m d c e o = orders_with P.signature f.before b p m.0 d c same_signature o keeps
+  pub orient_first : (p : Name) (m : NodeId) (d : ℕ) (c : Certificate) → j ≡ Orient p m → OrientsBy f.before p m.0 d (Some c) → FirstWith (family n.family P.signature) b p m.0 d c
+  orient_first p m d c e o = first_with (family n.family P.signature) f.before b p m.0 d c same_orders o keeps
       (orienters_stay P n past b run f.before w t p m (subst {A = Job} (λ z. Contains past (record { board = f.before; entry = Take w t z })) e f.taken) (subst {A = Job} (λ z. Contains b.flight (record { number = t; worker = w; job = z })) e f.flying)).1
       (on_there f.before.nodes p m.0 E (due_equation f.before p m (subst {A = Job} (IsFreeJob f.before) e (taken_free P n past b run f.before w t j f.taken).0)))
 
   orient_ready : (p : Name) (m : NodeId) (d : ℕ) (c : Certificate) → j ≡ Orient p m → OrientsBy f.before p m.0 d (Some c) → CanOrient P.signature b p m.0 d
-  orient_ready p m d c e o = let r = orient_orders p m d c e o in (c, r.0, r.1)
+  orient_ready p m d c e o = let r = orient_first p m d c e o in (c, (n.family, first_contained n.family P.signature (rules_at b (constraints_of b p ++ record { node = m.0; dir = d } ∷ [])) c r), r.0)
 
   -- the node of an equation of the process has a pair
   equation_pair : (p : Name) (m : ℕ) → is_equation b p m ≡ true → (q : Pair) × (pair_in b.nodes m ≡ Some q)

@@ -15,6 +15,7 @@ use Rattle.std.proofs.lemmas.List.Elements.{All-contains}
 use Rattle.kb_rewrite.specs.NormalForm.{NormalisesTo, StrategyStep, IsNormal, form}
 use Rattle.kb_overlap.specs.Overlap.{IsOverlapList}
 use Rattle.kb_cert.specs.Family.{family}
+use Rattle.kb_cert.proofs.Members.{first_contained}
 use Rattle.kb_laws.specs.Complete.{IsCompleteSystem}
 use Rattle.kb_laws.specs.Overlaps.{OverlapsClose, HaveOneNormalForm}
 use Rattle.kb_laws.proofs.Closing.{strategy_step, closed_joins}
@@ -22,7 +23,7 @@ use Rattle.kb_laws.proofs.Complete.{complete_state}
 use Rattle.kb_label.specs.Names.{Name}
 use Rattle.kb_label.specs.declared.verdict.Verdict.TheVariants.{Complete}
 use Rattle.mkb_model.specs.Jobs.{ref_eq}
-use Rattle.mkb_model.specs.Plain.{Plain, numbers_from, node_numbers, directions, rules_of, is_rule, equations_at, rule_at, state_of}
+use Rattle.mkb_model.specs.Plain.{Plain, constraints_of, rules_at, numbers_from, node_numbers, directions, rules_of, is_rule, equations_at, rule_at, state_of}
 use Rattle.mkb_model.specs.Proposals.{NamedRule, NamedOverlap, named_rules, as_rules, OverlapsOf, OverlapsOfAll, all_ways, IsClosed, rules_on, HasForm, IsJoinedBy}
 use Rattle.mkb_model.specs.Verdicts.{verdict, HasCompleted}
 use Rattle.mkb_model.specs.Headline.{states_before, states_of}
@@ -202,7 +203,7 @@ good_answer P n ms c p within run stands = record { certified = certified_run P 
         let a = (living_forked IsFreeJob P n ms c run).apart in
         complete_state P (states_of ms c p) (runs_complete P n ms c within run p means.lives) (well_inputs P within) (state_of c p)
         (subst {A = Name} (λ z. Contains (states_before ms p ++ state_of c z ∷ []) (state_of c p)) (sym (ancestor_is c p p a means.lives (begins-refl p))) (Contains-append_right (states_before ms p) (state_of c p ∷ []) (state_of c p) (contains_first (state_of c p) [])))
-        (ap (equations_at c) means.no_equation) k.certificate (subst {A = Problem} (λ z. Contains (family z.signature) k.certificate) problem k.member) k.orders (closed_joins (state_of c p).rules close)
+        (ap (equations_at c) means.no_equation) k.certificate (c.settings.family, subst {A = Problem} (λ z. Contains (family c.settings.family z.signature) k.certificate) problem (first_contained c.settings.family c.problem.signature (rules_at c (constraints_of c p)) k.certificate k.first)) k.first.0 (closed_joins (state_of c p).rules close)
 
     inputs : (e : Tree × Tree) → Contains P.equations e → ((u : Tree) × HasForm (rules_on c p) e.0 u) × ((v : Tree) × HasForm (rules_on c p) e.1 v) → HaveOneNormalForm (state_of c p).rules e.0 e.1
     inputs e i ((u, hu), (v, hv)) = one_form (rules_on c p) (state_of c p).rules e.0 e.1 u v are hu hv (normal_stays (state_of c p).rules met.1.0 u met.0 nu met.1.1 ∙ sym (normal_stays (state_of c p).rules met.2.0 v met.0 nv met.2.1))

@@ -6,6 +6,7 @@ use Rattle.kb_lpo.specs.PathOrder.{LpoGreater}
 use Rattle.kb_laws.specs.Completion.{KbState, KbStep, KbReaches, IsKbRun, IsSameState, Has, Keeps, Gains}
 use Rattle.mkb_model.proofs.MemberSteps.{orient, Loses}
 use Rattle.kb_term.specs.Pair.{IsSameEquation}
+use Rattle.kb_cert.specs.declared.family.Family.TheVariants.{Stated}
 use Rattle.kb_cert.specs.declared.certificate.Certificate.TheVariants.{Lpo}
 use Rattle.mkb_model.specs.Headline.{states_of}
 use Rattle.mkb_model.proofs.Rows.{row3, p0}
@@ -50,7 +51,7 @@ gains_only {X} Same x y = (there, back)
     back (z, c, t) = inr (subst {A = X} (λ z. Same z y) (sym (one_in c)) t)
 
 forks : KbStep row3.signature before after
-forks = orient a b (Lpo (0 ∷ 1 ∷ []), (0, omega arith, refl), all_of_one (λ (r : Rule). LpoGreater (0 ∷ 1 ∷ []) r.left r.right) a_to_b a_above_b)
+forks = orient a b (Lpo (0 ∷ 1 ∷ []), (Stated, (0, omega arith, refl)), all_of_one (λ (r : Rule). LpoGreater (0 ∷ 1 ∷ []) r.left r.right) a_to_b a_above_b)
     (loses_only IsSameEquation (a, b) same_ab) (gains_only IsVariantRule a_to_b) (gains_only IsVariantRule a_to_b)
 
 same_state : (s : KbState) → IsSameState s s

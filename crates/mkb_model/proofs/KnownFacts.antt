@@ -56,7 +56,7 @@ encompassed_rewrites t rule (p, (u, there, (m, e))) =
 -- ---- facts
 
 -- a rule that is there stays
-rule_stays : (b c : Plain) (a : RuleRef) (r : Rule) → KeepsPairs b.nodes c.nodes → rule_at b a ≡ Some r → rule_at c a ≡ Some r
+pub rule_stays : (b c : Plain) (a : RuleRef) (r : Rule) → KeepsPairs b.nodes c.nodes → rule_at b a ≡ Some r → rule_at c a ≡ Some r
 rule_stays b c a r keeps h = go (pair_in b.nodes a.node) refl h
   where
     go : (o : Option Pair) → pair_in b.nodes a.node ≡ o → option_map (λ q. rule_of q a.dir) o ≡ Some r → rule_at c a ≡ Some r

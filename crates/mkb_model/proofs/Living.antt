@@ -15,7 +15,8 @@ use Rattle.kb_label.specs.declared.verdict.Reason.TheVariants.{Processes, Nodes}
 use Rattle.kb_label.proofs.Forked.{leaves-forked, length-relabel}
 use Rattle.kb_label.proofs.Sets.{relabel-absent}
 use Rattle.kb_node.specs.declared.job.Job.{Job}
-use Rattle.mkb_model.specs.Plain.{Plain}
+use Rattle.kb_cert.specs.Family.{family}
+use Rattle.mkb_model.specs.Plain.{Plain, orders_of}
 use Rattle.mkb_model.specs.Effects.{applied, effect, limit_of, give_up, effect_label, first_some, some_if, is_full, most_living}
 use Rattle.mkb_model.specs.Invariants.{LivingIsForked, FlightIsNumbered, IsWithinBudget}
 use Rattle.mkb_model.specs.Journals.{Moment, Follows, IsRunBy, tickets}
@@ -156,3 +157,7 @@ budget_follow May P n past b Halt c f h = subst {A = Plain} (IsWithinBudget P n)
 pub within_budget : (May : Plain → Job → Type 0) (P : Problem) (n : Settings) (ms : List Moment) (c : Plain) → IsRunBy May P n ms c → IsWithinBudget P n c
 within_budget May P n [] c run = subst {A = Plain} (IsWithinBudget P n) (sym run) (record { problem = refl; settings = refl; commits = omega arith })
 within_budget May P n (m ∷ ms) c (run, f) = budget_follow May P n ms m.board m.entry c f (within_budget May P n ms m.board run)
+
+-- each board of a run searches the orders of its settings' family
+pub run_orders : (May : Plain → Job → Type 0) (P : Problem) (n : Settings) (ms : List Moment) (c : Plain) → IsRunBy May P n ms c → orders_of c ≡ family n.family P.signature
+run_orders May P n ms c run = let w = within_budget May P n ms c run in λ i. family (w.settings i).family (w.problem i).signature

@@ -47,7 +47,7 @@ overlapped_once = refl
 -- ---- of three due overlaps of f(a) -> c and b -> c the stated selection takes that of the older rule with itself, the other one that of the smaller rule with itself
 
 abbrev pub by_size : Plain
-by_size = let b : Plain = turns 1 (list_take 7 row10_proposals) (opening row10 (stated 100)) in record b { living = p00 ∷ []; settings = record { budget = 100; selection = Size } }
+by_size = let b : Plain = turns 1 (list_take 7 row10_proposals) (opening row10 (stated 100)) in record b { living = p00 ∷ []; settings = record (stated 100) { selection = Size } }
 
 smallest_overlap : first_job by_size ≡ Some (Overlap p00 (rule 2 0) (rule 2 0))
 smallest_overlap = refl

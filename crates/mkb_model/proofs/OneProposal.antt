@@ -20,7 +20,7 @@ use Rattle.kb_term.proofs.CanonicalPairs.{nat_equal, then_equal}
 use Rattle.kb_term.proofs.Instances.{instance-agree, agree_at}
 use Rattle.kb_term.proofs.Steps.{contains_behind, contains_first, occurs_from, occurs_to}
 use Rattle.kb_overlap.specs.Trace.{side}
-use Rattle.kb_cert.specs.Family.{family, Orders}
+use Rattle.kb_cert.specs.Family.{Orders}
 use Rattle.kb_cert.specs.declared.certificate.Certificate.{Certificate}
 use Rattle.kb_rewrite.specs.NormalForm.{IsFound, Encompasses, HoldVariables}
 use Rattle.kb_label.specs.Names.{Name}
@@ -32,7 +32,7 @@ use Rattle.kb_node.specs.declared.job.Fact.{Fact}
 use Rattle.kb_node.specs.declared.job.Deduced.{Deduced}
 use Rattle.kb_node.specs.declared.job.LimitCause.{LimitCause}
 use Rattle.mkb_model.specs.Jobs.{numbers_cmp, process_of}
-use Rattle.mkb_model.specs.Plain.{Plain, other, pair_at, rule_at, rules_at, rules_of, constraints_of}
+use Rattle.mkb_model.specs.Plain.{Plain, orders_of, other, pair_at, rule_at, rules_at, rules_of, constraints_of}
 use Rattle.mkb_model.specs.DueJobs.{reducers, is_usable}
 use Rattle.mkb_model.specs.Proposals.{Proposes, NamedRule, named_rules, as_rules, rules_on, equations_on, redex_cmp, IsFirstRedex, IsIrreducible, AreMissingFacts, unknown, NamedOverlap, both_ways, all_ways, OrientsBy, reason_of, own_limit, FirstThat, HaveForms, PassesFirst, IsFormed, IsJoined, IsUnjoined, IsStopped, IsUnjoining, IsClosed, IsOverlapStop, IsInputStop, IsDeducing, IsLargeOverlap, AllOverlaps, Picks}
 use Rattle.mkb_model.specs.declared.proposed.Proposed.{Proposed}
@@ -264,7 +264,7 @@ module _ (b : Plain) (p : Name) (holds : HoldVariables (rules_at b (rules_of b p
     -- ---- orienting
 
     one_order : (d : ℕ) (o q : Option Certificate) → OrientsBy b p n.0 d o → OrientsBy b p n.0 d q → o ≡ q
-    one_order d o q h k = first_one (λ c. Orders c (rules_at b (constraints_of b p ++ record { node = n.0; dir = d } ∷ []))) (family b.problem.signature) o q h k
+    one_order d o q h k = first_one (λ c. Orders c (rules_at b (constraints_of b p ++ record { node = n.0; dir = d } ∷ []))) (orders_of b) o q h k
 
     both_orders : (d : ℕ) (c : Certificate) → (d ≡ 0) ⊎ (d ≡ 1) → OrientsBy b p n.0 (other d) None → (c0 c1 : Certificate) → OrientsBy b p n.0 0 (Some c0) → OrientsBy b p n.0 1 (Some c1) → ⊥
     both_orders d c (inl e) h c0 c1 k l = none_some (one_order 1 None (Some c1) (subst {A = ℕ} (λ z. OrientsBy b p n.0 (other z) None) e h) l)

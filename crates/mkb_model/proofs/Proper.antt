@@ -3,7 +3,7 @@ use Rattle.std.proofs.Common.{ℕ, zero, suc, ◌+◌, ◌≡◌, ◌≤◌, ◌
 use Rattle.kb_term.specs.Tree.{Tree}
 use Rattle.kb_term.specs.Rule.{Rule, IsVariantRule, rule_between}
 use Rattle.kb_term.specs.Signature.{Signature, IsWellFormed, IsRuleOver}
-use Rattle.kb_cert.specs.Family.{Orders, IsOrderable, family}
+use Rattle.kb_cert.specs.Family.{Orders, IsMember, IsOrderable}
 use Rattle.kb_laws.specs.Completion.{KbState, Has}
 use Rattle.kb_cert.specs.declared.certificate.Certificate.{Certificate}
 use Rattle.kb_term.proofs.Relation.{Steps}
@@ -25,7 +25,7 @@ round_again R n s c zero = (0, omega arith, refl)
 round_again R n s c (suc m) = let q = round_again R n s c m in let r = steps_behind R (suc n) q.0 s s s c q.2 in (r.0, omega (arith, r.1, q.1), r.2)
 
 -- what a member orders has no chain from a term to itself
-no_loop : (g : Signature) (c : Certificate) → Contains (family g) c → (rules : List Rule) → ((r : Rule) → Contains rules r → IsRuleOver g r) → Orders c rules → (s : Tree) → IsWellFormed g s → ¬ Chain (Step (Contains rules)) s s
+no_loop : (g : Signature) (c : Certificate) → IsMember g c → (rules : List Rule) → ((r : Rule) → Contains rules r → IsRuleOver g r) → Orders c rules → (s : Tree) → IsWellFormed g s → ¬ Chain (Step (Contains rules)) s s
 no_loop g c m rules over h s w k =
     let b = halts_from rules s (terminating_by_member g c m rules (all_from (IsRuleOver g) rules over) h s w) in
     let q = round_again (Step (Contains rules)) k.2.0 s (k.0, k.1, k.2.1) (suc b.0) in

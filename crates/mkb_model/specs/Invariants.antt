@@ -6,7 +6,7 @@ use Rattle.kb_term.specs.Pair.{Pair, IsCanonical, IsTrivial}
 use Rattle.kb_term.specs.Rule.{Rule}
 use Rattle.kb_term.specs.Signature.{Problem}
 use Rattle.kb_term.specs.Proving.{IsChain}
-use Rattle.kb_cert.specs.Family.{Orders, family}
+use Rattle.kb_cert.specs.Family.{IsFirstOrder}
 use Rattle.kb_overlap.specs.Trace.{IsRightOrigin, side}
 use Rattle.kb_term.specs.declared.origin.Found.TheVariants.{Strict}
 use Rattle.kb_term.specs.declared.origin.RuleRef.{RuleRef}
@@ -47,12 +47,11 @@ pub record HasOneRole (b : Plain) (p : Name) (n : ℕ) : Type 0 where
   pub not_both_rules : IsTrue (is_rule b p (record { node = n; dir = 0 })) → IsFalse (is_rule b p (record { node = n; dir = 1 }))
   pub no_rule : IsTrue (is_equation b p n) → IsFalse (is_rule b p (record { node = n; dir = 0 })) × IsFalse (is_rule b p (record { node = n; dir = 1 }))
 
--- 2: the certificate of the process is of the family, and orders its constraints
+-- 2: the certificate of the process is the first of the run's family that orders its constraints
 pub record IsCertified (b : Plain) (p : Name) : Type 0 where
   pub certificate : Certificate
   pub there : certificate_of b p ≡ Some certificate
-  pub member : Contains (family b.problem.signature) certificate
-  pub orders : Orders certificate (rules_at b (constraints_of b p))
+  pub first : IsFirstOrder b.settings.family b.problem.signature (rules_at b (constraints_of b p)) (Some certificate)
 
 -- 3: each rule of the process leads from its left to its right side by its constraints, in one step or more
 abbrev pub RulesFollow : Plain → Name → Type 0

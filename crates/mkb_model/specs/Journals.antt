@@ -21,6 +21,7 @@ use Rattle.mkb_model.specs.declared.entry.Ticket.{Ticket}
 use Rattle.mkb_model.specs.declared.entry.Effect.{Effect}
 use Rattle.mkb_model.specs.declared.entry.Entry.{Entry}
 use Rattle.mkb_model.specs.declared.entry.Entry.TheVariants.{Take, Commit, Drop, Abandon, Halt}
+use Rattle.kb_cert.specs.declared.family.Family.TheVariants.{Stated as StatedOrders}
 use Rattle.mkb_model.specs.declared.settings.Selection.TheVariants.{Stated}
 use Rattle.mkb_model.specs.declared.settings.Settings.{Settings}
 
@@ -36,9 +37,9 @@ abbrev pub with_inputs : ℕ → List (Tree × Tree) → List PlainNode → List
 with_inputs i [] xs = xs
 with_inputs i (e ∷ es) xs = with_inputs (i + 1) es (with_input (canonical_pair e.0 e.1) i xs)
 
--- the settings with this budget under which the stated job comes first
+-- the settings with this budget under which the stated job comes first and the stated orders are searched
 abbrev pub stated : ℕ → Settings
-stated n = record { budget = n; selection = Stated }
+stated n = record { budget = n; selection = Stated; family = StatedOrders }
 
 -- the board before any entry: one process, which has the input equations that are not trivial
 abbrev pub opening : Problem → Settings → Plain
@@ -54,7 +55,7 @@ opening P s = record {
   asleep = [];
   commits = 0;
   flight = [];
-  certificates = map (λ c. record { name = root; certificate = c }) (take 1 (family P.signature));
+  certificates = map (λ c. record { name = root; certificate = c }) (take 1 (family s.family P.signature));
 }
 
 -- ---- runs

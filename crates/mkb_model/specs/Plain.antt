@@ -14,6 +14,7 @@ use Rattle.kb_label.specs.Names.{Name, has, name_eq, is_beginning}
 use Rattle.kb_term.specs.declared.origin.RuleRef.{RuleRef}
 use Rattle.kb_term.specs.declared.origin.Found.{Found}
 use Rattle.kb_term.specs.declared.origin.Origin.{Origin}
+use Rattle.kb_cert.specs.Family.{family}
 use Rattle.kb_cert.specs.declared.certificate.Certificate.{Certificate}
 use Rattle.kb_label.specs.declared.verdict.Reason.{Reason}
 use Rattle.kb_label.specs.declared.verdict.Reason.TheVariants.{Nodes, Processes, Size, Depth, Variables, Steps}
@@ -71,6 +72,10 @@ pub record Plain : Type 0 where
   pub commits : ℕ
   pub flight : List Ticket
   pub certificates : List Certified
+
+-- the orders that are searched: those of the run's family for the signature of the problem
+abbrev pub orders_of : Plain → List Certificate
+orders_of b = family b.settings.family b.problem.signature
 
 -- ---- numbers of nodes and rules
 

@@ -274,9 +274,9 @@ abbrev pub OnRules : Plain → RuleRef → RuleRef → (NamedRule → NamedRule 
 OnRules b a c P =
     (x : Rule) × (y : Rule) × (rule_at b a ≡ Some x) × (rule_at b c ≡ Some y) × P (record { ref = a; rule = x }) (record { ref = c; rule = y })
 
--- the first member of the family that orders the constraints of the process with this direction of the node is this, or there is none
+-- the first member of the run's family that orders the constraints of the process with this direction of the node is this, or there is none
 abbrev pub OrientsBy : Plain → Name → ℕ → ℕ → Option Certificate → Type 0
-OrientsBy b p n d = IsFirstOrder b.problem.signature (rules_at b (constraints_of b p ++ record { node = n; dir = d } ∷ []))
+OrientsBy b p n d = IsFirstOrder b.settings.family b.problem.signature (rules_at b (constraints_of b p ++ record { node = n; dir = d } ∷ []))
 
 -- the rules of the process on the board
 abbrev pub rules_on : Plain → Name → List NamedRule

@@ -82,7 +82,7 @@ pub record IsRewriteOn (xs : List PlainNode) (n w : ℕ) (at : List ℕ) (a : Ru
   pub found : IsFound (side pair w) (rule_of by a.dir) kind
   pub other_node : a.node ≢ n
 
--- some member of the family orders the constraints of the process with this direction of the node
+-- some member of a family orders the constraints of the process with this direction of the node
 abbrev pub CanOrient : Signature → Plain → Name → ℕ → ℕ → Type 0
 CanOrient signature b p n d = IsOrderable signature (rules_at b (constraints_of b p ++ record { node = n; dir = d } ∷ []))
 

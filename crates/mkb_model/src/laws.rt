@@ -123,7 +123,7 @@ pub fn closed_processes_rest()
     ensures closed { (problem : Problem) (settings : Settings) (past : List Moment) (board : Plain) → IsPossibleRun problem settings past board → (p : Name) → IsTrue (has board.closed p) → IsClosedOn board p }
 {}
 
-/// In each possible run of a problem within the limits: the certificate of each living process is of the family and orders its
+/// In each possible run of a problem within the limits: the certificate of each living process is of the run's family and orders its
 /// constraints; and each rule of a process leads from its left to its right side by its constraints, in one step or more.
 pub fn certificates_order()
     ensures certified { (problem : Problem) (settings : Settings) (past : List Moment) (board : Plain) → IsWithinLimits problem → IsPossibleRun problem settings past board → (p : Name) → IsTrue (has board.living p) → IsCertified board p }

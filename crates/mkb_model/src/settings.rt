@@ -2,6 +2,8 @@
 ghost use Rattle.std.specs.Prelude.{◌≡◌};
 ghost use Rattle.mkb_model.specs.Journals.{stated};
 
+use kb_cert::Family;
+
 /// Which due job is taken first, where several could be.
 #[derive(Clone, Copy, Debug, PartialEq, Eq)]
 pub enum Selection {
@@ -21,16 +23,19 @@ pub struct Settings {
     pub budget: u32,
     /// Which due job is taken first.
     pub selection: Selection,
+    /// Which orders are searched for a certificate.
+    pub family: Family,
 }
 
 impl Settings {
-    /// The settings with this budget under which the stated job comes first.
+    /// The settings with this budget under which the stated job comes first and the stated orders are searched.
     pub fn stated(budget: u32) -> Settings
         ensures { result ≡ stated budget }
     {
         Settings {
             budget,
             selection: Selection::Stated,
+            family: Family::Stated,
         }
     }
 }

@@ -8,13 +8,14 @@ use Rattle.kb_term.specs.Pair.{Pair}
 use Rattle.kb_term.specs.declared.origin.RuleRef.{RuleRef}
 use Rattle.kb_term.specs.declared.origin.Origin.{Origin}
 use Rattle.kb_overlap.specs.Trace.{IsRightOrigin}
-use Rattle.kb_cert.specs.Family.{family, Orders}
+use Rattle.kb_cert.specs.Family.{Orders}
+use Rattle.kb_cert.proofs.Members.{first_contained}
 use Rattle.kb_cert.specs.declared.certificate.Certificate.{Certificate}
 use Rattle.kb_laws.specs.Complete.{IsCompleteSystem}
 use Rattle.kb_laws.specs.Overlaps.{OverlapsClose, HaveOneNormalForm}
 use Rattle.kb_label.specs.Names.{Name}
 use Rattle.kb_label.specs.declared.verdict.Verdict.TheVariants.{Complete}
-use Rattle.mkb_model.specs.Plain.{Plain, PlainNode, numbers_from, directions, is_rule, is_constraint, rules_of, constraints_of, rules_at, pair_in, certificate_of}
+use Rattle.mkb_model.specs.Plain.{Plain, PlainNode, orders_of, numbers_from, directions, is_rule, is_constraint, rules_of, constraints_of, rules_at, pair_in, certificate_of}
 use Rattle.mkb_model.specs.Verdicts.{verdict}
 use Rattle.mkb_model.specs.Journals.{IsPossibleRun, IsFreeJob, tickets}
 use Rattle.mkb_model.specs.Invariants.{IsSound, PairsFollow}
@@ -37,7 +38,7 @@ use Rattle.mkb_report.proofs.Traces.{OriginsAreRight, node_pair, right_alike, ma
 pub record IsGoodProcess (b : Plain) (p : Name) : Type 0 where
   pub certificate : Certificate
   pub there : certificate_of b p ≡ Some certificate
-  pub member : Contains (family b.problem.signature) certificate
+  pub member : Contains (orders_of b) certificate
   pub orders : Orders certificate (rules_at b (constraints_of b p))
   pub system : IsCompleteSystem b.problem certificate (rules_at b (rules_of b p))
   pub overlaps : OverlapsClose (rules_at b (rules_of b p))
@@ -108,7 +109,7 @@ module _ (b : Plain) (r : IsReached b) where
   pub good : (p : Name) → verdict b ≡ Some (Complete p) → IsGoodProcess b p
   good p stands =
       let h : IsGoodAnswer b.problem (record b { flight = r.flight }) p = good_answer b.problem b.settings r.after.0 (record b { flight = r.flight }) p r.within run stands in
-      record { certificate = h.certified.certificate; there = h.certified.there; member = h.certified.member; orders = h.certified.orders; system = h.system; overlaps = h.overlaps; inputs = h.inputs }
+      record { certificate = h.certified.certificate; there = h.certified.there; member = first_contained b.settings.family b.problem.signature (rules_at b (constraints_of b p)) h.certified.certificate h.certified.first; orders = h.certified.first.0; system = h.system; overlaps = h.overlaps; inputs = h.inputs }
 
   -- a process has at most as many rules as there are nodes, and a good one at most as many constraints
   pub few_rules : (p : Name) → length (rules_of b p) ≤ length b.nodes

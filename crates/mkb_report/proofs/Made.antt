@@ -266,7 +266,7 @@ module _ (b : Plain) (p : Name) (a : Answer) (r : IsReached b) (stands : verdict
       constraints = subst {A = Problem} (λ z. All (IsRuleForm z.signature) a.constraints) (sym h.problem) (all_formed (constraints_of b p) a.constraints constraints_kept h.constraints);
       cert =
           subst {A = Problem} (λ z. is_certificate z.signature a.cert ≡ true) (sym h.problem)
-          (subst {A = Certificate} (λ z. is_certificate b.problem.signature z ≡ true) same_cert (member_text b.problem.signature process.certificate process.member));
+          (subst {A = Certificate} (λ z. is_certificate b.problem.signature z ≡ true) same_cert (member_text b.problem.signature process.certificate (b.settings.family, process.member)));
       trace = subst {A = Problem} (λ z. IsTraceForm z.signature a.trace) (sym h.problem) trace_form;
     }
 

@@ -4,7 +4,7 @@ ghost use Rattle.kb_term.specs.Pair.{canonical_pair, variables_of_pair};
 ghost use Rattle.kb_term.specs.Signature.{IsWithinLimits};
 ghost use Rattle.kb_term.specs.View.{equations_of_list, tree_of};
 ghost use Rattle.kb_label.specs.Names.{root};
-ghost use Rattle.kb_cert.specs.Family.{family};
+ghost use Rattle.kb_cert.specs.Family.{family as orders_of_family};
 ghost use Rattle.kb_cert.specs.declared.certificate.Certificate.{Certificate as OrderOf};
 ghost use Rattle.mkb_model.specs.Plain.{nobody_over};
 ghost use Rattle.mkb_model.specs.Journals.{opening, with_input, with_inputs};
@@ -16,7 +16,7 @@ use crate::labels::only;
 use crate::nodes::Nodes;
 use crate::sleepers::Sleepers;
 use crate::state::{Certified, GivenUp, State};
-use kb_cert::search;
+use kb_cert::{Family, search};
 use kb_label::{Labels, ListLabels, Living, NameLog, Process};
 use kb_node::NodeFault;
 use kb_term::{Memory, Origin, Problem, Signature, Term, canonical};
@@ -25,7 +25,7 @@ use std::alloc::Global;
 
 impl State {
     /// The state before any commit: the first process has the problem's equations that are not trivial, and orients by the
-    /// first order of the family.
+    /// first order of the run's family.
     ///
     /// # Errors
     ///
@@ -36,7 +36,7 @@ impl State {
     {
         let log = NameLog::start(alloc)?;
         let nodes = input_nodes(alloc, &log, problem.equations())?;
-        let certificates = first_certificates(alloc, problem.signature())?;
+        let certificates = first_certificates(alloc, settings.family, problem.signature())?;
         let asleep = Sleepers::new(alloc)?;
         Ok(State {
             problem,
@@ -69,12 +69,16 @@ fn nobody(alloc: Global) -> GivenUp
 }
 
 // The order of the first process: the first one of the family, if there is one.
-fn first_certificates(alloc: Global, signature: &Signature) -> Result<Vec<Certified>, Memory>
+fn first_certificates(
+    alloc: Global,
+    family: Family,
+    signature: &Signature,
+) -> Result<Vec<Certified>, Memory>
     requires { length signature.now ≤ 24 }
-    ensures { IfOk result (λ orders. plain_certificates orders.items ≡ map (λ (c : OrderOf). record { name = root; certificate = c }) (take 1 (family signature.now))) }
+    ensures { IfOk result (λ orders. plain_certificates orders.items ≡ map (λ (c : OrderOf). record { name = root; certificate = c }) (take 1 (orders_of_family family signature.now))) }
 {
     let mut certificates = Vec::new(alloc);
-    match search(alloc, signature, &[])? {
+    match search(alloc, family, signature, &[])? {
         None => Ok(certificates),
         Some(certificate) => {
             certificates.push(Certified {

@@ -4,7 +4,7 @@ use Rattle.std.specs.Prelude.{take}
 use Rattle.std.specs.Option.{option_map_or}
 use Rattle.kb_cert.specs.Family.{family}
 use Rattle.kb_cert.specs.declared.certificate.Certificate.{Certificate}
-use Rattle.kb_cert.proofs.FamilyLaws.{nothing_orderable}
+use Rattle.kb_cert.proofs.FamilyLaws.{some_member}
 use Rattle.kb_label.specs.Names.{root, child}
 use Rattle.kb_label.specs.declared.verdict.Reason.{Reason}
 use Rattle.kb_node.specs.declared.node.NodeId.{NodeId}
@@ -21,7 +21,7 @@ use Rattle.mkb_rules.specs.declared.applied.Applied.TheVariants.{Done}
 use Rattle.mkb_rules_tests.specs.Orders.{IsRootOrdered, AreChildrenOrdered}
 
 pub opening_ordered : (P : Problem) (s : Settings) → IsRootOrdered (opening P s)
-opening_ordered P s = go (family P.signature) (nothing_orderable P.signature).0 (nothing_orderable P.signature).1
+opening_ordered P s = go (family s.family P.signature) (some_member s.family P.signature).0 (some_member s.family P.signature).1
   where
     go : (xs : List Certificate) (c : Certificate) → Contains xs c → (d : Certificate) × (map {B = Certified} (λ c. record { name = root; certificate = c }) (take 1 xs) ≡ record { name = root; certificate = d } ∷ [])
     go [] c i = none_in i

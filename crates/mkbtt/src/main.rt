@@ -1,16 +1,23 @@
 //! Completes a set of term equations: reads a problem, writes a convergent rewrite system with its certificate and traces.
 #![tactic(auto)]
 
+mod showing;
+
 ghost use Rattle.std.specs.Prelude.{◌≡◌};
 ghost use Rattle.std.specs.Process.{exit_status};
 ghost use Rattle.mkbtt_top.specs.Statuses.{code_of};
 
-use kb_io::{OpenGate, StdSink, StdSource};
-use mkbtt_top::{Status, run, status_code, status_line};
+use kb_io::{KeepingSource, StdSink, StdSource};
+use mkbtt_shown::{manner_of, other_words};
+use mkbtt_top::{Status, hint, run, status_code, status_line};
+use mkbtt_words::refusal_message;
+use showing::ShowingGate;
 use std::alloc::{AllocError, Global};
 use std::env;
-use std::io::{ErrorKind, Write};
+use std::io::{ErrorKind, IsTerminal, Write};
 use std::process::ExitCode;
+use std::sync::Wait;
+use std::thread::Threads;
 
 fn texts(alloc: Global, words: &[String]) -> Result<Vec<&str>, AllocError> {
     let mut texts = Vec::new(alloc);
@@ -43,16 +50,42 @@ fn told(rt: &HostRuntime, status: &Status) -> ExitCode
     ExitCode::from(status_code(status))
 }
 
-fn main(rt: HostRuntime) -> ExitCode {
-    let alloc = rt.alloc();
-    let mut source = StdSource::new(rt.stdin());
-    let mut sink = StdSink::new(rt.stdout());
-    let status = match words(&rt) {
-        Ok(words) => match texts(alloc, &words) {
-            Ok(texts) => run(&rt, alloc, &texts, &mut source, &mut sink, &OpenGate).status,
-            Err(_) => Status::Memory,
-        },
-        Err(status) => status,
+// Writes what helps behind the line of the status: of refused words the message, of a refused text its line.
+fn explain(rt: &HostRuntime, status: &Status, words: &[&str], text: &[u8]) {
+    if *status == Status::Words {
+        if let Ok(Some(message)) = refusal_message(rt.alloc(), words) {
+            let _ = rt.stderr().write_all(message.as_bytes());
+        }
+    } else if let Ok(hint) = hint(rt.alloc(), status, text) {
+        let _ = rt.stderr().write_all(&hint);
+    }
+}
+
+// Does what the words ask for, shows how it goes on, and tells how it ended.
+fn perform<R: Threads + Wait + Sync>(threads: &R, rt: &HostRuntime, texts: &[&str]) -> ExitCode {
+    let manner = manner_of(texts, rt.stderr().is_terminal());
+    let words = match other_words(rt.alloc(), texts) {
+        Ok(words) => words,
+        Err(_) => return told(rt, &Status::Memory),
     };
-    told(&rt, &status)
+    let gate = ShowingGate::new(rt, manner.progress);
+    let mut source = KeepingSource::new(rt.alloc(), StdSource::new(rt.stdin()));
+    let mut sink = StdSink::new(rt.stdout());
+    let status = run(threads, rt.alloc(), &words, &mut source, &mut sink, &gate).status;
+    gate.clear();
+    let code = told(rt, &status);
+    if manner.explains {
+        explain(rt, &status, &words, source.kept().unwrap_or(b""));
+    }
+    code
+}
+
+fn main(rt: HostRuntime) -> ExitCode {
+    match words(&rt) {
+        Ok(words) => match texts(rt.alloc(), &words) {
+            Ok(texts) => perform(&rt, &rt, &texts),
+            Err(_) => told(&rt, &Status::Memory),
+        },
+        Err(status) => told(&rt, &status),
+    }
 }

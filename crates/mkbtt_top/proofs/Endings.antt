@@ -10,17 +10,21 @@ use Rattle.kb_checker.specs.declared.verdict.Checked.TheVariants.{Accepted, Reje
 use Rattle.mkb_board.specs.Boards.{Seen}
 use Rattle.mkbtt_top.specs.Answering.{HasBadLine, IsAnswerLong, IsNoTextBy, IsUnreadBy}
 use Rattle.mkbtt_top.specs.Checking.{status_of as status_of_checked}
-use Rattle.mkbtt_top.specs.Completing.{status_of, IsRefusal}
+use Rattle.mkbtt_top.specs.Completing.{by_text, status_of, IsRefusal, IsUnfinishedBy}
+use Rattle.mkbtt_top.specs.Replaying.{made, bad, IsReplay}
+use Rattle.kb_journal.specs.Journals.{Journal}
 use Rattle.mkbtt_top.specs.Replies.{board_of_stop, status_of_stop}
-use Rattle.mkbtt_top.specs.Runs.{Answers, AnswersInPart, Ends, AskToRead, HasBadAnswer, HasNoBoard, whole, in_part, stopped, by_text, IsAnswered, IsUnread, Makes, ReadsIfAsked, Refuses, IsRefusedBy, StopsBy, WritesNothing}
-use Rattle.mkbtt_top.specs.Tasks.{AskFor, form_of, is_reading, reads_answer}
+use Rattle.mkbtt_top.specs.Runs.{Answers, AnswersInPart, Ends, AskToRead, HasBadAnswer, HasNoBoard, whole, in_part, stopped, IsAnswered, Makes, ReadsIfAsked, Refuses, IsRefusedBy, StopsBy, WritesNothing}
+use Rattle.mkbtt_top.specs.Tasks.{AskFor, form_of, is_reading, reads_lines, TakesFew}
 use Rattle.mkbtt_top.specs.declared.reply.Stop.{Stop}
 use Rattle.mkbtt_top.specs.declared.reply.Stop.TheVariants as stops
 use Rattle.mkbtt_top.specs.declared.status.Status.{Status}
 use Rattle.mkbtt_top.specs.declared.status.Status.TheVariants.{Done, Refused, BadText, ReadFault, WriteFault, Memory, Words}
 use Rattle.mkbtt_top.specs.declared.status.Status.TheVariants as status
+use Rattle.mkbtt_top.specs.declared.workers.Workers.{Workers}
 use Rattle.mkbtt_top.specs.declared.task.Task.{Task}
-use Rattle.mkbtt_top.specs.declared.task.Task.TheVariants.{Complete, Check, Convert, Reduce, Decide, Simplify, Summary, Generate}
+use Rattle.mkbtt_top.specs.declared.task.Task.TheVariants as tasks
+use Rattle.mkbtt_top.specs.declared.task.Task.TheVariants.{Complete, Replay, Check, Convert, Reduce, Decide, Simplify, Summary, Generate}
 use Rattle.mkb_model.specs.declared.settings.Settings.{Settings}
 use Rattle.kb_reduce.specs.declared.reduction.Reduction.{Reduction}
 use Rattle.kb_reduce.specs.declared.reduction.Reduction.TheVariants as told
@@ -40,9 +44,15 @@ answered_told (told.Reduced b) end text h = subst {A = Status} IsAnswered (sym h
 answered_told (told.Rejected reason n) end text h = subst {A = Status} IsAnswered (sym h.0) tt
 answered_told (told.Unreduced why n) end text h = subst {A = Status} IsAnswered (sym h.0) tt
 
+answered_replay : (j : Journal) (end : Status) (board : Option Seen) (text : List ℕ) → IsReplay j end board text → IsAnswered end
+answered_replay j end board text (made b h e) = tt
+answered_replay j end board text (bad n h e) = tt
+
 -- what a task makes has a status with which it is written
 answered_made : (task : Task) (end : Status) (board : Option Seen) (old new : Option (List ℕ)) (text : List ℕ) → Makes task end board old new text → IsAnswered end
 answered_made (Complete settings workers) end board old new text h = subst {A = Status} IsAnswered (sym h.completion.completion.status_is) (answered_verdict h.completion.completion.verdict)
+answered_made (tasks.Journal settings workers) end board old new text h = subst {A = Status} IsAnswered (sym h.completion.completion.status_is) (answered_verdict h.completion.completion.verdict)
+answered_made Replay end board old new text h = answered_replay h.journal end board text h.replay
 answered_made Check end board old new text h = subst {A = Status} IsAnswered (sym h.status_is) (answered_check h.checked)
 answered_made (Convert format) end board old new text h = subst {A = Status} IsAnswered (sym h.status_is) tt
 answered_made Reduce end board old new text h = answered_told h.told.reduction end text h.told.told
@@ -56,9 +66,15 @@ board_of_verdict (verdicts.Complete p) h = h
 board_of_verdict verdicts.AllFailed h = h
 board_of_verdict (verdicts.Spent s) h = h
 
+board_of_replay : (j : Journal) (end : Status) (board : Option Seen) (text : List ℕ) → IsReplay j end board text → HasNoBoard end → board ≡ None
+board_of_replay j end board text (made b h e) n = absurd n
+board_of_replay j end board text (bad m h e) n = refl
+
 -- what a task makes that ends without a board has none
 board_made : (task : Task) (end : Status) (board : Option Seen) (old new : Option (List ℕ)) (text : List ℕ) → Makes task end board old new text → HasNoBoard end → board ≡ None
 board_made (Complete settings workers) end board old new text h n = absurd (board_of_verdict h.completion.completion.verdict (subst {A = Status} HasNoBoard h.completion.completion.status_is n))
+board_made (tasks.Journal settings workers) end board old new text h n = absurd (board_of_verdict h.completion.completion.verdict (subst {A = Status} HasNoBoard h.completion.completion.status_is n))
+board_made Replay end board old new text h n = board_of_replay h.journal end board text h.replay n
 board_made Check end board old new text h n = h.board_is
 board_made (Convert format) end board old new text h n = h.board_is
 board_made Reduce end board old new text h n = h.board_is
@@ -83,6 +99,7 @@ writes_all : (end : Status) (old new : Option (List ℕ)) → IsAnswered end →
 writes_all Done old new h = tt
 writes_all status.AllFailed old new h = tt
 writes_all (status.Rejected reason n) old new h = tt
+writes_all (status.BadEntry n) old new h = tt
 writes_all (status.Unreduced why n) old new h = tt
 writes_all (status.Spent spent) old new h = tt
 writes_all (Refused kind at) old new h = absurd h
@@ -96,6 +113,7 @@ writes_none : (end : Status) (old new : Option (List ℕ)) → new ≡ old → W
 writes_none Done old new h = tt
 writes_none status.AllFailed old new h = tt
 writes_none (status.Rejected reason n) old new h = tt
+writes_none (status.BadEntry n) old new h = tt
 writes_none (status.Unreduced why n) old new h = tt
 writes_none (status.Spent spent) old new h = tt
 writes_none (Refused kind at) old new h = h
@@ -134,18 +152,20 @@ stop_of_refused task old new before after (stops.BadText n) k m h e = absurd (cc
 stop_of_refused task old new before after stops.ReadFault k m h e = absurd (cc)
 stop_of_refused task old new before after (stops.Memory board) k m h e = absurd (cc)
 
-stop_of_bad_text : (task : Task) (old new : Option (List ℕ)) (before after : ℕ) (stop : Stop) (n : ℕ) → StopsBy task old new before after stop → status_of_stop stop ≡ BadText n → IsTrue (reads_answer task) × HasBadLine (form_of task) old new n
+stop_of_bad_text : (task : Task) (old new : Option (List ℕ)) (before after : ℕ) (stop : Stop) (n : ℕ) → StopsBy task old new before after stop → status_of_stop stop ≡ BadText n → IsTrue (reads_lines task) × HasBadLine (form_of task) old new n
 stop_of_bad_text task old new before after (stops.Refused kind at) m h e = absurd (cc)
 stop_of_bad_text task old new before after (stops.BadText n) m h e =
     let same : n ≡ m = cc in
-    subst {A = ℕ} (λ k. IsTrue (reads_answer task) × HasBadLine (form_of task) old new k) same h
+    subst {A = ℕ} (λ k. IsTrue (reads_lines task) × HasBadLine (form_of task) old new k) same h
 stop_of_bad_text task old new before after stops.ReadFault m h e = absurd (cc)
 stop_of_bad_text task old new before after (stops.Memory board) m h e = absurd (cc)
 
 -- ---- an answer that isn't read
 
-long_answer : (task : Task) (old new : Option (List ℕ)) (kind : Kind) (at : ℕ) → IsTrue (reads_answer task) → IsAnswerLong old kind at → IsRefusedBy task old new kind at
+long_answer : (task : Task) (old new : Option (List ℕ)) (kind : Kind) (at : ℕ) → IsTrue (reads_lines task) → IsAnswerLong old kind at → IsRefusedBy task old new kind at
 long_answer (Complete settings workers) old new kind at r h = absurd (cc)
+long_answer (tasks.Journal settings workers) old new kind at r h = absurd (cc)
+long_answer Replay old new kind at r h = h
 long_answer Check old new kind at r h = h
 long_answer (Convert format) old new kind at r h = h
 long_answer Reduce old new kind at r h = h
@@ -154,8 +174,10 @@ long_answer Simplify old new kind at r h = h
 long_answer (Summary settings number) old new kind at r h = absurd (cc)
 long_answer (Generate number) old new kind at r h = absurd (cc)
 
-answer_is_read : (task : Task) → IsTrue (reads_answer task) → IsTrue (is_reading task)
+answer_is_read : (task : Task) → IsTrue (reads_lines task) → IsTrue (is_reading task)
 answer_is_read (Complete settings workers) r = absurd (cc)
+answer_is_read (tasks.Journal settings workers) r = absurd (cc)
+answer_is_read Replay r = refl
 answer_is_read Check r = refl
 answer_is_read (Convert format) r = refl
 answer_is_read Reduce r = refl
@@ -165,7 +187,7 @@ answer_is_read (Summary settings number) r = absurd (cc)
 answer_is_read (Generate number) r = absurd (cc)
 
 -- why the text of the task's form isn't read is why the task makes nothing
-pub stops_by : (task : Task) (old new : Option (List ℕ)) (before after : ℕ) (stop : Stop) → IsTrue (reads_answer task) → IsNoTextBy (form_of task) old new before after stop → StopsBy task old new before after stop
+pub stops_by : (task : Task) (old new : Option (List ℕ)) (before after : ℕ) (stop : Stop) → IsTrue (reads_lines task) → IsNoTextBy (form_of task) old new before after stop → StopsBy task old new before after stop
 stops_by task old new before after (stops.Refused kind at) r h = long_answer task old new kind at r h
 stops_by task old new before after (stops.BadText n) r h = (r, h)
 stops_by task old new before after stops.ReadFault r h = (answer_is_read task r, h)
@@ -179,11 +201,24 @@ no_text IsOfForm old new before after stops.ReadFault h = h
 no_text IsOfForm old new before after (stops.Memory board) h = h
 
 -- what the bytes of a problem are refused for, as the refusal of what was read
-pub stop_of_refusal : (settings : Settings) (workers : ℕ) (old new : Option (List ℕ)) (before after : ℕ) (bytes : List ℕ) (stop : Stop) → TakesAll old bytes new → IsRefusal bytes stop → StopsBy (Complete settings workers) old new before after stop
-stop_of_refusal settings workers old new before after bytes (stops.Refused kind at) t h = by_text bytes t h
-stop_of_refusal settings workers old new before after bytes (stops.BadText n) t h = absurd h
-stop_of_refusal settings workers old new before after bytes stops.ReadFault t h = absurd h
-stop_of_refusal settings workers old new before after bytes (stops.Memory board) t h = tt
+pub stop_of_refusal : (old new : Option (List ℕ)) (before after : ℕ) (bytes : List ℕ) (stop : Stop) → TakesAll old bytes new → IsRefusal bytes stop → IsUnfinishedBy old new before after stop
+stop_of_refusal old new before after bytes (stops.Refused kind at) t h = by_text bytes t h
+stop_of_refusal old new before after bytes (stops.BadText n) t h = absurd h
+stop_of_refusal old new before after bytes stops.ReadFault t h = absurd h
+stop_of_refusal old new before after bytes (stops.Memory board) t h = tt
+
+-- why no completion is told is why the task makes nothing
+pub unfinished : (settings : Settings) (workers : Workers) (old new : Option (List ℕ)) (before after : ℕ) (stop : Stop) → IsUnfinishedBy old new before after stop → StopsBy (Complete settings workers) old new before after stop
+unfinished settings workers old new before after (stops.Refused kind at) h = h
+unfinished settings workers old new before after (stops.BadText n) h = absurd h
+unfinished settings workers old new before after stops.ReadFault h = (refl, h)
+unfinished settings workers old new before after (stops.Memory board) h = tt
+
+pub unwritten : (settings : Settings) (workers : Workers) (old new : Option (List ℕ)) (before after : ℕ) (stop : Stop) → IsUnfinishedBy old new before after stop → StopsBy (tasks.Journal settings workers) old new before after stop
+unwritten settings workers old new before after (stops.Refused kind at) h = h
+unwritten settings workers old new before after (stops.BadText n) h = absurd h
+unwritten settings workers old new before after stops.ReadFault h = (refl, h)
+unwritten settings workers old new before after (stops.Memory board) h = tt
 
 -- ---- the clauses
 
@@ -238,6 +273,14 @@ module _ (words : List (List ℕ)) (task : Task) (asked : AskFor task words) (en
   nothing (in_part h) = subst {A = Status} (λ s. WritesNothing s written_old written_new) (sym h.end_is) tt
   nothing (stopped h) = writes_none end written_old written_new h.nothing
 
-pub reads : (words : List (List ℕ)) (task : Task) (old new : Option (List ℕ)) → AskFor task words → IsUnread task old new → ReadsIfAsked words old new
-reads words task old new asked (inl h) = inr (record { task = task; asked = asked; reads = h })
-reads words task old new asked (inr h) = inl h
+pub reads : (words : List (List ℕ)) (t : Task) (old new : Option (List ℕ)) → AskFor t words → TakesFew t old new → ReadsIfAsked words old new
+reads words (Complete settings workers) old new asked h = inr (record { task = Complete settings workers; asked = asked; reads = refl; few = h })
+reads words (tasks.Journal settings workers) old new asked h = inr (record { task = tasks.Journal settings workers; asked = asked; reads = refl; few = h })
+reads words Replay old new asked h = inr (record { task = Replay; asked = asked; reads = refl; few = h })
+reads words Check old new asked h = inr (record { task = Check; asked = asked; reads = refl; few = h })
+reads words (Convert format) old new asked h = inr (record { task = Convert format; asked = asked; reads = refl; few = h })
+reads words Reduce old new asked h = inr (record { task = Reduce; asked = asked; reads = refl; few = h })
+reads words Decide old new asked h = inr (record { task = Decide; asked = asked; reads = refl; few = h })
+reads words Simplify old new asked h = inr (record { task = Simplify; asked = asked; reads = refl; few = h })
+reads words (Summary settings number) old new asked h = inl h
+reads words (Generate number) old new asked h = inl h

@@ -4,3 +4,5 @@ mod Reported
 mod Generated
 mod Tasks
 mod Handed
+mod ByRounds
+mod OneText

@@ -20,7 +20,11 @@ use Rattle.mkb_board.specs.Boards.{Seen}
 use Rattle.work_crew.specs.Alone.{EndsAlone}
 use Rattle.work_crew.specs.Together.{EndsTogether}
 use Rattle.work_crew.specs.declared.alone.Crew.{Crew}
-use Rattle.mkbtt_top.specs.Completing.{EndsBy, IsFinished}
+use Rattle.mkbtt_top.specs.Completing.{IsFinished}
+use Rattle.mkbtt_top.specs.Workers.{EndsBy}
+use Rattle.mkbtt_top.specs.declared.workers.Workers.{Workers}
+use Rattle.mkbtt_top.specs.declared.workers.Workers.TheVariants.{Free, InRounds}
+use Rattle.mkbtt_top.proofs.ByRounds.{by_rounds}
 use Rattle.mkb_model.specs.declared.settings.Settings.{Settings}
 
 both : (a b : Bool) → (a && b) ≡ true → (a ≡ true) × (b ≡ true)
@@ -45,7 +49,7 @@ takes_by_one (Drop v s i ∷ J) h w t j c = absurd (cc)
 takes_by_one (Abandon v s ∷ J) h w t j c = absurd (cc)
 takes_by_one (Halt ∷ J) h w t j c = absurd (cc)
 
-finished : (P : Problem) (n : Settings) (s : Seen) (v : Verdict) → IsWithinLimits P → Alone P n s.journal s.plain → verdict s.plain ≡ Some v → IsFinished P n 1 s v
+finished : (P : Problem) (n : Settings) (s : Seen) (v : Verdict) → IsWithinLimits P → Alone P n s.journal s.plain → verdict s.plain ≡ Some v → IsFinished P n (Free 1) s v
 finished P n s v within alone stands = record {
   outcome = record {
     within = within;
@@ -56,18 +60,19 @@ finished P n s v within alone stands = record {
     completes = runs_complete P n alone.legal.0 s.plain within (legal-possible P n alone.legal.0 s.plain alone.legal.2);
   };
   alone = λ _. alone;
+  rounds = λ h. absurd (cc);
   stands = stands;
 }
 
 -- where a verdict stands, the one worker found memory
-by_one : (P : Problem) (n : Settings) (crew : Crew) (v : Verdict) → IsWithinLimits P → EndsAlone P n crew → verdict crew.board.plain ≡ Some v → IsFinished P n 1 crew.board v
+by_one : (P : Problem) (n : Settings) (crew : Crew) (v : Verdict) → IsWithinLimits P → EndsAlone P n crew → verdict crew.board.plain ≡ Some v → IsFinished P n (Free 1) crew.board v
 by_one P n crew v within ends stands = go crew.out_of_memory refl
   where
-    go : (b : Bool) → crew.out_of_memory ≡ b → IsFinished P n 1 crew.board v
+    go : (b : Bool) → crew.out_of_memory ≡ b → IsFinished P n (Free 1) crew.board v
     go true e = none_some (sym (ends.1 e).at_rest.no_verdict ∙ stands)
     go false e = finished P n crew.board v within (ends.0 e) stands
 
-by_several : (P : Problem) (n : Settings) (workers : ℕ) (crew : Crew) (v : Verdict) → IsWithinLimits P → workers ≢ 1 → EndsTogether P n workers crew → verdict crew.board.plain ≡ Some v → IsFinished P n workers crew.board v
+by_several : (P : Problem) (n : Settings) (workers : ℕ) (crew : Crew) (v : Verdict) → IsWithinLimits P → workers ≢ 1 → EndsTogether P n workers crew → verdict crew.board.plain ≡ Some v → IsFinished P n (Free workers) crew.board v
 by_several P n workers crew v within several ends stands =
     let legal = subst {A = Problem} (λ p. After p n crew.board.journal crew.board.plain) ends.problem (subst {A = Settings} (λ m. After crew.board.plain.problem m crew.board.journal crew.board.plain) ends.settings ends.legal.after) in
     record {
@@ -79,12 +84,14 @@ by_several P n workers crew v within several ends stands =
         takes = ends.takes;
         completes = runs_complete P n legal.0 crew.board.plain within (legal-possible P n legal.0 crew.board.plain legal.2);
       };
-      alone = λ one. absurd (several one);
+      alone = λ one. absurd (several (cc));
+      rounds = λ h. absurd (cc);
       stands = stands;
     }
 
 -- the work on which a verdict stands
-pub finished_by : (P : Problem) (n : Settings) (workers : ℕ) (crew : Crew) (v : Verdict) → IsWithinLimits P → EndsBy P n workers crew → verdict crew.board.plain ≡ Some v → IsFinished P n workers crew.board v
-finished_by P n workers crew v within ends stands = dite (ℕ_discrete workers 1)
-    (λ (one : workers ≡ 1). subst {A = ℕ} (λ k. IsFinished P n k crew.board v) (sym one) (by_one P n crew v within (ends.0 one).0 stands))
+pub finished_by : (P : Problem) (n : Settings) (workers : Workers) (crew : Crew) (v : Verdict) → IsWithinLimits P → EndsBy P n workers crew → verdict crew.board.plain ≡ Some v → IsFinished P n workers crew.board v
+finished_by P n (InRounds workers) crew v within ends stands = by_rounds P n workers crew v within ends.0 stands
+finished_by P n (Free workers) crew v within ends stands = dite (ℕ_discrete workers 1)
+    (λ (one : workers ≡ 1). subst {A = ℕ} (λ k. IsFinished P n (Free k) crew.board v) (sym one) (by_one P n crew v within (ends.0 one).0 stands))
     (λ (several : workers ≢ 1). by_several P n workers crew v within several (ends.1 several) stands)

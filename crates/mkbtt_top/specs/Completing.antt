@@ -1,6 +1,9 @@
 -- What a completion of a problem comes to.
-use Rattle.std.specs.Prelude.{ℕ, ◌≡◌, ◌≢◌, List, Option, Some, ⊤}
-use Rattle.kb_io.specs.Bytes.{TakesAll}
+use Rattle.std.specs.Prelude.{ℕ, ◌≡◌, IsTrue, List, Option, Some, ⊤}
+use Rattle.kb_io.specs.Bytes.{HasMoreThan, Rose, TakesAll}
+use Rattle.kb_text.specs.declared.kind.Kind.{Kind}
+use Rattle.kb_text.specs.declared.kind.Kind.TheVariants.{Limit}
+use Rattle.kb_text.specs.declared.kind.Bound.TheVariants.{Input}
 use Rattle.kb_term.specs.Signature.{Problem}
 use Rattle.kb_text.specs.Problems.{Spells}
 use Rattle.kb_text.specs.Refusals.{IsRefused}
@@ -10,19 +13,23 @@ use Rattle.kb_checker.specs.Answers.{Answer, IsGoodAnswer}
 use Rattle.kb_checker.specs.Verdicts.{IsAccepted}
 use Rattle.kb_report.specs.Answers.{AnswerSpelled}
 use Rattle.kb_report.specs.Reports.{report_text}
-use Rattle.kb_report.specs.declared.report.Report.{Report}
+use Rattle.kb_journal.specs.Journals.{journal_of_board, journal_text}
+use Rattle.mkbtt_top.specs.declared.completing.Told.{Told}
+use Rattle.mkbtt_top.specs.declared.completing.Told.TheVariants.{Report, Journal}
+use Rattle.kb_report.specs.declared.report.Report.{Report as Said}
 use Rattle.kb_report.specs.declared.report.Report.TheVariants.{System}
 use Rattle.mkb_model.specs.Headline.{IsOutcome, HasVerdict}
 use Rattle.mkb_model.specs.Journals.{Alone}
-use Rattle.mkb_board.specs.Boards.{Seen, IsLegalBoard}
-use Rattle.work_crew.specs.Alone.{EndsAlone}
-use Rattle.work_crew.specs.Together.{EndsTogether}
-use Rattle.work_crew.specs.declared.alone.Crew.{Crew}
+use Rattle.mkb_board.specs.Boards.{Seen}
+use Rattle.mkb_rounds.specs.Rounds.{IsRounds}
 use Rattle.mkb_report.specs.Reports.{IsReportOf}
 use Rattle.mkbtt_top.specs.declared.reply.Stop.{Stop}
 use Rattle.mkbtt_top.specs.declared.reply.Stop.TheVariants as stops
+use Rattle.mkbtt_top.specs.Workers.{are_in_rounds, takers_of}
 use Rattle.mkbtt_top.specs.declared.status.Status.{Status}
 use Rattle.mkbtt_top.specs.declared.status.Status.TheVariants.{Done, AllFailed, Spent}
+use Rattle.mkbtt_top.specs.declared.workers.Workers.{Workers}
+use Rattle.mkbtt_top.specs.declared.workers.Workers.TheVariants.{Free}
 use Rattle.mkb_model.specs.declared.settings.Settings.{Settings}
 
 -- how a run ends that writes the report of the verdict
@@ -31,14 +38,11 @@ status_of (verdicts.Complete p) = Done
 status_of verdicts.AllFailed = AllFailed
 status_of (verdicts.Spent s) = Spent s
 
--- so many workers ended the work on the problem: one alone, or several together
-abbrev pub EndsBy : Problem → Settings → ℕ → Crew → Type 0
-EndsBy P n workers crew = (workers ≡ 1 → EndsAlone P n crew × IsLegalBoard crew.board) × (workers ≢ 1 → EndsTogether P n workers crew)
-
--- so many workers worked for the problem on this board until this verdict stood: its journal is legal for the settings and the workers, and the views of each living process are a completion run of that process alone; where one worker worked, each ticket was ended at once
-pub record IsFinished (problem : Problem) (settings : Settings) (workers : ℕ) (board : Seen) (verdict : Verdict) : Type 0 where
-  pub outcome : IsOutcome problem settings workers board.journal board.plain
-  pub alone : workers ≡ 1 → Alone problem settings board.journal board.plain
+-- the workers worked for the problem on this board until this verdict stood: its journal is legal for the settings and the workers, and the views of each living process are a completion run of that process alone; where one worker worked, each ticket was ended at once; where they worked by rounds, it is the journal of rounds
+pub record IsFinished (problem : Problem) (settings : Settings) (workers : Workers) (board : Seen) (verdict : Verdict) : Type 0 where
+  pub outcome : IsOutcome problem settings (takers_of workers) board.journal board.plain
+  pub alone : workers ≡ Free 1 → Alone problem settings board.journal board.plain
+  pub rounds : IsTrue (are_in_rounds workers) → IsRounds problem settings board.journal board.plain
   pub stands : HasVerdict board.plain verdict
 
 -- the text spells the answer, which is good, and which the checker accepts
@@ -48,40 +52,61 @@ pub record IsGoodText (text : List ℕ) (answer : Answer) : Type 0 where
   pub accepted : IsAccepted answer
 
 -- where the report is an answer, the text is a good one's
-abbrev pub IsGoodReport : List ℕ → Report → Type 0
+abbrev pub IsGoodReport : List ℕ → Said → Type 0
 IsGoodReport text (System answer) = IsGoodText text answer
 IsGoodReport text report = ⊤
 
 -- the text is that of the report of the verdict: of a complete process its answer, which is good
 pub record IsReported (board : Seen) (verdict : Verdict) (text : List ℕ) : Type 0 where
-  pub report : Report
+  pub report : Said
   pub is_report : IsReportOf board.plain verdict report
   pub text_is : text ≡ report_text report
   pub good : IsGoodReport text report
 
--- the board is one on which so many workers completed the problem, and the status and the text tell its verdict
-pub record IsCompletion (problem : Problem) (settings : Settings) (workers : ℕ) (status : Status) (board : Option Seen) (text : List ℕ) : Type 0 where
+-- the text is that of the journal of the board
+abbrev pub IsJournalOf : Seen → Verdict → List ℕ → Type 0
+IsJournalOf board verdict text = text ≡ journal_text (journal_of_board board)
+
+-- what is told of the board where a verdict stands: the report, or the journal
+abbrev pub IsTold : Told → Seen → Verdict → List ℕ → Type 0
+IsTold Report board verdict text = IsReported board verdict text
+IsTold Journal board verdict text = IsJournalOf board verdict text
+
+-- the board is one on which the workers completed the problem, the status tells its verdict, and this is told of it
+pub record IsCompletion (told : Told) (problem : Problem) (settings : Settings) (workers : Workers) (status : Status) (board : Option Seen) (text : List ℕ) : Type 0 where
   pub end : Seen
   pub verdict : Verdict
   pub board_is : board ≡ Some end
   pub status_is : status ≡ status_of verdict
   pub finished : IsFinished problem settings workers end verdict
-  pub reported : IsReported end verdict text
+  pub reported : IsTold told end verdict text
 
 -- the bytes spell a problem, of which this is a completion
-pub record IsCompletionOf (bytes : List ℕ) (settings : Settings) (workers : ℕ) (status : Status) (board : Option Seen) (text : List ℕ) : Type 0 where
+pub record IsCompletionOf (told : Told) (bytes : List ℕ) (settings : Settings) (workers : Workers) (status : Status) (board : Option Seen) (text : List ℕ) : Type 0 where
   pub problem : Problem
   pub spelled : Spells bytes problem
-  pub completion : IsCompletion problem settings workers status board text
+  pub completion : IsCompletion told problem settings workers status board text
 
 -- the source was read to its end, and this is a completion of the problem that its bytes spell
-pub record Completes (settings : Settings) (workers : ℕ) (status : Status) (board : Option Seen) (left_old left_new : Option (List ℕ)) (text : List ℕ) : Type 0 where
+pub record Completes (told : Told) (settings : Settings) (workers : Workers) (status : Status) (board : Option Seen) (left_old left_new : Option (List ℕ)) (text : List ℕ) : Type 0 where
   pub bytes : List ℕ
   pub read : TakesAll left_old bytes left_new
-  pub completion : IsCompletionOf bytes settings workers status board text
+  pub completion : IsCompletionOf told bytes settings workers status board text
 
 -- the bytes are refused so, or there was no memory
 abbrev pub IsRefusal : List ℕ → Stop → Type 0
 IsRefusal bytes (stops.Refused kind at) = IsRefused bytes kind at
 IsRefusal bytes (stops.Memory board) = ⊤
 IsRefusal bytes stop = ⊥
+
+-- the refusal of what was read: the bytes up to the end are refused so, or there are too many of them
+pub data IsProblemRefused (left_old left_new : Option (List ℕ)) : Kind → ℕ → Type 0 where
+  by_text : {kind : Kind} {at : ℕ} (bytes : List ℕ) → TakesAll left_old bytes left_new → IsRefused bytes kind at → IsProblemRefused left_old left_new kind at
+  too_long : HasMoreThan 1048576 left_old → IsProblemRefused left_old left_new (Limit Input) 1048576
+
+-- why no completion of what is read was told
+abbrev pub IsUnfinishedBy : Option (List ℕ) → Option (List ℕ) → ℕ → ℕ → Stop → Type 0
+IsUnfinishedBy left_old left_new before after (stops.Refused kind at) = IsProblemRefused left_old left_new kind at
+IsUnfinishedBy left_old left_new before after (stops.BadText n) = ⊥
+IsUnfinishedBy left_old left_new before after stops.ReadFault = Rose before after
+IsUnfinishedBy left_old left_new before after (stops.Memory board) = ⊤

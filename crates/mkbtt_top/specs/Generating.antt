@@ -7,6 +7,7 @@ use Rattle.kb_report.specs.Summaries.{summary_text}
 use Rattle.mkb_board.specs.Boards.{Seen, drops_in}
 use Rattle.mkb_report.specs.Summaries.{summary_of}
 use Rattle.mkbtt_top.specs.Completing.{IsFinished}
+use Rattle.mkbtt_top.specs.declared.workers.Workers.TheVariants.{Free}
 use Rattle.mkbtt_top.specs.declared.status.Status.{Status}
 use Rattle.mkbtt_top.specs.declared.status.Status.TheVariants.{Done}
 use Rattle.mkb_model.specs.declared.settings.Settings.{Settings}
@@ -27,5 +28,5 @@ pub record Summarises (settings : Settings) (number : ℕ) (status : Status) (bo
   pub verdict : Verdict
   pub status_is : status ≡ Done
   pub board_is : board ≡ Some end
-  pub finished : IsFinished (generated number) settings 1 end verdict
+  pub finished : IsFinished (generated number) settings (Free 1) end verdict
   pub text_is : text ≡ board_text end

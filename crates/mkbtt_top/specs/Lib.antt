@@ -9,3 +9,6 @@ pub mod Deciding
 pub mod Completing
 pub mod Generating
 pub mod Runs
+pub mod Workers
+pub mod Explaining
+pub mod Replaying

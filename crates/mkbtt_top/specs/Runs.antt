@@ -1,26 +1,25 @@
 -- What a run comes to, by its words.
 use Rattle.std.specs.Prelude.{ℕ, ◌≡◌, ◌⊎◌, List, Option, ⊤, IsTrue}
-use Rattle.kb_io.specs.Bytes.{TakesAll, HasMoreThan, Appends, AppendsPart, Rose}
-use Rattle.kb_text.specs.Refusals.{IsRefused}
+use Rattle.kb_io.specs.Bytes.{Appends, AppendsPart, Rose}
 use Rattle.kb_text.specs.declared.kind.Kind.{Kind}
-use Rattle.kb_text.specs.declared.kind.Kind.TheVariants.{Limit}
-use Rattle.kb_text.specs.declared.kind.Bound.TheVariants.{Input}
 use Rattle.mkb_board.specs.Boards.{Seen}
 use Rattle.mkbtt_top.specs.Answering.{HasBadLine, IsAnswerLong}
 use Rattle.mkbtt_top.specs.Checking.{Checks}
-use Rattle.mkbtt_top.specs.Completing.{Completes}
+use Rattle.mkbtt_top.specs.Completing.{Completes, IsProblemRefused}
+use Rattle.mkbtt_top.specs.Replaying.{Replays}
+use Rattle.mkbtt_top.specs.declared.completing.Told.TheVariants as told
 use Rattle.mkbtt_top.specs.Converting.{Converts}
 use Rattle.mkbtt_top.specs.Deciding.{Decides, Simplifies}
 use Rattle.mkbtt_top.specs.Reducing.{Reduces}
 use Rattle.mkbtt_top.specs.Generating.{Generates, Summarises}
 use Rattle.mkbtt_top.specs.Replies.{board_of_stop, status_of_stop}
-use Rattle.mkbtt_top.specs.Tasks.{AskFor, form_of, is_reading, reads_answer}
+use Rattle.mkbtt_top.specs.Tasks.{AskFor, form_of, is_reading, reads_lines, TakesFew}
 use Rattle.mkbtt_top.specs.declared.reply.Stop.{Stop}
 use Rattle.mkbtt_top.specs.declared.reply.Stop.TheVariants as stops
 use Rattle.mkbtt_top.specs.declared.task.Task.{Task}
-use Rattle.mkbtt_top.specs.declared.task.Task.TheVariants.{Complete, Check, Convert, Reduce, Decide, Simplify, Summary, Generate}
+use Rattle.mkbtt_top.specs.declared.task.Task.TheVariants.{Complete, Journal, Replay, Check, Convert, Reduce, Decide, Simplify, Summary, Generate}
 use Rattle.mkbtt_top.specs.declared.status.Status.{Status}
-use Rattle.mkbtt_top.specs.declared.status.Status.TheVariants.{Done, AllFailed, Rejected, Unreduced, Spent, Refused, BadText, ReadFault, WriteFault, Memory}
+use Rattle.mkbtt_top.specs.declared.status.Status.TheVariants.{Done, AllFailed, Rejected, BadEntry, Unreduced, Spent, Refused, BadText, ReadFault, WriteFault, Memory}
 use Rattle.mkbtt_top.specs.declared.status.Status.TheVariants as status
 
 -- ---- what is written
@@ -30,6 +29,7 @@ abbrev pub IsAnswered : Status → Type 0
 IsAnswered Done = ⊤
 IsAnswered AllFailed = ⊤
 IsAnswered (Rejected reason n) = ⊤
+IsAnswered (BadEntry n) = ⊤
 IsAnswered (Unreduced why n) = ⊤
 IsAnswered (Spent spent) = ⊤
 IsAnswered (Refused kind at) = ⊥
@@ -39,9 +39,11 @@ IsAnswered WriteFault = ⊥
 IsAnswered Memory = ⊥
 IsAnswered status.Words = ⊥
 
--- the text, the status and the board are what the task makes of what is read: the report of a completion, what the checker says, the answer as it is written, its reduced system, what it says of goals and terms, the summary of a completion, or a generated problem
+-- the text, the status and the board are what the task makes of what is read: the report or the journal of a completion, the summary of the board to which a journal leads, what the checker says, the answer as it is written, its reduced system, what it says of goals and terms, the summary of a completion, or a generated problem
 abbrev pub Makes : Task → Status → Option Seen → Option (List ℕ) → Option (List ℕ) → List ℕ → Type 0
-Makes (Complete settings workers) end board old new text = Completes settings workers end board old new text
+Makes (Complete settings workers) end board old new text = Completes told.Report settings workers end board old new text
+Makes (Journal settings workers) end board old new text = Completes told.Journal settings workers end board old new text
+Makes Replay end board old new text = Replays end board old new text
 Makes Check end board old new text = Checks end board old new text
 Makes (Convert format) end board old new text = Converts format end board old new text
 Makes Reduce end board old new text = Reduces end board old new text
@@ -69,14 +71,11 @@ pub record AnswersInPart (words : List (List ℕ)) (board : Option Seen) (left_o
 
 -- ---- why nothing is written
 
--- the refusal of what was read: the bytes up to the end are refused so, or there are too many of them
-pub data IsProblemRefused (left_old left_new : Option (List ℕ)) : Kind → ℕ → Type 0 where
-  by_text : {kind : Kind} {at : ℕ} (bytes : List ℕ) → TakesAll left_old bytes left_new → IsRefused bytes kind at → IsProblemRefused left_old left_new kind at
-  too_long : HasMoreThan 1048576 left_old → IsProblemRefused left_old left_new (Limit Input) 1048576
-
--- the refusal of what the task reads: a problem, or an answer that has too many bytes
+-- the refusal of what the task reads: a problem, or an answer or a journal that has too many bytes
 abbrev pub IsRefusedBy : Task → Option (List ℕ) → Option (List ℕ) → Kind → ℕ → Type 0
 IsRefusedBy (Complete settings workers) old new kind at = IsProblemRefused old new kind at
+IsRefusedBy (Journal settings workers) old new kind at = IsProblemRefused old new kind at
+IsRefusedBy Replay old new kind at = IsAnswerLong old kind at
 IsRefusedBy Check old new kind at = IsAnswerLong old kind at
 IsRefusedBy (Convert format) old new kind at = IsAnswerLong old kind at
 IsRefusedBy Reduce old new kind at = IsAnswerLong old kind at
@@ -91,23 +90,19 @@ pub record Refuses (words : List (List ℕ)) (left_old left_new : Option (List �
   pub asked : AskFor task words
   pub refused : IsRefusedBy task left_old left_new kind at
 
--- the words ask for a task that reads an answer, and this line is the first that isn't of the form of such a text
+-- the words ask for a task that reads an answer or a journal, and this line is the first that isn't of the form of such a text
 pub record HasBadAnswer (words : List (List ℕ)) (left_old left_new : Option (List ℕ)) (n : ℕ) : Type 0 where
   pub task : Task
   pub asked : AskFor task words
-  pub reads : IsTrue (reads_answer task)
+  pub reads : IsTrue (reads_lines task)
   pub line : HasBadLine (form_of task) left_old left_new n
 
 -- why the task makes nothing
 abbrev pub StopsBy : Task → Option (List ℕ) → Option (List ℕ) → ℕ → ℕ → Stop → Type 0
 StopsBy task old new before after (stops.Refused kind at) = IsRefusedBy task old new kind at
-StopsBy task old new before after (stops.BadText n) = IsTrue (reads_answer task) × HasBadLine (form_of task) old new n
+StopsBy task old new before after (stops.BadText n) = IsTrue (reads_lines task) × HasBadLine (form_of task) old new n
 StopsBy task old new before after stops.ReadFault = IsTrue (is_reading task) × Rose before after
 StopsBy task old new before after (stops.Memory board) = ⊤
-
--- something is read only for a task that reads
-abbrev pub IsUnread : Task → Option (List ℕ) → Option (List ℕ) → Type 0
-IsUnread task old new = IsTrue (is_reading task) ⊎ (new ≡ old)
 
 -- the words ask for a task that reads
 pub record AskToRead (words : List (List ℕ)) : Type 0 where
@@ -115,15 +110,23 @@ pub record AskToRead (words : List (List ℕ)) : Type 0 where
   pub asked : AskFor task words
   pub reads : IsTrue (is_reading task)
 
--- nothing was read, or the words ask for a task that reads
+-- the words ask for a task that reads, and at most one byte more was taken than it may read
+pub record ReadsFew (words : List (List ℕ)) (left_old left_new : Option (List ℕ)) : Type 0 where
+  pub task : Task
+  pub asked : AskFor task words
+  pub reads : IsTrue (is_reading task)
+  pub few : TakesFew task left_old left_new
+
+-- nothing was read, or the words ask for a task that reads, and few bytes were taken
 abbrev pub ReadsIfAsked : List (List ℕ) → Option (List ℕ) → Option (List ℕ) → Type 0
-ReadsIfAsked words old new = (new ≡ old) ⊎ AskToRead words
+ReadsIfAsked words old new = (new ≡ old) ⊎ ReadsFew words old new
 
 -- a run that ends so has made no board
 abbrev pub HasNoBoard : Status → Type 0
 HasNoBoard Done = ⊥
 HasNoBoard AllFailed = ⊥
 HasNoBoard (Rejected reason n) = ⊤
+HasNoBoard (BadEntry n) = ⊤
 HasNoBoard (Unreduced why n) = ⊤
 HasNoBoard (Spent spent) = ⊥
 HasNoBoard (Refused kind at) = ⊤
@@ -138,6 +141,7 @@ abbrev pub WritesNothing : Status → Option (List ℕ) → Option (List ℕ) �
 WritesNothing Done old new = ⊤
 WritesNothing AllFailed old new = ⊤
 WritesNothing (Rejected reason n) old new = ⊤
+WritesNothing (BadEntry n) old new = ⊤
 WritesNothing (Unreduced why n) old new = ⊤
 WritesNothing (Spent spent) old new = ⊤
 WritesNothing (Refused kind at) old new = new ≡ old

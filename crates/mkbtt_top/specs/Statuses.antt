@@ -6,7 +6,7 @@ use Rattle.kb_text.specs.declared.kind.Kind.TheVariants.{NotUtf8, Unclosed, BadS
 use Rattle.kb_text.specs.declared.kind.Bound.{Bound}
 use Rattle.kb_text.specs.declared.kind.Bound.TheVariants.{Name, Equations, Size, Depth, Symbols, Variables, Arity, Input}
 use Rattle.mkbtt_top.specs.declared.status.Status.{Status}
-use Rattle.mkbtt_top.specs.declared.status.Status.TheVariants.{Done, AllFailed, Rejected, Unreduced, Spent, Refused, BadText, ReadFault, WriteFault, Memory, Words}
+use Rattle.mkbtt_top.specs.declared.status.Status.TheVariants.{Done, AllFailed, Rejected, BadEntry, Unreduced, Spent, Refused, BadText, ReadFault, WriteFault, Memory, Words}
 
 abbrev pub bound_word : Bound → List ℕ
 bound_word Name = codes "name"
@@ -39,6 +39,7 @@ line_of Done = []
 line_of AllFailed = []
 line_of (Spent spent) = []
 line_of (Rejected reason n) = []
+line_of (BadEntry n) = []
 line_of (Unreduced why n) = []
 line_of (Refused kind at) = line (codes "mkbtt:" ∷ codes "refused" ∷ kind_word kind ∷ codes "at" ∷ decimal at ∷ [])
 line_of (BadText n) = line (codes "mkbtt:" ∷ codes "refused" ∷ codes "line" ∷ decimal n ∷ [])
@@ -51,6 +52,7 @@ abbrev pub code_of : Status → ℕ
 code_of Done = 0
 code_of AllFailed = 1
 code_of (Rejected reason n) = 1
+code_of (BadEntry n) = 1
 code_of (Unreduced why n) = 1
 code_of (Spent spent) = 2
 code_of (Refused kind at) = 3

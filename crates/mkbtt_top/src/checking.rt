@@ -1,5 +1,6 @@
 // The check of an answer.
 ghost use Rattle.std.specs.Prelude.{◌≡◌, ◌≤◌, None, IfOk, IfErr};
+ghost use Rattle.kb_io.specs.Bytes.{TakesAtMost};
 ghost use Rattle.mkbtt_top.specs.Checking.{reject_word as word_of_reject, checked_text as text_of_checked, status_of as status_by, Checks};
 ghost use Rattle.mkbtt_top.specs.Runs.{StopsBy};
 
@@ -79,6 +80,7 @@ pub(crate) fn rejection(alloc: Global, reason: Reject, n: u64) -> Result<Reply, 
 pub(crate) fn check_source<S: Source>(alloc: Global, source: &mut S) -> Result<Reply, Stop>
     ensures reply { IfOk result (λ r. Checks r.status r.board (S.left source.old) (S.left source.new) r.text.items) }
     ensures stop { IfErr result (StopsBy Task.Check (S.left source.old) (S.left source.new) (S.faults source.old) (S.faults source.new)) }
+    ensures few { TakesAtMost (S.left source.old) 67108865 (S.left source.new) }
     ensures count { S.faults source.old ≤ S.faults source.new }
 {
     let answer = answer_from(alloc, source)?;

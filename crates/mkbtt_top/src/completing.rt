@@ -2,14 +2,16 @@
 ghost use Rattle.std.specs.Prelude.{◌≡◌, ◌≤◌, Some, IfOk, IfErr};
 ghost use Rattle.kb_term.specs.Signature.{IsWithinLimits};
 ghost use Rattle.mkb_model.specs.Verdicts.{verdict as verdict_on};
-ghost use Rattle.mkbtt_top.specs.Completing.{status_of as status_by, IsFinished, IsReported, IsCompletion, IsCompletionOf, Completes, IsRefusal};
-ghost use Rattle.mkbtt_top.specs.Runs.{StopsBy};
+ghost use Rattle.kb_io.specs.Bytes.{TakesAtMost};
+ghost use Rattle.mkbtt_top.specs.Completing.{status_of as status_by, IsFinished, IsReported, IsTold, IsCompletion, IsCompletionOf, Completes, IsRefusal, IsUnfinishedBy};
+ghost use Rattle.mkbtt_top.specs.Workers.{FewWorkers};
 
-use crate::host::{Host, worked_on};
+use crate::host::Host;
 use crate::reply::{Reply, Stop};
 use crate::status::Status;
-use crate::task::Task;
+use crate::workers::{Workers, worked_on};
 use kb_io::{Gate, ReadAllFault, Source, read_all};
+use kb_journal::journal_text;
 use kb_label::Verdict;
 use kb_report::answer_text;
 use kb_syntax::{Bound, Kind, SyntaxFault, parse_problem, spelled_problems_are_within_limits};
@@ -46,7 +48,27 @@ fn report_text(alloc: Global, board: &Board, verdict: &Verdict) -> Result<Vec<u8
     answer_text(alloc, &report)
 }
 
-/// The board of the problem, on which so many workers have ended their work.
+/// What is told of a board on which a verdict stands.
+#[derive(Clone, Copy, PartialEq, Eq)]
+pub(crate) enum Told {
+    /// The report of the verdict.
+    Report,
+    /// The journal.
+    Journal,
+}
+
+// The text of what is told of the board on which the verdict stands.
+fn told_text(alloc: Global, board: &Board, verdict: &Verdict, told: Told) -> Result<Vec<u8>, Memory>
+    requires { verdict_on board.now.plain ≡ Some verdict.now }
+    ensures { IfOk result (λ text. IsTold told board.now verdict.now text.items) }
+{
+    match told {
+        Told::Report => report_text(alloc, board, verdict),
+        Told::Journal => journal_text(alloc, board),
+    }
+}
+
+/// The board of the problem, on which the workers have ended their work.
 ///
 /// # Errors
 ///
@@ -55,11 +77,10 @@ pub(crate) fn finish<R: Threads + Wait + Sync, G: Gate>(
     host: &Host<R, G>,
     problem: Problem,
     settings: Settings,
-    workers: u8,
+    workers: Workers,
 ) -> Result<(Board, Verdict), Option<Board>>
     requires within { IsWithinLimits problem }
-    requires least { 1 ≤ workers }
-    requires most { workers ≤ 16 }
+    requires few { FewWorkers workers }
     ensures { IfOk result (λ end. IsFinished problem settings workers end.0 end.1) }
 {
     let Ok(board) = Board::start(host.alloc, problem, settings) else {
@@ -77,15 +98,15 @@ fn complete_problem<R: Threads + Wait + Sync, G: Gate>(
     host: &Host<R, G>,
     problem: Problem,
     settings: Settings,
-    workers: u8,
+    workers: Workers,
+    told: Told,
 ) -> Result<Reply, Option<Board>>
     requires within { IsWithinLimits problem }
-    requires least { 1 ≤ workers }
-    requires most { workers ≤ 16 }
-    ensures { IfOk result (λ r. IsCompletion problem settings workers r.status r.board r.text.items) }
+    requires few { FewWorkers workers }
+    ensures { IfOk result (λ r. IsCompletion told problem settings workers r.status r.board r.text.items) }
 {
     let (board, verdict) = finish(host, problem, settings, workers)?;
-    match report_text(host.alloc, &board, &verdict) {
+    match told_text(host.alloc, &board, &verdict, told) {
         Ok(text) => Ok(Reply {
             text,
             status: status_of(&verdict),
@@ -100,11 +121,11 @@ fn complete_bytes<R: Threads + Wait + Sync, G: Gate>(
     host: &Host<R, G>,
     bytes: &[u8],
     settings: Settings,
-    workers: u8,
+    workers: Workers,
+    told: Told,
 ) -> Result<Reply, Stop>
-    requires least { 1 ≤ workers }
-    requires most { workers ≤ 16 }
-    ensures reply { IfOk result (λ r. IsCompletionOf bytes.now settings workers r.status r.board r.text.items) }
+    requires few { FewWorkers workers }
+    ensures reply { IfOk result (λ r. IsCompletionOf told bytes.now settings workers r.status r.board r.text.items) }
     ensures stop { IfErr result (IsRefusal bytes.now) }
 {
     // a law: what the bytes spell is within the limits
@@ -114,20 +135,21 @@ fn complete_bytes<R: Threads + Wait + Sync, G: Gate>(
         Err(SyntaxFault::Refused(refusal)) => return Err(Stop::Refused(refusal.kind, refusal.at)),
         Err(SyntaxFault::Memory) => return Err(Stop::Memory(None)),
     };
-    complete_problem(host, problem, settings, workers).map_err(Stop::Memory)
+    complete_problem(host, problem, settings, workers, told).map_err(Stop::Memory)
 }
 
-/// Reads a problem from the source and completes it by so many workers; the reply is the report of the verdict.
+/// Reads a problem from the source and completes it by these workers; the reply is the report of the verdict, or the journal.
 pub(crate) fn complete_source<R: Threads + Wait + Sync, S: Source, G: Gate>(
     host: &Host<R, G>,
     source: &mut S,
     settings: Settings,
-    workers: u8,
+    workers: Workers,
+    told: Told,
 ) -> Result<Reply, Stop>
-    requires least { 1 ≤ workers }
-    requires most { workers ≤ 16 }
-    ensures reply { IfOk result (λ r. Completes settings workers r.status r.board (S.left source.old) (S.left source.new) r.text.items) }
-    ensures stop { IfErr result (StopsBy (Task.Complete settings workers) (S.left source.old) (S.left source.new) (S.faults source.old) (S.faults source.new)) }
+    requires few { FewWorkers workers }
+    ensures reply { IfOk result (λ r. Completes told settings workers r.status r.board (S.left source.old) (S.left source.new) r.text.items) }
+    ensures stop { IfErr result (IsUnfinishedBy (S.left source.old) (S.left source.new) (S.faults source.old) (S.faults source.new)) }
+    ensures few { TakesAtMost (S.left source.old) 1048577 (S.left source.new) }
     ensures count { S.faults source.old ≤ S.faults source.new }
 {
     let bytes = match read_all(host.alloc, source, PROBLEM_BYTES) {
@@ -138,5 +160,5 @@ pub(crate) fn complete_source<R: Threads + Wait + Sync, S: Source, G: Gate>(
         }
         Err(ReadAllFault::Memory) => return Err(Stop::Memory(None)),
     };
-    complete_bytes(host, &bytes, settings, workers)
+    complete_bytes(host, &bytes, settings, workers, told)
 }

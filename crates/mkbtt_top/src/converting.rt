@@ -1,5 +1,6 @@
 // The conversion of an answer.
 ghost use Rattle.std.specs.Prelude.{◌≡◌, ◌≤◌, IfOk, IfErr};
+ghost use Rattle.kb_io.specs.Bytes.{TakesAtMost};
 ghost use Rattle.mkbtt_top.specs.Converting.{Converts, IsWrittenAs};
 ghost use Rattle.mkbtt_top.specs.Runs.{StopsBy};
 
@@ -38,6 +39,7 @@ pub(crate) fn convert_source<S: Source>(
 ) -> Result<Reply, Stop>
     ensures reply { IfOk result (λ r. Converts format r.status r.board (S.left source.old) (S.left source.new) r.text.items) }
     ensures stop { IfErr result (StopsBy (Task.Convert format) (S.left source.old) (S.left source.new) (S.faults source.old) (S.faults source.new)) }
+    ensures few { TakesAtMost (S.left source.old) 67108865 (S.left source.new) }
     ensures count { S.faults source.old ≤ S.faults source.new }
 {
     let answer = answer_from(alloc, source)?;

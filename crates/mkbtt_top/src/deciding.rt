@@ -3,6 +3,7 @@ ghost use Rattle.std.specs.Prelude.{◌≡◌, ◌≤◌, ◌⊎◌, None, All, 
 ghost use Rattle.kb_term.specs.Signature.{IsEquationWithinLimits};
 ghost use Rattle.kb_term.specs.View.{equations_of_list, tree_of};
 ghost use Rattle.kb_goals.specs.Simplifying.{IsNumberedTerm};
+ghost use Rattle.kb_io.specs.Bytes.{TakesAtMost};
 ghost use Rattle.mkbtt_top.specs.Deciding.{Decides, IsRejection, SaysOfGoals, SaysOfTerms, Simplifies};
 ghost use Rattle.mkbtt_top.specs.Runs.{StopsBy};
 
@@ -34,6 +35,7 @@ fn said_of_goals(alloc: Global, answer: &Answer, goals: &[(Term, Term)]) -> Resu
 pub(crate) fn decide_source<S: Source>(alloc: Global, source: &mut S) -> Result<Reply, Stop>
     ensures reply { IfOk result (λ r. Decides r.status r.board (S.left source.old) (S.left source.new) r.text.items) }
     ensures stop { IfErr result (StopsBy Task.Decide (S.left source.old) (S.left source.new) (S.faults source.old) (S.faults source.new)) }
+    ensures few { TakesAtMost (S.left source.old) 67108865 (S.left source.new) }
     ensures count { S.faults source.old ≤ S.faults source.new }
 {
     let (answer, goals) = goals_from(alloc, source)?;
@@ -58,6 +60,7 @@ fn said_of_terms(alloc: Global, answer: &Answer, terms: &[Term]) -> Result<Reply
 pub(crate) fn simplify_source<S: Source>(alloc: Global, source: &mut S) -> Result<Reply, Stop>
     ensures reply { IfOk result (λ r. Simplifies r.status r.board (S.left source.old) (S.left source.new) r.text.items) }
     ensures stop { IfErr result (StopsBy Task.Simplify (S.left source.old) (S.left source.new) (S.faults source.old) (S.faults source.new)) }
+    ensures few { TakesAtMost (S.left source.old) 67108865 (S.left source.new) }
     ensures count { S.faults source.old ≤ S.faults source.new }
 {
     let (answer, terms) = terms_from(alloc, source)?;

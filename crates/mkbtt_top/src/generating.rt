@@ -1,14 +1,13 @@
 // Generated problems: their text, and the summary of their completion.
-ghost use Rattle.std.specs.Prelude.{◌≡◌, ◌≤◌, Some, IfOk};
-ghost use Rattle.mkb_model.specs.Verdicts.{verdict as verdict_on};
+ghost use Rattle.std.specs.Prelude.{◌≡◌, ◌≤◌, IfOk};
 ghost use Rattle.mkbtt_top.specs.Generating.{board_text as text_of_board, Generates, Summarises};
 
 use crate::completing::finish;
 use crate::host::Host;
 use crate::reply::Reply;
 use crate::status::Status;
+use crate::workers::Workers;
 use kb_io::Gate;
-use kb_label::Verdict;
 use kb_report::summary_text;
 use kb_syntax::{generate, problem_text};
 use kb_term::Memory;
@@ -54,8 +53,8 @@ pub(crate) fn summarise<R: Threads + Wait + Sync, G: Gate>(
     let Ok(problem) = generate(host.alloc, number as usize) else {
         return Err(None);
     };
-    let (board, verdict) = finish(host, problem, settings, 1)?;
-    match board_text(host.alloc, &board, verdict) {
+    let (board, _) = finish(host, problem, settings, Workers::Free(1))?;
+    match board_text(host.alloc, &board) {
         Ok(text) => Ok(Reply {
             text,
             status: Status::Done,
@@ -65,11 +64,14 @@ pub(crate) fn summarise<R: Threads + Wait + Sync, G: Gate>(
     }
 }
 
-// The summary of a board on which this verdict stands.
-fn board_text(alloc: Global, board: &Board, verdict: Verdict) -> Result<Vec<u8>, Memory>
-    requires { verdict_on board.now.plain ≡ Some verdict }
+/// The text of the summary of a board.
+///
+/// # Errors
+///
+/// Want of memory.
+pub(crate) fn board_text(alloc: Global, board: &Board) -> Result<Vec<u8>, Memory>
     ensures { IfOk result (λ text. text.items ≡ text_of_board board.now) }
 {
-    let summary = summary_of(board.state(), &Some(verdict), board.drops());
+    let summary = summary_of(board.state(), &board.verdict(), board.drops());
     summary_text(alloc, &summary)
 }

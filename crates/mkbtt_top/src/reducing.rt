@@ -1,5 +1,6 @@
 // The reduced system of an answer.
 ghost use Rattle.std.specs.Prelude.{◌≡◌, ◌≤◌, None, IfOk, IfErr};
+ghost use Rattle.kb_io.specs.Bytes.{TakesAtMost};
 ghost use Rattle.mkbtt_top.specs.Reducing.{unreduced_text as text_of_unreduced, why_word as word_of_why, Reduces, TellsOf};
 ghost use Rattle.mkbtt_top.specs.Runs.{StopsBy};
 
@@ -61,6 +62,7 @@ fn reduced(alloc: Global, answer: &Answer) -> Result<Reply, Memory>
 pub(crate) fn reduce_source<S: Source>(alloc: Global, source: &mut S) -> Result<Reply, Stop>
     ensures reply { IfOk result (λ r. Reduces r.status r.board (S.left source.old) (S.left source.new) r.text.items) }
     ensures stop { IfErr result (StopsBy Task.Reduce (S.left source.old) (S.left source.new) (S.faults source.old) (S.faults source.new)) }
+    ensures few { TakesAtMost (S.left source.old) 67108865 (S.left source.new) }
     ensures count { S.faults source.old ≤ S.faults source.new }
 {
     let answer = answer_from(alloc, source)?;

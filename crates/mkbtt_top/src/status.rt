@@ -18,6 +18,8 @@ pub enum Status {
     AllFailed,
     /// The answer that was read is rejected, for this reason at the item with this number in its group.
     Rejected(Reject, u64),
+    /// The entry with this number, from 1, is the first of the journal that was read that no board makes, following those before.
+    BadEntry(u64),
     /// The answer that was read has a rule, with this number, whose right side passes this limit when it is normalised.
     Unreduced(Why, u32),
     /// The budget is used up, or each living process failed or passed a limit, and that was written.
@@ -44,6 +46,7 @@ pub fn status_code(status: &Status) -> u8
         Status::Done => 0,
         Status::AllFailed => 1,
         Status::Rejected(_, _) => 1,
+        Status::BadEntry(_) => 1,
         Status::Unreduced(_, _) => 1,
         Status::Spent(_) => 2,
         Status::Refused(_, _) => 3,
@@ -116,6 +119,7 @@ pub fn status_line(alloc: Global, status: &Status) -> Result<Vec<u8>, Memory>
         Status::Done
         | Status::AllFailed
         | Status::Rejected(_, _)
+        | Status::BadEntry(_)
         | Status::Unreduced(_, _)
         | Status::Spent(_) => return Ok(text),
         Status::Refused(kind, at) => {

@@ -1,16 +1,18 @@
 // The top call.
 ghost use Rattle.std.specs.Prelude.{◌≡◌, ◌≤◌, None, map, IfOk, IfErr};
 ghost use Rattle.kb_io.specs.Bytes.{Rose};
-ghost use Rattle.mkbtt_top.specs.Runs.{Answers, AnswersInPart, AskToRead, Ends, HasBadAnswer, HasNoBoard, IsAnswered, IsUnread, Makes, ReadsIfAsked, Refuses, StopsBy, WritesNothing};
-ghost use Rattle.mkbtt_top.specs.Tasks.{AreBadWords, AskFor, HasNumber};
+ghost use Rattle.mkbtt_top.specs.Runs.{Answers, AnswersInPart, AskToRead, Ends, HasBadAnswer, HasNoBoard, IsAnswered, Makes, ReadsIfAsked, Refuses, StopsBy, WritesNothing};
+ghost use Rattle.mkbtt_words.specs.Reading.{AreRefused};
+ghost use Rattle.mkbtt_top.specs.Tasks.{AskFor, HasNumber, TakesFew};
 
 use crate::checking::check_source;
-use crate::completing::complete_source;
+use crate::completing::{Told, complete_source};
 use crate::converting::convert_source;
 use crate::deciding::{decide_source, simplify_source};
 use crate::generating::{generated_text, summarise};
 use crate::host::Host;
 use crate::reducing::reduce_source;
+use crate::replaying::replay_source;
 use crate::reply::{Outcome, Reply, Stop, outcome_of, write_reply};
 use crate::status::Status;
 use crate::task::{Task, asked_task};
@@ -29,11 +31,17 @@ fn make<R: Threads + Wait + Sync, S: Source, G: Gate>(
     requires { HasNumber task }
     ensures reply { IfOk result (λ r. Makes task r.status r.board (S.left source.old) (S.left source.new) r.text.items) }
     ensures stop { IfErr result (StopsBy task (S.left source.old) (S.left source.new) (S.faults source.old) (S.faults source.new)) }
-    ensures unread { IsUnread task (S.left source.old) (S.left source.new) }
+    ensures few { TakesFew task (S.left source.old) (S.left source.new) }
     ensures count { S.faults source.old ≤ S.faults source.new }
 {
     match task {
-        Task::Complete { settings, workers } => complete_source(host, source, settings, workers),
+        Task::Complete { settings, workers } => {
+            complete_source(host, source, settings, workers, Told::Report)
+        }
+        Task::Journal { settings, workers } => {
+            complete_source(host, source, settings, workers, Told::Journal)
+        }
+        Task::Replay => replay_source(host.alloc, source),
         Task::Check => check_source(host.alloc, source),
         Task::Convert { format } => convert_source(host.alloc, source, format),
         Task::Reduce => reduce_source(host.alloc, source),
@@ -55,7 +63,7 @@ fn run_task<R: Threads + Wait + Sync, S: Source, K: Sink, G: Gate>(
 ) -> Outcome
     requires { HasNumber task }
     ensures ends { Ends task result.status result.board (S.left source.old) (S.left source.new) (S.faults source.old) (S.faults source.new) (K.written sink.old) (K.written sink.new) (K.faults sink.old) (K.faults sink.new) }
-    ensures unread { IsUnread task (S.left source.old) (S.left source.new) }
+    ensures few { TakesFew task (S.left source.old) (S.left source.new) }
     ensures source_count { S.faults source.old ≤ S.faults source.new }
     ensures sink_count { K.faults sink.old ≤ K.faults sink.new }
 {
@@ -65,20 +73,21 @@ fn run_task<R: Threads + Wait + Sync, S: Source, K: Sink, G: Gate>(
     }
 }
 
-/// Does what the words ask for: `complete` reads a problem from the source, completes it, and writes the report of the verdict to
-/// the sink; `check` reads an answer, checks it, and writes `ACCEPTED`, or `REJECTED` with the reason and the number of the first
-/// item that fails; `convert` reads an answer of either version and writes
-/// it in the format of the words, its text of version 2, its rules alone, or its trace as a graph;
-/// `reduce` reads an answer and writes it with its rules reduced, `decide` and `simplify` read an answer with goals or terms
-/// behind it and write what its rules say of them, where the checker accepts the answer; `gen` writes the generated problem with the number; `summary` completes that problem and writes the summary of
-/// the run.
+/// Does what the words ask for: `complete` and `rounds` read a problem from the source, complete it, and write the report of
+/// the verdict to the sink; `journal` does the same and writes the journal of the run; `replay` reads a journal, makes its entries
+/// again on a board of its own, and writes the summary of the board to which they lead, or `BAD ENTRY` with the number of the first
+/// that no board makes; `check` reads an answer, checks it, and writes `ACCEPTED`, or `REJECTED` with the reason and the
+/// number of the first item that fails; `convert` reads an answer of either version and writes it in the format of the words,
+/// its text of version 2, its rules alone, or its trace as a graph; `reduce` reads an answer and writes it with its rules
+/// reduced, `decide` and `simplify` read an answer with goals or terms behind it and write what its rules say of them, where
+/// the checker accepts the answer; `gen` writes the generated problem with the number; `summary` completes that problem and
+/// writes the summary of the run.
 ///
-/// The words are those of `read_words`; the modes `journal` and `replay` are refused like words that the command doesn't take.
-/// A completion has as many workers as the words say: one alone, or several, each in a thread of its own; each asks the gate
-/// between a take and the work. A summary has one worker. Bytes that spell no problem are refused by the first thing that is
-/// wrong, with its place; bytes that are no answer's text, or have no goals or terms
-/// behind one, by the first line that isn't of its form. Each text is made whole before
-/// its first byte is written. The outcome has the board of a completion, where one was made.
+/// The words are those of `read_words`. A completion has as many workers as the words say: one alone, or several, each in a thread of its own; each asks the gate
+/// between a take and the work. By `rounds` the journal, and so all that is written, is the same for every number of workers. A
+/// summary has one worker. Bytes that spell no problem are refused by the first thing that is wrong, with its place; bytes that
+/// are no answer's text, or have no goals or terms behind one, by the first line that isn't of its form. Each text is made
+/// whole before its first byte is written. The outcome has the board of a completion, where one was made.
 pub fn run<R: Threads + Wait + Sync, S: Source, K: Sink, G: Gate>(
     rt: &R,
     alloc: Global,
@@ -87,13 +96,13 @@ pub fn run<R: Threads + Wait + Sync, S: Source, K: Sink, G: Gate>(
     sink: &mut K,
     gate: &G,
 ) -> Outcome
-    // With Done, AllFailed, Rejected, Unreduced and Spent the sink gained the whole text that the words ask for.
+    // With Done, AllFailed, Rejected, BadEntry, Unreduced and Spent the sink gained the whole text that the words ask for.
     ensures answered { IsAnswered result.status → Answers (map (λ w. w.now) words.now) result.status result.board (S.left source.old) (S.left source.new) (K.written sink.old) (K.written sink.new) }
     // With WriteFault it gained a proper front of such a text.
     ensures write_fault { result.status ≡ Status.WriteFault → AnswersInPart (map (λ w. w.now) words.now) result.board (S.left source.old) (S.left source.new) (K.written sink.old) (K.written sink.new) }
 
     // Causes.
-    ensures words { result.status ≡ Status.Words → AreBadWords (map (λ w. w.now) words.now) }
+    ensures words { result.status ≡ Status.Words → AreRefused (map (λ w. w.now) words.now) }
     ensures taken { ¬ (result.status ≡ Status.Words) → ¬ (result.status ≡ Status.Memory) → (task : Task) × AskFor task (map (λ w. w.now) words.now) }
     ensures read_task { result.status ≡ Status.ReadFault → AskToRead (map (λ w. w.now) words.now) }
     ensures read_cause { result.status ≡ Status.ReadFault → Rose (S.faults source.old) (S.faults source.new) }
@@ -104,7 +113,8 @@ pub fn run<R: Threads + Wait + Sync, S: Source, K: Sink, G: Gate>(
     // No board is made where nothing is completed.
     ensures no_board { HasNoBoard result.status → result.board ≡ None }
 
-    // With every other status nothing is written; with Words nothing is read, nor for a mode that reads nothing.
+    // With every other status nothing is written; with Words nothing is read, nor for a mode that reads nothing, and else at most
+    // one byte more than the mode may read.
     ensures nothing { WritesNothing result.status (K.written sink.old) (K.written sink.new) }
     ensures unread { result.status ≡ Status.Words → S.left source.new ≡ S.left source.old }
     ensures reads { ReadsIfAsked (map (λ w. w.now) words.now) (S.left source.old) (S.left source.new) }

@@ -1,5 +1,5 @@
 // What tests run with.
-use kb_io::{Gate, MemorySink, MemorySource, OpenGate};
+use kb_io::{Gate, MemorySink, MemorySource, OpenGate, Source};
 use mkbtt_top::{Outcome, Status, run, status_code};
 use std::alloc::Global;
 use std::process::Abort;
@@ -23,10 +23,10 @@ pub(crate) struct Want<'a> {
 
 impl<'a, R: Threads + Wait + Sync + Abort> Bench<'a, R> {
     /// The run; what is proved of it isn't asked for in tests.
-    pub(crate) fn perform<G: Gate>(
+    pub(crate) fn perform<S: Source, G: Gate>(
         &self,
         words: &[&str],
-        source: &mut MemorySource,
+        source: &mut S,
         sink: &mut MemorySink,
         gate: &G,
     ) -> Outcome {

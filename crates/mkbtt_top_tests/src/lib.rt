@@ -10,4 +10,10 @@ mod completions;
 #[cfg(test)]
 mod crews;
 #[cfg(test)]
+mod journals;
+#[cfg(test)]
 mod refusals;
+#[cfg(test)]
+mod rounds;
+#[cfg(test)]
+mod shown;

@@ -51,8 +51,7 @@ fn other_words_are_refused(rt: HostRuntime) {
     };
     let many: &[&str] = &["complete", "--workers", "17"];
     let unknown: &[&str] = &["complete", "--select", "sizes"];
-    let unbuilt: &[&str] = &["journal"];
-    for words in [&[], many, unknown, unbuilt, &["replay"]] {
+    for words in [&[], many, unknown, &["journals"]] {
         assert!(rt; bench.writes(words, &[EMPTY], 7, ""));
     }
 }

@@ -64,7 +64,7 @@ abbrev pub command_with : Bor (List (Bor Text)) → Bor (List (Bor Text)) → Bo
 command_with names formats selections =
     with_rule (with_rule (with_rule (with_rule (with_rule (with_rule empty_command (mode_rule names)) (option_rule workers)) (option_rule budget)) (option_rule number)) (format_rule formats)) (selection_rule selections)
 
--- a is the command of the program: a required mode, one of the ten names, the three options with a number, the one with one of the three formats, and the one with one of the two selections
+-- a is the command of the program: a required mode, one of the eleven names, the three options with a number, the one with one of the three formats, and the one with one of the two selections
 pub record IsCommand (a : App) : Type 0 where
   pub names : Bor (List (Bor Text))
   pub texts : map (λ n. n.now) names.now ≡ mode_names

@@ -41,3 +41,9 @@ pub record AreRefused (words : List Text) : Type 0 where
   pub app : App
   pub command : IsCommand app
   pub refused : fault_of app words ≢ []
+
+-- the command takes the words
+pub record AreTaken (words : List Text) : Type 0 where
+  pub app : App
+  pub command : IsCommand app
+  pub taken : fault_of app words ≡ []

@@ -4,6 +4,7 @@
 mod command;
 mod fault;
 mod format;
+mod message;
 mod mode;
 mod named;
 mod selection;
@@ -13,6 +14,7 @@ mod words;
 
 pub use fault::WordsFault;
 pub use format::Format;
+pub use message::refusal_message;
 pub use mode::Mode;
 pub use selection::Selection;
 pub use words::{Words, read_words};

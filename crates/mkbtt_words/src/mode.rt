@@ -10,6 +10,8 @@ use std::alloc::{AllocError, Global};
 pub enum Mode {
     /// Complete a problem and write the answer.
     Complete,
+    /// Complete a problem by rounds and write the answer.
+    Rounds,
     /// Check an answer.
     Check,
     /// Write an answer in the newest version of its text.
@@ -31,8 +33,9 @@ pub enum Mode {
 }
 
 /// Each mode under its name.
-static MODES: [(&str, Mode); 10] = [
+static MODES: [(&str, Mode); 11] = [
     ("complete", Mode::Complete),
+    ("rounds", Mode::Rounds),
     ("check", Mode::Check),
     ("convert", Mode::Convert),
     ("reduce", Mode::Reduce),

@@ -26,6 +26,7 @@ fn refuses(alloc: Global, line: &[&str]) -> bool {
 fn every_mode_has_the_standard_numbers(rt: HostRuntime) {
     for (name, mode) in [
         ("complete", Mode::Complete),
+        ("rounds", Mode::Rounds),
         ("check", Mode::Check),
         ("convert", Mode::Convert),
         ("reduce", Mode::Reduce),

@@ -71,7 +71,7 @@ deduced_send = search (sendable, pair_send, rule_ref.the_send, position.the_send
 pairs_send : IsSend DeducedList.the_row
 pairs_send = search (sendable, crosses, deduced_send) depth 20
 
-proposed_field : IsSend (Proposed.the_field).row
+pub proposed_field : IsSend (Proposed.the_field).row
 proposed_field =
     let n = node_id.the_field_send in let p = process.the_send in let r = rule_ref.the_field_send in let c = certificate.the_field_send in
     enum_send (E.shape Proposed.the_type) (

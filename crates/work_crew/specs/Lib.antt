@@ -1,3 +1,4 @@
 pub mod Alone
+pub mod Moments
 pub mod Room
 pub mod Together

@@ -22,6 +22,7 @@ use Rattle.mkb_board.specs.declared.answers.Finished.{Finished}
 use Rattle.turn_lock.specs.Turn.{IsFrom}
 use Rattle.turn_lock.specs.Places.{Locked, Sitting, IsSeatOf}
 use Rattle.work_crew.specs.Alone.{IsSameRun}
+use Rattle.work_crew.specs.Moments.{moment_at}
 use Rattle.work_crew.specs.declared.alone.Crew.{Crew}
 use Rattle.work_crew.specs.declared.shared.Assignment.{Assignment}
 use Rattle.work_crew.specs.declared.shared.Next.{Next}
@@ -70,6 +71,12 @@ abbrev pub IsNext : Seen → Seen → ℕ → Next → Type 0
 IsNext old new worker (Work a) = TakesJob old new worker a.ticket a.snapshot
 IsNext old new worker (Wait n) = (new ≡ old) × (verdict old.plain ≡ None) × IsFalse (has_halt old.journal) × (first_job old.plain ≡ None) × (n ≡ length old.journal)
 IsNext old new worker End = (new.plain ≡ old.plain) × (IsSome (verdict new.plain) ⊎ IsTrue (has_halt new.journal))
+
+-- the moment that is told of a ticket that is worked next is that of the board
+abbrev pub TellsMoment : Seen → Next → Type 0
+TellsMoment s (Work a) = a.moment ≡ moment_at s.plain a.ticket.number
+TellsMoment s (Wait n) = ⊤
+TellsMoment s End = ⊤
 
 -- a ticket that was taken is held, and the worker's own
 abbrev pub HoldsTaken : Seen → ℕ → Taken → Type 0

@@ -4,6 +4,7 @@ ghost use Rattle.mkb_board.specs.Boards.{IsLegalBoard};
 ghost use Rattle.work_crew.specs.Alone.{IsInTurn, IsSameRun, IsAtRest, IsJustTaken, EndsAlone};
 
 use crate::gates::ask;
+use crate::moments::moment_of;
 use kb_io::Gate;
 use kb_jobs::{Snapshot, work};
 use kb_term::Memory;
@@ -76,7 +77,7 @@ fn take_turn<G: Gate>(alloc: Global, board: &mut Board, gate: &G) -> Result<Turn
     let _journal = board.journal();
     match board.take(alloc, 1)? {
         Taken::Job(ticket, snapshot) => {
-            ask(gate, ticket.number);
+            ask(gate, &moment_of(board, &ticket));
             work_ticket(alloc, board, ticket, &snapshot)?;
             Ok(Turn::Went)
         }

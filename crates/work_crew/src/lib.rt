@@ -3,8 +3,12 @@
 
 mod alone;
 mod gates;
+mod moments;
 mod shared;
 mod together;
 
 pub use alone::{Crew, work_alone};
-pub use together::work_together;
+pub use cert_pool::CertPool;
+pub use gates::ask;
+pub use shared::Assignment;
+pub use together::{work_together, work_together_by};

@@ -4,8 +4,11 @@ ghost use Rattle.kb_jobs.specs.Working.{ProposesBy};
 ghost use Rattle.mkb_board.specs.Boards.{IsLegalBoard};
 ghost use Rattle.mkb_board.specs.Takes.{IsTakenBy};
 ghost use Rattle.work_crew.specs.Alone.{IsSameRun};
-ghost use Rattle.work_crew.specs.Together.{Grows, IsEnded, HoldsOn, HoldsTaken, IsGivenBack, IsHalted, IsHeldSince, IsNext};
+ghost use Rattle.work_crew.specs.Moments.{assigned};
+ghost use Rattle.work_crew.specs.Together.{Grows, IsEnded, HoldsOn, HoldsTaken, IsGivenBack, IsHalted, IsHeldSince, IsNext, TellsMoment};
 
+use crate::moments::moment_of;
+use kb_io::Moment;
 use kb_jobs::Snapshot;
 use kb_term::{Memory, Problem};
 use mkb_board::{Board, Taken};
@@ -17,11 +20,26 @@ use turn_lock::{Counted, Turned};
 /// As long as the journal has room for fewer entries than this, a ticket may be taken. No vector is so long that it comes to this.
 const ROOM: u64 = 1 << 60;
 
-/// A ticket in the hands of a worker, with what its job reads.
+/// A ticket in the hands of a worker, with what its job reads, and how the board stood as it was taken.
 #[derive(Drop)]
-pub(crate) struct Assignment {
-    pub(crate) ticket: Ticket,
-    pub(crate) snapshot: Snapshot,
+pub struct Assignment {
+    pub ticket: Ticket,
+    pub snapshot: Snapshot,
+    pub moment: Moment,
+}
+
+impl Assignment {
+    /// The ticket that was just taken on the board, with what its job reads.
+    pub fn new(board: &Board, ticket: Ticket, snapshot: Snapshot) -> Assignment
+        ensures { result ≡ assigned board.now.plain ticket snapshot }
+    {
+        let moment = moment_of(board, &ticket);
+        Assignment {
+            ticket,
+            snapshot,
+            moment,
+        }
+    }
 }
 
 /// What a worker does next.
@@ -112,12 +130,15 @@ impl Shared {
         requires most { worker ≤ 16 }
         ensures next { IsNext self.old self.new worker result }
         ensures held { HoldsOn self.new worker result }
+        ensures moment { TellsMoment self.new result }
         ensures legal { IsLegalBoard self.new }
         ensures grows { Grows worker self.old self.new }
         ensures same { IsSameRun self.old self.new }
     {
         match self.take(alloc, worker) {
-            Ok(Taken::Job(ticket, snapshot)) => Next::Work(Assignment { ticket, snapshot }),
+            Ok(Taken::Job(ticket, snapshot)) => {
+                Next::Work(Assignment::new(&self.board, ticket, snapshot))
+            }
             Ok(Taken::Idle(_)) => Next::Wait(self.entries),
             Ok(Taken::Over(_)) => Next::End,
             Ok(Taken::Halted) => Next::End,

@@ -10,8 +10,9 @@ ghost use Rattle.work_crew.specs.Together.{EndsTogether, HasJoined, Holds, Holds
 use crate::alone::Crew;
 use crate::gates::ask;
 use crate::shared::{Assignment, Next, Shared};
+use cert_pool::CertPool;
 use kb_io::Gate;
-use kb_jobs::work;
+use kb_jobs::{FamilySearcher, Searcher, work_by};
 use kb_term::Memory;
 use mkb_board::Board;
 use mkb_model::{Entry, Proposed};
@@ -70,11 +71,11 @@ fn end_one<R: Wait>(
     ended
 }
 
-// Outside the turn: asks the gate, and works the ticket. Then ends it.
-fn work_one<G: Gate, R: Wait>(
+// Outside the turn: works the ticket. Then ends it.
+fn work_one<S: Searcher, R: Wait>(
     rt: &R,
     place: &Workplace,
-    gate: &G,
+    by: &S,
     seat: &mut Seat<Shared>,
     assignment: &Assignment,
 ) -> Result<(), Memory>
@@ -83,8 +84,7 @@ fn work_one<G: Gate, R: Wait>(
     ensures rests { Rests place.now.turns seat.new }
     ensures same { IsSameSeat seat.old seat.new }
 {
-    ask(gate, assignment.ticket.number);
-    let worked = work(place.alloc, &assignment.snapshot);
+    let worked = work_by(rt, place.alloc, &assignment.snapshot, by);
     end_one(rt, place, seat, assignment, worked)
 }
 
@@ -115,11 +115,12 @@ fn wait_for_more<R: Wait>(rt: &R, place: &Workplace, seat: &mut Seat<Shared>, en
     }
 }
 
-// One worker: it takes tickets, works and ends them, until a verdict stands, a halt was made or it finds no memory.
-fn serve<G: Gate, R: Wait>(
+// One worker: it takes tickets, asks the gate, works and ends them, until a verdict stands, a halt was made or it finds no memory.
+fn serve<G: Gate, S: Searcher, R: Wait>(
     rt: &R,
     place: &Workplace,
     gate: &G,
+    by: &S,
     mut seat: Seat<Shared>,
 ) -> Seat<Shared>
     requires { Rests place.now.turns seat }
@@ -129,7 +130,8 @@ fn serve<G: Gate, R: Wait>(
     for _ in rt.forever() {
         match take_one(rt, place, &mut seat) {
             Next::Work(assignment) => {
-                if work_one(rt, place, gate, &mut seat, &assignment).is_err() {
+                ask(gate, &assignment.moment);
+                if work_one(rt, place, by, &mut seat, &assignment).is_err() {
                     break;
                 }
             }
@@ -141,10 +143,11 @@ fn serve<G: Gate, R: Wait>(
 }
 
 // The first seat's worker and so many more, each in a thread of its own.
-fn serve_all<G: Gate, R: Threads + Wait + Sync>(
+fn serve_all<G: Gate, S: Searcher, R: Threads + Wait + Sync>(
     rt: &R,
     place: &Workplace,
     gate: &G,
+    by: &S,
     mut first: Seat<Shared>,
     more: u8,
 ) -> Seat<Shared>
@@ -158,7 +161,7 @@ fn serve_all<G: Gate, R: Threads + Wait + Sync>(
     ensures joined { (n : ℕ) → first.view.drawn < n → n ≤ result.view.drawn → HasJoined result n }
 {
     if more == 0 {
-        return serve(rt, place, gate, first);
+        return serve(rt, place, gate, by, first);
     }
     let other = place.turns.split(&mut first);
     let (mut first, other) = join(
@@ -170,24 +173,25 @@ fn serve_all<G: Gate, R: Threads + Wait + Sync>(
             ensures drawn { result.view.drawn ≡ first.view.drawn + (more - 1) }
             ensures kept { (n : ℕ) → HasJoined first n → HasJoined result n }
             ensures joined { (n : ℕ) → first.view.drawn < n → n ≤ result.view.drawn → HasJoined result n }
-        { serve_all(rt, place, gate, first, more - 1) },
+        { serve_all(rt, place, gate, by, first, more - 1) },
         || -> Seat<Shared>
             requires { Rests place.now.turns other }
             ensures rests { Rests place.entry.now.turns result }
             ensures same { IsSameSeat other result }
-        { serve(rt, place, gate, other) },
+        { serve(rt, place, gate, by, other) },
     );
     place.turns.join(&mut first, other);
     first
 }
 
 // The board on which so many workers have ended; untouched where there is no memory for the lock.
-fn worked_on<G: Gate, R: Threads + Wait + Sync>(
+fn worked_on<G: Gate, S: Searcher, R: Threads + Wait + Sync>(
     rt: &R,
     alloc: Global,
     board: Board,
     workers: u8,
     gate: &G,
+    by: &S,
 ) -> Board
     requires least { 1 ≤ workers }
     requires most { workers ≤ 16 }
@@ -200,7 +204,7 @@ fn worked_on<G: Gate, R: Threads + Wait + Sync>(
         Err(shared) => return shared.into_board(),
     };
     let place = Workplace { alloc, turns };
-    let first = serve_all(rt, &place, gate, first, workers - 1);
+    let first = serve_all(rt, &place, gate, by, first, workers - 1);
     let Workplace { alloc: _, turns } = place;
     turns.close(first).into_board()
 }
@@ -216,7 +220,7 @@ fn is_left(journal: &[Entry]) -> bool
 /// others have the turn, and ends its ticket, again and again, until a verdict stands. Where a worker finds no memory it gives
 /// its ticket back, halts the board and ends; so do the others at the halt. Between a take and the work each asks the gate, until
 /// it lets pass or was asked 100,000,000 times. A worker that finds no job waits, first by yielding and then asleep, until the
-/// journal has another entry.
+/// journal has another entry. The workers share what they find of the family of orders.
 ///
 /// Where there is no memory for the lock the board comes back with a halt alone.
 pub fn work_together<G: Gate, R: Threads + Wait + Sync>(
@@ -231,7 +235,30 @@ pub fn work_together<G: Gate, R: Threads + Wait + Sync>(
     requires opening { board.journal ≡ [] }
     ensures { EndsTogether board.plain.problem board.plain.settings workers result }
 {
-    let mut board = worked_on(rt, alloc, board, workers, gate);
+    match CertPool::new(alloc) {
+        Ok(pool) => work_together_by(rt, alloc, board, workers, gate, &pool),
+        Err(Memory) => {
+            let anew = FamilySearcher::new(alloc);
+            work_together_by(rt, alloc, board, workers, gate, &anew)
+        }
+    }
+}
+
+/// The same, where the searcher is asked for the orders of the tickets that orient.
+pub fn work_together_by<G: Gate, S: Searcher, R: Threads + Wait + Sync>(
+    rt: &R,
+    alloc: Global,
+    board: Board,
+    workers: u8,
+    gate: &G,
+    by: &S,
+) -> Crew
+    requires least { 1 ≤ workers }
+    requires most { workers ≤ 16 }
+    requires opening { board.journal ≡ [] }
+    ensures { EndsTogether board.plain.problem board.plain.settings workers result }
+{
+    let mut board = worked_on(rt, alloc, board, workers, gate, by);
     let undecided = board.verdict().is_none();
     if undecided {
         board.halt();

@@ -1,6 +1,6 @@
 // What an Orient reads.
-ghost use Rattle.std.specs.Prelude.{◌≡◌, ◌<◌, ◌++◌, ◌∷◌, [], All, IfOk, length};
-ghost use Rattle.mkb_model.specs.Plain.{rules_at};
+ghost use Rattle.std.specs.Prelude.{◌≡◌, ◌<◌, ◌++◌, ◌∷◌, [], All, IfOk, IsSome, length};
+ghost use Rattle.mkb_model.specs.Plain.{certificate_of, rules_at};
 ghost use Rattle.kb_jobs.specs.Taken.{IsTakenOrient};
 ghost use Rattle.mkb_rules.specs.Named.{IsRuleThere};
 
@@ -12,7 +12,7 @@ use kb_term::{Memory, Rule, RuleRef};
 use mkb_rules::State;
 use std::alloc::Global;
 
-/// The signature, and the constraints of the process with the rule of each direction of the node behind them.
+/// The run's family of orders, the signature, the order in force, and the constraints of the process with the rule of each direction of the node behind them.
 #[tactic(auto, using(crate::proofs::Viewed::constraints_there))]
 pub(crate) fn orient_snapshot(
     alloc: Global,
@@ -20,13 +20,16 @@ pub(crate) fn orient_snapshot(
     process: Process,
     node: NodeId,
 ) -> Result<OrientSnapshot, Memory>
-    requires { node.0 < length state.now.nodes }
+    requires there { node.0 < length state.now.nodes }
+    requires ordered { IsSome (certificate_of state.now process) }
     ensures process { IfOk result (λ s. s.process ≡ process) }
     ensures node { IfOk result (λ s. s.node ≡ node) }
     ensures taken { IfOk result (IsTakenOrient state.now) }
 {
     let view = view_of(state, &process)?;
     let constraints = view.constraints.items();
+    let family = state.settings().family;
+    let in_force = state.certificate(&process).clone()?;
     let signature = state.problem().signature().clone()?;
     let forth = rules_towards(
         alloc,
@@ -49,7 +52,9 @@ pub(crate) fn orient_snapshot(
     Ok(OrientSnapshot {
         process,
         node,
+        family,
         signature,
+        in_force,
         forth,
         back,
     })

@@ -1,15 +1,9 @@
-use Rattle.std.specs.Prelude.{Some}
-use Rattle.kb_cert.specs.declared.certificate.Certificate.TheVariants.{Lpo}
-use Rattle.kb_cert.proofs.Parts.{found_text, precedence_found, later_found}
+use Rattle.std.specs.Prelude.{IfOk}
+use Rattle.std.proofs.Common.{subst, sym}
+use Rattle.kb_cert.specs.Family.{IsFirstOrder}
+use Rattle.kb_cert.specs.declared.family.Family.{Family}
+use Rattle.kb_cert.proofs.FamilyLaws.{one_family}
 use Rattle.kb_cert.proofs.order.search.Goals as goal
 
-pub returns-in-Some : goal.returns-in-Some
-returns-in-Some c =
-    let h = precedence_found c.args.sig.now c.args.rules.now c.in_ok-prec.field-0 c.in-Some.prec c.in-Some.is c.in_ok-prec.ensures in
-    record { first = h; text = found_text c.args.sig.now c.args.rules.now (Some (Lpo c.in-Some.prec)) h }
-
-pub returns-in_ok-search_later-in-None : goal.returns-in_ok-search_later-in-None
-returns-in_ok-search_later-in-None c =
-    let found = c.in_ok-search_later-in-None.field-0 in
-    let h = later_found c.args.sig.now c.args.rules.now c.in_ok-prec.field-0 found c.in-None.is c.in_ok-prec.ensures c.in_ok-search_later-in-None.ensures in
-    record { first = h; text = found_text c.args.sig.now c.args.rules.now found h }
+pub returns-clause-first : goal.returns-clause-first
+returns-clause-first c = subst {A = Family} (λ f. IfOk c.search_stated.result (λ found. IsFirstOrder f c.args.sig.now c.args.rules.now found)) (sym (one_family c.args.family)) c.search_stated.ensures.first

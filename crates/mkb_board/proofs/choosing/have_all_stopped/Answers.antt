@@ -4,8 +4,8 @@ use Rattle.kb_label.specs.Names.{Name}
 use Rattle.mkb_model.proofs.Endings.{has_in}
 use Rattle.mkb_board.proofs.choosing.have_all_stopped.Goals as goal
 
-pub is_failed-requires : goal.is_failed-requires
-is_failed-requires c =
+pub is_failed-requires-clause-lives : goal.is_failed-requires-clause-lives
+is_failed-requires-clause-lives c =
     let living = c.processes-living.result.now in
     let p = c.index-living-i.result in
     has_in c.args.state.now.living p

@@ -1,12 +1,12 @@
-use Rattle.std.proofs.Common.{◌≡◌, ◌-◌, length, map, filter, flat_map}
+use Rattle.std.proofs.Common.{◌≡◌, map, flat_map, drop}
 use Rattle.std.specs.List.{find}
 use Rattle.kb_term.specs.declared.origin.RuleRef.{RuleRef}
 use Rattle.kb_node.specs.declared.job.Job.TheVariants.{Overlap}
-use Rattle.mkb_model.specs.Plain.{numbers_from, directions, rules_of, is_rule}
+use Rattle.mkb_model.specs.Plain.{rules_of}
 use Rattle.mkb_board.specs.Choosing.{jobs_of, is_choice}
 use Rattle.mkb_board.proofs.due.first_overlap.Given as goal
 
--- no rule of a node so far has an overlap that may be chosen
-abbrev pub invariant-loop-n : goal.invariant-loop-n
-invariant-loop-n l = find (is_choice l.state (jobs_of l.flight)) (flat_map (λ (a : RuleRef). map (Overlap l.p a) (rules_of l.state l.p)) (rules_of l.state l.p))
-    ≡ find (is_choice l.state (jobs_of l.flight)) (flat_map (λ m. flat_map (λ (a : RuleRef). map (Overlap l.p a) (rules_of l.state l.p)) (filter (is_rule l.state l.p) (directions m))) (numbers_from l.n (length l.state.nodes - l.n)))
+-- no rule so far has an overlap that may be chosen
+abbrev pub invariant-loop-i : goal.invariant-loop-i
+invariant-loop-i l = find (is_choice l.state (jobs_of l.flight)) (flat_map (λ (a : RuleRef). map (Overlap l.p a) (rules_of l.state l.p)) (rules_of l.state l.p))
+    ≡ find (is_choice l.state (jobs_of l.flight)) (flat_map (λ (a : RuleRef). map (Overlap l.p a) (rules_of l.state l.p)) (drop l.i (rules_of l.state l.p)))

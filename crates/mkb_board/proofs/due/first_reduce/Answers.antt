@@ -1,20 +1,30 @@
 use Rattle.std.proofs.Common.{◌<◌, ◌∷◌, [], length, arith, sym, ◌∙◌}
 use Rattle.kb_node.specs.declared.job.Job.TheVariants.{Reduce}
 use Rattle.mkb_board.specs.Choosing.{is_choice, jobs_of}
-use Rattle.mkb_board.proofs.Picking.{map_parts, find_here, find_on}
+use Rattle.mkb_board.proofs.Picking.{map_parts, find_here, find_not, find_on, find_one}
 use Rattle.mkb_board.proofs.due.first_reduce.Goals as goal
 
 pub loop-n-init : goal.loop-n-init
-loop-n-init c = map_parts (is_choice c.args.state.now (jobs_of c.args.flight.now)) (λ n. Reduce c.args.p.now (record { 0 = n })) (length c.args.state.now.nodes)
+loop-n-init c = record {
+  none = map_parts (is_choice c.args.state.now (jobs_of c.args.flight.now)) (λ n. Reduce c.args.p.now (record { 0 = n })) (length c.args.state.now.nodes);
+  serves = c.requires;
+}
 
-pub returns-in-Some : goal.returns-in-Some
-returns-in-Some c =
+pub returns-then-is_choice-clause-first : goal.returns-then-is_choice-clause-first
+returns-then-is_choice-clause-first c =
     let b = c.args.state.now in
+    let q = is_choice b (jobs_of c.args.flight.now) in
+    let job = Reduce c.args.p.now (record { 0 = c.loop-n.n }) in
     let there : c.loop-n.n < length b.nodes = omega arith in
-    sym (c.loop-n.invariant ∙ find_here (is_choice b (jobs_of c.args.flight.now)) (λ n. Reduce c.args.p.now (record { 0 = n }) ∷ []) c.loop-n.n (length b.nodes) c.in-Some.job there (sym c.in-Some.ensures))
+    sym (c.loop-n.invariant.none ∙ find_here q (λ n. Reduce c.args.p.now (record { 0 = n }) ∷ []) c.loop-n.n (length b.nodes) job there (find_one q job (sym c.is_choice.ensures.choice ∙ c.if-is_choice.true)))
 
 pub loop-n-preserved : goal.loop-n-preserved
 loop-n-preserved c =
     let b = c.args.state.now in
+    let q = is_choice b (jobs_of c.args.flight.now) in
+    let job = Reduce c.args.p.now (record { 0 = c.loop-n.n }) in
     let there : c.loop-n.n < length b.nodes = omega arith in
-    c.loop-n.invariant ∙ find_on (is_choice b (jobs_of c.args.flight.now)) (λ n. Reduce c.args.p.now (record { 0 = n }) ∷ []) c.loop-n.n (length b.nodes) there (sym c.in_default.ensures)
+    record {
+      none = c.loop-n.invariant.none ∙ find_on q (λ n. Reduce c.args.p.now (record { 0 = n }) ∷ []) c.loop-n.n (length b.nodes) there (find_not q job (sym c.is_choice.ensures.choice ∙ c.if-is_choice.false));
+      serves = c.is_choice.ensures.serves;
+    }

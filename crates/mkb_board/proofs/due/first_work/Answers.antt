@@ -19,29 +19,29 @@ orients b p = map (λ n. Orient p (record { 0 = n })) (node_numbers b)
 abbrev overlaps : Plain → Name → List Job
 overlaps b p = flat_map (λ (a : RuleRef). map (Overlap p a) (rules_of b p)) (rules_of b p)
 
-pub returns-in-Some : goal.returns-in-Some
-returns-in-Some c =
+pub returns-in-Some-clause-first : goal.returns-in-Some-clause-first
+returns-in-Some-clause-first c =
     let b = c.args.state.now in
     let p = c.args.p.now in
     let q = is_choice b (jobs_of c.args.flight.now) in
-    or_some (find q (reduces b p)) (option_or (find q (orients b p)) (find q (overlaps b p))) c.in-Some.job (sym c.in-Some.ensures)
+    or_some (find q (reduces b p)) (option_or (find q (orients b p)) (find q (overlaps b p))) c.in-Some.job (sym c.first_reduce.ensures.first ∙ c.in-Some.is)
     ∙ sym (find_three q (reduces b p) (orients b p) (overlaps b p))
 
-pub returns-in-Some-first_orient : goal.returns-in-Some-first_orient
-returns-in-Some-first_orient c =
+pub returns-in-Some-first_orient-clause-first : goal.returns-in-Some-first_orient-clause-first
+returns-in-Some-first_orient-clause-first c =
     let b = c.args.state.now in
     let p = c.args.p.now in
     let q = is_choice b (jobs_of c.args.flight.now) in
     or_some (find q (orients b p)) (find q (overlaps b p)) c.in-Some-first_orient.job (sym c.in-Some-first_orient.ensures)
-    ∙ or_none (find q (reduces b p)) (option_or (find q (orients b p)) (find q (overlaps b p))) (sym c.in_default.ensures)
+    ∙ or_none (find q (reduces b p)) (option_or (find q (orients b p)) (find q (overlaps b p))) (sym c.first_reduce.ensures.first ∙ c.in_default.is)
     ∙ sym (find_three q (reduces b p) (orients b p) (overlaps b p))
 
-pub returns : goal.returns
-returns c =
+pub returns-clause-first : goal.returns-clause-first
+returns-clause-first c =
     let b = c.args.state.now in
     let p = c.args.p.now in
     let q = is_choice b (jobs_of c.args.flight.now) in
     c.first_overlap.ensures
     ∙ or_none (find q (orients b p)) (find q (overlaps b p)) (sym c.in_default-first_orient.ensures)
-    ∙ or_none (find q (reduces b p)) (option_or (find q (orients b p)) (find q (overlaps b p))) (sym c.in_default.ensures)
+    ∙ or_none (find q (reduces b p)) (option_or (find q (orients b p)) (find q (overlaps b p))) (sym c.first_reduce.ensures.first ∙ c.in_default.is)
     ∙ sym (find_three q (reduces b p) (orients b p) (overlaps b p))

@@ -43,6 +43,7 @@ loop-i-preserved-then-is_asleep c =
     record {
       least = sym (ap (λ (ps : List Name). merged (job_cmp (cost b) (weight b)) (option_map (λ (k : Choice). k.job) c.loop-i.best) (least_free b (jobs_of c.args.flight.now) ps)) up) ∙ c.loop-i.invariant.least;
       costed = c.loop-i.invariant.costed;
+      normal = c.loop-i.invariant.normal;
       before = λ q k. c.loop-i.invariant.before q (subst {A = List Name} (λ z. Contains z q) (sym from) (contains_behind p left q k));
     }
 
@@ -64,19 +65,20 @@ loop-i-preserved c =
           ∙ sym (ap (λ (ps : List Name). merged (job_cmp (cost b) (weight b)) (job_in c.loop-i.best) (least_free b flight ps)) up)
           ∙ c.loop-i.invariant.least;
       costed = c.in_ok-best.ensures.costed;
+      normal = c.lesser_choice.ensures.normal;
       before = before_next c.loop-i.best c.in_ok-best.best p left (subst {A = List Name} IsInNameOrder from (ordered_from c.loop-i.i b.living c.requires.in_order))
           (λ q k. c.loop-i.invariant.before q (subst {A = List Name} (λ z. Contains z q) (sym from) (contains_behind p left q k)))
           c.in_ok-best.ensures.of_either;
     }
 
-pub returns-in-Some : goal.returns-in-Some
-returns-in-Some c =
+pub returns-in-Some-clause-first : goal.returns-in-Some-clause-first
+returns-in-Some-clause-first c =
     let b = c.args.state.now in
     let all : length b.living ≤ c.loop-i.i = omega (arith, c.loop-i-test.false, ap length (c.processes-living.ensures ∙ c.log.ensures)) in
     sym (ap (option_map (λ (k : Choice). k.job)) c.in-Some.is) ∙ best_of_all b c.args.flight.now c.loop-i.i c.loop-i.best all c.loop-i.invariant.least
 
-pub returns : goal.returns
-returns c =
+pub returns-in-None-clause-first : goal.returns-in-None-clause-first
+returns-in-None-clause-first c =
     let b = c.args.state.now in
     let all : length b.living ≤ c.loop-i.i = omega (arith, c.loop-i-test.false, ap length (c.processes-living.ensures ∙ c.log.ensures)) in
     sym (ap (option_map (λ (k : Choice). k.job)) c.in-None.is) ∙ best_of_all b c.args.flight.now c.loop-i.i c.loop-i.best all c.loop-i.invariant.least

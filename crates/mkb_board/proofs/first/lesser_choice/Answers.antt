@@ -11,11 +11,11 @@ returns-then-not-is_below-clause-least c =
 
 pub returns-in-Some-clause-least : goal.returns-in-Some-clause-least
 returns-in-Some-clause-least c =
-    best_changes c.args.state.now (jobs_of c.args.flight.now) c.args.p.now c.cost-cost.result c.cost-cost.ensures c.args.best c.in-Some.job c.requires.costed (sym c.is_below.ensures ∙ c.if-not-is_below.false) (sym c.in_ok-job.ensures ∙ c.in-Some.is)
+    best_changes c.args.state.now (jobs_of c.args.flight.now) c.args.p.now c.cost-cost.result c.cost-cost.ensures c.args.best c.in-Some.job c.requires.costed (sym c.is_below.ensures ∙ c.if-not-is_below.false) (sym c.in_ok-job.ensures.first ∙ c.in-Some.is)
 
 pub returns-in-Some-clause-costed : goal.returns-in-Some-clause-costed
 returns-in-Some-clause-costed c =
-    c.cost-cost.ensures ∙ ap (cost c.args.state.now) (sym (choice_process c.args.state.now (jobs_of c.args.flight.now) c.args.p.now c.in-Some.job (sym c.in_ok-job.ensures ∙ c.in-Some.is)))
+    c.cost-cost.ensures ∙ ap (cost c.args.state.now) (sym (choice_process c.args.state.now (jobs_of c.args.flight.now) c.args.p.now c.in-Some.job (sym c.in_ok-job.ensures.first ∙ c.in-Some.is)))
 
 pub returns-in-Some-clause-of_either : goal.returns-in-Some-clause-of_either
-returns-in-Some-clause-of_either c = inr (choice_process c.args.state.now (jobs_of c.args.flight.now) c.args.p.now c.in-Some.job (sym c.in_ok-job.ensures ∙ c.in-Some.is))
+returns-in-Some-clause-of_either c = inr (choice_process c.args.state.now (jobs_of c.args.flight.now) c.args.p.now c.in-Some.job (sym c.in_ok-job.ensures.first ∙ c.in-Some.is))

@@ -6,10 +6,10 @@ use Rattle.mkb_board.specs.Choosing.{jobs_of, least_choice}
 use Rattle.mkb_board.proofs.Choices.{stated_choice}
 use Rattle.mkb_board.proofs.first.selected_work.Goals as goal
 
-pub returns-in-Stated : goal.returns-in-Stated
-returns-in-Stated c =
+pub returns-in-Stated-clause-least : goal.returns-in-Stated-clause-least
+returns-in-Stated-clause-least c =
     let b = c.args.state.now in
     let flight = jobs_of c.args.flight.now in
-    c.free_work.ensures
+    c.first_work.ensures.first
     ∙ sym (stated_choice b flight c.args.p.now)
     ∙ ap (λ (by : Selection). least_choice by b flight (work_of b c.args.p.now)) (sym c.in-Stated.is ∙ ap (λ (z : Settings). z.selection) c.settings.ensures)

@@ -1,38 +1,28 @@
-use Rattle.std.proofs.Common.{◌+◌, ◌<◌, ◌≤◌, ◌≡◌, ◌∙◌, ◌++◌, List, length, map, drop, slice_index_or, ap, ap₂, arith}
+use Rattle.std.proofs.Common.{◌+◌, ◌<◌, ◌≤◌, ◌∙◌, ◌++◌, List, length, map, drop, slice_index_or, ap, ap₂, arith}
 use Rattle.kb_term.proofs.Steps.{contains_first}
 use Rattle.kb_term.specs.declared.origin.RuleRef.{RuleRef}
 use Rattle.kb_node.specs.declared.job.Job.TheVariants.{Overlap}
-use Rattle.mkb_model.specs.Plain.{node_size, rules_of}
+use Rattle.mkb_model.specs.Plain.{rules_of}
 use Rattle.mkb_board.specs.Choosing.{jobs_of}
-use Rattle.mkb_board.proofs.Costs.{size_at, size_most, sizes_long}
 use Rattle.mkb_board.proofs.Rising.{overlaps_rise}
 use Rattle.mkb_board.proofs.Weighing.{begins, first_rule, goes_on, next_rule, no_rule, overlaps_of, second_rule, rule_below, two_weights}
 use Rattle.mkb_board.proofs.lightest.lightest_overlap.Goals as goal
 
 pub loop-i-init : goal.loop-i-init
-loop-i-init c = begins c.args.state.now (jobs_of c.args.flight.now) (overlaps_of c.args.p.now (rules_of c.args.state.now c.args.p.now) (rules_of c.args.state.now c.args.p.now)) (overlaps_rise c.args.state.now c.args.p.now)
+loop-i-init c = record {
+  best = begins c.args.state.now (jobs_of c.args.flight.now) (overlaps_of c.args.p.now (rules_of c.args.state.now c.args.p.now) (rules_of c.args.state.now c.args.p.now)) (overlaps_rise c.args.state.now c.args.p.now);
+  serves = c.requires.serves;
+}
 
-pub bounds-sizes-first : goal.bounds-sizes-first
-bounds-sizes-first c =
+pub node_size-requires : goal.node_size-requires
+node_size-requires c =
     let d : RuleRef = record { node = 0; dir = 0 } in
-    let h : (slice_index_or c.args.rules.now c.loop-i.i d).node < length c.args.state.now.nodes = rule_below c.args.state.now c.args.p.now c.args.rules.now c.loop-i.i d c.requires.rules (omega arith) in
-    omega (arith, h, ap length c.requires.sizes, sizes_long c.args.state.now)
+    rule_below c.args.state.now c.args.p.now c.args.rules.now c.loop-i.i d c.requires.rules (omega arith)
 
-pub bounds-sizes-second : goal.bounds-sizes-second
-bounds-sizes-second c =
+pub node_size-requires-in-loop-j : goal.node_size-requires-in-loop-j
+node_size-requires-in-loop-j c =
     let d : RuleRef = record { node = 0; dir = 0 } in
-    let h : (slice_index_or c.args.rules.now c.loop-j.j d).node < length c.args.state.now.nodes = rule_below c.args.state.now c.args.p.now c.args.rules.now c.loop-j.j d c.requires.rules (omega arith) in
-    omega (arith, h, ap length c.requires.sizes, sizes_long c.args.state.now)
-
-pub overflow_add-next : goal.overflow_add-next
-overflow_add-next c =
-    let b = c.args.state.now in
-    let d : RuleRef = record { node = 0; dir = 0 } in
-    let first : RuleRef = slice_index_or c.args.rules.now c.loop-i.i d in
-    let second : RuleRef = slice_index_or c.args.rules.now c.loop-j.j d in
-    let one = ap (λ z. slice_index_or z first.node 0) c.requires.sizes ∙ size_at b first.node 0 (rule_below b c.args.p.now c.args.rules.now c.loop-i.i d c.requires.rules (omega arith)) in
-    let two = ap (λ z. slice_index_or z second.node 0) c.requires.sizes ∙ size_at b second.node 0 (rule_below b c.args.p.now c.args.rules.now c.loop-j.j d c.requires.rules (omega arith)) in
-    omega (arith, one, two, size_most b.problem.signature b c.requires.limited first.node, size_most b.problem.signature b c.requires.limited second.node)
+    rule_below c.args.state.now c.args.p.now c.args.rules.now c.loop-j.j d c.requires.rules (omega arith)
 
 pub lighter-best-requires-clause-nodes : goal.lighter-best-requires-clause-nodes
 lighter-best-requires-clause-nodes c =
@@ -45,9 +35,7 @@ lighter-best-requires-clause-next c =
     let d : RuleRef = record { node = 0; dir = 0 } in
     let first : RuleRef = slice_index_or c.args.rules.now c.loop-i.i d in
     let second : RuleRef = slice_index_or c.args.rules.now c.loop-j.j d in
-    let one : slice_index_or c.args.sizes.now first.node 0 ≡ node_size b first.node = ap (λ z. slice_index_or z first.node 0) c.requires.sizes ∙ size_at b first.node 0 (rule_below b c.args.p.now c.args.rules.now c.loop-i.i d c.requires.rules (omega arith)) in
-    let two : slice_index_or c.args.sizes.now second.node 0 ≡ node_size b second.node = ap (λ z. slice_index_or z second.node 0) c.requires.sizes ∙ size_at b second.node 0 (rule_below b c.args.p.now c.args.rules.now c.loop-j.j d c.requires.rules (omega arith)) in
-    ap₂ (λ x y. x + y) one two ∙ two_weights b first.node second.node
+    ap₂ (λ x y. x + y) c.node_size.ensures.size c.node_size-in-loop-j.ensures.size ∙ two_weights b first.node second.node
 
 pub lighter-best-requires-clause-earlier : goal.lighter-best-requires-clause-earlier
 lighter-best-requires-clause-earlier c =
@@ -57,7 +45,7 @@ lighter-best-requires-clause-earlier c =
     let first : RuleRef = slice_index_or c.args.rules.now c.loop-i.i d in
     let second : RuleRef = slice_index_or c.args.rules.now c.loop-j.j d in
     let there : c.loop-j.j < length (rules_of b p) = omega (arith, c.loop-j-test.true, ap length c.requires.rules) in
-    (second_rule b (jobs_of c.args.flight.now) p first second d c.loop-i.i c.loop-j.j c.loop-j.best there (ap (λ (z : List RuleRef). slice_index_or z c.loop-j.j d) c.requires.rules) c.loop-j.invariant).earlier
+    (second_rule b (jobs_of c.args.flight.now) p first second d c.loop-i.i c.loop-j.j c.loop-j.best there (ap (λ (z : List RuleRef). slice_index_or z c.loop-j.j d) c.requires.rules) c.loop-j.invariant.best).earlier
     (Overlap p first second) (contains_first (Overlap p first second) (map (Overlap p first) (drop (c.loop-j.j + 1) (rules_of b p)) ++ overlaps_of p (rules_of b p) (drop (c.loop-i.i + 1) (rules_of b p))))
 
 pub loop-j-init : goal.loop-j-init
@@ -66,7 +54,10 @@ loop-j-init c =
     let p = c.args.p.now in
     let d : RuleRef = record { node = 0; dir = 0 } in
     let there : c.loop-i.i < length (rules_of b p) = omega (arith, c.loop-i-test.true, ap length c.requires.rules) in
-    first_rule b (jobs_of c.args.flight.now) p (slice_index_or c.args.rules.now c.loop-i.i d) d c.loop-i.i c.loop-i.best there (ap (λ (z : List RuleRef). slice_index_or z c.loop-i.i d) c.requires.rules) c.loop-i.invariant
+    record {
+      best = first_rule b (jobs_of c.args.flight.now) p (slice_index_or c.args.rules.now c.loop-i.i d) d c.loop-i.i c.loop-i.best there (ap (λ (z : List RuleRef). slice_index_or z c.loop-i.i d) c.requires.rules) c.loop-i.invariant.best;
+      serves = c.loop-i.invariant.serves;
+    }
 
 pub loop-j-preserved : goal.loop-j-preserved
 loop-j-preserved c =
@@ -76,10 +67,14 @@ loop-j-preserved c =
     let first : RuleRef = slice_index_or c.args.rules.now c.loop-i.i d in
     let second : RuleRef = slice_index_or c.args.rules.now c.loop-j.j d in
     let there : c.loop-j.j < length (rules_of b p) = omega (arith, c.loop-j-test.true, ap length c.requires.rules) in
-    goes_on b (jobs_of c.args.flight.now) (overlaps_of p (rules_of b p) (rules_of b p)) (map (Overlap p first) (drop (c.loop-j.j + 1) (rules_of b p)) ++ overlaps_of p (rules_of b p) (drop (c.loop-i.i + 1) (rules_of b p))) c.loop-j.best c.lighter-best.result
-    (record { weight = slice_index_or c.args.sizes.now first.node 0 + slice_index_or c.args.sizes.now second.node 0; job = Overlap p first second })
-    (second_rule b (jobs_of c.args.flight.now) p first second d c.loop-i.i c.loop-j.j c.loop-j.best there (ap (λ (z : List RuleRef). slice_index_or z c.loop-j.j d) c.requires.rules) c.loop-j.invariant)
-    c.lighter-best.ensures.least c.lighter-best.ensures.weighed c.lighter-best.ensures.of_either
+    record {
+      best =
+          goes_on b (jobs_of c.args.flight.now) (overlaps_of p (rules_of b p) (rules_of b p)) (map (Overlap p first) (drop (c.loop-j.j + 1) (rules_of b p)) ++ overlaps_of p (rules_of b p) (drop (c.loop-i.i + 1) (rules_of b p))) c.loop-j.best c.lighter-best.result
+          (record { weight = c.node_size.result + c.node_size-in-loop-j.result; job = Overlap p first second })
+          (second_rule b (jobs_of c.args.flight.now) p first second d c.loop-i.i c.loop-j.j c.loop-j.best there (ap (λ (z : List RuleRef). slice_index_or z c.loop-j.j d) c.requires.rules) c.loop-j.invariant.best)
+          c.lighter-best.ensures.least c.lighter-best.ensures.weighed c.lighter-best.ensures.of_either;
+      serves = c.lighter-best.ensures.serves;
+    }
 
 pub loop-i-preserved : goal.loop-i-preserved
 loop-i-preserved c =
@@ -87,11 +82,14 @@ loop-i-preserved c =
     let p = c.args.p.now in
     let d : RuleRef = record { node = 0; dir = 0 } in
     let all : length (rules_of b p) ≤ c.loop-j.j = omega (arith, c.loop-j-test.false, ap length c.requires.rules) in
-    next_rule b (jobs_of c.args.flight.now) p (slice_index_or c.args.rules.now c.loop-i.i d) c.loop-i.i c.loop-j.j c.loop-j.best all c.loop-j.invariant
+    record {
+      best = next_rule b (jobs_of c.args.flight.now) p (slice_index_or c.args.rules.now c.loop-i.i d) c.loop-i.i c.loop-j.j c.loop-j.best all c.loop-j.invariant.best;
+      serves = c.loop-j.invariant.serves;
+    }
 
-pub returns : goal.returns
-returns c =
+pub returns-clause-lightest : goal.returns-clause-lightest
+returns-clause-lightest c =
     let b = c.args.state.now in
     let p = c.args.p.now in
     let all : length (rules_of b p) ≤ c.loop-i.i = omega (arith, c.loop-i-test.false, ap length c.requires.rules) in
-    c.job_of.ensures ∙ no_rule b (jobs_of c.args.flight.now) p c.loop-i.i c.loop-i.best all c.loop-i.invariant
+    c.job_of.ensures ∙ no_rule b (jobs_of c.args.flight.now) p c.loop-i.i c.loop-i.best all c.loop-i.invariant.best

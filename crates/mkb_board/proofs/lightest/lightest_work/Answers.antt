@@ -7,29 +7,29 @@ use Rattle.mkb_board.proofs.Rising.{reduces, orients, overlaps}
 use Rattle.mkb_board.proofs.Weighing.{lightest_parts}
 use Rattle.mkb_board.proofs.lightest.lightest_work.Goals as goal
 
-pub returns-in-Some : goal.returns-in-Some
-returns-in-Some c =
+pub returns-in-Some-clause-lightest : goal.returns-in-Some-clause-lightest
+returns-in-Some-clause-lightest c =
     let b = c.args.state.now in
     let p = c.args.p.now in
     let flight = jobs_of c.args.flight.now in
-    or_some (least_choice Size b flight (reduces b p)) (option_or (least_choice Size b flight (orients b p)) (least_choice Size b flight (overlaps b p))) c.in-Some.job (sym c.in-Some.ensures)
+    or_some (least_choice Size b flight (reduces b p)) (option_or (least_choice Size b flight (orients b p)) (least_choice Size b flight (overlaps b p))) c.in-Some.job (sym c.lightest_reduce.ensures.lightest ∙ c.in-Some.is)
     ∙ sym (lightest_parts b flight p)
 
-pub returns-in-Some-lightest_orient : goal.returns-in-Some-lightest_orient
-returns-in-Some-lightest_orient c =
+pub returns-in-Some-lightest_orient-clause-lightest : goal.returns-in-Some-lightest_orient-clause-lightest
+returns-in-Some-lightest_orient-clause-lightest c =
     let b = c.args.state.now in
     let p = c.args.p.now in
     let flight = jobs_of c.args.flight.now in
-    or_some (least_choice Size b flight (orients b p)) (least_choice Size b flight (overlaps b p)) c.in-Some-lightest_orient.job (sym c.in-Some-lightest_orient.ensures)
-    ∙ or_none (least_choice Size b flight (reduces b p)) (option_or (least_choice Size b flight (orients b p)) (least_choice Size b flight (overlaps b p))) (sym c.in_default.ensures)
+    or_some (least_choice Size b flight (orients b p)) (least_choice Size b flight (overlaps b p)) c.in-Some-lightest_orient.job (sym c.lightest_orient.ensures.lightest ∙ c.in-Some-lightest_orient.is)
+    ∙ or_none (least_choice Size b flight (reduces b p)) (option_or (least_choice Size b flight (orients b p)) (least_choice Size b flight (overlaps b p))) (sym c.lightest_reduce.ensures.lightest ∙ c.in_default.is)
     ∙ sym (lightest_parts b flight p)
 
-pub returns : goal.returns
-returns c =
+pub returns-clause-lightest : goal.returns-clause-lightest
+returns-clause-lightest c =
     let b = c.args.state.now in
     let p = c.args.p.now in
     let flight = jobs_of c.args.flight.now in
-    c.lightest_overlap.ensures
-    ∙ or_none (least_choice Size b flight (orients b p)) (least_choice Size b flight (overlaps b p)) (sym c.in_default-lightest_orient.ensures)
-    ∙ or_none (least_choice Size b flight (reduces b p)) (option_or (least_choice Size b flight (orients b p)) (least_choice Size b flight (overlaps b p))) (sym c.in_default.ensures)
+    c.lightest_overlap.ensures.lightest
+    ∙ or_none (least_choice Size b flight (orients b p)) (least_choice Size b flight (overlaps b p)) (sym c.lightest_orient.ensures.lightest ∙ c.in_default-lightest_orient.is)
+    ∙ or_none (least_choice Size b flight (reduces b p)) (option_or (least_choice Size b flight (orients b p)) (least_choice Size b flight (overlaps b p))) (sym c.lightest_reduce.ensures.lightest ∙ c.in_default.is)
     ∙ sym (lightest_parts b flight p)

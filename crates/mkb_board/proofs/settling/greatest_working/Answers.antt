@@ -1,4 +1,4 @@
-use Rattle.std.proofs.Common.{◌+◌, ◌<◌, ◌≡◌, List, Contains, get_or, length, ap, subst, sym, ◌∙◌, arith}
+use Rattle.std.proofs.Common.{◌<◌, List, Contains, get_or, length, ap, subst, sym, ◌∙◌, arith}
 use Rattle.std.proofs.lemmas.List.Elements.{Contains-get_or}
 use Rattle.kb_label.specs.Names.{Name}
 use Rattle.mkb_model.specs.Jobs.{least}
@@ -10,8 +10,8 @@ use Rattle.mkb_board.proofs.settling.greatest_working.Goals.{then-is_working, el
 pub loop-i-init : goal.loop-i-init
 loop-i-init c = record { pick = ap (least (turned_cmp c.args.state.now)) (sym (working_as c.args.state.now)); priced = tt }
 
-pub is_working-requires : goal.is_working-requires
-is_working-requires c =
+pub is_working-requires-clause-lives : goal.is_working-requires-clause-lives
+is_working-requires-clause-lives c =
     let living = c.processes-living.result.now in
     let p = c.index-living-i.result in
     has_in c.args.state.now.living p

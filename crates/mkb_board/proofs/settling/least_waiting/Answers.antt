@@ -1,4 +1,4 @@
-use Rattle.std.proofs.Common.{◌+◌, ◌<◌, ◌≡◌, List, Contains, get_or, length, ap, subst, sym, ◌∙◌, arith}
+use Rattle.std.proofs.Common.{◌<◌, List, Contains, get_or, length, ap, subst, sym, ◌∙◌, arith}
 use Rattle.std.proofs.lemmas.List.Elements.{Contains-get_or}
 use Rattle.kb_label.specs.Names.{Name}
 use Rattle.mkb_model.specs.Sleeping.{is_active, process_cmp}
@@ -7,8 +7,8 @@ use Rattle.mkb_board.proofs.Sleepers.{lesser_taken, passed, IsStep}
 use Rattle.mkb_board.proofs.settling.least_waiting.Goals as goal
 use Rattle.mkb_board.proofs.settling.least_waiting.Goals.{then-is_active, else-is_active}
 
-pub is_active-requires : goal.is_active-requires
-is_active-requires c =
+pub is_active-requires-clause-lives : goal.is_active-requires-clause-lives
+is_active-requires-clause-lives c =
     let sleepers = c.sleepers-sleepers.result.now in
     let p = c.index-sleepers-i.result in
     c.requires.sleepers.living p (has_in c.args.state.now.asleep p

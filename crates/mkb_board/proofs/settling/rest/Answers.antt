@@ -1,10 +1,11 @@
-use Rattle.std.proofs.Common.{subst, ap, sym, ◌∙◌, arith, ◌≡◌, ◌+◌, ◌-◌, List}
+use Rattle.std.proofs.Common.{subst, ap, sym, ◌∙◌, ◌≡◌, ◌+◌, ◌-◌, List}
 use Rattle.std.specs.Fn.{iterate}
 use Rattle.kb_label.specs.Names.{Name}
 use Rattle.mkb_model.specs.Plain.{Plain}
 use Rattle.mkb_model.specs.Invariants.{IsLabel}
 use Rattle.mkb_model.specs.Sleeping.{with_one_asleep}
 use Rattle.mkb_board.proofs.Sleepers.{asleep_same, label_rests, one_less, same_limits, with_sleepers}
+use Rattle.mkb_board.proofs.AtRest.{same_rest}
 use Rattle.mkb_board.proofs.settling.rest.Goals as goal
 
 pub rest_one-requires-clause-limited : goal.rest_one-requires-clause-limited
@@ -22,3 +23,6 @@ loop-preserved c =
       label = subst {A = List Name} (IsLabel b) (sym now) (label_rests b s.asleep c.requires.in_order c.loop.invariant.label);
       left = ap (iterate (with_one_asleep b) (c.working-count.result - (c.loop.counter + 1))) now ∙ sym (one_less (with_one_asleep b) c.working-count.result c.loop.counter s.asleep c.loop-test.true) ∙ c.loop.invariant.left;
     }
+
+pub rest_one-requires-clause-rest : goal.rest_one-requires-clause-rest
+rest_one-requires-clause-rest c = same_rest c.args.state.now c.loop.state c.loop.invariant.differs c.requires.rest

@@ -1,5 +1,5 @@
-use Rattle.std.proofs.Common.{◌≡◌, length, ap, sym, ◌∙◌, arith, Some}
-use Rattle.mkb_model.specs.Sleeping.{process_cmp, working}
+use Rattle.std.proofs.Common.{length, ap, sym, ◌∙◌, arith}
+use Rattle.mkb_model.specs.Sleeping.{working}
 use Rattle.mkb_model.proofs.Endings.{has_in}
 use Rattle.mkb_model.proofs.Selections.{least-in}
 use Rattle.mkb_board.proofs.Sleepers.{room_to_sleep, turned_cmp}

@@ -3,6 +3,7 @@ use Rattle.std.proofs.lemmas.Bool.Decides.{nat_tests}
 use Rattle.kb_label.specs.Names.{Name}
 use Rattle.mkb_model.specs.Sleeping.{most_awake}
 use Rattle.mkb_board.proofs.Sleepers.{differs_rested, rested_label, same_limits, settles, settles_at_once}
+use Rattle.mkb_board.proofs.AtRest.{same_rest}
 use Rattle.mkb_board.proofs.settling.settle.Goals as goal
 
 pub returns-then-is_empty : goal.returns-then-is_empty
@@ -23,6 +24,9 @@ wake-requires-clause-limited c = same_limits c.args.state.now c.rest.new.state (
 
 pub wake-requires-clause-sleepers : goal.wake-requires-clause-sleepers
 wake-requires-clause-sleepers c = rested_label c.args.state.now c.rest.new.state c.rest.ensures c.requires.in_order c.requires.sleepers
+
+pub wake-requires-clause-rest : goal.wake-requires-clause-rest
+wake-requires-clause-rest c = same_rest c.args.state.now c.rest.new.state (differs_rested c.args.state.now c.rest.new.state c.rest.ensures) c.requires.rest
 
 pub returns : goal.returns
 returns c = settles c.args.state.now c.rest.new.state c.wake.new.state c.rest.ensures c.wake.ensures

@@ -1,10 +1,11 @@
-use Rattle.std.proofs.Common.{subst, ap, sym, ◌∙◌, arith, ◌≡◌, ◌+◌, ◌-◌, List}
+use Rattle.std.proofs.Common.{subst, ap, sym, ◌∙◌, ◌≡◌, ◌+◌, ◌-◌, List}
 use Rattle.std.specs.Fn.{iterate}
 use Rattle.kb_label.specs.Names.{Name}
 use Rattle.mkb_model.specs.Plain.{Plain}
 use Rattle.mkb_model.specs.Invariants.{IsLabel}
 use Rattle.mkb_model.specs.Sleeping.{most_awake, with_one_awake}
 use Rattle.mkb_board.proofs.Sleepers.{awake_same, iterate_fixed, label_wakes, none_waits, none_wakes, one_less, same_limits, with_sleepers}
+use Rattle.mkb_board.proofs.AtRest.{same_rest}
 use Rattle.mkb_board.proofs.settling.wake.Goals as goal
 
 pub wake_one-requires-clause-limited : goal.wake_one-requires-clause-limited
@@ -31,3 +32,6 @@ loop-preserved c =
       label = subst {A = List Name} (IsLabel b) (sym now) (label_wakes b s.asleep c.requires.in_order c.loop.invariant.label);
       left = ap (iterate (with_one_awake b) (most_awake - (c.loop.counter + 1))) now ∙ sym (one_less (with_one_awake b) most_awake c.loop.counter s.asleep c.loop-test.true) ∙ c.loop.invariant.left;
     }
+
+pub wake_one-requires-clause-rest : goal.wake_one-requires-clause-rest
+wake_one-requires-clause-rest c = same_rest c.args.state.now c.loop.state c.loop.invariant.differs c.requires.rest

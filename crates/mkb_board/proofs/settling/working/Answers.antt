@@ -8,8 +8,8 @@ use Rattle.mkb_board.proofs.settling.working.Goals as goal
 pub loop-i-init : goal.loop-i-init
 loop-i-init c = let all = ap length (working_as c.args.state.now) in record { counted = omega (arith, all); few = omega arith }
 
-pub is_working-requires : goal.is_working-requires
-is_working-requires c =
+pub is_working-requires-clause-lives : goal.is_working-requires-clause-lives
+is_working-requires-clause-lives c =
     let living = c.processes-living.result.now in
     let p = c.index-living-i.result in
     has_in c.args.state.now.living p

@@ -10,14 +10,14 @@ use Rattle.mkb_rules.proofs.opening.first_certificates.Goals as goal
 pub returns-in-None : goal.returns-in-None
 returns-in-None c =
     let s = c.args.signature.now in
-    let none = first_none s (subst {A = Option Certificate} (λ o. IsFirstOrder s [] o) c.in-None.is c.in_ok-search.ensures.first) in
+    let none = first_none c.args.family s (subst {A = Option Certificate} (λ o. IsFirstOrder c.args.family s [] o) c.in-None.is c.in_ok-search.ensures.first) in
     ap plain_certificates c.new-certificates.ensures.items ∙ sym (ap (map {A = Certificate} {B = OrderOf} (λ q. record { name = root; certificate = q })) none)
 
 pub returns-in_ok-push-in-Some : goal.returns-in_ok-push-in-Some
 returns-in_ok-push-in-Some c =
     let s = c.args.signature.now in
     let q = c.in-Some.certificate in
-    let some = first_some s q (subst {A = Option Certificate} (λ o. IsFirstOrder s [] o) c.in-Some.is c.in_ok-search.ensures.first) in
+    let some = first_some c.args.family s q (subst {A = Option Certificate} (λ o. IsFirstOrder c.args.family s [] o) c.in-Some.is c.in_ok-search.ensures.first) in
     ap plain_certificates c.in_ok-push-in-Some.ensures.items
     ∙ (λ i. plain_certificates (c.new-certificates.ensures.items i ++ record { name = c.root.ensures i; certificate = q } ∷ []))
     ∙ sym (ap (map {A = Certificate} {B = OrderOf} (λ z. record { name = root; certificate = z })) some)

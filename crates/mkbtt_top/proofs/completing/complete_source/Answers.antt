@@ -1,8 +1,6 @@
 use Rattle.std.proofs.Common.{List, ℕ, Err, ap, subst}
 use Rattle.std.proofs.lemmas.Result.{IfErr-weaker}
-use Rattle.mkbtt_top.specs.Completing.{IsRefusal}
-use Rattle.mkbtt_top.specs.Runs.{StopsBy, too_long}
-use Rattle.mkbtt_top.specs.declared.task.Task.TheVariants.{Complete}
+use Rattle.mkbtt_top.specs.Completing.{too_long, IsRefusal, IsUnfinishedBy}
 use Rattle.mkbtt_top.proofs.Endings.{stop_of_refusal}
 use Rattle.mkbtt_top.proofs.completing.complete_source.Goals as goal
 
@@ -15,6 +13,6 @@ returns-clause-stop g c =
     let new = g.S.Source.left c.read_all.new.source in
     let before = g.S.Source.faults c.args.source.now in
     let after = g.S.Source.faults c.read_all.new.source in
-    IfErr-weaker c.complete_bytes.result (IsRefusal c.deref.result.now) (StopsBy (Complete c.args.settings c.args.workers) old new before after)
-    (λ stop h. stop_of_refusal c.args.settings c.args.workers old new before after c.in-Ok.bytes.items stop c.in-Ok.ensures.whole (subst {A = List ℕ} (λ b. IsRefusal b stop) c.deref.ensures.value h))
+    IfErr-weaker c.complete_bytes.result (IsRefusal c.deref.result.now) (IsUnfinishedBy old new before after)
+    (λ stop h. stop_of_refusal old new before after c.in-Ok.bytes.items stop c.in-Ok.ensures.whole (subst {A = List ℕ} (λ b. IsRefusal b stop) c.deref.ensures.value h))
     c.complete_bytes.ensures.stop

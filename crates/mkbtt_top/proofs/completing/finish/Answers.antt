@@ -1,6 +1,6 @@
 use Rattle.std.proofs.Common.{◌∙◌, sym, subst}
 use Rattle.mkb_model.specs.Plain.{Plain}
-use Rattle.mkbtt_top.specs.Completing.{EndsBy}
+use Rattle.mkbtt_top.specs.Workers.{EndsBy}
 use Rattle.mkbtt_top.proofs.Takes.{finished_by}
 use Rattle.mkbtt_top.proofs.completing.finish.Goals as goal
 

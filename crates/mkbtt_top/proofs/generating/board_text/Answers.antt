@@ -1,4 +1,4 @@
-use Rattle.std.proofs.Common.{◌≡◌, ◌∙◌, ℕ, Some, Vec, Global, ap, sym}
+use Rattle.std.proofs.Common.{◌≡◌, ◌∙◌, ℕ, Vec, Global, ap, sym}
 use Rattle.std.proofs.lemmas.Result.{IfOk-weaker}
 use Rattle.kb_report.specs.Summaries.{summary_text}
 use Rattle.mkb_report.specs.Summaries.{summary_of}
@@ -7,7 +7,7 @@ use Rattle.mkbtt_top.proofs.Reported.{verdict_of_state, summary_of_board}
 use Rattle.mkbtt_top.proofs.generating.board_text.Goals as goal
 
 pub summary_of-summary-requires : goal.summary_of-summary-requires
-summary_of-summary-requires c = sym (verdict_of_state c.args.board.now c.state.result.now (Some c.args.verdict) c.state.ensures c.requires)
+summary_of-summary-requires c = sym (verdict_of_state c.args.board.now c.state.result.now c.verdict.result c.state.ensures (sym c.verdict.ensures))
 
 pub returns : goal.returns
 returns c =

@@ -45,4 +45,4 @@ pub returns-in-Ok-Some-clause-taken : goal.returns-in-Ok-Some-clause-taken
 returns-in-Ok-Some-clause-taken g c = let a = rw c.in-Ok-Some.field-0-is at c.in-Ok-Some.ensures.asked in λ _ _. (c.in-Ok-Some.task, a)
 
 pub returns-in-Ok-Some-clause-reads : goal.returns-in-Ok-Some-clause-reads
-returns-in-Ok-Some-clause-reads g c = let a = rw c.in-Ok-Some.field-0-is at c.in-Ok-Some.ensures.asked in reads _ c.in-Ok-Some.task _ _ a c.run_task.ensures.unread
+returns-in-Ok-Some-clause-reads g c = let a = rw c.in-Ok-Some.field-0-is at c.in-Ok-Some.ensures.asked in reads _ c.in-Ok-Some.task _ _ a c.run_task.ensures.few

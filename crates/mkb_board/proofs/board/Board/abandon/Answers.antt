@@ -14,4 +14,5 @@ invariant_of-self c =
       abandon_board c.self.inside.state c.self.inside.flight.items c.land.new.flight.items c.self.inside.journal.items c.push.new.self.items c.self.inside.taken c.self.inside.dropped c.self.inside.halted c.args.ticket.now c.self.invariant.0 flying (rw (c.land.ensures.items) refl) items,
       omega (arith, c.push.ensures.capacity, len, c.self.invariant.1, owed_fewer (vec_len c.land.new.flight) (vec_len c.self.inside.flight) c.self.inside.halted fewer),
       c.self.invariant.2,
+      c.self.invariant.3,
     )

@@ -1,4 +1,4 @@
-use Rattle.std.proofs.Common.{◌≤◌, length, ap, arith, ◌∙◌}
+use Rattle.std.proofs.Common.{length, ap, arith}
 use Rattle.mkb_board.proofs.Readable.{few_on, ordered_on, sleepers_on}
 use Rattle.mkb_board.proofs.Sleepers.{sleepers_few}
 use Rattle.mkb_board.proofs.board.Board.asleep.Goals as goal

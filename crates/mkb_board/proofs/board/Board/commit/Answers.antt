@@ -2,14 +2,11 @@ use Rattle.kb_label.specs.Names.{IsInNameOrder}
 use Rattle.mkb_model.specs.Limits.{AreLimited}
 use Rattle.mkb_model.specs.Invariants.{IsLabel}
 use Rattle.mkb_model.specs.Sleeping.{settle}
-use Rattle.std.proofs.Common.{ℕ, ◌≡◌, ◌∙◌, ◌++◌, ◌∷◌, [], List, arith, subst, ap, ap₂, refl, sym, vec_len, not, ◌==◌, filter, Contains, None}
+use Rattle.std.proofs.Common.{◌≡◌, ◌∙◌, ◌++◌, ◌∷◌, [], arith, subst, ap, refl, sym, vec_len, Contains, None}
 use Rattle.std.specs.Prelude.{IsFalse}
 use Rattle.mkb_model.specs.Plain.{Plain}
-use Rattle.mkb_model.specs.Effects.{is_dropped, effect, effect_entry, limit_of}
+use Rattle.mkb_model.specs.Effects.{is_dropped, effect_entry, limit_of}
 use Rattle.mkb_model.specs.Verdicts.{verdict}
-use Rattle.mkb_model.specs.Journals.{landed}
-use Rattle.mkb_model.specs.declared.proposed.Proposed.{Proposed}
-use Rattle.mkb_model.specs.declared.entry.Ticket.{Ticket}
 use Rattle.mkb_model.specs.declared.entry.Effect.{Effect}
 use Rattle.mkb_model.specs.declared.entry.Entry.TheVariants.{Commit}
 use Rattle.mkb_rules.specs.Applying.{applied_as}
@@ -17,8 +14,11 @@ use Rattle.mkb_board.specs.Boards.{Seen, seen}
 use Rattle.mkb_board.specs.Takes.{IsProposalOf, IsFinishedBy}
 use Rattle.mkb_board.specs.declared.answers.Finished.TheVariants.{Committed}
 use Rattle.mkb_board.proofs.Growing.{after_push, owed_less, owed_fewer}
-use Rattle.mkb_board.proofs.Ends.{commit_board, effect_flying, entry_flying, limit_flying, lands}
-use Rattle.mkb_board.proofs.Ready.{state_applicable, state_budget, acted_labels, acted_limited}
+use Rattle.mkb_board.proofs.Ends.{commit_board, entry_flying, limit_flying, lands}
+use Rattle.mkb_board.specs.Choosing.{ClosedRest}
+use Rattle.mkb_board.specs.Normal.{AreNormal}
+use Rattle.mkb_board.proofs.Irreducible.{normal_after}
+use Rattle.mkb_board.proofs.Ready.{state_applicable, state_budget, acted_labels, acted_limited, acted_rest, effect_rest}
 use Rattle.mkb_board.proofs.board.Board.commit.Goals as goal
 
 pub apply-requires-clause-budget : goal.apply-requires-clause-budget
@@ -64,6 +64,27 @@ settle-requires-clause-sleepers c =
     (subst {A = Seen} (λ z. IsFalse (is_dropped z.plain c.args.proposal)) (sym c.self.view_is) c.requires.acts)).asleep in
     subst {A = Plain} (λ z. IsLabel z z.asleep) (sym c.in-Ok.ensures.ok.0) (record { ordered = k.ordered; living = k.lives })
 
+pub settle-requires-clause-rest : goal.settle-requires-clause-rest
+settle-requires-clause-rest c =
+    subst {A = Plain} ClosedRest (sym c.in-Ok.ensures.ok.0)
+    (acted_rest c.self.inside.state c.self.inside.flight.items c.self.inside.journal.items c.args.ticket c.args.proposal c.self.invariant.0.legal
+    (subst {A = Seen} (λ z. verdict z.plain ≡ None) (sym c.self.view_is) c.requires.no_verdict)
+    (subst {A = Seen} (λ z. Contains z.plain.flight c.args.ticket) (sym c.self.view_is) c.requires.flying)
+    (subst {A = Seen} (λ z. IsProposalOf z c.args.ticket c.args.proposal) (sym c.self.view_is) c.requires.proposed)
+    (subst {A = Seen} (λ z. IsFalse (is_dropped z.plain c.args.proposal)) (sym c.self.view_is) c.requires.acts))
+
+pub verdict-self-inside-requires : goal.verdict-self-inside-requires
+verdict-self-inside-requires c =
+    record {
+      rest =
+          subst {A = Plain} ClosedRest (sym (c.settle.ensures ∙ ap settle c.in-Ok.ensures.ok.0))
+          (effect_rest c.self.inside.state c.self.inside.flight.items c.self.inside.journal.items c.args.ticket c.args.proposal c.self.invariant.0.legal
+          (subst {A = Seen} (λ z. verdict z.plain ≡ None) (sym c.self.view_is) c.requires.no_verdict)
+          (subst {A = Seen} (λ z. Contains z.plain.flight c.args.ticket) (sym c.self.view_is) c.requires.flying)
+          (subst {A = Seen} (λ z. IsProposalOf z c.args.ticket c.args.proposal) (sym c.self.view_is) c.requires.proposed)
+          (subst {A = Seen} (λ z. IsFalse (is_dropped z.plain c.args.proposal)) (sym c.self.view_is) c.requires.acts));
+    }
+
 pub invariant_of-self-2 : goal.invariant_of-self-2
 invariant_of-self-2 c =
     let flying : Contains c.self.inside.flight.items c.args.ticket = subst {A = Seen} (λ z. Contains z.plain.flight c.args.ticket) (sym c.self.view_is) c.requires.flying in
@@ -80,6 +101,7 @@ invariant_of-self-2 c =
           (lands c.self.inside.state c.settle.new.state c.self.inside.flight.items c.land.new.flight.items c.args.proposal c.args.ticket.number (c.settle.ensures ∙ ap settle c.in-Ok.ensures.ok.0) c.land.ensures.items) entry,
       omega (arith, c.push.ensures.capacity, len, c.self.invariant.1, owed_fewer (vec_len c.land.new.flight) (vec_len c.self.inside.flight) c.self.inside.halted fewer),
       c.verdict-self-inside.ensures,
+      subst {A = Plain} (λ z. AreNormal z c.self.inside.normal) (sym (c.settle.ensures ∙ ap settle c.in-Ok.ensures.ok.0)) (normal_after c.self.inside.state c.args.proposal c.self.inside.normal c.self.invariant.3),
     )
 
 pub returns-clause-ok : goal.returns-clause-ok

@@ -1,7 +1,10 @@
 use Rattle.std.proofs.Common.{◌≡◌, ◌∙◌, refl, sym, subst, Contains, Some, None}
 use Rattle.mkb_model.specs.Verdicts.{verdict}
+use Rattle.std.specs.Prelude.{IsFalse, IsTrue}
+use Rattle.mkb_model.specs.Effects.{is_dropped}
 use Rattle.mkb_board.specs.Boards.{Seen}
 use Rattle.mkb_board.specs.Takes.{IsProposalOf}
+use Rattle.mkb_board.proofs.Ends.{dropped_flying}
 use Rattle.mkb_board.proofs.Ready.{state_named}
 use Rattle.mkb_board.proofs.board.Board.finish.Goals as goal
 
@@ -20,3 +23,13 @@ commit-requires-clause-no_verdict c = subst {A = Seen} (λ z. verdict z.plain �
 
 pub returns-in-Err-clause-undecided : goal.returns-in-Err-clause-undecided
 returns-in-Err-clause-undecided c = subst {A = Seen} (λ z. verdict z.plain ≡ None) c.self.view_is (sym c.self.invariant.2 ∙ c.in_default.is)
+
+pub drop_ticket-requires-clause-idle : goal.drop_ticket-requires-clause-idle
+drop_ticket-requires-clause-idle c =
+    subst {A = Seen} (λ z. IsTrue (is_dropped z.plain c.args.proposal)) c.self.view_is
+    (dropped_flying c.self.inside.state c.self.inside.flight.items c.args.proposal ∙ sym c.in-Ok-true.ensures ∙ c.in-Ok-true.field-0-test)
+
+pub commit-requires-clause-acts : goal.commit-requires-clause-acts
+commit-requires-clause-acts c =
+    subst {A = Seen} (λ z. IsFalse (is_dropped z.plain c.args.proposal)) c.self.view_is
+    (dropped_flying c.self.inside.state c.self.inside.flight.items c.args.proposal ∙ sym c.in-Ok-false.ensures ∙ c.in-Ok-false.field-0-test)

@@ -5,6 +5,7 @@ use Rattle.mkb_model.specs.Journals.{opening}
 use Rattle.mkb_model.specs.declared.entry.Ticket.{Ticket}
 use Rattle.mkb_model.specs.declared.entry.Entry.{Entry}
 use Rattle.mkb_board.specs.Boards.{seen, IsBoard}
+use Rattle.mkb_board.proofs.AtRest.{opening_rest}
 use Rattle.mkb_board.proofs.board.Board.start.Goals as goal
 use Rattle.mkb_model.specs.declared.settings.Settings.{Settings}
 
@@ -21,4 +22,8 @@ invariant_of-result c = (
   opening_board c.args.problem c.args.settings c.in_ok-state.state c.new.result.items c.reserve.new.self.items c.requires c.in_ok-state.ensures c.new.ensures.items (c.in_ok-reserve.ensures.items ∙ c.new-journal.ensures.items),
   omega (arith, c.in_ok-reserve.ensures.ok, c.in_ok-reserve.ensures.len, c.new-journal.ensures.len, c.new.ensures.len),
   c.verdict-verdict.ensures,
+  c.new-2.ensures c.in_ok-state.state,
 )
+
+pub verdict-verdict-requires : goal.verdict-verdict-requires
+verdict-verdict-requires c = record { rest = opening_rest c.args.problem c.args.settings c.in_ok-state.state c.in_ok-state.ensures }

@@ -15,7 +15,7 @@ pub returns-then-self-clause-ok : goal.returns-then-self-clause-ok
 returns-then-self-clause-ok c = (refl, subst {A = Seen} (λ z. verdict z.plain ≡ None) c.self.view_is (sym c.self.invariant.2 ∙ c.in_default.is), subst {A = Seen} (λ z. IsTrue (has_halt z.journal)) c.self.view_is (sym c.self.invariant.0.halted_is ∙ c.if-self.true))
 
 pub take_job-requires-clause-no_verdict : goal.take_job-requires-clause-no_verdict
-take_job-requires-clause-no_verdict c = subst {A = Seen} (λ z. verdict z.plain ≡ None) c.self.view_is (sym c.self.invariant.2 ∙ c.in_default.is)
+take_job-requires-clause-no_verdict c = sym c.self.invariant.2 ∙ c.in_default.is
 
 pub first_job-requires-clause-limited : goal.first_job-requires-clause-limited
 first_job-requires-clause-limited c = limited_on c.self.inside.state c.self.inside.flight.items c.self.inside.journal.items c.self.invariant.0.legal
@@ -37,9 +37,9 @@ returns-in_err-first_job-clause-unhalted c = on_err c.from_residual.result (subs
 pub returns-in-None-clause-ok : goal.returns-in-None-clause-ok
 returns-in-None-clause-ok c =
     let none = sym c.self.invariant.2 ∙ c.in_default.is in
-    let first : first_job (record c.self.inside.state { flight = c.self.inside.flight.items }) ≡ None = ap (λ (ts : List Ticket). first_job (record c.self.inside.state { flight = ts })) (sym c.as_slice.ensures.value) ∙ sym c.in_ok-first_job.ensures ∙ c.in-None.is in
+    let first : first_job (record c.self.inside.state { flight = c.self.inside.flight.items }) ≡ None = ap (λ (ts : List Ticket). first_job (record c.self.inside.state { flight = ts })) (sym c.as_slice.ensures.value) ∙ sym c.in_ok-first_job.ensures.first ∙ c.in-None.is in
     let count = c.len.ensures ∙ c.self.inside.flight.ok.0 in (
-      refl,
+      c.self.view_is,
       subst {A = Seen} (λ z. verdict z.plain ≡ None) c.self.view_is none,
       subst {A = Seen} (λ z. IsFalse (has_halt z.journal)) c.self.view_is (sym c.self.invariant.0.halted_is ∙ c.if-self.false),
       subst {A = Seen} (λ z. first_job z.plain ≡ None) c.self.view_is first,

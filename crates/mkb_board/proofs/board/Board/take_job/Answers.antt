@@ -9,12 +9,16 @@ use Rattle.mkb_board.specs.Boards.{Seen, seen, IsBoard, owed, has_halt}
 use Rattle.mkb_board.specs.Takes.{TakesJob}
 use Rattle.mkb_board.proofs.Growing.{take_board, after_push, shorter}
 use Rattle.mkb_board.proofs.Flying.{taken_flying}
-use Rattle.mkb_board.proofs.Readable.{readable_on, first_there}
+use Rattle.mkb_board.proofs.Readable.{readable_on, first_there, first_ordered}
 use Rattle.mkb_board.proofs.board.Board.take_job.Goals as goal
 
-pub snapshot-requires : goal.snapshot-requires
-snapshot-requires c =
+pub snapshot-requires-clause-there : goal.snapshot-requires-clause-there
+snapshot-requires-clause-there c =
     first_there c.self.inside.state c.self.inside.flight.items c.args.job.now (subst {A = Seen} (λ z. first_job z.plain ≡ Some c.args.job.now) (sym c.self.view_is) c.requires.first)
+
+pub snapshot-requires-clause-ordered : goal.snapshot-requires-clause-ordered
+snapshot-requires-clause-ordered c =
+    first_ordered c.self.inside.state c.self.inside.flight.items c.self.inside.journal.items c.self.invariant.0.legal c.args.job.now (subst {A = Seen} (λ z. first_job z.plain ≡ Some c.args.job.now) (sym c.self.view_is) c.requires.first)
 
 pub overflow_add-ticket : goal.overflow_add-ticket
 overflow_add-ticket c = omega (arith, c.self.invariant.0.taken_is, shorter is_take c.self.inside.journal.items, c.self.inside.journal.ok.0, c.self.inside.journal.small)
@@ -39,7 +43,7 @@ invariant_of-self-2 c =
           (items2 ∙ ap (λ (z : List Ticket). z ++ record { number = c.self.inside.taken + 1; worker = c.args.worker; job = c.args.job.now } ∷ []) F) (items ∙ ap (λ (z : List Entry). z ++ c.entry_of.result ∷ []) J ∙ ap (λ (e : Entry). c.self.inside.journal.items ++ e ∷ []) c.entry_of.ensures),
       room,
     ) in
-    (whole.0, whole.1, c.self.invariant.2)
+    (whole.0, whole.1, c.self.invariant.2, c.self.invariant.3)
 
 pub returns-clause-ok : goal.returns-clause-ok
 returns-clause-ok c =
@@ -61,5 +65,5 @@ returns-clause-ok c =
       entered = J;
       job_is = c.in_ok-snapshot.ensures.job;
       reads = taken_flying c.self.inside.state c.self.inside.flight.items s c.in_ok-snapshot.ensures.taken;
-      readable = readable_on c.self.inside.state c.self.inside.flight.items c.self.inside.journal.items c.self.invariant.0.legal s c.in_ok-snapshot.ensures.taken c.in_ok-snapshot.ensures.whole;
+      readable = readable_on c.self.inside.state c.self.inside.flight.items c.self.inside.journal.items c.self.invariant.0.legal c.args.job.now (subst {A = Seen} (λ z. first_job z.plain ≡ Some c.args.job.now) (sym c.self.view_is) c.requires.first) s c.in_ok-snapshot.ensures.job c.in_ok-snapshot.ensures.taken c.in_ok-snapshot.ensures.whole;
     }

@@ -12,7 +12,7 @@ use Rattle.mkb_rules.proofs.state.State.start.Goals as goal
 pub returns : goal.returns
 returns c =
     let nodes = c.in_ok-nodes.ensures ∙ ap (λ (z : List (Tree × Tree)). with_inputs 1 z []) c.equations.ensures in
-    let orders = c.in_ok-certificates.ensures ∙ ap (λ (s : Signature). map {A = Certificate} {B = OrderOf} (λ q. record { name = root; certificate = q }) (take 1 (family s))) c.signature.ensures in
+    let orders = c.in_ok-certificates.ensures ∙ ap (λ (s : Signature). map {A = Certificate} {B = OrderOf} (λ q. record { name = root; certificate = q }) (take 1 (family c.args.settings.family s))) c.signature.ensures in
     (λ i. record {
       problem = c.args.problem;
       settings = c.args.settings;

@@ -1,0 +1,52 @@
+-- Nodes that are known to be reduced by none of some rules.
+use Rattle.std.specs.Prelude.{ℕ, zero, suc, List, [], ◌∷◌, Bool, true, false, ◌&&◌, ◌||◌, ◌==◌, ◌≡◌, ◌≤◌, length, not, slice_get, Option, Some, None}
+use Rattle.std.specs.List.{list_any}
+use Rattle.kb_term.specs.declared.origin.RuleRef.{RuleRef}
+use Rattle.kb_term.specs.declared.origin.Found.{Found}
+use Rattle.kb_term.specs.declared.origin.Found.TheVariants.{No, Variant, Strict}
+use Rattle.kb_label.specs.Names.{Name}
+use Rattle.mkb_model.specs.Plain.{Plain, is_equation, is_rule, rules_of, known, other}
+use Rattle.mkb_board.specs.declared.normal.Roles.{Roles}
+use Rattle.mkb_board.specs.declared.normal.Normal.{Normal}
+
+-- the roles in which p has the node
+abbrev pub roles_of : Plain → Name → ℕ → Roles
+roles_of b p n = record { equation = is_equation b p n; first = is_rule b p (record { node = n; dir = 0 }); second = is_rule b p (record { node = n; dir = 1 }) }
+
+-- the node is the rule of this direction
+abbrev pub has_rule : Roles → ℕ → Bool
+has_rule r zero = r.first
+has_rule r (suc d) = r.second
+
+-- the node has one of the roles
+abbrev pub is_in_use : Roles → Bool
+is_in_use r = r.equation || (r.first || r.second)
+
+-- whoever has the node in these roles may rewrite a redex of this kind on side w: any where it is an equation, or the rule with w on the right, and a strict one on the left
+abbrev pub is_usable_in : Roles → ℕ → Found → Bool
+is_usable_in r w No = false
+is_usable_in r w Variant = r.equation || has_rule r (other w)
+is_usable_in r w Strict = true
+
+-- nothing is known of the side and the rule, or a usable redex
+abbrev pub is_open_in : Roles → ℕ → Option Found → Bool
+is_open_in r w None = true
+is_open_in r w (Some found) = is_usable_in r w found
+
+-- some side of the node is open to the rule, which is of another node
+abbrev pub is_open_to : Plain → Roles → ℕ → RuleRef → Bool
+is_open_to b r n a = not (a.node == n) && list_any (λ w. is_open_in r w (known b n w a)) (0 ∷ 1 ∷ [])
+
+-- no side of a node that is noted, in the roles that are noted for it, is open to one of these rules
+abbrev pub NoneOpens : Plain → List (Option Roles) → List RuleRef → Type 0
+NoneOpens b nodes rules = (n : ℕ) (r : Roles) → slice_get nodes n ≡ Some (Some r) → list_any (is_open_to b r n) rules ≡ false
+
+-- none of the rules reduces a node that is noted
+pub record AreNormal (b : Plain) (k : Normal) : Type 0 where
+  pub few : length k.nodes.items ≤ 4096
+  pub none : NoneOpens b k.nodes.items k.rules.items
+
+-- the rules are those of the process
+pub record Serves (b : Plain) (p : Name) (k : Normal) : Type 0 where
+  pub rules : k.rules.items ≡ rules_of b p
+  pub known : AreNormal b k

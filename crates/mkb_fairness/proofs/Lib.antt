@@ -1,0 +1,9 @@
+mod FewPairs
+mod Lightest
+mod Turns
+mod Overlaps
+mod Lighter
+mod Noted
+mod Once
+mod Directions
+mod Bounded

@@ -1,0 +1,5 @@
+pub mod Excerpts
+pub mod Sentences
+pub mod Hints
+pub mod Manners
+pub mod Progress
