@@ -10,7 +10,7 @@ pub loop-i-preserved : goal.loop-i-preserved
 loop-i-preserved c =
     let fields = c.args.fields.now in
     let before = join_with_byte c.args.separator (map (λ (f : NameVec). f.items) (take c.loop-i.i fields)) in
-    c.in_ok-push_field.ensures
+    c.in_ok-push_field.ensures.ok
     ∙ ap (λ (bytes : List ℕ). bytes ++ parted c.args.separator c.loop-i.i c.deref.result.now) c.loop-i.invariant
     ∙ append_assoc c.args.out.now.items before (parted c.args.separator c.loop-i.i c.deref.result.now)
     ∙ ap (c.args.out.now.items ++◌) (ap (λ (bytes : List ℕ). before ++ parted c.args.separator c.loop-i.i bytes) (c.deref.ensures.value ∙ ap (λ (f : NameVec). f.items) c.index-fields-i.is) ∙ sym (join_more c.args.separator fields c.loop-i.i c.index-fields-i.result c.loop-i-test.true))

@@ -6,10 +6,10 @@ use Rattle.kb_term.specs.View.{tree_of}
 use Rattle.kb_term.proofs.Arguments.{argument-is, argument-depth, arguments-length}
 use Rattle.kb_text.specs.Terms.{names_of, term_text, separator}
 use Rattle.kb_text.proofs.TextLaws.{opened_text, opened_more, closed, trees}
-use Rattle.kb_text.proofs.text.+push_term.Goals as goal
+use Rattle.kb_text.proofs.text.+add_term.Goals as goal
 
-pub push_term-requires : goal.push_term-requires
-push_term-requires t c =
+pub add_term-requires : goal.add_term-requires
+add_term-requires t c =
     let items = c.items-arguments.result.now in
     let here = argument-is items c.in-App.arguments c.loop-i.i c.index-arguments-i.result c.items-arguments.ensures c.loop-i-test.true c.index-arguments-i.is in
     let room : c.loop-i.i < length c.in-App.arguments = omega (arith, arguments-length items, ap length c.items-arguments.ensures, c.loop-i-test.true) in
@@ -21,7 +21,7 @@ loop-i-preserved t c =
     let names = names_of c.args.signature.now in
     let items = c.items-arguments.result.now in
     let before = opened_text names (trees (take c.loop-i.i items)) in record {
-      added = c.in_ok-push_term-in-App.ensures
+      added = c.in_ok-add_term-in-App.ensures.ok
           ∙ ap (λ bytes. bytes ++ term_text names (tree_of c.index-arguments-i.result)) (c.in_ok-push-in-App.ensures.items ∙ ap (λ b. c.loop-i.out.items ++ b ∷ []) c.separator_before.ensures ∙ ap (λ bytes. bytes ++ separator c.loop-i.i ∷ []) c.loop-i.invariant.added)
           ∙ append_assoc (c.push_symbol.new.out.items ++ before) (separator c.loop-i.i ∷ []) (term_text names (tree_of c.index-arguments-i.result))
           ∙ append_assoc c.push_symbol.new.out.items before (separator c.loop-i.i ∷ term_text names (tree_of c.index-arguments-i.result))
