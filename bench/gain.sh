@@ -3,7 +3,7 @@
 #
 #   bench/gain.sh BUDGET WORKERS [FILE..]
 #
-# The files are those of bench/hard where none are given. Each run is made three times and the least time counts. A line for each
+# The files are those of examples/ where none are given. Each run is made three times and the least time counts. A line for each
 # problem has the seconds by the clock and, in brackets, of the processors: of complete by one worker and by WORKERS, of rounds by
 # both, and behind them how many times as fast complete and rounds are by WORKERS.
 set -eu
@@ -12,7 +12,7 @@ gain_program="$top/crates/mkbtt/out/mkbtt"
 gain_budget="${1:?how many commits}"
 gain_workers="${2:?how many workers}"
 shift 2
-[ $# -gt 0 ] || set -- "$top"/bench/hard/*.trs
+[ $# -gt 0 ] || set -- "$top"/examples/*.trs
 export gain_program gain_budget gain_workers
 echo "processors: $(nproc)"
 for file in "$@"; do

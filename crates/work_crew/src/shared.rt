@@ -165,6 +165,7 @@ impl Shared {
         requires worked { IfOk worked (ProposesBy assignment.now.snapshot) }
         ensures ok { OnOk result (IsEnded self.old self.new assignment.now) }
         ensures err { OnErr result (IsGivenBack self.old self.new assignment.now.ticket) }
+        ensures legal { IsLegalBoard self.new }
         ensures grows { Grows assignment.now.ticket.worker self.old self.new }
         ensures same { IsSameRun self.old self.new }
     {
@@ -213,6 +214,7 @@ impl Shared {
         requires proposed { ProposesBy assignment.now.snapshot proposal }
         ensures ok { OnOk result (IsEnded self.old self.new assignment.now) }
         ensures err { OnErr result (IsGivenBack self.old self.new assignment.now.ticket) }
+        ensures legal { IsLegalBoard self.new }
         ensures grows { Grows assignment.now.ticket.worker self.old self.new }
         ensures same { IsSameRun self.old self.new }
     {
@@ -254,6 +256,7 @@ impl Shared {
         requires proposed { ProposesBy assignment.now.snapshot proposal }
         ensures ok { OnOk result (IsEnded self.old self.new assignment.now) }
         ensures err { OnErr result (self.new ≡ self.old) }
+        ensures legal { IsLegalBoard self.new }
         ensures grows { Grows assignment.now.ticket.worker self.old self.new }
         ensures same { IsSameRun self.old self.new }
     {
@@ -269,6 +272,7 @@ impl Shared {
     fn give_back(&mut self, assignment: &Assignment)
         requires held { IsHeldSince self.old assignment.now }
         ensures back { IsGivenBack self.old self.new assignment.now.ticket }
+        ensures legal { IsLegalBoard self.new }
         ensures grows { Grows assignment.now.ticket.worker self.old self.new }
         ensures same { IsSameRun self.old self.new }
     {
