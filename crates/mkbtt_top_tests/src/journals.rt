@@ -54,12 +54,14 @@ const AT_START: &str =
 const AFTER_ONE: &str =
     "verdict none\ncommits 1\ndrops 0\nnodes 1\ndead 0\nforks 0\nliving 1\nover 0\nrules 0\n";
 
-/// The texts of the journal with the other text in the place of the part of it; none where it has no such part.
-fn altered<'t>(part: &str, other: &'t str) -> Option<[&'t str; 3]> {
-    match JOURNAL.split_once(part) {
-        Some((front, back)) => Some([front, other, back]),
-        None => None,
-    }
+/// The journal before the part of it and behind; none where it has no such part.
+fn around(part: &str) -> Option<(&'static str, &'static str)> {
+    JOURNAL.split_once(part)
+}
+
+/// The three texts, in this order.
+fn in_order<'t>(front: &'t str, other: &'t str, back: &'t str) -> [&'t str; 3] {
+    [front, other, back]
 }
 
 /// The texts of a journal of the same problem with other entries, below the line of their count.
@@ -93,28 +95,29 @@ impl<'a, R: Threads + Wait + Sync + Abort> Bench<'a, R> {
         self.ends(&["replay"], texts, want)
     }
 
-    /// Whether the altered journal leads to the summary of the journal.
+    /// Whether the journal with the other text in the place of the part leads to the summary of the journal.
     fn ends_alike(&self, part: &str, other: &str) -> bool {
-        match altered(part, other) {
-            Some(texts) => self.sums_up(&texts, 8, SUMMARY),
+        match around(part) {
+            Some((front, back)) => self.sums_up(&in_order(front, other, back), 8, SUMMARY),
             None => false,
         }
     }
 
-    /// Whether the line names the first entry of the altered journal that no board makes.
+    /// Whether the line names the first entry that no board makes of the journal with the other text in the place of the part.
     fn is_named(&self, part: &str, other: &str, line: &str) -> bool {
-        match altered(part, other) {
-            Some(texts) => self.writes(&["replay"], &texts, 1, line),
+        match around(part) {
+            Some((front, back)) => self.writes(&["replay"], &in_order(front, other, back), 1, line),
             None => false,
         }
     }
 
-    /// Whether the replay of the altered journal is refused by the line with this number, and writes nothing.
+    /// Whether the journal with the other text in the place of the part is refused by the line with this number, and nothing is
+    /// written.
     fn is_refused_at(&self, part: &str, other: &str, line: u64) -> bool {
-        let Some(texts) = altered(part, other) else {
+        let Some((front, back)) = around(part) else {
             return false;
         };
-        let mut source = self.source(&texts);
+        let mut source = self.source(&in_order(front, other, back));
         let mut sink = self.sink(100);
         let outcome = self.perform(&["replay"], &mut source, &mut sink, &OpenGate);
         outcome.status == Status::BadText(line) && sink.bytes().len() == 0
