@@ -7,7 +7,7 @@
 # - standard output closed, a full device, a reader that goes away; standard input closed, or a directory;
 # - each allocation refused in turn over whole runs (where there is a C compiler, by a small library that is loaded before malloc);
 # - a limit on the address space, from far too little to enough;
-# - hostile texts of a problem and of an answer, whose time must grow with their bytes alone;
+# - hostile texts of a problem, of an answer and of a journal, whose time must grow with their bytes alone;
 # - a run that is killed: no file is left behind.
 # It ends by itself, within ten minutes. The status is 1 where something was told.
 set -u
@@ -123,6 +123,8 @@ echo "$forked" >forked
 echo "$deep" >deep
 printf '(VAR x)(RULES f(x) == x)' >one
 complete <problem >answer
+timeout "$LONGEST" "$program" journal --workers 1 <problem >journal 2>err
+status_is "a journal" $? 0
 { cat answer; printf 'GOALS 2\nf(f(f(x1))) = a\nf(x1) = a\nEND\n'; } >goals
 { cat answer; printf 'TERMS 2\nf(f(f(x1)))\nf(x1)\nEND\n'; } >terms
 if command -v cc >/dev/null && cc -shared -fPIC -o refuse.so refuse.c -ldl 2>/dev/null; then
@@ -131,6 +133,8 @@ if command -v cc >/dev/null && cc -shared -fPIC -o refuse.so refuse.c -ldl 2>/de
     refuse_each "a run with forks" forked complete --workers 1
     refuse_each "a run that passes a limit" deep complete --workers 1
     refuse_each "a completion by size" forked complete --workers 1 --select size
+    refuse_each "a journal" problem journal --workers 1
+    refuse_each "a replay" journal replay
     refuse_each "a check" answer check
     refuse_each "an answer's rules" answer convert --to trs
     refuse_each "an answer's trace" answer convert --to dot
@@ -188,9 +192,15 @@ for text in '9' 'a' 'RULES 9'; do
     repeated "$text" 64000000 >large
     refuses_in_linear_time "an answer of one line of '$text'" check small large
 done
+for text in '9' 'a' 'take 1 '; do
+    repeated "$text" 16000000 >small
+    repeated "$text" 64000000 >large
+    refuses_in_linear_time "a journal of one line of '$text'" replay small large
+done
 yes '' | head -c 16000000 >small
 yes '' | head -c 64000000 >large
 refuses_in_linear_time "an answer of empty lines" check small large
+refuses_in_linear_time "a journal of empty lines" replay small large
 yes 'f(x1) -> x1 : 1' | head -c 16000000 | cat <(printf 'MKBTT 1\nSYMBOLS f/1\nEQUATIONS 0\nRULES 4096\n') - >small
 yes 'f(x1) -> x1 : 1' | head -c 64000000 | cat <(printf 'MKBTT 1\nSYMBOLS f/1\nEQUATIONS 0\nRULES 4096\n') - >large
 refuses_in_linear_time "an answer of rules without an end" check small large

@@ -1,5 +1,5 @@
 // What a worker asks before its work.
-ghost use Rattle.std.specs.Prelude.{◌≡◌, ◌≢◌, true};
+ghost use Rattle.std.specs.Prelude.{◌≡◌, ◌≢◌, true, false};
 
 use std::hint::spin_loop;
 use std::sync::atomic::Ordering::SeqCst;
@@ -18,10 +18,15 @@ pub struct Moment {
     pub living: u32,
     /// How many of them aren't asleep.
     pub awake: u32,
+    /// What the ticket's process costs, where the gate wanted to know it.
+    pub cost: Option<u32>,
 }
 
 /// What a worker asks between taking a ticket and working it: may it go on? It carries no promise.
 pub trait Gate: Sync {
+    /// Whether it wants to know what the process of the next ticket costs. Asked as a ticket is taken.
+    fn wants_cost(&self) -> bool;
+
     /// Asked with the moment at which the ticket was taken, and with 0, 1, .. for each time that it is asked for this ticket.
     fn pass(&self, moment: &Moment, turn: u32) -> bool;
 }
@@ -31,6 +36,12 @@ pub trait Gate: Sync {
 pub struct OpenGate;
 
 impl Gate for OpenGate {
+    fn wants_cost(&self) -> bool
+        ensures spares { result ≡ false }
+    {
+        false
+    }
+
     fn pass(&self, _moment: &Moment, _turn: u32) -> bool
         ensures passes { result ≡ true }
     {
@@ -100,6 +111,12 @@ impl HoldGate {
 }
 
 impl Gate for HoldGate {
+    fn wants_cost(&self) -> bool
+        ensures spares { result ≡ false }
+    {
+        false
+    }
+
     fn pass(&self, moment: &Moment, turn: u32) -> bool
         ensures passes { result ≡ true }
     {
@@ -122,6 +139,7 @@ pub struct TallyGate {
     nodes: AtomicU32,
     living: AtomicU32,
     awake: AtomicU32,
+    cost: AtomicU32,
 }
 
 /// What a `TallyGate` was told last.
@@ -131,6 +149,8 @@ pub struct Tally {
     pub nodes: u32,
     pub living: u32,
     pub awake: u32,
+    /// 0 where it was told none.
+    pub cost: u32,
 }
 
 impl TallyGate {
@@ -141,6 +161,7 @@ impl TallyGate {
             nodes: AtomicU32::new(0),
             living: AtomicU32::new(0),
             awake: AtomicU32::new(0),
+            cost: AtomicU32::new(0),
         }
     }
 
@@ -151,11 +172,18 @@ impl TallyGate {
             nodes: self.nodes.load(SeqCst),
             living: self.living.load(SeqCst),
             awake: self.awake.load(SeqCst),
+            cost: self.cost.load(SeqCst),
         }
     }
 }
 
 impl Gate for TallyGate {
+    fn wants_cost(&self) -> bool
+        ensures asks { result ≡ true }
+    {
+        true
+    }
+
     fn pass(&self, moment: &Moment, _turn: u32) -> bool
         ensures passes { result ≡ true }
     {
@@ -163,6 +191,7 @@ impl Gate for TallyGate {
         self.nodes.store(moment.nodes, SeqCst);
         self.living.store(moment.living, SeqCst);
         self.awake.store(moment.awake, SeqCst);
+        self.cost.store(moment.cost.unwrap_or(0), SeqCst);
         true
     }
 }

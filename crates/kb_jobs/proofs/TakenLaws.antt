@@ -1,17 +1,19 @@
 -- What jobs propose by snapshots is what they propose on the board.
-use Rattle.std.proofs.Common.{ℕ, zero, suc, ◌≡◌, ◌⊎◌, inl, inr, refl, sym, ap, subst, ⊎_elim, List, [], ◌∷◌, ◌++◌, Bool, Option, Some, None}
-use Rattle.kb_term.specs.Pair.{Pair}
+use Rattle.std.proofs.Common.{ℕ, zero, suc, ◌≡◌, ◌∙◌, ◌⊎◌, inl, inr, refl, sym, ap, subst, ⊎_elim, List, [], ◌∷◌, ◌++◌, Bool, Option, Some, None}
 use Rattle.kb_term.specs.Rule.{Rule}
 use Rattle.kb_term.specs.Signature.{Signature}
 use Rattle.kb_term.specs.View.{tree_of}
+use Rattle.kb_term.specs.declared.origin.RuleRef.{RuleRef}
 use Rattle.kb_term.specs.declared.origin.Found.{Found}
 use Rattle.kb_term.specs.declared.origin.Found.TheVariants.{No, Variant, Strict}
 use Rattle.kb_cert.specs.Family.{IsFirstOrder}
 use Rattle.kb_cert.specs.declared.certificate.Certificate.{Certificate}
+use Rattle.kb_node.specs.declared.job.Fact.{Fact}
 use Rattle.kb_node.specs.declared.job.Job.TheVariants.{Reduce, Orient, Overlap, Close}
 use Rattle.mkb_model.specs.Plain.{Plain, other, rules_at, constraints_of}
-use Rattle.mkb_model.specs.DueJobs.{is_usable}
-use Rattle.mkb_model.specs.Proposals.{NamedRule, unknown, IsRewriting, IsLargeRewriting, AreMissingFacts, OnReduce, OrientsBy, Proposes, equations_on, IsUnjoining, IsClosed, IsOverlapStop, IsInputStop}
+use Rattle.mkb_model.proofs.Lists.{clash}
+use Rattle.mkb_model.specs.DueJobs.{reducers, is_usable}
+use Rattle.mkb_model.specs.Proposals.{NamedRule, named_rules, IsUsableRedex, IsFirstRedex, IsIrreducible, IsFactOf, OrientsBy, Proposes, equations_on, IsUnjoining, IsClosed, IsOverlapStop, IsInputStop}
 use Rattle.mkb_model.specs.declared.proposed.Proposed.{Proposed}
 use Rattle.mkb_model.specs.declared.proposed.Proposed.TheVariants.{Facts, Rewrite, Limit, One, Both, Refuse, Deduce, Unjoined, Closed}
 use Rattle.kb_jobs.specs.Rules.{listed}
@@ -28,7 +30,6 @@ use Rattle.kb_term.specs.Tree.{Tree}
 use Rattle.kb_jobs.specs.declared.reducing.ReduceSnapshot.{ReduceSnapshot}
 use Rattle.kb_jobs.specs.declared.orienting.OrientSnapshot.{OrientSnapshot}
 use Rattle.kb_jobs.specs.declared.overlapping.OverlapSnapshot.{OverlapSnapshot}
-use mathlib.Core.Path.{fun_ext}
 
 usable_at : (b : Plain) (s : ReduceSnapshot) → IsTakenReduce b s → (w : ℕ) (k : Found) → usable s w k ≡ is_usable b s.process s.node.0 w k
 usable_at b s t w No = refl
@@ -36,15 +37,41 @@ usable_at b s t zero Variant = t.any_first
 usable_at b s t (suc w) Variant = t.any_second
 usable_at b s t w Strict = refl
 
-on_reduce : (b : Plain) (s : ReduceSnapshot) → IsTakenReduce b s → (P : List NamedRule → Pair → (ℕ → Found → Bool) → Type 0) → P (listed s.rules) s.pair (usable s) → OnReduce b s.process s.node.0 P
-on_reduce b s t P h =
-    (s.pair, t.pair, subst {A = List NamedRule} (λ r. P r s.pair (is_usable b s.process s.node.0)) t.rules (subst {A = ℕ → Found → Bool} (λ u. P (listed s.rules) s.pair u) (fun_ext (λ w. fun_ext (λ k. usable_at b s t w k))) h))
+module _ (b : Plain) (s : ReduceSnapshot) (t : IsTakenReduce b s) where
+  abbrev all : List NamedRule
+  all = named_rules b (reducers b s.process s.node.0)
+
+  abbrev may : ℕ → Found → Bool
+  may = is_usable b s.process s.node.0
+
+  -- a redex by the rules of the snapshot is one by the rules of the process
+  redex_on : (w : ℕ) (at : List ℕ) (a : RuleRef) (k : Found) (u : Tree) → IsUsableRedex (listed s.rules) s.pair (usable s) w at a k u → IsUsableRedex all s.pair may w at a k u
+  redex_on w at a k u h = record { rule = h.rule; listed = t.rules _ h.listed; is_side = h.is_side; rewrites = h.rewrites; found = h.found; may_be = sym (usable_at b s t w k) ∙ h.may_be }
+
+  -- and each of those is one of the snapshot's: idle rules have none
+  redex_in : (w : ℕ) (at : List ℕ) (a : RuleRef) (k : Found) (u : Tree) → IsUsableRedex all s.pair may w at a k u → IsUsableRedex (listed s.rules) s.pair (usable s) w at a k u
+  redex_in w at a k u h =
+      ⊎_elim
+      (λ i. record { rule = h.rule; listed = i; is_side = h.is_side; rewrites = h.rewrites; found = h.found; may_be = usable_at b s t w k ∙ h.may_be })
+      (λ idle. clash h.may_be (idle w k h.is_side h.found))
+      (t.others (record { ref = a; rule = h.rule }) h.listed)
+
+  first_on : (w : ℕ) (at : List ℕ) (a : RuleRef) (k : Found) (u : Tree) → IsFirstRedex (listed s.rules) s.pair (usable s) w at a k u → IsFirstRedex all s.pair may w at a k u
+  first_on w at a k u h = record { is_redex = redex_on w at a k u h.is_redex; is_first = λ v pos c l r i. h.is_first v pos c l r (redex_in v pos c l r i) }
+
+  none_on : IsIrreducible (listed s.rules) s.pair (usable s) → IsIrreducible all s.pair may
+  none_on h w at a k u i = h w at a k u (redex_in w at a k u i)
+
+  facts_on : (f : Fact) → IsFactOf (listed s.rules) s.pair f → IsFactOf all s.pair f
+  facts_on f h = (h.0, t.rules _ h.1, h.2)
 
 reduce_taken : (b : Plain) (s : ReduceSnapshot) (x : Proposed) → IsTakenReduce b s → ProposesReduce s x → Proposes b (Reduce s.process s.node) x
 reduce_taken b s (Facts fs) t h =
-    on_reduce b s t (λ rules pair may. AreMissingFacts rules pair may s.node.0 (unknown b s.process s.node.0) fs) (subst (λ z. AreMissingFacts (listed s.rules) s.pair (usable s) s.node.0 z fs) t.unknown h)
-reduce_taken b s (Rewrite m w at a kind result) t h = (h.0, on_reduce b s t (λ rules pair may. IsRewriting rules pair may w at a kind (tree_of result)) h.1)
-reduce_taken b s (Limit j cause) t h = (h.0, on_reduce b s t (λ rules pair may. IsLargeRewriting rules pair may cause) h.1)
+    (s.pair, t.pair, record { none_usable = none_on b s t h.none_usable; at_node = h.at_node; are_unknown = h.are_unknown ∙ t.unknown; are_true = λ f i. facts_on b s t f (h.are_true f i) })
+reduce_taken b s (Rewrite m w at a kind result) t h = (h.0, (s.pair, t.pair, record { first = first_on b s t w at a kind (tree_of result) h.1.first; fits = h.1.fits }))
+reduce_taken b s (Limit j cause) t h =
+    let l = h.1 in
+    (h.0, (s.pair, t.pair, record { side = l.side; at = l.at; rule = l.rule; kind = l.kind; result = l.result; limit = l.limit; first = first_on b s t l.side l.at l.rule l.kind l.result l.first; passes = l.passes; redex_is = l.redex_is; reason_is = l.reason_is }))
 reduce_taken b s x t h = absurd h
 
 -- the first order by what the snapshot has is the first on the board

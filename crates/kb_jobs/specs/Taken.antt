@@ -1,8 +1,12 @@
 -- Snapshots that are taken from a board.
-use Rattle.std.specs.Prelude.{◌≡◌, ◌||◌, [], ◌∷◌, ◌++◌, Some}
+use Rattle.std.specs.Prelude.{ℕ, ◌≡◌, ◌⊎◌, ◌||◌, [], ◌∷◌, ◌++◌, Some, Contains, IsFalse}
+use Rattle.kb_term.specs.Rule.{Rule}
+use Rattle.kb_term.specs.declared.origin.Found.{Found}
+use Rattle.kb_overlap.specs.Trace.{side}
+use Rattle.kb_rewrite.specs.NormalForm.{IsFound}
 use Rattle.mkb_model.specs.Plain.{Plain, certificate_of, pair_at, rule_at, rules_at, constraints_of, is_equation, is_rule}
-use Rattle.mkb_model.specs.DueJobs.{reducers}
-use Rattle.mkb_model.specs.Proposals.{named_rules, unknown, rules_on, equations_on}
+use Rattle.mkb_model.specs.DueJobs.{reducers, is_usable}
+use Rattle.mkb_model.specs.Proposals.{NamedRule, named_rules, unknown, rules_on, equations_on}
 use Rattle.kb_jobs.specs.Rules.{listed}
 use Rattle.kb_jobs.specs.Reducing.{unknown_of}
 use Rattle.kb_jobs.specs.Closing.{equations_of, inputs_of}
@@ -11,10 +15,15 @@ use Rattle.kb_jobs.specs.declared.reducing.ReduceSnapshot.{ReduceSnapshot}
 use Rattle.kb_jobs.specs.declared.orienting.OrientSnapshot.{OrientSnapshot}
 use Rattle.kb_jobs.specs.declared.overlapping.OverlapSnapshot.{OverlapSnapshot}
 
--- the snapshot has the pair, the process's rules elsewhere, and what is unknown; on a side any redex may be rewritten where the process has the equation, or the rule with that side on the right
+-- whatever redex the rule has on a side, the process may not rewrite it
+abbrev pub IsIdleOn : Plain → ReduceSnapshot → Rule → Type 0
+IsIdleOn b s rule = (w : ℕ) (kind : Found) → (w ≡ 0) ⊎ (w ≡ 1) → IsFound (side s.pair w) rule kind → IsFalse (is_usable b s.process s.node.0 w kind)
+
+-- the snapshot has the pair, those of the process's rules elsewhere that aren't idle, and what is unknown; on a side any redex may be rewritten where the process has the equation, or the rule with that side on the right
 pub record IsTakenReduce (b : Plain) (s : ReduceSnapshot) : Type 0 where
   pub pair : pair_at b s.node.0 ≡ Some s.pair
-  pub rules : listed s.rules ≡ named_rules b (reducers b s.process s.node.0)
+  pub rules : (x : NamedRule) → Contains (listed s.rules) x → Contains (named_rules b (reducers b s.process s.node.0)) x
+  pub others : (x : NamedRule) → Contains (named_rules b (reducers b s.process s.node.0)) x → Contains (listed s.rules) x ⊎ IsIdleOn b s x.rule
   pub any_first : s.any_first ≡ (is_equation b s.process s.node.0 || is_rule b s.process (record { node = s.node.0; dir = 1 }))
   pub any_second : s.any_second ≡ (is_equation b s.process s.node.0 || is_rule b s.process (record { node = s.node.0; dir = 0 }))
   pub unknown : unknown_of s ≡ unknown b s.process s.node.0

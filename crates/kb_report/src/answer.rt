@@ -1,5 +1,5 @@
 // The text of a system.
-ghost use Rattle.std.specs.Prelude.{◌≡◌, ◌++◌, ◌∷◌, [], OnOk, IfOk, IsTrue, map, flat_map, length, codes};
+ghost use Rattle.std.specs.Prelude.{◌≡◌, ◌++◌, ◌∷◌, [], OnOk, OnErr, IfOk, IsTrue, map, flat_map, length, take, codes};
 ghost use Rattle.kb_term.specs.View.{tree_of, equations_of_list};
 ghost use Rattle.kb_term.specs.Signature.{symbols_of_list};
 ghost use Rattle.kb_cert.specs.CertificateText.{is_certificate};
@@ -34,9 +34,10 @@ fn push_infix(
 ///
 /// # Errors
 ///
-/// Want of memory.
+/// Want of memory; the text is then as before.
 pub fn push_counted(alloc: Global, out: &mut Vec<u8>, word: &[u8], n: u64) -> Result<(), Memory>
-    ensures { OnOk result (out.new.items ≡ out.old.items ++ counted word.now n) }
+    ensures ok { OnOk result (out.new.items ≡ out.old.items ++ counted word.now n) }
+    ensures err { OnErr result (out.new.items ≡ out.old.items) }
 {
     let mut line = Fields::new(alloc);
     line.word(alloc, word)?;
@@ -66,9 +67,10 @@ fn push_entries(alloc: Global, line: &mut Fields, symbols: &[(Vec<u8>, u8)]) -> 
 ///
 /// # Errors
 ///
-/// Want of memory.
+/// Want of memory; the text is then as before.
 pub fn push_symbols(alloc: Global, out: &mut Vec<u8>, signature: &Signature) -> Result<(), Memory>
-    ensures { OnOk result (out.new.items ≡ out.old.items ++ symbols_line signature.now) }
+    ensures ok { OnOk result (out.new.items ≡ out.old.items ++ symbols_line signature.now) }
+    ensures err { OnErr result (out.new.items ≡ out.old.items) }
 {
     let mut line = Fields::new(alloc);
     line.word(alloc, b"SYMBOLS")?;
@@ -82,7 +84,8 @@ fn push_equation(
     signature: &Signature,
     equation: &(Term, Term),
 ) -> Result<(), Memory>
-    ensures { OnOk result (out.new.items ≡ out.old.items ++ equation_line (names_of signature.now) (tree_of equation.now.0, tree_of equation.now.1)) }
+    ensures ok { OnOk result (out.new.items ≡ out.old.items ++ equation_line (names_of signature.now) (tree_of equation.now.0, tree_of equation.now.1)) }
+    ensures err { OnErr result (out.new.items ≡ out.old.items) }
 {
     let mut line = Fields::new(alloc);
     push_infix(
@@ -95,13 +98,15 @@ fn push_equation(
     line.line_to(out)
 }
 
+// Adds a line for each equation; some lines may stay after an error.
 fn push_each_equation(
     alloc: Global,
     out: &mut Vec<u8>,
     signature: &Signature,
     equations: &[(Term, Term)],
 ) -> Result<(), Memory>
-    ensures { OnOk result (out.new.items ≡ out.old.items ++ flat_map (equation_line (names_of signature.now)) (equations_of_list equations.now)) }
+    ensures ok { OnOk result (out.new.items ≡ out.old.items ++ flat_map (equation_line (names_of signature.now)) (equations_of_list equations.now)) }
+    ensures front { take (length out.old.items) out.new.items ≡ out.old.items }
 {
     for equation in equations {
         push_equation(alloc, out, signature, equation)?;
@@ -113,9 +118,23 @@ fn push_each_equation(
 ///
 /// # Errors
 ///
-/// Want of memory.
+/// Want of memory; the text is then as before.
 pub fn push_equations(alloc: Global, out: &mut Vec<u8>, problem: &Problem) -> Result<(), Memory>
-    ensures { OnOk result (out.new.items ≡ out.old.items ++ equation_lines problem.now) }
+    ensures ok { OnOk result (out.new.items ≡ out.old.items ++ equation_lines problem.now) }
+    ensures err { OnErr result (out.new.items ≡ out.old.items) }
+{
+    let before = out.len();
+    let added = add_equations(alloc, out, problem);
+    if added.is_err() {
+        out.truncate(before);
+    }
+    added
+}
+
+// The same, but that some of the lines may stay after an error.
+fn add_equations(alloc: Global, out: &mut Vec<u8>, problem: &Problem) -> Result<(), Memory>
+    ensures ok { OnOk result (out.new.items ≡ out.old.items ++ equation_lines problem.now) }
+    ensures front { take (length out.old.items) out.new.items ≡ out.old.items }
 {
     push_counted(alloc, out, b"EQUATIONS", problem.equations().len() as u64)?;
     push_each_equation(alloc, out, problem.signature(), problem.equations())

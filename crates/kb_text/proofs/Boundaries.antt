@@ -1,6 +1,6 @@
 -- Identifiers in a text that is UTF-8.
-use Rattle.std.proofs.Common.{◌≡◌, ◌⊎◌, inl, inr, refl, ap, sym, ◌∙◌, subst, arith, ℕ, zero, suc, ◌+◌, ◌-◌, ◌<◌, ◌≤◌, List, [], ◌∷◌, ◌++◌, Bool, true, false, cond, length, get_or, take, drop, length-drop}
-use Rattle.std.specs.Prelude.{IsUtf8, nat_eq, bytes_eq, not, ◌&&◌}
+use Rattle.std.proofs.Common.{◌≡◌, ◌⊎◌, inl, inr, refl, ap, sym, ◌∙◌, subst, arith, ℕ, zero, suc, ◌+◌, ◌-◌, ◌<◌, ◌≤◌, List, [], ◌∷◌, Bool, true, false, cond, length, get_or, take, drop}
+use Rattle.std.specs.Prelude.{IsUtf8, nat_eq, not, ◌&&◌}
 use Rattle.std.specs.List.{starts_with}
 use Rattle.std.specs.Str.{IsCharBoundary}
 use Rattle.std.proofs.lemmas.Str.{IsUtf8-between, IsCharBoundary-before_ascii, IsCharBoundary-after_ascii, IsCharBoundary-end}
@@ -11,7 +11,7 @@ use Rattle.kb_text.specs.Tokens.{Token, white, mark, letter, marks, mark_of, sta
 use Rattle.kb_text.specs.Starts.{start_in, IsNameTo, AreAscii, mark_length_of}
 use Rattle.kb_text.specs.declared.lexer.Mark.{Mark}
 use Rattle.kb_text.specs.declared.lexer.Mark.TheVariants.{ArrowEquals, Arrow, Equals, Bar, LeftParen, RightParen, Comma, Quotation}
-use Rattle.kb_text.specs.declared.lexer.Start.TheVariants.{White, Mark as IsMark, Letter}
+use Rattle.kb_text.specs.declared.lexer.Start.TheVariants.{Mark as IsMark}
 use Rattle.kb_text.proofs.IdentifierLaws.{letter_begins}
 use Rattle.kb_text.proofs.Runs.{start_in_place}
 use Rattle.std.proofs.lemmas.List.{at_drop_more}

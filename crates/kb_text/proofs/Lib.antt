@@ -7,6 +7,7 @@ pub mod TokenCounts
 pub mod IdentifierLaws
 pub mod Boundaries
 pub mod TextLaws
+pub mod FrontParts
 pub mod LineLaws
 pub mod Cuts
 pub mod Numbers

@@ -1,5 +1,5 @@
 -- The first lines of a text.
-use Rattle.std.proofs.Common.{◌≡◌, refl, ap, sym, ◌∙◌, arith, ℕ, zero, suc, ◌==◌, List, [], ◌∷◌, ◌++◌, Bool, false, cond, Option, Some, None}
+use Rattle.std.proofs.Common.{◌≡◌, refl, ap, sym, ◌∙◌, ℕ, zero, suc, ◌==◌, List, [], ◌∷◌, ◌++◌, Bool, cond, Option, Some, None}
 use Rattle.std.specs.Prelude.{option_map}
 use Rattle.kb_text.specs.Fields.{IsWithout}
 use Rattle.kb_text.specs.Lines.{first_lines}

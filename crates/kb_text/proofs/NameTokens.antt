@@ -1,12 +1,12 @@
 -- The tokens of a name and of what stands behind it.
-use Rattle.std.proofs.Common.{◌≡◌, refl, ap, sym, ◌∙◌, subst, inl, arith, ℕ, zero, suc, ◌+◌, ◌<◌, ◌≤◌, ◌==◌, List, [], ◌∷◌, ◌++◌, Bool, true, false, not, ◌&&◌, ◌||◌, cond, length, get_or}
+use Rattle.std.proofs.Common.{◌≡◌, refl, ap, sym, ◌∙◌, subst, inl, arith, ℕ, ◌+◌, ◌<◌, ◌==◌, List, [], ◌∷◌, ◌++◌, Bool, true, false, not, ◌&&◌, ◌||◌, cond, length, get_or}
 use Rattle.std.specs.Prelude.{map, nat_eq, ⊤}
 use Rattle.std.proofs.lemmas.Bool.{false≢true, eqb-true}
 use Rattle.kb_term.specs.Identifier.{begins_otherwise, is_unbroken}
-use Rattle.kb_text.specs.Tokens.{Token, Placed, Start, white, mark, letter, start_of, is_white, tokens_by, tokens_from, letter_before, with_letter, arrow_equals, arrow, equals, bar, left_paren, right_paren, comma, quotation, identifier, end_of_input}
-use Rattle.kb_text.specs.Starts.{Stops, start_by}
+use Rattle.kb_text.specs.Tokens.{Token, Placed, Start, white, mark, letter, start_of, is_white, tokens_by, tokens_from, letter_before, with_letter, arrow_equals, arrow, equals, bar, left_paren, right_paren, comma, quotation, identifier}
+use Rattle.kb_text.specs.Starts.{Stops}
 use Rattle.kb_text.proofs.Identifiers.{and_true, letter_start, not_true, same_equal}
-use Rattle.kb_text.proofs.Runs.{IsApart, StandsFrom, alone_letter, at_stop, stands_from, start_is}
+use Rattle.kb_text.proofs.Runs.{IsApart, alone_letter, at_stop, stands_from, start_is}
 
 -- the bytes that stand behind names in written problems: a space, a line feed, parentheses and the comma
 abbrev pub is_stop : ℕ → Bool

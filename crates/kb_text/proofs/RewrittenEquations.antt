@@ -1,21 +1,20 @@
 -- Equations that are read and written again.
-use Rattle.std.proofs.Common.{◌≡◌, refl, ap, ap₂, sym, ◌∙◌, subst, arith, ℕ, zero, suc, ◌+◌, ◌<◌, ◌≤◌, List, [], ◌∷◌, ◌++◌, Bool, true, false, not, ◌&&◌, ◌||◌, cond, length, get_or, max, Option, Some, None}
-use Rattle.std.specs.Prelude.{bytes_eq, filter, flat_map, map, nat_eq, nat_le, unwrap_or, ⊤}
+use Rattle.std.proofs.Common.{◌≡◌, refl, ap, ap₂, sym, ◌∙◌, arith, ℕ, ◌≤◌, List, [], ◌∷◌, ◌++◌, Bool, true, false, not, ◌&&◌, ◌||◌, cond, length, max}
+use Rattle.std.specs.Prelude.{filter, map, nat_eq, nat_le, unwrap_or, ⊤}
 use Rattle.std.specs.List.{list_all}
-use Rattle.std.proofs.lemmas.Bool.{false≢true, eqb-true, leb-true}
+use Rattle.std.proofs.lemmas.Bool.{leb-true}
 use Rattle.std.proofs.lemmas.List.{length-map, map-append}
 use Rattle.std.proofs.lemmas.List.Elements.{filter-append}
 use Rattle.kb_term.specs.Pair.{distinct}
-use Rattle.kb_term.specs.Tree.{Tree, variable, apply, Trees, no_trees, more_trees, variables_of as occurrences, variables_in}
+use Rattle.kb_term.specs.Tree.{variable, apply, no_trees, variables_of as occurrences, variables_in}
 use Rattle.kb_text.specs.Names.{Name, is_among, number_of, firsts}
 use Rattle.kb_text.specs.Grammar.{Written, alone, applied, Arguments, no_arguments, argument, WrittenEquation}
-use Rattle.kb_text.specs.Problems.{names_in, names_in_all, uses_in, uses_in_all, count_of, arity_in, depth_in, is_unapplied, are_unapplied, sides_of, all_names, all_uses, term_of, terms_of, equation_variables, equation_of, entry_of}
-use Rattle.kb_text.specs.Terms.{variable_count, most_variables, variable_text}
-use Rattle.kb_text.specs.Rewritten.{written_term, written_equation}
-use Rattle.kb_text.proofs.Firsts.{same_bytes, is_among-firsts}
-use Rattle.kb_text.proofs.Identifiers.{and_true, not_true}
-use Rattle.kb_text.proofs.RewrittenTerms.{IsGood, AreGood, IsSymbol, renamed, renamed_use, is_good, good_other, good_symbol, good_variable, first_good, others_good, arguments_good, head_symbol, all_split, all_join, names_again, uses_again, depth_again, unapplied_again, term_again, number_within}
-use Rattle.kb_text.proofs.RewrittenLists.{Covers, all_among, among-append, among-filter, apart_again, distinct_numbers, firsts_again, keeps_numbers, no_symbol_is_variable, symbols_again, variables_again}
+use Rattle.kb_text.specs.Problems.{names_in, names_in_all, uses_in, arity_in, depth_in, is_unapplied, sides_of, all_names, all_uses, term_of, terms_of, equation_variables, equation_of}
+use Rattle.kb_text.specs.Terms.{variable_count, most_variables}
+use Rattle.kb_text.proofs.Firsts.{is_among-firsts}
+use Rattle.kb_text.proofs.Identifiers.{and_true}
+use Rattle.kb_text.proofs.RewrittenTerms.{IsGood, AreGood, is_good, good_symbol, good_variable, first_good, others_good, arguments_good, head_symbol, all_split}
+use Rattle.kb_text.proofs.RewrittenLists.{all_among, among-append, among-filter, distinct_numbers}
 
 abbrev pub agrees : List (Name × ℕ) → Name × ℕ → Bool
 agrees uses u = nat_eq u.1 (unwrap_or (arity_in uses u.0) 0)

@@ -1,16 +1,16 @@
 -- Names that are written again, as lists.
-use Rattle.std.proofs.Common.{◌≡◌, refl, ap, ap₂, sym, ◌∙◌, subst, arith, ℕ, zero, suc, ◌+◌, ◌<◌, ◌≤◌, ◌==◌, List, [], ◌∷◌, ◌++◌, Bool, true, false, not, ◌&&◌, ◌||◌, cond, length, get_or}
-use Rattle.std.specs.Prelude.{bytes_eq, filter, map, nat_eq}
+use Rattle.std.proofs.Common.{◌≡◌, refl, ap, ap₂, sym, ◌∙◌, arith, ℕ, zero, suc, ◌+◌, ◌<◌, ◌≤◌, ◌==◌, List, [], ◌∷◌, ◌++◌, Bool, true, false, not, ◌&&◌, ◌||◌, cond, length, get_or}
+use Rattle.std.specs.Prelude.{bytes_eq, filter, map}
 use Rattle.std.specs.List.{list_all, range_with_len}
 use Rattle.std.proofs.lemmas.Bool.{false≢true, eqb-true, eq-eqb}
 use Rattle.std.proofs.lemmas.Slice.Eq.{bytes_eq-Decides}
 use Rattle.kb_term.specs.Pair.{distinct}
 use Rattle.kb_text.specs.Names.{Name, is_among, number_of, firsts, are_distinct}
 use Rattle.kb_text.specs.Terms.{is_x_number, prefix_length, variable_text}
-use Rattle.kb_text.proofs.Firsts.{same_bytes, is_among-firsts}
+use Rattle.kb_text.proofs.Firsts.{same_bytes}
 use Rattle.kb_text.proofs.Identifiers.{and_true}
 use Rattle.kb_text.proofs.Prefixes.{name_is_no_variable}
-use Rattle.kb_text.proofs.RewrittenTerms.{at_number, number_within, renamed, is_good, IsSymbol, good_other, good_symbol, good_variable, AreApart, KeepsNumbers}
+use Rattle.kb_text.proofs.RewrittenTerms.{at_number, number_within, renamed, is_good, good_other, good_symbol, good_variable, AreApart, KeepsNumbers}
 use Rattle.kb_text.proofs.VariableTexts.{one_variable, variable_is_x_number}
 
 -- ---- members

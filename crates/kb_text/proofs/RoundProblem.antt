@@ -1,5 +1,5 @@
 -- A problem that is spelled is spelled by its text.
-use Rattle.std.proofs.Common.{◌≡◌, refl, ap, ap₂, sym, ◌∙◌, subst, arith, append-nil, ℕ, zero, suc, ◌+◌, ◌<◌, ◌≤◌, List, [], ◌∷◌, ◌++◌, Bool, true, false, not, ◌&&◌, length, get_or, length-append}
+use Rattle.std.proofs.Common.{◌≡◌, refl, ap, ap₂, sym, ◌∙◌, subst, arith, append-nil, ℕ, zero, suc, ◌+◌, ◌<◌, ◌≤◌, List, [], ◌∷◌, ◌++◌, true, false, not, ◌&&◌, length, get_or, length-append}
 use Rattle.std.specs.Prelude.{decimal, filter, map, nat_le, replicate}
 use Rattle.std.specs.List.{list_all, range_with_len}
 use Rattle.std.proofs.lemmas.Bool.{le-leb, leb-true}
@@ -7,11 +7,10 @@ use Rattle.std.proofs.lemmas.Fmt.{length-decimal-le}
 use Rattle.std.proofs.lemmas.List.{get_or-map, length-map}
 use Rattle.kb_term.specs.Signature.{IsSignature, Problem, SymbolEntry}
 use Rattle.kb_text.specs.Names.{Name, is_among, number_of, firsts, are_distinct}
-use Rattle.kb_text.specs.Tokens.{tokens}
 use Rattle.kb_text.specs.Grammar.{WrittenEquation, Section, variables, rules, text_tokens}
-use Rattle.kb_text.specs.Problems.{Spells, MeetsConditions, MeetsLimits, variables_of, equations_of, sides_of, all_names, all_uses, agree, names_in, depth_in, is_unapplied, names_of_section, symbol_names, equation_variables, equation_of, entry_of, problem_of}
+use Rattle.kb_text.specs.Problems.{Spells, MeetsConditions, MeetsLimits, variables_of, equations_of, sides_of, all_names, all_uses, agree, names_in, depth_in, is_unapplied, symbol_names, equation_variables, equation_of, entry_of, problem_of}
 use Rattle.kb_text.specs.Terms.{names_of, prefix_length, variable_text, most_variables, problem_text}
-use Rattle.kb_text.specs.Rewritten.{written_equation, written_sections}
+use Rattle.kb_text.specs.Rewritten.{written_equation}
 use Rattle.kb_text.proofs.Firsts.{is_among-firsts}
 use Rattle.kb_text.proofs.Identifiers.{and_true, not_true}
 use Rattle.kb_text.proofs.Prefixes.{prefix_small}

@@ -1,22 +1,21 @@
 -- The text of a problem that is spelled spells it.
-use Rattle.std.proofs.Common.{◌≡◌, refl, ap, ap₂, sym, ◌∙◌, subst, arith, append-nil, append_assoc, ℕ, zero, suc, ◌+◌, ◌<◌, ◌≤◌, List, [], ◌∷◌, ◌++◌, Bool, true, false, not, ◌&&◌, ◌||◌, cond, length, get_or, Option, Some, None}
-use Rattle.std.specs.Prelude.{bytes_eq, filter, flat_map, map, nat_eq, nat_le, unwrap_or, ⊤}
-use Rattle.std.specs.List.{list_all, range_with_len}
-use Rattle.std.proofs.lemmas.Bool.{false≢true, eqb-true, leb-true}
+use Rattle.std.proofs.Common.{◌≡◌, refl, ap, ap₂, sym, ◌∙◌, arith, ℕ, zero, suc, ◌<◌, ◌≤◌, List, [], ◌∷◌, ◌++◌, Bool, true, false, not, ◌&&◌, ◌||◌, cond, length, get_or, Option, Some}
+use Rattle.std.specs.Prelude.{bytes_eq, filter, map, nat_eq, nat_le, unwrap_or}
+use Rattle.std.specs.List.{list_all}
+use Rattle.std.proofs.lemmas.Bool.{false≢true, eqb-true}
 use Rattle.std.proofs.lemmas.List.{length-map, map-append}
 use Rattle.std.proofs.lemmas.List.Elements.{filter-append}
-use Rattle.kb_term.specs.Signature.{Problem, SymbolEntry}
 use Rattle.kb_term.specs.Tree.{Tree}
 use Rattle.kb_text.specs.Names.{Name, is_among, number_of, firsts}
 use Rattle.kb_text.specs.Grammar.{Written, alone, applied, Arguments, no_arguments, argument, WrittenEquation}
-use Rattle.kb_text.specs.Problems.{names_in, names_in_all, uses_in, uses_in_all, count_of, arity_in, depth_in, is_unapplied, are_unapplied, sides_of, all_names, all_uses, term_of, terms_of, equation_variables, equation_of, entry_of}
-use Rattle.kb_text.specs.Terms.{names_of, variable_text}
+use Rattle.kb_text.specs.Problems.{names_in, names_in_all, uses_in, uses_in_all, count_of, arity_in, depth_in, is_unapplied, sides_of, all_names, all_uses, term_of, equation_variables, equation_of, entry_of}
+use Rattle.kb_text.specs.Terms.{variable_text}
 use Rattle.kb_text.specs.Rewritten.{written_term, written_equation}
-use Rattle.kb_text.proofs.Firsts.{same_bytes, is_among-firsts}
-use Rattle.kb_text.proofs.Identifiers.{and_true, not_true}
+use Rattle.kb_text.proofs.Firsts.{same_bytes}
+use Rattle.kb_text.proofs.Identifiers.{and_true}
 use Rattle.kb_text.proofs.ProblemTokens.{IsBoundedEquation}
-use Rattle.kb_text.proofs.RewrittenTerms.{IsGood, AreGood, IsSymbol, AreApart, renamed, renamed_use, is_good, good_other, good_symbol, good_variable, first_good, others_good, arguments_good, head_symbol, all_split, all_join, names_again, uses_again, depth_again, unapplied_again, term_again, term_bounded, number_within}
-use Rattle.kb_text.proofs.RewrittenLists.{Covers, all_among, apart_again, firsts_again, keeps_numbers, no_symbol_is_variable, same_name, symbols_again, variables_again}
+use Rattle.kb_text.proofs.RewrittenTerms.{IsGood, AreGood, AreApart, renamed, renamed_use, is_good, good_symbol, good_variable, first_good, others_good, arguments_good, head_symbol, all_split, all_join, names_again, uses_again, depth_again, unapplied_again, term_again, term_bounded, number_within}
+use Rattle.kb_text.proofs.RewrittenLists.{Covers, apart_again, firsts_again, keeps_numbers, no_symbol_is_variable, same_name, symbols_again, variables_again}
 use Rattle.kb_text.proofs.RewrittenEquations.{IsGoodEquation, AreGoodEquations, HaveAtMost, agrees, all_found}
 
 -- the equations, read and written again

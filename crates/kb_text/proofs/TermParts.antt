@@ -1,9 +1,9 @@
 -- Terms within the limits, and terms that are read argument by argument.
-use Rattle.std.proofs.Common.{◌≡◌, refl, ap, ap₂, sym, ◌∙◌, subst, append-nil, append_assoc, arith, ℕ, zero, suc, ◌+◌, ◌-◌, ◌<◌, ◌≤◌, List, [], ◌∷◌, ◌++◌, All, length, max, drop, length-drop}
+use Rattle.std.proofs.Common.{◌≡◌, ap, sym, ◌∙◌, subst, append-nil, arith, ℕ, suc, ◌-◌, ◌<◌, ◌≤◌, List, [], ◌∷◌, ◌++◌, All, length, drop, length-drop}
 use Rattle.std.proofs.lemmas.List.{drop_all}
 use Rattle.std.proofs.lemmas.List.Elements.{All-append, All-cons, All-head, All-nil}
-use Rattle.kb_term.specs.Signature.{Signature, IsSignature, IsWellFormed, AreWellFormed, IsTermWithinLimits}
-use Rattle.kb_term.specs.Tree.{Tree, variable, apply, Trees, no_trees, more_trees, list_of, tree_depth, trees_depth, variables_of, variables_in}
+use Rattle.kb_term.specs.Signature.{Signature, IsSignature, IsWellFormed, AreWellFormed}
+use Rattle.kb_term.specs.Tree.{Tree, variable, apply, Trees, no_trees, more_trees, tree_depth, trees_depth, variables_of, variables_in}
 use Rattle.kb_text.specs.Terms.{TermSpelled, names_of, term_text}
 use Rattle.kb_text.specs.TermReading.{IsBounded, AreBounded, BeginsWithNone, BeginsWithTerm}
 use Rattle.kb_term.specs.Pair.{IsWithin}

@@ -1,12 +1,10 @@
 -- How many tokens written terms have.
-use Rattle.std.proofs.Common.{append-nil, append_assoc, ◌≡◌, refl, ap, sym, ◌∙◌, arith, ℕ, zero, suc, ◌+◌, ◌<◌, ◌≤◌, List, [], ◌∷◌, ◌++◌, length, length-append, get_or, take, subst, Option, Some, None}
-use Rattle.std.specs.Prelude.{map, slice_get}
-use Rattle.kb_text.specs.Tokens.{Token, comma, identifier, left_paren, right_paren}
+use Rattle.std.proofs.Common.{◌≡◌, refl, arith, ℕ, zero, suc, ◌+◌, ◌<◌, ◌≤◌, List, [], ◌∷◌, ◌++◌, length, length-append, get_or, take}
+use Rattle.kb_text.specs.Tokens.{comma, right_paren}
 use Rattle.kb_text.specs.Names.{Name}
-use Rattle.kb_text.specs.Grammar.{Written, alone, applied, Arguments, no_arguments, argument, term_tokens, argument_tokens, later_tokens}
-use Rattle.kb_text.specs.Fronts.{TermFront, whole, opened, within, followed_tokens, term_front_tokens}
+use Rattle.kb_text.specs.Grammar.{Written, applied, Arguments, no_arguments, argument, term_tokens, later_tokens}
+use Rattle.kb_text.specs.Fronts.{followed_tokens}
 use Rattle.kb_text.specs.Written.{written_of}
-use Rattle.kb_text.specs.Refusals.{ends_next}
 use Rattle.kb_text.specs.declared.written.WrittenTerm.{WrittenTerm}
 use Rattle.kb_text.proofs.WrittenLists.{args}
 

@@ -1,6 +1,6 @@
 -- The text of a problem is UTF-8.
-use Rattle.std.proofs.Common.{◌≡◌, refl, ap, sym, ◌∙◌, subst, arith, ℕ, zero, suc, ◌+◌, ◌-◌, ◌<◌, ◌≤◌, List, [], ◌∷◌, ◌++◌, length, get_or, true}
-use Rattle.std.specs.Prelude.{IsUtf8, codes, decimal, flat_map, map, nat_lt, replicate}
+use Rattle.std.proofs.Common.{◌≡◌, refl, sym, subst, arith, ℕ, zero, suc, ◌+◌, ◌-◌, ◌<◌, ◌≤◌, List, [], ◌∷◌, ◌++◌, length, get_or, true}
+use Rattle.std.specs.Prelude.{IsUtf8, codes, decimal, flat_map, nat_lt, replicate}
 use Rattle.std.specs.List.{list_all, range_with_len}
 use Rattle.std.proofs.lemmas.Bool.{ltb-true}
 use Rattle.std.proofs.lemmas.Fmt.{IsAscii-decimal}

@@ -1,5 +1,5 @@
 -- Problems as the grammar writes them.
-use Rattle.std.specs.Prelude.{ℕ, List, [], ◌∷◌, map}
+use Rattle.std.specs.Prelude.{List, [], ◌∷◌, map}
 use Rattle.std.specs.List.{range_with_len}
 use Rattle.kb_term.specs.Tree.{Tree, variable, apply, Trees, no_trees, more_trees}
 use Rattle.kb_term.specs.Signature.{Problem}

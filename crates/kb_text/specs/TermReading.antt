@@ -1,8 +1,8 @@
 -- What a text begins with: a name, or the text of a term over a signature.
-use Rattle.std.specs.Prelude.{◌≡◌, ℕ, zero, suc, ◌+◌, ◌-◌, ◌<◌, ◌≤◌, ◌==◌, List, [], ◌∷◌, ◌++◌, Bool, true, false, ◌||◌, length, drop, ⊤}
+use Rattle.std.specs.Prelude.{◌≡◌, ℕ, zero, suc, ◌-◌, ◌<◌, ◌≤◌, ◌==◌, List, [], ◌∷◌, ◌++◌, Bool, true, false, ◌||◌, length, drop, ⊤}
 use Rattle.kb_term.specs.Tree.{Tree, variable, apply, Trees, no_trees, more_trees, list_of}
 use Rattle.kb_term.specs.Signature.{Signature, HasArity}
-use Rattle.kb_text.specs.Terms.{names_of, term_text, arguments_text}
+use Rattle.kb_text.specs.Terms.{names_of, term_text}
 
 -- parentheses and the comma end a name in the text of a term
 abbrev pub ends_name : ℕ → Bool

@@ -1,5 +1,5 @@
 // Lines of fields.
-ghost use Rattle.std.specs.Prelude.{◌≡◌, ◌<◌, ◌==◌, ◌++◌, ◌∷◌, [], ℕ, List, OnOk, IfOk, decimal, get_or, map, length};
+ghost use Rattle.std.specs.Prelude.{◌≡◌, ◌<◌, ◌==◌, ◌++◌, ◌∷◌, [], ℕ, List, OnOk, OnErr, IfOk, decimal, get_or, map, length, take};
 ghost use Rattle.std.specs.List.{join_with_byte, slice_split};
 ghost use Rattle.kb_text.specs.Fields.{behind};
 ghost use Rattle.kb_text.specs.Lines.{line, parted};
@@ -10,8 +10,10 @@ use std::alloc::Global;
 use std::marker::Model;
 use std::mem::replace;
 
+// Adds the fields, parted by the separator; a part may stay after an error.
 fn push_joined(out: &mut Vec<u8>, fields: &[Vec<u8>], separator: u8) -> Result<(), Memory>
-    ensures { OnOk result (out.new.items ≡ out.old.items ++ join_with_byte separator (map (λ f. f.items) fields.now)) }
+    ensures ok { OnOk result (out.new.items ≡ out.old.items ++ join_with_byte separator (map (λ f. f.items) fields.now)) }
+    ensures front { take (length out.old.items) out.new.items ≡ out.old.items }
 {
     for (i, field) in fields.iter().enumerate() {
         push_field(out, separator, i, field)?;
@@ -19,14 +21,25 @@ fn push_joined(out: &mut Vec<u8>, fields: &[Vec<u8>], separator: u8) -> Result<(
     Ok(())
 }
 
-// Adds the field with this number, behind a separator where it isn't the first.
+// Adds the field with this number, behind a separator where it isn't the first; the separator may stay after an error.
 fn push_field(out: &mut Vec<u8>, separator: u8, i: usize, field: &[u8]) -> Result<(), Memory>
-    ensures { OnOk result (out.new.items ≡ out.old.items ++ parted separator i field.now) }
+    ensures ok { OnOk result (out.new.items ≡ out.old.items ++ parted separator i field.now) }
+    ensures front { take (length out.old.items) out.new.items ≡ out.old.items }
 {
     if i > 0 {
         out.push(separator)?;
     }
     out.extend_from_slice(field)?;
+    Ok(())
+}
+
+// Adds the fields as a line; a part may stay after an error.
+fn push_line(out: &mut Vec<u8>, fields: &[Vec<u8>]) -> Result<(), Memory>
+    ensures ok { OnOk result (out.new.items ≡ out.old.items ++ line (map (λ f. f.items) fields.now)) }
+    ensures front { take (length out.old.items) out.new.items ≡ out.old.items }
+{
+    push_joined(out, fields, b' ')?;
+    out.push(b'\n')?;
     Ok(())
 }
 
@@ -115,43 +128,56 @@ impl Fields {
         field_at(&self.items, i)
     }
 
-    /// Adds a field at the end.
+    /// Adds a field at the end. After want of memory the fields are as before.
     pub fn push(&mut self, field: Vec<u8>) -> Result<(), Memory>
-        ensures { OnOk result (self.new ≡ self.old ++ field.items ∷ []) }
+        ensures ok { OnOk result (self.new ≡ self.old ++ field.items ∷ []) }
+        ensures err { OnErr result (self.new ≡ self.old) }
     {
         self.items.push(field)?;
         Ok(())
     }
 
-    /// Adds a copy of the word at the end.
+    /// Adds a copy of the word at the end. After want of memory the fields are as before.
     pub fn word(&mut self, alloc: Global, word: &[u8]) -> Result<(), Memory>
-        ensures { OnOk result (self.new ≡ self.old ++ word.now ∷ []) }
+        ensures ok { OnOk result (self.new ≡ self.old ++ word.now ∷ []) }
+        ensures err { OnErr result (self.new ≡ self.old) }
     {
         self.push(Vec::from_slice(alloc, word)?)
     }
 
-    /// Adds a number in decimal digits at the end.
+    /// Adds a number in decimal digits at the end. After want of memory the fields are as before.
     pub fn number(&mut self, alloc: Global, n: u64) -> Result<(), Memory>
-        ensures { OnOk result (self.new ≡ self.old ++ decimal n ∷ []) }
+        ensures ok { OnOk result (self.new ≡ self.old ++ decimal n ∷ []) }
+        ensures err { OnErr result (self.new ≡ self.old) }
     {
         let mut digits = Vec::new(alloc);
         push_number(alloc, &mut digits, n)?;
         self.push(digits)
     }
 
-    /// Adds the fields to the text, parted by the separator.
+    /// Adds the fields to the text, parted by the separator. After want of memory the text is as before.
     pub fn join_to(&self, out: &mut Vec<u8>, separator: u8) -> Result<(), Memory>
-        ensures { OnOk result (out.new.items ≡ out.old.items ++ join_with_byte separator self.now) }
+        ensures ok { OnOk result (out.new.items ≡ out.old.items ++ join_with_byte separator self.now) }
+        ensures err { OnErr result (out.new.items ≡ out.old.items) }
     {
-        push_joined(out, &self.items, separator)
+        let unjoined = out.len();
+        let joined = push_joined(out, &self.items, separator);
+        if joined.is_err() {
+            out.truncate(unjoined);
+        }
+        joined
     }
 
-    /// Adds the fields to the text as a line, parted by spaces.
+    /// Adds the fields to the text as a line, parted by spaces. After want of memory the text is as before.
     pub fn line_to(&self, out: &mut Vec<u8>) -> Result<(), Memory>
-        ensures { OnOk result (out.new.items ≡ out.old.items ++ line self.now) }
+        ensures ok { OnOk result (out.new.items ≡ out.old.items ++ line self.now) }
+        ensures err { OnErr result (out.new.items ≡ out.old.items) }
     {
-        self.join_to(out, b' ')?;
-        out.push(b'\n')?;
-        Ok(())
+        let before = out.len();
+        let added = push_line(out, &self.items);
+        if added.is_err() {
+            out.truncate(before);
+        }
+        added
     }
 }

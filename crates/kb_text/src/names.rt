@@ -1,5 +1,5 @@
 // Lists of names.
-ghost use Rattle.std.specs.Prelude.{◌≡◌, ◌<◌, ◌≤◌, [], ◌∷◌, ◌++◌, OnOk, IfOk, length, List, map};
+ghost use Rattle.std.specs.Prelude.{◌≡◌, ◌<◌, ◌≤◌, [], ◌∷◌, ◌++◌, OnOk, OnErr, IfOk, length, List, map};
 ghost use Rattle.kb_text.specs.Names.{Name, is_among, number_of as number_in, are_distinct as are_distinct_in, firsts, with_name};
 ghost use Rattle.kb_text.specs.Problems.{variables_among, symbols_among};
 
@@ -50,6 +50,7 @@ fn sort_in(
 ) -> Result<(), Memory>
     ensures found { OnOk result ((names : List Name) → found.old ≡ firsts (variables_among variables.now names) → found.new ≡ firsts (variables_among variables.now (names ++ name.now ∷ []))) }
     ensures symbols { OnOk result ((names : List Name) → symbols.old ≡ firsts (symbols_among variables.now names) → symbols.new ≡ firsts (symbols_among variables.now (names ++ name.now ∷ []))) }
+    ensures err { OnErr result ((found.new ≡ found.old) × (symbols.new ≡ symbols.old)) }
 {
     if variables.contains(name) {
         found.add(alloc, name)
@@ -96,9 +97,10 @@ impl Names {
         &self.items
     }
 
-    /// Adds the name at the end.
+    /// Adds the name at the end. After want of memory the names are as before.
     pub fn push(&mut self, name: Vec<u8>) -> Result<(), Memory>
-        ensures { OnOk result (self.new ≡ self.old ++ name.items ∷ []) }
+        ensures ok { OnOk result (self.new ≡ self.old ++ name.items ∷ []) }
+        ensures err { OnErr result (self.new ≡ self.old) }
     {
         self.items.push(name)?;
         Ok(())
@@ -125,10 +127,11 @@ impl Names {
         no_two_are_equal(&self.items)
     }
 
-    /// Adds a copy of the name at the end, where it isn't there yet.
+    /// Adds a copy of the name at the end, where it isn't there yet. After want of memory the names are as before.
     pub fn add(&mut self, alloc: Global, name: &[u8]) -> Result<(), Memory>
         ensures exact { OnOk result (self.new ≡ with_name self.old name.now) }
         ensures firsts { OnOk result ((names : List Name) → self.old ≡ firsts names → self.new ≡ firsts (names ++ name.now ∷ [])) }
+        ensures err { OnErr result (self.new ≡ self.old) }
     {
         if !self.contains(name) {
             self.push(Vec::from_slice(alloc, name)?)?;

@@ -1,5 +1,5 @@
 // The text of a problem.
-ghost use Rattle.std.specs.Prelude.{◌≡◌, ◌++◌, ◌∷◌, ◌==◌, [], ℕ, List, OnOk, IfOk, codes, flat_map};
+ghost use Rattle.std.specs.Prelude.{◌≡◌, ◌++◌, ◌∷◌, ◌==◌, [], ℕ, List, OnOk, IfOk, codes, flat_map, length, take};
 ghost use Rattle.std.specs.List.{list_any, range_with_len};
 ghost use Rattle.kb_term.specs.Pair.{distinct};
 ghost use Rattle.kb_term.specs.Tree.{variables_of};
@@ -61,6 +61,7 @@ fn most_variables(alloc: Global, equations: &[(Term, Term)]) -> Result<usize, Me
     Ok(most)
 }
 
+// Adds so many variables, each behind a space; a part may stay after an error.
 fn push_variables(
     alloc: Global,
     out: &mut Vec<u8>,
@@ -69,7 +70,8 @@ fn push_variables(
     count: usize,
 ) -> Result<(), Memory>
     requires { prefix ≡ prefix_length (names_of signature.now) }
-    ensures { OnOk result (out.new.items ≡ out.old.items ++ flat_map (λ n. 32 ∷ variable_text (names_of signature.now) n) (range_with_len 0 count)) }
+    ensures ok { OnOk result (out.new.items ≡ out.old.items ++ flat_map (λ n. 32 ∷ variable_text (names_of signature.now) n) (range_with_len 0 count)) }
+    ensures front { take (length out.old.items) out.new.items ≡ out.old.items }
 {
     for n in 0..count {
         out.push(b' ')?;
@@ -79,6 +81,7 @@ fn push_variables(
     Ok(())
 }
 
+// Adds the line of an equation; a part may stay after an error.
 fn push_equation(
     alloc: Global,
     out: &mut Vec<u8>,
@@ -87,7 +90,8 @@ fn push_equation(
     equation: &(Term, Term),
 ) -> Result<(), Memory>
     requires { prefix ≡ prefix_length (names_of signature.now) }
-    ensures { OnOk result (out.new.items ≡ out.old.items ++ problem_line (names_of signature.now) (tree_of equation.now.0, tree_of equation.now.1)) }
+    ensures ok { OnOk result (out.new.items ≡ out.old.items ++ problem_line (names_of signature.now) (tree_of equation.now.0, tree_of equation.now.1)) }
+    ensures front { take (length out.old.items) out.new.items ≡ out.old.items }
 {
     push_term(alloc, out, signature, prefix, &equation.0)?;
     out.extend_from_slice(b" == ")?;
@@ -96,6 +100,7 @@ fn push_equation(
     Ok(())
 }
 
+// Adds the lines of the equations; a part may stay after an error.
 fn push_equations(
     alloc: Global,
     out: &mut Vec<u8>,
@@ -104,7 +109,8 @@ fn push_equations(
     equations: &[(Term, Term)],
 ) -> Result<(), Memory>
     requires { prefix ≡ prefix_length (names_of signature.now) }
-    ensures { OnOk result (out.new.items ≡ out.old.items ++ flat_map (problem_line (names_of signature.now)) (equations_of_list equations.now)) }
+    ensures ok { OnOk result (out.new.items ≡ out.old.items ++ flat_map (problem_line (names_of signature.now)) (equations_of_list equations.now)) }
+    ensures front { take (length out.old.items) out.new.items ≡ out.old.items }
 {
     for equation in equations {
         push_equation(alloc, out, signature, prefix, equation)?;

@@ -1,5 +1,5 @@
 // What is written of terms.
-ghost use Rattle.std.specs.Prelude.{◌≡◌, ◌+◌, ◌<◌, ◌≤◌, ◌++◌, ◌∷◌, [], ◌^◌, OnOk, IfOk, ℕ, decimal, nat_eq, length, replicate};
+ghost use Rattle.std.specs.Prelude.{◌≡◌, ◌+◌, ◌<◌, ◌≤◌, ◌++◌, ◌∷◌, [], ◌^◌, OnOk, OnErr, IfOk, ℕ, decimal, nat_eq, length, replicate, take};
 ghost use Rattle.std.specs.List.{list_any, list_all};
 ghost use Rattle.kb_term.specs.Signature.{symbols_of_list};
 ghost use Rattle.kb_term.specs.View.{tree_of};
@@ -8,17 +8,20 @@ ghost use Rattle.kb_text.specs.Terms.{is_digit, names_of, term_text as text_of, 
 use kb_term::{Memory, Signature, Symbol, Term};
 use std::alloc::Global;
 
-/// Adds a number in decimal digits.
+/// Adds a number in decimal digits. After want of memory the text is as before.
 pub fn push_number(alloc: Global, out: &mut Vec<u8>, n: u64) -> Result<(), Memory>
-    ensures { OnOk result (out.new.items ≡ out.old.items ++ decimal n) }
+    ensures ok { OnOk result (out.new.items ≡ out.old.items ++ decimal n) }
+    ensures err { OnErr result (out.new.items ≡ out.old.items) }
 {
     let text = format!(in alloc; "{n}")?;
     out.extend_from_slice(text.as_bytes())?;
     Ok(())
 }
 
+// Adds so many letters x; some may stay after an error.
 pub(crate) fn push_letters(out: &mut Vec<u8>, n: usize) -> Result<(), Memory>
-    ensures { OnOk result (out.new.items ≡ out.old.items ++ replicate n 120) }
+    ensures ok { OnOk result (out.new.items ≡ out.old.items ++ replicate n 120) }
+    ensures front { take (length out.old.items) out.new.items ≡ out.old.items }
 {
     for i in 0..n {
         out.push(b'x')?;
@@ -78,7 +81,8 @@ pub fn prefix_of(signature: &Signature) -> usize
 }
 
 fn push_symbol(out: &mut Vec<u8>, signature: &Signature, f: Symbol) -> Result<(), Memory>
-    ensures { OnOk result (out.new.items ≡ out.old.items ++ symbol_text (names_of signature.now) f.0) }
+    ensures ok { OnOk result (out.new.items ≡ out.old.items ++ symbol_text (names_of signature.now) f.0) }
+    ensures err { OnErr result (out.new.items ≡ out.old.items) }
 {
     let symbols = signature.symbols();
     if (f.0 as usize) < symbols.len() {
@@ -95,6 +99,7 @@ pub(crate) fn separator_before(i: usize) -> u8
 }
 
 /// Adds the text of a term, whose variables have so many letters x before their number.
+/// After want of memory the text is as before.
 pub fn push_term(
     alloc: Global,
     out: &mut Vec<u8>,
@@ -103,7 +108,28 @@ pub fn push_term(
     t: &Term,
 ) -> Result<(), Memory>
     requires { prefix ≡ prefix_length (names_of signature.now) }
-    ensures { OnOk result (out.new.items ≡ out.old.items ++ text_of (names_of signature.now) (tree_of t.now)) }
+    ensures ok { OnOk result (out.new.items ≡ out.old.items ++ text_of (names_of signature.now) (tree_of t.now)) }
+    ensures err { OnErr result (out.new.items ≡ out.old.items) }
+{
+    let before = out.len();
+    let added = add_term(alloc, out, signature, prefix, t);
+    if added.is_err() {
+        out.truncate(before);
+    }
+    added
+}
+
+// The same, but that a part of the term's text may stay after an error.
+fn add_term(
+    alloc: Global,
+    out: &mut Vec<u8>,
+    signature: &Signature,
+    prefix: usize,
+    t: &Term,
+) -> Result<(), Memory>
+    requires { prefix ≡ prefix_length (names_of signature.now) }
+    ensures ok { OnOk result (out.new.items ≡ out.old.items ++ text_of (names_of signature.now) (tree_of t.now)) }
+    ensures front { take (length out.old.items) out.new.items ≡ out.old.items }
 {
     match t {
         Term::Var(n) => {
@@ -115,7 +141,7 @@ pub fn push_term(
             let arguments = arguments.items();
             for (i, argument) in arguments.iter().enumerate() {
                 out.push(separator_before(i))?;
-                push_term(alloc, out, signature, prefix, argument)?;
+                add_term(alloc, out, signature, prefix, argument)?;
             }
             if !arguments.is_empty() {
                 out.push(b')')?;

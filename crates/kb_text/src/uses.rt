@@ -1,5 +1,5 @@
 // Uses of names with a number of arguments.
-ghost use Rattle.std.specs.Prelude.{◌≡◌, ◌<◌, ◌≤◌, [], ◌∷◌, ◌++◌, OnOk, map, true, unwrap_or, nat_le, ℕ};
+ghost use Rattle.std.specs.Prelude.{◌≡◌, ◌<◌, ◌≤◌, [], ◌∷◌, ◌++◌, OnOk, OnErr, map, true, unwrap_or, nat_le, ℕ};
 ghost use Rattle.std.specs.List.{list_all};
 ghost use Rattle.kb_text.specs.Names.{Name};
 ghost use Rattle.kb_text.specs.Problems.{arity_in, agree};
@@ -41,9 +41,10 @@ impl Uses {
         }
     }
 
-    /// Adds the use at the end.
+    /// Adds the use at the end. After want of memory the uses are as before.
     pub fn push(&mut self, name: Vec<u8>, count: usize) -> Result<(), Memory>
-        ensures { OnOk result (self.new ≡ self.old ++ (name.items, count) ∷ []) }
+        ensures ok { OnOk result (self.new ≡ self.old ++ (name.items, count) ∷ []) }
+        ensures err { OnErr result (self.new ≡ self.old) }
     {
         self.items.push(Use { name, count })?;
         Ok(())

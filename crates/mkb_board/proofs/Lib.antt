@@ -20,3 +20,4 @@ pub mod Others
 pub mod Weighing
 pub mod Irreducible
 pub mod AtRest
+pub mod Open

@@ -28,7 +28,8 @@ use Rattle.mkb_model.specs.DueJobs.{work_of, is_due, due_jobs, due_jobs_of, awak
 use Rattle.mkb_model.specs.Jobs.{is_free, process_of}
 use Rattle.mkb_model.specs.Limits.{AreLimited, IsLimitedPair}
 use Rattle.mkb_model.specs.Proposals.{as_rules, named_rules}
-use Rattle.mkb_model.specs.Journals.{Moment, IsPossibleRun, IsFreeJob}
+use Rattle.mkb_model.specs.Journals.{Moment, IsPossibleRun, IsFirstJob, IsFreeJob}
+use Rattle.mkb_model.proofs.KnownFacts.{facts_hold}
 use Rattle.mkb_model.specs.declared.entry.Ticket.{Ticket}
 use Rattle.mkb_model.specs.declared.entry.Entry.{Entry}
 use Rattle.mkb_model.proofs.Lists.{filter_in, filter_map_in, flat_map_in, map_in, numbers_in, none_in, some_is, none_some}
@@ -38,7 +39,7 @@ use Rattle.mkb_model.proofs.Sizes.{limited_run, numbered_within, turned}
 use Rattle.mkb_model.proofs.AllFine.{states_ordered, commits_fine, pair_there}
 use Rattle.mkb_model.proofs.Flyers.{free_lives}
 use Rattle.mkb_model.proofs.Certificates.{certified_run}
-use Rattle.mkb_model.specs.Invariants.{IsCertified, SleepersWait, IsLabel}
+use Rattle.mkb_model.specs.Invariants.{FactsHold, IsCertified, SleepersWait, IsLabel}
 use Rattle.kb_jobs.specs.Groups.{IsOverlappable}
 use Rattle.kb_cert.specs.Family.{IsFirstOrder}
 use Rattle.kb_cert.specs.declared.certificate.Certificate.{Certificate}
@@ -172,6 +173,14 @@ limited_on state flight J legal =
     let c = seen state flight J in
     let r = legal.after in
     limited_run c.plain.problem c.plain.settings r.0 c.plain legal.within (legal-possible c.plain.problem c.plain.settings r.0 c.plain r.2)
+
+-- the facts hold
+pub facts_on : (state : Plain) (flight : List Ticket) (J : List Entry) → IsLegalBoard (seen state flight J) → FactsHold state
+facts_on state flight J legal f i =
+    let c = seen state flight J in
+    let r = legal.after in
+    let h = facts_hold IsFirstJob c.plain.problem c.plain.settings r.0 c.plain r.2 f i in
+    (record { pair = h.0.pair; rule = h.0.rule; pair_there = h.0.pair_there; rule_there = h.0.rule_there; found = h.0.found }, h.1)
 
 -- and its living processes are in the order of names
 pub ordered_on : (state : Plain) (flight : List Ticket) (J : List Entry) → IsLegalBoard (seen state flight J) → IsInNameOrder state.living

@@ -4,8 +4,10 @@ use Rattle.std.specs.Option.{option_map_or}
 use Rattle.kb_term.specs.declared.origin.RuleRef.{RuleRef}
 use Rattle.kb_node.specs.declared.job.Job.{Job}
 use Rattle.kb_node.specs.declared.job.Job.TheVariants as jobs
-use Rattle.mkb_model.specs.Plain.{Plain, certificate_of, known}
+use Rattle.kb_label.specs.Names.{Name}
+use Rattle.mkb_model.specs.Plain.{Plain, certificate_of, known, rules_of}
 use Rattle.mkb_rules.specs.Named.{IsRuleThere}
+use Rattle.mkb_board.specs.Normal.{is_open_to, roles_of}
 use Rattle.kb_jobs.specs.Rules.{AreNamed}
 use Rattle.kb_jobs.specs.Reducing.{no_name}
 use Rattle.kb_jobs.specs.declared.reducing.ReduceSnapshot.{ReduceSnapshot}
@@ -25,6 +27,10 @@ HasOrder b (jobs.Reduce p n) = ⊤
 HasOrder b (jobs.Orient p n) = IsSome (certificate_of b p)
 HasOrder b (jobs.Overlap p a c) = ⊤
 HasOrder b (jobs.Close p) = ⊤
+
+-- the rules of p in nodes other than n to which some side of n is open
+abbrev pub open_rules : Plain → Name → ℕ → List RuleRef
+open_rules b p n = filter (is_open_to b (roles_of b p n) n) (rules_of b p)
 
 -- sides with the names of rules, for sides with the numbers of rules
 abbrev pub with_names : List RuleRef → List (ℕ × ℕ) → List (ℕ × RuleRef)

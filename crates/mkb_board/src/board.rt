@@ -5,7 +5,8 @@ ghost use Rattle.kb_term.specs.Signature.{IsWithinLimits};
 ghost use Rattle.kb_cert.specs.Family.{Orders, IsFirstOrder};
 ghost use Rattle.kb_label.specs.Names.{has};
 ghost use Rattle.kb_node.specs.declared.node.NodeId.{NodeId as Numbered};
-ghost use Rattle.mkb_model.specs.Plain.{orders_of, equations_of, rules_of, constraints_of, rules_at, certificate_of};
+ghost use Rattle.mkb_model.specs.Jobs.{process_of};
+ghost use Rattle.mkb_model.specs.Plain.{cost, orders_of, equations_of, rules_of, constraints_of, rules_at, certificate_of};
 ghost use Rattle.mkb_model.specs.Journals.{opening, landed};
 ghost use Rattle.mkb_model.specs.Verdicts.{verdict};
 ghost use Rattle.mkb_model.specs.declared.entry.Entry.TheVariants.{Abandon, Halt};
@@ -13,11 +14,13 @@ ghost use Rattle.mkb_rules.specs.Parts.{plain_nodes};
 ghost use Rattle.mkb_board.specs.Boards.{IsLegalBoard, takes_in, drops_in, has_halt};
 
 use crate::choosing;
+use crate::cost::cost;
+use crate::finishing::process_of;
 use crate::normal::Normal;
 use crate::snapshots::named::view_of;
 use kb_cert::Certificate;
 use kb_label::{Labels, ListLabels, Living, NameLog, Process, Verdict};
-use kb_node::{NodeTable, View};
+use kb_node::{Job, NodeTable, View};
 use kb_term::{Memory, Problem};
 use mkb_model::{Entry, Settings, Ticket};
 use mkb_rules::State;
@@ -169,6 +172,13 @@ impl Board {
         ensures { result ≡ length self.now.plain.asleep }
     {
         self.state.sleepers().len() as u32
+    }
+
+    /// What the job's process costs. It goes over the nodes, and takes no memory.
+    pub fn cost_of(&self, job: &Job) -> u32
+        ensures { result ≡ cost self.now.plain (process_of job.now) }
+    {
+        cost(&self.state, &process_of(job))
     }
 
     /// Makes a halt, if none was made: no job is taken from here on. It takes no memory.

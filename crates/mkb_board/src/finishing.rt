@@ -113,8 +113,8 @@ fn effect_of(applied: Applied, proposal: Proposed) -> Effect
     }
 }
 
-// The process that the job is for.
-fn process_of(job: &Job) -> Process
+/// The process that the job is for.
+pub(crate) fn process_of(job: &Job) -> Process
     ensures { result ≡ process_of job.now }
 {
     match job {

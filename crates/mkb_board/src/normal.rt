@@ -26,8 +26,8 @@ pub(crate) struct Roles {
 }
 
 impl Roles {
-    // The roles in which the process has the node.
-    fn of(state: &State, p: &Process, n: NodeId) -> Roles
+    /// The roles in which the process has the node.
+    pub(crate) fn of(state: &State, p: &Process, n: NodeId) -> Roles
         requires { n.0 < length state.now.nodes }
         ensures { result ≡ roles_of state.now p.now n.0 }
     {
@@ -72,8 +72,8 @@ fn is_open_side(state: &State, roles: Roles, n: NodeId, w: u8, rule: RuleRef) ->
     }
 }
 
-// Whether some side is open to the rule, which is of another node, where a process has the node in these roles.
-fn is_open_to(state: &State, roles: Roles, n: NodeId, rule: RuleRef) -> bool
+/// Whether some side is open to the rule, which is of another node, where a process has the node in these roles.
+pub(crate) fn is_open_to(state: &State, roles: Roles, n: NodeId, rule: RuleRef) -> bool
     ensures { result ≡ is_open_to state.now roles n.0 rule }
 {
     rule.node != n.0

@@ -7,6 +7,7 @@ mod reducing;
 
 ghost use Rattle.std.specs.Prelude.{◌≡◌, IfOk};
 ghost use Rattle.kb_jobs.specs.Working.{IsTaken, job_of};
+ghost use Rattle.mkb_model.specs.Invariants.{FactsHold};
 ghost use Rattle.mkb_board.specs.Snapshots.{HasJobNodes, HasOrder, IsWhole};
 
 use closing::close_snapshot;
@@ -23,6 +24,7 @@ use std::alloc::Global;
 pub(crate) fn snapshot(alloc: Global, state: &State, job: &Job) -> Result<Snapshot, Memory>
     requires there { HasJobNodes state.now job.now }
     requires ordered { HasOrder state.now job.now }
+    requires facts { FactsHold state.now }
     ensures job { IfOk result (λ s. job_of s ≡ job.now) }
     ensures taken { IfOk result (IsTaken state.now) }
     ensures whole { IfOk result IsWhole }

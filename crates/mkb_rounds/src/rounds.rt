@@ -88,7 +88,7 @@ fn play_round<G: Gate, R: Threads + Sync>(
     ensures err { OnErr result (IsLeftWith board.new []) }
     ensures same { IsSameRun board.old board.new }
 {
-    let round = take_tickets(alloc, board)?;
+    let round = take_tickets(alloc, gate, board)?;
     let outcomes = work_round(rt, alloc, gate, round.as_slice(), workers);
     end_tickets(alloc, gate, board, round.as_slice(), outcomes)
 }

@@ -4,6 +4,7 @@ ghost use Rattle.mkb_model.specs.Verdicts.{verdict};
 ghost use Rattle.work_crew.specs.Alone.{IsSameRun};
 ghost use Rattle.mkb_rounds.specs.Playing.{IsBetweenRounds, IsEndingRound, IsLeftWith, IsTakingRound};
 
+use kb_io::Gate;
 use kb_term::Memory;
 use mkb_board::{Board, Taken};
 use std::alloc::Global;
@@ -20,7 +21,11 @@ const TAKER: u8 = 1;
 /// # Errors
 ///
 /// Want of memory; its tickets are then given back.
-pub(crate) fn take_tickets(alloc: Global, board: &mut Board) -> Result<Vec<Assignment>, Memory>
+pub(crate) fn take_tickets<G: Gate>(
+    alloc: Global,
+    gate: &G,
+    board: &mut Board,
+) -> Result<Vec<Assignment>, Memory>
     requires between { IsBetweenRounds board.old }
     requires undecided { verdict board.old.plain ≡ None }
     ensures ok { IfOk result (λ round. IsEndingRound board.new round.items) }
@@ -28,7 +33,7 @@ pub(crate) fn take_tickets(alloc: Global, board: &mut Board) -> Result<Vec<Assig
     ensures same { IsSameRun board.old board.new }
 {
     let mut round = Vec::new(alloc);
-    match take_all(alloc, board, &mut round) {
+    match take_all(alloc, gate, board, &mut round) {
         Ok(()) => Ok(round),
         Err(Memory) => {
             give_back(board, round.as_slice());
@@ -38,7 +43,12 @@ pub(crate) fn take_tickets(alloc: Global, board: &mut Board) -> Result<Vec<Assig
 }
 
 // Takes tickets as long as the round may have more. Where there is no memory those that were taken stay in flight.
-fn take_all(alloc: Global, board: &mut Board, round: &mut Vec<Assignment>) -> Result<(), Memory>
+fn take_all<G: Gate>(
+    alloc: Global,
+    gate: &G,
+    board: &mut Board,
+    round: &mut Vec<Assignment>,
+) -> Result<(), Memory>
     requires between { IsBetweenRounds board.old }
     requires undecided { verdict board.old.plain ≡ None }
     requires empty { round.old.items ≡ [] }
@@ -47,7 +57,7 @@ fn take_all(alloc: Global, board: &mut Board, round: &mut Vec<Assignment>) -> Re
     ensures same { IsSameRun board.old board.new }
 {
     for _ in 0..MAX_TICKETS {
-        if !take_one(alloc, board, round)? {
+        if !take_one(alloc, gate, board, round)? {
             return Ok(());
         }
     }
@@ -55,7 +65,12 @@ fn take_all(alloc: Global, board: &mut Board, round: &mut Vec<Assignment>) -> Re
 }
 
 // Takes one ticket more, if there is a first job. Whether there was one.
-fn take_one(alloc: Global, board: &mut Board, round: &mut Vec<Assignment>) -> Result<bool, Memory>
+fn take_one<G: Gate>(
+    alloc: Global,
+    gate: &G,
+    board: &mut Board,
+    round: &mut Vec<Assignment>,
+) -> Result<bool, Memory>
     requires taking { IsTakingRound board.old round.old.items }
     requires few { length round.old.items < 8 }
     ensures more { IfOk result (λ took. took ≡ true → IsTakingRound board.new round.new.items) }
@@ -67,9 +82,8 @@ fn take_one(alloc: Global, board: &mut Board, round: &mut Vec<Assignment>) -> Re
     round.reserve(1)?;
     match board.take(alloc, TAKER)? {
         Taken::Job(ticket, snapshot) => {
-            round
-                .push(Assignment::new(board, ticket, snapshot))
-                .unwrap();
+            let assignment = Assignment::new(board, ticket, snapshot, gate.wants_cost());
+            round.push(assignment).unwrap();
             Ok(true)
         }
         Taken::Idle(_) => Ok(false),

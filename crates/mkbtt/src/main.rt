@@ -11,7 +11,7 @@ use kb_io::{KeepingSource, StdSink, StdSource};
 use mkbtt_shown::{manner_of, other_words};
 use mkbtt_top::{Status, hint, run, status_code, status_line};
 use mkbtt_words::refusal_message;
-use showing::ShowingGate;
+use showing::{ClearedOutput, ShowingGate};
 use std::alloc::{AllocError, Global};
 use std::env;
 use std::io::{ErrorKind, IsTerminal, Write};
@@ -70,7 +70,11 @@ fn perform<R: Threads + Wait + Sync>(threads: &R, rt: &HostRuntime, texts: &[&st
     };
     let gate = ShowingGate::new(rt, manner.progress);
     let mut source = KeepingSource::new(rt.alloc(), StdSource::new(rt.stdin()));
-    let mut sink = StdSink::new(rt.stdout());
+    let output = rt.stdout();
+    let mut sink = StdSink::new(ClearedOutput {
+        gate: &gate,
+        output,
+    });
     let status = run(threads, rt.alloc(), &words, &mut source, &mut sink, &gate).status;
     gate.clear();
     let code = told(rt, &status);

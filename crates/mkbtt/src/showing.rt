@@ -1,7 +1,7 @@
 // Shows how a run goes on.
-use kb_io::{Gate, Moment, Tally};
+use kb_io::{Gate, Moment};
 use mkbtt_shown::{Progress, cleared, progress_text};
-use std::io::Write;
+use std::io::{Stdout, Write};
 use std::sync::atomic::AtomicU64;
 use std::sync::atomic::Ordering::SeqCst;
 use std::time::Instant;
@@ -54,26 +54,45 @@ impl<'a> ShowingGate<'a> {
 
     // Writes how the run stands. Where nothing can be written there is nobody to tell.
     fn show(&self, moment: &Moment, second: u64) {
-        let tally = Tally {
-            commits: moment.commits,
-            nodes: moment.nodes,
-            living: moment.living,
-            awake: moment.awake,
-        };
-        if let Ok(text) = progress_text(self.rt.alloc(), self.progress, &tally, second) {
+        if let Ok(text) = progress_text(self.rt.alloc(), self.progress, moment, second) {
             let _ = self.rt.stderr().write_all(&text);
         }
     }
 
-    /// Clears what was written in place.
+    /// Clears what was written in place, where it wasn't cleared yet.
     pub(crate) fn clear(&self) {
-        if self.shown.load(SeqCst) != 0 {
+        if self.shown.swap(0, SeqCst) != 0 {
             let _ = self.rt.stderr().write_all(cleared(self.progress));
         }
     }
 }
 
+/// Standard output, before whose first byte what was written in place is cleared.
+#[derive(Drop)]
+pub(crate) struct ClearedOutput<'a, 'b> {
+    pub(crate) gate: &'b ShowingGate<'a>,
+    pub(crate) output: Stdout,
+}
+
+impl<'a, 'b> Write for ClearedOutput<'a, 'b> {
+    fn write(&mut self, buf: &[u8]) -> std::io::Result<usize> {
+        self.gate.clear();
+        self.output.write(buf)
+    }
+
+    fn flush(&mut self) -> std::io::Result<()> {
+        self.output.flush()
+    }
+}
+
 impl<'a> Gate for ShowingGate<'a> {
+    fn wants_cost(&self) -> bool {
+        match self.seconds() {
+            Some(second) => self.shown.load(SeqCst) < second,
+            None => false,
+        }
+    }
+
     fn pass(&self, moment: &Moment, _turn: u32) -> bool {
         if let Some(second) = self.seconds() {
             if self.is_new(second) {

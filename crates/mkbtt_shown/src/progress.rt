@@ -1,9 +1,9 @@
 // How a run goes on.
 ghost use Rattle.std.specs.Prelude.{◌≡◌, ◌++◌, IfOk, OnOk};
-ghost use Rattle.mkbtt_shown.specs.Progress.{cleared_by, counted, progress_text as text_of_progress};
+ghost use Rattle.mkbtt_shown.specs.Progress.{cleared_by, cost_text, counted, progress_text as text_of_progress};
 
 use crate::manner::Progress;
-use kb_io::Tally;
+use kb_io::Moment;
 use kb_term::Memory;
 use kb_text::push_number;
 use std::alloc::Global;
@@ -20,8 +20,21 @@ fn push_count(alloc: Global, out: &mut Vec<u8>, number: u64, what: &[u8]) -> Res
     Ok(())
 }
 
+// Adds what a process costs, where it was told.
+fn push_cost(alloc: Global, out: &mut Vec<u8>, cost: Option<u32>) -> Result<(), Memory>
+    ensures { OnOk result (out.new.items ≡ out.old.items ++ cost_text cost) }
+{
+    match cost {
+        None => Ok(()),
+        Some(cost) => {
+            out.extend_from_slice(b"cost ")?;
+            push_count(alloc, out, cost as u64, b", ")
+        }
+    }
+}
+
 /// What is written to show how a run goes on, so many seconds after it began: commits, nodes, living processes and those of them that
-/// are awake. Nothing where progress is hidden.
+/// are awake, and where it was told what the process costs whose job was taken. Nothing where progress is hidden.
 ///
 /// # Errors
 ///
@@ -29,10 +42,10 @@ fn push_count(alloc: Global, out: &mut Vec<u8>, number: u64, what: &[u8]) -> Res
 pub fn progress_text(
     alloc: Global,
     progress: Progress,
-    tally: &Tally,
+    moment: &Moment,
     seconds: u64,
 ) -> Result<Vec<u8>, Memory>
-    ensures { IfOk result (λ text. text.items ≡ text_of_progress progress tally.now seconds) }
+    ensures { IfOk result (λ text. text.items ≡ text_of_progress progress moment.now seconds) }
 {
     let mut text = Vec::new(alloc);
     if progress == Progress::Hidden {
@@ -42,10 +55,11 @@ pub fn progress_text(
         text.extend_from_slice(CLEAR)?;
     }
     text.extend_from_slice(b"mkbtt: ")?;
-    push_count(alloc, &mut text, tally.commits as u64, b" commits, ")?;
-    push_count(alloc, &mut text, tally.nodes as u64, b" nodes, ")?;
-    push_count(alloc, &mut text, tally.living as u64, b" processes, ")?;
-    push_count(alloc, &mut text, tally.awake as u64, b" awake, ")?;
+    push_count(alloc, &mut text, moment.commits as u64, b" commits, ")?;
+    push_count(alloc, &mut text, moment.nodes as u64, b" nodes, ")?;
+    push_count(alloc, &mut text, moment.living as u64, b" processes, ")?;
+    push_count(alloc, &mut text, moment.awake as u64, b" awake, ")?;
+    push_cost(alloc, &mut text, moment.cost)?;
     push_count(alloc, &mut text, seconds, b" s")?;
     if progress == Progress::Lines {
         text.push(b'\n')?;

@@ -3,7 +3,7 @@ use crate::{
     Manner, Progress, cleared, excerpt, line_hint, manner_of, other_words, progress_text,
     refusal_hint, spent_hint,
 };
-use kb_io::{Gate, Moment, TallyGate};
+use kb_io::Moment;
 use kb_label::Spent;
 use kb_text::{Bound, Kind};
 use std::test::Fail;
@@ -77,23 +77,25 @@ fn a_used_up_budget_says_what_to_try(rt: HostRuntime) -> Result<(), Fail> {
 #[test]
 fn progress_is_a_line(rt: HostRuntime) -> Result<(), Fail> {
     let alloc = rt.alloc();
-    let gate = TallyGate::new();
     let moment = Moment {
         ticket: 9,
         commits: 1234,
         nodes: 567,
         living: 12,
         awake: 3,
+        cost: Some(89),
     };
-    assert!(rt; gate.pass(&moment, 0));
-    let tally = gate.tally();
-    let line = progress_text(alloc, Progress::Lines, &tally, 17)?;
-    let want = b"mkbtt: 1234 commits, 567 nodes, 12 processes, 3 awake, 17 s\n";
+    let line = progress_text(alloc, Progress::Lines, &moment, 17)?;
+    let want = b"mkbtt: 1234 commits, 567 nodes, 12 processes, 3 awake, cost 89, 17 s\n";
     assert_eq!(rt; line.as_slice(), want.as_slice());
-    let line = progress_text(alloc, Progress::InPlace, &tally, 17)?;
+    let untold = Moment {
+        cost: None,
+        ..moment
+    };
+    let line = progress_text(alloc, Progress::InPlace, &untold, 17)?;
     let want = b"\r\x1b[Kmkbtt: 1234 commits, 567 nodes, 12 processes, 3 awake, 17 s";
     assert_eq!(rt; line.as_slice(), want.as_slice());
-    assert!(rt; progress_text(alloc, Progress::Hidden, &tally, 17)?.is_empty());
+    assert!(rt; progress_text(alloc, Progress::Hidden, &moment, 17)?.is_empty());
     assert_eq!(rt; cleared(Progress::InPlace), b"\r\x1b[K".as_slice());
     assert!(rt; cleared(Progress::Lines).is_empty());
     Ok(())

@@ -34,7 +34,8 @@ grows_none w old new e = ([], ap (λ (s : Seen). s.journal) e ∙ sym (append-ni
 grows_one : (w : ℕ) (e : Entry) (old new : Seen) → worker_of e ≡ w → new.journal ≡ old.journal ++ e ∷ [] → Grows w old new
 grows_one w e old new h k = (e ∷ [], k, one_from w e (inl h))
 
-grows_on : (w : ℕ) (old mid new : Seen) → Grows w old mid → Grows w mid new → Grows w old new
+-- twice
+pub grows_on : (w : ℕ) (old mid new : Seen) → Grows w old mid → Grows w mid new → Grows w old new
 grows_on w old mid new (xs, e, f) (ys, k, g) = (xs ++ ys, k ∙ ap (λ (z : List Entry). z ++ ys) e ∙ append_assoc old.journal xs ys, All-append (λ (x : Entry). (worker_of x ≡ w) ⊎ (worker_of x ≡ 0)) xs ys f g)
 
 pub same_none : (old new : Seen) → new.plain ≡ old.plain → IsSameRun old new

@@ -73,10 +73,10 @@ IsNext old new worker (Wait n) = (new ≡ old) × (verdict old.plain ≡ None) �
 IsNext old new worker End = (new.plain ≡ old.plain) × (IsSome (verdict new.plain) ⊎ IsTrue (has_halt new.journal))
 
 -- the moment that is told of a ticket that is worked next is that of the board
-abbrev pub TellsMoment : Seen → Next → Type 0
-TellsMoment s (Work a) = a.moment ≡ moment_at s.plain a.ticket.number
-TellsMoment s (Wait n) = ⊤
-TellsMoment s End = ⊤
+abbrev pub TellsMoment : Bool → Seen → Next → Type 0
+TellsMoment asked s (Work a) = a.moment ≡ moment_at asked s.plain a.ticket
+TellsMoment asked s (Wait n) = ⊤
+TellsMoment asked s End = ⊤
 
 -- a ticket that was taken is held, and the worker's own
 abbrev pub HoldsTaken : Seen → ℕ → Taken → Type 0

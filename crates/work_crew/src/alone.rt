@@ -77,7 +77,7 @@ fn take_turn<G: Gate>(alloc: Global, board: &mut Board, gate: &G) -> Result<Turn
     let _journal = board.journal();
     match board.take(alloc, 1)? {
         Taken::Job(ticket, snapshot) => {
-            ask(gate, &moment_of(board, &ticket));
+            ask(gate, &moment_of(board, &ticket, gate.wants_cost()));
             work_ticket(alloc, board, ticket, &snapshot)?;
             Ok(Turn::Went)
         }

@@ -6,16 +6,23 @@ use kb_io::Moment;
 use mkb_board::Board;
 use mkb_model::Ticket;
 
-/// How the board stands where the ticket was just taken. It reads counts that the board keeps, and looks at no node or process.
-pub(crate) fn moment_of(board: &Board, ticket: &Ticket) -> Moment
-    ensures { result ≡ moment_at board.now.plain ticket.now.number }
+/// How the board stands where the ticket was just taken, with what its process costs where that is asked for. It reads counts that the
+/// board keeps; for a cost alone it goes over the nodes.
+pub(crate) fn moment_of(board: &Board, ticket: &Ticket, with_cost: bool) -> Moment
+    ensures { result ≡ moment_at with_cost board.now.plain ticket.now }
 {
     let living = board.living();
+    let cost = if with_cost {
+        Some(board.cost_of(&ticket.job))
+    } else {
+        None
+    };
     Moment {
         ticket: ticket.number,
         commits: board.commits(),
         nodes: board.nodes().len(),
         living,
         awake: living.saturating_sub(board.asleep()),
+        cost,
     }
 }

@@ -29,11 +29,11 @@ pub struct Assignment {
 }
 
 impl Assignment {
-    /// The ticket that was just taken on the board, with what its job reads.
-    pub fn new(board: &Board, ticket: Ticket, snapshot: Snapshot) -> Assignment
-        ensures { result ≡ assigned board.now.plain ticket snapshot }
+    /// The ticket that was just taken on the board, with what its job reads, and what its process costs where that is asked for.
+    pub fn new(board: &Board, ticket: Ticket, snapshot: Snapshot, with_cost: bool) -> Assignment
+        ensures { result ≡ assigned with_cost board.now.plain ticket snapshot }
     {
-        let moment = moment_of(board, &ticket);
+        let moment = moment_of(board, &ticket, with_cost);
         Assignment {
             ticket,
             snapshot,
@@ -124,20 +124,21 @@ impl Shared {
         board
     }
 
-    /// What the worker does next: it takes the first job, if there is one. Where there is no memory it halts the board.
-    pub(crate) fn next(&mut self, alloc: Global, worker: u8) -> Next
+    /// What the worker does next: it takes the first job, if there is one, and is told what its process costs where that is asked for.
+    /// Where there is no memory it halts the board.
+    pub(crate) fn next(&mut self, alloc: Global, worker: u8, with_cost: bool) -> Next
         requires least { 1 ≤ worker }
         requires most { worker ≤ 16 }
         ensures next { IsNext self.old self.new worker result }
         ensures held { HoldsOn self.new worker result }
-        ensures moment { TellsMoment self.new result }
+        ensures moment { TellsMoment with_cost self.new result }
         ensures legal { IsLegalBoard self.new }
         ensures grows { Grows worker self.old self.new }
         ensures same { IsSameRun self.old self.new }
     {
         match self.take(alloc, worker) {
             Ok(Taken::Job(ticket, snapshot)) => {
-                Next::Work(Assignment::new(&self.board, ticket, snapshot))
+                Next::Work(Assignment::new(&self.board, ticket, snapshot, with_cost))
             }
             Ok(Taken::Idle(_)) => Next::Wait(self.entries),
             Ok(Taken::Over(_)) => Next::End,
@@ -173,6 +174,31 @@ impl Shared {
                 self.give_back(assignment);
                 Err(Memory)
             }
+        }
+    }
+
+    /// Ends the ticket with what its job proposed, and tells what its worker does next. Where there is no memory to end it, it is given
+    /// back, the board halted, and the worker ends.
+    pub(crate) fn end_and_next(
+        &mut self,
+        alloc: Global,
+        assignment: &Assignment,
+        worked: Result<Proposed, Memory>,
+        with_cost: bool,
+    ) -> Next
+        requires least { 1 ≤ assignment.now.ticket.worker }
+        requires most { assignment.now.ticket.worker ≤ 16 }
+        requires held { IsHeldSince self.old assignment.now }
+        requires worked { IfOk worked (ProposesBy assignment.now.snapshot) }
+        ensures held { HoldsOn self.new assignment.now.ticket.worker result }
+        ensures moment { TellsMoment with_cost self.new result }
+        ensures legal { IsLegalBoard self.new }
+        ensures grows { Grows assignment.now.ticket.worker self.old self.new }
+        ensures same { IsSameRun self.old self.new }
+    {
+        match self.end(alloc, assignment, worked) {
+            Ok(()) => self.next(alloc, assignment.ticket.worker, with_cost),
+            Err(Memory) => Next::End,
         }
     }
 

@@ -2,7 +2,7 @@
 ghost use Rattle.std.specs.Prelude.{◌≡◌, ◌+◌, ◌<◌, ◌≤◌, ◌-◌, ◌*◌, ◌||◌, [], ℕ, true, false, All, IfOk, is_none};
 ghost use Rattle.std.specs.List.{list_any};
 ghost use Rattle.std.specs.Thread.{IsSync};
-ghost use Rattle.kb_jobs.specs.Working.{ProposesBy};
+ghost use Rattle.kb_jobs.specs.Working.{IsReadable, ProposesBy};
 ghost use Rattle.mkb_model.specs.Journals.{worker_of};
 ghost use Rattle.work_crew.specs.Alone.{IsSameRun};
 ghost use Rattle.work_crew.specs.Together.{EndsTogether, HasJoined, Holds, HoldsNext, IsSameSeat, Rests, is_leaving as leaves};
@@ -37,55 +37,72 @@ struct Workplace {
     turns: Turns<Shared>,
 }
 
+// What a worker made of its ticket.
+#[derive(Drop)]
+struct Worked {
+    assignment: Assignment,
+    proposal: Result<Proposed, Memory>,
+}
+
 // At a turn: takes the first job, if there is one.
-fn take_one<R: Wait>(rt: &R, place: &Workplace, seat: &mut Seat<Shared>) -> Next
+fn take_one<G: Gate, R: Wait>(rt: &R, place: &Workplace, gate: &G, seat: &mut Seat<Shared>) -> Next
     requires { Rests place.now.turns seat.old }
     ensures rests { Rests place.now.turns seat.new }
     ensures same { IsSameSeat seat.old seat.new }
     ensures holds { HoldsNext place.now.turns seat.new result }
 {
+    let with_cost = gate.wants_cost();
     let worker = seat.worker();
     let mut board = place.turns.enter(rt, seat);
-    let next = board.next(place.alloc, worker);
+    let next = board.next(place.alloc, worker, with_cost);
     place.turns.leave(seat, board);
     next
 }
 
-// At a turn: ends the ticket with what its job proposed.
-fn end_one<R: Wait>(
+// At a turn: ends the ticket with what its job proposed, and takes the next.
+fn end_one<G: Gate, R: Wait>(
     rt: &R,
     place: &Workplace,
+    gate: &G,
     seat: &mut Seat<Shared>,
-    assignment: &Assignment,
-    worked: Result<Proposed, Memory>,
-) -> Result<(), Memory>
+    worked: Worked,
+) -> Next
     requires rests { Rests place.now.turns seat.old }
-    requires holds { Holds place.now.turns seat.old assignment.now }
-    requires worked { IfOk worked (ProposesBy assignment.now.snapshot) }
+    requires holds { Holds place.now.turns seat.old worked.assignment }
+    requires worked { IfOk worked.proposal (ProposesBy worked.assignment.snapshot) }
     ensures rests { Rests place.now.turns seat.new }
     ensures same { IsSameSeat seat.old seat.new }
+    ensures holds { HoldsNext place.now.turns seat.new result }
 {
+    let with_cost = gate.wants_cost();
+    let Worked {
+        assignment,
+        proposal,
+    } = worked;
     let mut board = place.turns.enter(rt, seat);
-    let ended = board.end(place.alloc, assignment, worked);
+    let next = board.end_and_next(place.alloc, &assignment, proposal, with_cost);
     place.turns.leave(seat, board);
-    ended
+    next
 }
 
-// Outside the turn: works the ticket. Then ends it.
-fn work_one<S: Searcher, R: Wait>(
+// Outside the turn: works the ticket, once the gate lets pass.
+fn work_one<G: Gate, S: Searcher, R: Wait>(
     rt: &R,
-    place: &Workplace,
+    alloc: Global,
+    gate: &G,
     by: &S,
-    seat: &mut Seat<Shared>,
-    assignment: &Assignment,
-) -> Result<(), Memory>
-    requires rests { Rests place.now.turns seat.old }
-    requires holds { Holds place.now.turns seat.old assignment.now }
-    ensures rests { Rests place.now.turns seat.new }
-    ensures same { IsSameSeat seat.old seat.new }
+    assignment: Assignment,
+) -> Worked
+    requires { IsReadable assignment.snapshot }
+    ensures of_ticket { result.assignment ≡ assignment }
+    ensures worked { IfOk result.proposal (ProposesBy assignment.snapshot) }
 {
-    let worked = work_by(rt, place.alloc, &assignment.snapshot, by);
-    end_one(rt, place, seat, assignment, worked)
+    ask(gate, &assignment.moment);
+    let proposal = work_by(rt, alloc, &assignment.snapshot, by);
+    Worked {
+        assignment,
+        proposal,
+    }
 }
 
 // Lets others run: at first it yields, then it sleeps, each time twice as long, up to the longest sleep.
@@ -127,15 +144,17 @@ fn serve<G: Gate, S: Searcher, R: Wait>(
     ensures rests { Rests place.now.turns result }
     ensures same { IsSameSeat seat result }
 {
+    let mut next = take_one(rt, place, gate, &mut seat);
     for _ in rt.forever() {
-        match take_one(rt, place, &mut seat) {
+        match next {
             Next::Work(assignment) => {
-                ask(gate, &assignment.moment);
-                if work_one(rt, place, by, &mut seat, &assignment).is_err() {
-                    break;
-                }
+                let worked = work_one(rt, place.alloc, gate, by, assignment);
+                next = end_one(rt, place, gate, &mut seat, worked);
             }
-            Next::Wait(entries) => wait_for_more(rt, place, &mut seat, entries),
+            Next::Wait(entries) => {
+                wait_for_more(rt, place, &mut seat, entries);
+                next = take_one(rt, place, gate, &mut seat);
+            }
             Next::End => break,
         }
     }

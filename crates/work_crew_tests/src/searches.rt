@@ -85,6 +85,7 @@ fn moment_of(ticket: u64) -> Moment {
         nodes: 0,
         living: 1,
         awake: 1,
+        cost: None,
     }
 }
 

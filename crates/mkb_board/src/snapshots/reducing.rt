@@ -1,14 +1,15 @@
 // What a Reduce reads.
-ghost use Rattle.std.specs.Prelude.{◌≡◌, ◌<◌, ◌≤◌, ◌^◌, ◌++◌, ◌||◌, ◌∷◌, ◌==◌, [], IfOk, OnOk, filter, length, not};
-ghost use Rattle.kb_term.specs.declared.origin.RuleRef.{RuleRef as Named};
+ghost use Rattle.std.specs.Prelude.{◌≡◌, ◌<◌, ◌≤◌, ◌^◌, ◌++◌, ◌||◌, ◌∷◌, [], IfOk, OnOk, filter, length};
 ghost use Rattle.std.specs.List.{flat_map};
 ghost use Rattle.kb_jobs.specs.Taken.{IsTakenReduce};
 ghost use Rattle.mkb_model.specs.Plain.{is_equation, is_rule};
-ghost use Rattle.mkb_model.specs.DueJobs.{reducers};
-ghost use Rattle.mkb_board.specs.Snapshots.{AreWithin, IsWholeReduce, unknown_on, with_names};
+ghost use Rattle.mkb_model.specs.Invariants.{FactsHold};
+ghost use Rattle.mkb_board.specs.Normal.{is_open_to};
+ghost use Rattle.mkb_board.specs.Snapshots.{AreWithin, IsWholeReduce, open_rules, unknown_on, with_names};
 
 use super::named::{named_rules, pair_at, view_of};
 use crate::choosing::{is_equation, is_rule};
+use crate::normal::{Roles, is_open_to};
 use kb_jobs::ReduceSnapshot;
 use kb_label::Process;
 use kb_node::NodeId;
@@ -16,7 +17,7 @@ use kb_term::{Memory, RuleRef};
 use mkb_rules::State;
 use std::alloc::{AllocError, Global};
 
-/// The pair of the node, the rules of the process in other nodes, and what is unknown of them.
+/// The pair of the node, the rules of the process in other nodes to which some side of the node is open, and what is unknown of them.
 #[tactic(auto, using(crate::proofs::Viewed::others_there, crate::proofs::Viewed::others_order))]
 pub(crate) fn reduce_snapshot(
     alloc: Global,
@@ -24,14 +25,15 @@ pub(crate) fn reduce_snapshot(
     process: Process,
     node: NodeId,
 ) -> Result<ReduceSnapshot, Memory>
-    requires { node.0 < length state.now.nodes }
+    requires there { node.0 < length state.now.nodes }
+    requires facts { FactsHold state.now }
     ensures process { IfOk result (λ s. s.process ≡ process) }
     ensures node { IfOk result (λ s. s.node ≡ node) }
     ensures taken { IfOk result (IsTakenReduce state.now) }
     ensures whole { IfOk result IsWholeReduce }
 {
     let pair = pair_at(state, node)?;
-    let names = reducers(alloc, state, &process, node)?;
+    let names = open_rules(alloc, state, &process, node)?;
     let unknown = unknown(alloc, state, node, names.as_slice())?;
     let rules = named_rules(alloc, state, names)?;
     Ok(ReduceSnapshot {
@@ -45,29 +47,36 @@ pub(crate) fn reduce_snapshot(
     })
 }
 
-// The rules in other nodes.
+// The rules to which some side of the node is open, where a process has it in these roles.
 #[tactic(auto, using(crate::proofs::Viewed::passing_next))]
-fn elsewhere(alloc: Global, names: &[RuleRef], n: NodeId) -> Result<Vec<RuleRef>, AllocError>
-    ensures { IfOk result (λ others. others.items ≡ filter (λ (a : Named). not (a.node == n.0)) names.now) }
+fn open_to(
+    alloc: Global,
+    state: &State,
+    names: &[RuleRef],
+    n: NodeId,
+    roles: Roles,
+) -> Result<Vec<RuleRef>, AllocError>
+    ensures { IfOk result (λ kept. kept.items ≡ filter (is_open_to state.now roles n.0) names.now) }
 {
-    let mut others = Vec::new(alloc);
+    let mut kept = Vec::new(alloc);
     for i in 0..names.len() {
-        if names[i].node != n.0 {
-            others.push(names[i])?;
+        if is_open_to(state, roles, n, names[i]) {
+            kept.push(names[i])?;
         }
     }
-    Ok(others)
+    Ok(kept)
 }
 
-// The rules of the process in other nodes.
-fn reducers(alloc: Global, state: &State, p: &Process, n: NodeId) -> Result<Vec<RuleRef>, Memory>
-    ensures names { IfOk result (λ names. names.items ≡ reducers state.now p.now n.0) }
+// The rules of the process in other nodes to which some side of the node is open.
+fn open_rules(alloc: Global, state: &State, p: &Process, n: NodeId) -> Result<Vec<RuleRef>, Memory>
+    requires { n.0 < length state.now.nodes }
+    ensures names { IfOk result (λ names. names.items ≡ open_rules state.now p.now n.0) }
     ensures few { IfOk result (λ names. length names.items < 2 ^ 32) }
 {
     let view = view_of(state, p)?;
     // Each node gives at most two rules.
     let count = state.nodes().len();
-    let names = elsewhere(alloc, view.rules.items(), n)?;
+    let names = open_to(alloc, state, view.rules.items(), n, Roles::of(state, p, n))?;
     prove!(count <= 4096);
     Ok(names)
 }

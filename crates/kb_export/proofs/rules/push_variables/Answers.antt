@@ -12,7 +12,7 @@ loop-n-preserved c =
     let n = c.loop-n.n in
     let old = c.args.out.now.items in
     let f = λ (n : ℕ). 32 ∷ variable_text names n in
-    c.in_ok-push_term.ensures ∙ ap (λ xs. xs ++ variable_text names n) c.in_ok-push.ensures.items
+    c.in_ok-push_term.ensures.ok ∙ ap (λ xs. xs ++ variable_text names n) c.in_ok-push.ensures.items
     ∙ append_assoc c.loop-n.out.items (32 ∷ []) (variable_text names n)
     ∙ ap (λ xs. xs ++ f n) c.loop-n.invariant
     ∙ flat_map_more f old (range_with_len 0 n) n

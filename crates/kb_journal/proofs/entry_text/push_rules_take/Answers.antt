@@ -11,8 +11,8 @@ returns c =
     let b = rule_text c.args.rules.1 in
     subst {A = List (List ℕ)} (λ q. OnOk c.push-2.result (c.push-2.new.self ≡ q))
     (
-    ap₂ (λ (x : List (List ℕ)) (y : List ℕ). x ++ y ∷ []) (c.in_ok-push.ensures ∙ ap₂ (λ (x : List (List ℕ)) (y : List ℕ). x ++ y ∷ []) c.in_ok-push_take.ensures c.in_ok-rule_text.ensures) c.in_ok-rule_text-2.ensures
+    ap₂ (λ (x : List (List ℕ)) (y : List ℕ). x ++ y ∷ []) (c.in_ok-push.ensures.ok ∙ ap₂ (λ (x : List (List ℕ)) (y : List ℕ). x ++ y ∷ []) c.in_ok-push_take.ensures c.in_ok-rule_text.ensures) c.in_ok-rule_text-2.ensures
     ∙ append_assoc (old ++ take) (a ∷ []) (b ∷ [])
     ∙ append_assoc old take (a ∷ b ∷ [])
     )
-    c.push-2.ensures
+    c.push-2.ensures.ok

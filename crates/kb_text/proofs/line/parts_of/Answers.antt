@@ -1,4 +1,4 @@
-use Rattle.std.proofs.Common.{◌≡◌, ◌++◌, ◌==◌, ◌+◌, ◌∙◌, ap, ap₂, sym, List, ℕ, drop, get_or, ◌∷◌}
+use Rattle.std.proofs.Common.{◌++◌, ◌==◌, ◌+◌, ◌∙◌, ap₂, sym, List, ℕ, drop}
 use Rattle.std.specs.Prelude.{map}
 use Rattle.std.specs.List.{slice_split}
 use Rattle.std.proofs.lemmas.List.{at_drop_more}

@@ -1,4 +1,4 @@
-use Rattle.std.proofs.Common.{◌≡◌, sym, ◌∙◌, ap, [], ◌∷◌, ◌++◌, false, true}
+use Rattle.std.proofs.Common.{◌≡◌, sym, ◌∙◌, ap, false}
 use Rattle.kb_term.proofs.Distinct.{has, distinct-new, distinct-old}
 use Rattle.kb_text.proofs.printer.see_variable.Goals as goal
 

@@ -1,10 +1,8 @@
-use Rattle.std.proofs.Common.{◌≡◌, ◌<◌, ◌+◌, ◌-◌, ◌++◌, ℕ, arith, subst, sym, drop}
+use Rattle.std.proofs.Common.{◌≡◌, ◌<◌, ◌+◌, ◌-◌, ◌++◌, ℕ, arith, subst, drop}
 use Rattle.std.specs.Prelude.{decimal, map, replicate}
 use Rattle.kb_term.specs.View.{tree_of}
-use Rattle.kb_term.specs.Tree.{Trees, apply, trees_of}
-use Rattle.kb_text.specs.TermReading.{IsClosed, BeginsWithTerm, IsNameEnd}
 use Rattle.kb_text.specs.Terms.{separator}
-use Rattle.kb_text.proofs.PartRead.{IsPartRead, application_read, begun, bounded_some, cut_at, no_argument, no_arguments, no_closing, no_head, no_separator, not_begun, part_pushed, variable_read}
+use Rattle.kb_text.proofs.PartRead.{IsPartRead, application_read, begun, bounded_some, cut_at, no_argument, no_arguments, no_closing, no_head, no_separator, not_begun, part_pushed}
 use Rattle.kb_text.proofs.read.+read_from.Goals as goal
 
 pub returns-then-depth-eq0 : goal.returns-then-depth-eq0

@@ -1,5 +1,5 @@
-use Rattle.std.proofs.Common.{arith, ◌+◌, ◌++◌, ◌<◌, ap, length, sym, take, ◌∙◌}
-use Rattle.std.specs.Prelude.{decimal, nat_eq, replicate}
+use Rattle.std.proofs.Common.{arith, ◌+◌, ap, length, sym, take, ◌∙◌}
+use Rattle.std.specs.Prelude.{nat_eq}
 use Rattle.std.specs.List.{list_all}
 use Rattle.std.proofs.lemmas.Bool.{false≢true}
 use Rattle.kb_text.proofs.VariableTexts.{behind_letters, variable_letters, variable_longer}

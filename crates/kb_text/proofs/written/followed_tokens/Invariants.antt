@@ -1,4 +1,4 @@
-use Rattle.std.proofs.Common.{◌≡◌, ◌+◌, length, take, min}
+use Rattle.std.proofs.Common.{◌≡◌, length, take, min}
 use Rattle.kb_text.specs.Fronts.{followed_tokens}
 use Rattle.kb_text.proofs.WrittenLists.{args}
 use Rattle.kb_text.proofs.written.followed_tokens.Given as goal

@@ -6,7 +6,7 @@ use Rattle.kb_text.specs.declared.written.WrittenTerm.{WrittenTerm}
 use Rattle.std.proofs.lemmas.List.{take_all}
 use Rattle.kb_text.proofs.Vectors.{empty_not}
 use Rattle.kb_text.proofs.WrittenLists.{args}
-use Rattle.kb_text.proofs.TokenCounts.{followed_count, applied_some, applied_none}
+use Rattle.kb_text.proofs.TokenCounts.{followed_count, applied_some}
 use Rattle.kb_text.proofs.written.WrittenTerm.+tokens.Goals as goal
 
 pub loop-argument-preserved : goal.loop-argument-preserved

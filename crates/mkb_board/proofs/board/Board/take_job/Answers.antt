@@ -9,7 +9,7 @@ use Rattle.mkb_board.specs.Boards.{Seen, seen, IsBoard, owed, has_halt}
 use Rattle.mkb_board.specs.Takes.{TakesJob}
 use Rattle.mkb_board.proofs.Growing.{take_board, after_push, shorter}
 use Rattle.mkb_board.proofs.Flying.{taken_flying}
-use Rattle.mkb_board.proofs.Readable.{readable_on, first_there, first_ordered}
+use Rattle.mkb_board.proofs.Readable.{facts_on, readable_on, first_there, first_ordered}
 use Rattle.mkb_board.proofs.board.Board.take_job.Goals as goal
 
 pub snapshot-requires-clause-there : goal.snapshot-requires-clause-there
@@ -19,6 +19,9 @@ snapshot-requires-clause-there c =
 pub snapshot-requires-clause-ordered : goal.snapshot-requires-clause-ordered
 snapshot-requires-clause-ordered c =
     first_ordered c.self.inside.state c.self.inside.flight.items c.self.inside.journal.items c.self.invariant.0.legal c.args.job.now (subst {A = Seen} (λ z. first_job z.plain ≡ Some c.args.job.now) (sym c.self.view_is) c.requires.first)
+
+pub snapshot-requires-clause-facts : goal.snapshot-requires-clause-facts
+snapshot-requires-clause-facts c = facts_on c.self.inside.state c.self.inside.flight.items c.self.inside.journal.items c.self.invariant.0.legal
 
 pub overflow_add-ticket : goal.overflow_add-ticket
 overflow_add-ticket c = omega (arith, c.self.invariant.0.taken_is, shorter is_take c.self.inside.journal.items, c.self.inside.journal.ok.0, c.self.inside.journal.small)

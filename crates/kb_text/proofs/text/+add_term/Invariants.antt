@@ -4,10 +4,10 @@ use Rattle.kb_term.specs.Tree.{tree_depth}
 use Rattle.kb_term.specs.View.{tree_of}
 use Rattle.kb_text.specs.Terms.{names_of, term_text, arguments_text}
 use Rattle.kb_text.proofs.TextLaws.{opened_text, trees}
-use Rattle.kb_text.proofs.text.+push_term.Given as goal
+use Rattle.kb_text.proofs.text.+add_term.Given as goal
 
-abbrev pub decreases-push_term : goal.decreases-push_term
-decreases-push_term l = tree_depth (tree_of l.t.now)
+abbrev pub decreases-add_term : goal.decreases-add_term
+decreases-add_term l = tree_depth (tree_of l.t.now)
 
 -- the arguments so far were added behind the symbol
 abbrev pub invariant-loop-i : goal.invariant-loop-i

@@ -4,12 +4,13 @@ use Rattle.std.proofs.lemmas.List.{take_all}
 use Rattle.kb_term.specs.Tree.{tree_depth}
 use Rattle.kb_term.specs.View.{tree_of}
 use Rattle.kb_term.proofs.Arguments.{argument-is, argument-depth, arguments-length}
-use Rattle.kb_text.specs.Terms.{names_of, term_text, separator}
+use Rattle.kb_text.specs.Terms.{names_of, symbol_text, term_text, separator}
+use Rattle.kb_text.proofs.FrontParts.{front_of_front}
 use Rattle.kb_text.proofs.TextLaws.{opened_text, opened_more, closed, trees}
-use Rattle.kb_text.proofs.text.+push_term.Goals as goal
+use Rattle.kb_text.proofs.text.+add_term.Goals as goal
 
-pub push_term-requires : goal.push_term-requires
-push_term-requires t c =
+pub add_term-requires : goal.add_term-requires
+add_term-requires t c =
     let items = c.items-arguments.result.now in
     let here = argument-is items c.in-App.arguments c.loop-i.i c.index-arguments-i.result c.items-arguments.ensures c.loop-i-test.true c.index-arguments-i.is in
     let room : c.loop-i.i < length c.in-App.arguments = omega (arith, arguments-length items, ap length c.items-arguments.ensures, c.loop-i-test.true) in
@@ -21,7 +22,7 @@ loop-i-preserved t c =
     let names = names_of c.args.signature.now in
     let items = c.items-arguments.result.now in
     let before = opened_text names (trees (take c.loop-i.i items)) in record {
-      added = c.in_ok-push_term-in-App.ensures
+      added = c.in_ok-add_term-in-App.ensures.ok
           ∙ ap (λ bytes. bytes ++ term_text names (tree_of c.index-arguments-i.result)) (c.in_ok-push-in-App.ensures.items ∙ ap (λ b. c.loop-i.out.items ++ b ∷ []) c.separator_before.ensures ∙ ap (λ bytes. bytes ++ separator c.loop-i.i ∷ []) c.loop-i.invariant.added)
           ∙ append_assoc (c.push_symbol.new.out.items ++ before) (separator c.loop-i.i ∷ []) (term_text names (tree_of c.index-arguments-i.result))
           ∙ append_assoc c.push_symbol.new.out.items before (separator c.loop-i.i ∷ term_text names (tree_of c.index-arguments-i.result))
@@ -29,8 +30,8 @@ loop-i-preserved t c =
       all = c.loop-i.invariant.all;
     }
 
-pub returns-in_ok-push-in-App-2 : goal.returns-in_ok-push-in-App-2
-returns-in_ok-push-in-App-2 t c =
+pub returns-in_ok-push-in-App-2-clause-ok : goal.returns-in_ok-push-in-App-2-clause-ok
+returns-in_ok-push-in-App-2-clause-ok t c =
     let names = names_of c.args.signature.now in
     let items = c.items-arguments.result.now in
     let some : 0 < length items = grind arith in
@@ -39,3 +40,16 @@ returns-in_ok-push-in-App-2 t c =
     ∙ append_assoc c.push_symbol.new.out.items (opened_text names (trees items)) (41 ∷ [])
     ∙ ap (c.push_symbol.new.out.items ++◌) (closed names items some)
     ∙ sym c.loop-i.invariant.all
+
+pub returns-in_err-add_term-in-App-clause-front : goal.returns-in_err-add_term-in-App-clause-front
+returns-in_err-add_term-in-App-clause-front t c =
+    let names = names_of c.args.signature.now in
+    let before = opened_text names (trees (take c.loop-i.i c.items-arguments.result.now)) in
+    let sign = c.separator_before.result ∷ [] in
+    let behind_symbol = c.push_symbol.new.out.items in
+    front_of_front c.args.out.now.items (symbol_text names c.in-App.f.0) behind_symbol c.add_term.new.out.items c.in_ok-push_symbol-in-App.ensures.ok
+    (
+    front_of_front behind_symbol (before ++ sign) c.push.new.self.items c.add_term.new.out.items
+    (c.in_ok-push-in-App.ensures.items ∙ ap (λ bytes. bytes ++ sign) c.loop-i.invariant.added ∙ append_assoc behind_symbol before sign)
+    c.add_term.ensures.front
+    )
