@@ -5,17 +5,17 @@ use Rattle.mkb_rounds.proofs.Playing.{begins, not_true, not_false}
 use Rattle.mkb_rounds.proofs.taking.take_all.Goals as goal
 
 pub loop-init : goal.loop-init
-loop-init c = (
+loop-init g c = (
   subst {A = List Assignment} (IsTakingRound c.args.board.now) (sym c.requires.empty) (begins c.args.board.now c.requires.between c.requires.undecided),
   ap (λ (z : List Assignment). length z) c.requires.empty,
   record { problem = refl; settings = refl },
 )
 
 pub returns-then-not-branch-clause-ok : goal.returns-then-not-branch-clause-ok
-returns-then-not-branch-clause-ok c = c.in_ok-take_one.ensures.last (search (rules, not_true))
+returns-then-not-branch-clause-ok g c = c.in_ok-take_one.ensures.last (search (rules, not_true))
 
 pub loop-preserved : goal.loop-preserved
-loop-preserved c =
+loop-preserved g c =
     let took : c.in_ok-take_one.field-0 ≡ true = search (rules, not_false) in
     let i = c.loop.invariant in
     let s = c.in_ok-take_one.ensures.same in (
