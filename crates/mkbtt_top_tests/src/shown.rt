@@ -59,7 +59,7 @@ fn a_gate_is_told_how_the_run_goes_on(rt: HostRuntime) {
         nodes: 3,
         living: 3,
         awake: 3,
-        cost: 9,
+        cost: 5,
     };
     let gate = TallyGate::new();
     let mut source = bench.source(&["(RULES f(a) == b f(a) == c)"]);
