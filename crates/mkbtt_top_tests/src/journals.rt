@@ -1,7 +1,7 @@
 // Journals of runs, and what comes of making their entries again.
 use crate::bench::{Bench, Want, commits};
-use kb_io::{MemorySource, OpenGate};
-use mkbtt_top::{Outcome, Status, status_code};
+use kb_io::{MemorySink, MemorySource, OpenGate};
+use mkbtt_top::{Status, status_code};
 use std::process::Abort;
 use std::sync::Wait;
 use std::thread::Threads;
@@ -76,14 +76,6 @@ fn with_more<'t>(count: &'t str, more: &'t str) -> [&'t str; 13] {
     ]
 }
 
-/// How many entries the board has, if there is one.
-fn entry_count(outcome: &Outcome) -> Option<usize> {
-    match &outcome.board {
-        Some(board) => Some(board.journal().len()),
-        None => None,
-    }
-}
-
 impl<'a, R: Threads + Wait + Sync + Abort> Bench<'a, R> {
     /// Whether the replay of the texts writes this summary of a board with so many commits.
     fn sums_up(&self, texts: &[&str], commits: u32, summary: &str) -> bool {
@@ -123,21 +115,22 @@ impl<'a, R: Threads + Wait + Sync + Abort> Bench<'a, R> {
         outcome.status == Status::BadText(line) && sink.bytes().len() == 0
     }
 
-    /// Whether the replay of what so many workers write of their run on the problem makes as many entries and commits.
+    /// Whether the replay of what so many workers write of their run on the problem makes as many commits.
     fn is_made_again(&self, problem: &str, workers: &str) -> bool {
         let mut source = self.source(&[problem]);
         let mut sink = self.sink(100_000);
         let words = &["journal", "--budget", "60", "--workers", workers];
         let written = self.perform(words, &mut source, &mut sink, &OpenGate);
+        status_code(&written.status) <= 2 && self.is_replayed(&sink, commits(&written))
+    }
+
+    /// Whether the replay of what the sink was given ends with a board of so many commits.
+    fn is_replayed(&self, sink: &MemorySink, count: Option<u32>) -> bool {
         let bytes = Vec::from_slice(self.alloc, sink.bytes()).expect(self.rt, "memory");
         let mut journal = MemorySource::new(bytes, Vec::new(self.alloc), 1000);
         let mut summary = self.sink(1000);
         let made = self.perform(&["replay"], &mut journal, &mut summary, &OpenGate);
-        status_code(&written.status) <= 2
-            && made.status == Status::Done
-            && entry_count(&made) == entry_count(&written)
-            && commits(&made) == commits(&written)
-            && summary.bytes().starts_with(b"verdict ")
+        made.status == Status::Done && commits(&made) == count
     }
 }
 
