@@ -19,7 +19,7 @@ use Rattle.kb_jobs.specs.declared.overlapping.OverlapSnapshot.{OverlapSnapshot}
 abbrev pub IsIdleOn : Plain → ReduceSnapshot → Rule → Type 0
 IsIdleOn b s rule = (w : ℕ) (kind : Found) → (w ≡ 0) ⊎ (w ≡ 1) → IsFound (side s.pair w) rule kind → IsFalse (is_usable b s.process s.node.0 w kind)
 
--- the snapshot has the pair, those of the process's rules elsewhere that aren't idle, and what is unknown; on a side any redex may be rewritten where the process has the equation, or the rule with that side on the right
+-- the snapshot has the pair, rules of the process elsewhere, among them all that aren't idle, and what is unknown; on a side any redex may be rewritten where the process has the equation, or the rule with that side on the right
 pub record IsTakenReduce (b : Plain) (s : ReduceSnapshot) : Type 0 where
   pub pair : pair_at b s.node.0 ≡ Some s.pair
   pub rules : (x : NamedRule) → Contains (listed s.rules) x → Contains (named_rules b (reducers b s.process s.node.0)) x

@@ -72,6 +72,10 @@ IsNext old new worker (Work a) = TakesJob old new worker a.ticket a.snapshot
 IsNext old new worker (Wait n) = (new ≡ old) × (verdict old.plain ≡ None) × IsFalse (has_halt old.journal) × (first_job old.plain ≡ None) × (n ≡ length old.journal)
 IsNext old new worker End = (new.plain ≡ old.plain) × (IsSome (verdict new.plain) ⊎ IsTrue (has_halt new.journal))
 
+-- the ticket was ended, and this is what its worker does next; or it was given back, the board halted, and its worker ends
+abbrev pub EndsAndGoesOn : Seen → Seen → Assignment → Next → Type 0
+EndsAndGoesOn old new a next = ((mid : Seen) × IsEnded old mid a × IsNext mid new a.ticket.worker next) ⊎ (IsGivenBack old new a.ticket × (next ≡ End))
+
 -- the moment that is told of a ticket that is worked next is that of the board
 abbrev pub TellsMoment : Bool → Seen → Next → Type 0
 TellsMoment asked s (Work a) = a.moment ≡ moment_at asked s.plain a.ticket

@@ -5,7 +5,7 @@ ghost use Rattle.mkb_board.specs.Boards.{IsLegalBoard};
 ghost use Rattle.mkb_board.specs.Takes.{IsTakenBy};
 ghost use Rattle.work_crew.specs.Alone.{IsSameRun};
 ghost use Rattle.work_crew.specs.Moments.{assigned};
-ghost use Rattle.work_crew.specs.Together.{Grows, IsEnded, HoldsOn, HoldsTaken, IsGivenBack, IsHalted, IsHeldSince, IsNext, TellsMoment};
+ghost use Rattle.work_crew.specs.Together.{EndsAndGoesOn, Grows, IsEnded, HoldsOn, HoldsTaken, IsGivenBack, IsHalted, IsHeldSince, IsNext, TellsMoment};
 
 use crate::moments::moment_of;
 use kb_io::Moment;
@@ -191,6 +191,7 @@ impl Shared {
         requires most { assignment.now.ticket.worker ≤ 16 }
         requires held { IsHeldSince self.old assignment.now }
         requires worked { IfOk worked (ProposesBy assignment.now.snapshot) }
+        ensures turn { EndsAndGoesOn self.old self.new assignment.now result }
         ensures held { HoldsOn self.new assignment.now.ticket.worker result }
         ensures moment { TellsMoment with_cost self.new result }
         ensures legal { IsLegalBoard self.new }
