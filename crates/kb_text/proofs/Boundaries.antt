@@ -44,11 +44,6 @@ take-take (suc n) zero xs h = absurd (omega arith)
 take-take (suc n) (suc m) [] h = refl
 take-take (suc n) (suc m) (x ∷ xs) h = ap (x ∷◌) (take-take n m xs (omega arith))
 
-length-take : (n : ℕ) (xs : List ℕ) → length (take n xs) ≤ n
-length-take zero xs = omega arith
-length-take (suc n) [] = omega arith
-length-take (suc n) (x ∷ xs) = omega (arith, length-take n xs)
-
 part_starts : (xs m : List ℕ) (n : ℕ) (b : Bool) → starts_with nat_eq xs m ≡ false → starts_with nat_eq (take n xs) m ≡ b → b ≡ false
 part_starts xs m n false h e = refl
 part_starts xs m n true h e =

@@ -59,18 +59,12 @@ cut_later c b part rest h = ap (behind part) (slice_split-cons_no (λ b. b == c)
 pub cut_start : (c : ℕ) (text : List ℕ) → behind [] (slice_split (λ b. b == c) text) ≡ slice_split (λ b. b == c) text
 cut_start c text = behind_none (λ b. b == c) text
 
-pub cut_end : (part : List ℕ) → behind part ([] ∷ []) ≡ part ∷ []
-cut_end part = ap (λ x. x ∷ []) (append-nil part)
-
 -- ---- lines
 
 pub without_more : (c : ℕ) (bytes : List ℕ) (i : ℕ) → i < length bytes → (get_or bytes i 0 == c) ≡ false → IsWithout c (take i bytes) → IsWithout c (take (i + 1) bytes)
 without_more c [] i h e k = absurd (omega arith)
 without_more c (b ∷ bytes) zero h e k = (e, tt)
 without_more c (b ∷ bytes) (suc i) h e k = let f : suc i + 1 ≡ suc (i + 1) = omega arith in rw f (k.0, without_more c bytes i (omega arith) e k.1)
-
-pub without-cons : (c b : ℕ) (xs : List ℕ) → IsWithout c (b ∷ xs) → (b == c) ≡ true → ⊥
-without-cons c b xs h e = false≢true (sym h.0 ∙ e)
 
 -- a text is cut behind its first line in one way
 pub one_line : (c : ℕ) (xs ys zs ws : List ℕ) → IsWithout c xs → IsWithout c ys → xs ++ c ∷ zs ≡ ys ++ c ∷ ws → (xs ≡ ys) × (zs ≡ ws)

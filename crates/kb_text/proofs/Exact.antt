@@ -12,8 +12,7 @@ use Rattle.kb_text.specs.declared.kind.Kind.{Kind}
 use Rattle.kb_text.specs.declared.kind.Kind.TheVariants.{NotUtf8, Unclosed, BadSection, Theory, Strategy, DoubleVariable, Relative, Conditional, VariableApplied, ArityClash, BadToken, Limit}
 use Rattle.kb_text.specs.declared.kind.Bound.TheVariants.{Name as NameLimit, Equations, Size, Depth, Symbols, Variables, Arity, Input}
 use Rattle.kb_text.specs.Machine.{kinds, better, best, judged, may_end, next_front, go, from_next, first_from, start}
-use Rattle.kb_text.proofs.RunTexts.{one_front, taken_if_next, last_split, reaches_front}
-use Rattle.kb_text.proofs.Leads.{leads_split, leads_once}
+use Rattle.kb_text.proofs.RunTexts.{one_front, taken_if_next, last_split}
 use Rattle.kb_text.proofs.Sound.{front_sound, next_if_taken}
 
 -- p is the best of what the kinds for which Has holds show: of each such kind that is shown, the place isn't before p's, and at the same place the rank isn't less
@@ -310,9 +309,6 @@ empty_nothing (x ∷ before) t more e f h kind k s = cc
 pub start_front : IsFrontOf [] start
 start_front = record { sections = tt; open_section = tt; tokens_are = refl }
 
-pub first_shown : (ts : List Token) (kind : Kind) (number : ℕ) → first_from start ts 0 ≡ Some (kind, number) → IsFirstShown ts kind number
-first_shown ts kind number r = first_exact ts [] start 0 kind number start_front empty_nothing refl r
-
 -- ---- where nothing is shown
 
 -- a token of two lists stands in the first or behind it
@@ -324,46 +320,3 @@ split_at (b ∷ front) more (x ∷ xs) ts u e = placed (split_at front more xs t
     placed : ((m : List Token) × (front ++ u ∷ m ≡ xs)) ⊎ ((y : List Token) × (front ≡ xs ++ y)) → b ≡ x → ((m : List Token) × (b ∷ (front ++ u ∷ m) ≡ x ∷ xs)) ⊎ ((y : List Token) × (b ∷ front ≡ x ∷ (xs ++ y)))
     placed (inl a) k = inl (a.0, let r = a.1 in cc)
     placed (inr a) k = inr (a.0, let r = a.1 in cc)
-
--- no front goes past a token that the machine doesn't take
-no_front : (before more : List Token) (f g : Front) (t : Token) → IsFrontOf before f → next_front f t ≡ None → IsFrontOf (before ++ t ∷ more) g → ⊥
-no_front before more f g t h e k =
-    let r = leads_split next_front before (t ∷ more) start g (reaches_front (before ++ t ∷ more) g k) in
-    let same : r.0 ≡ f = leads_once next_front before start r.0 f r.1 (reaches_front before f h) in
-    let taken : next_front f t ≡ Some r.2.0 = ap (λ (x : Front). next_front x t) (sym same) ∙ r.2.1 in
-    cc
-
-judged_had : (before : List Token) (f : Front) (t : Token) → IsFrontOf before f → judged f t ≡ None → is_had f t ≡ true
-judged_had before f t h e = by_test (is_had f t) refl
-  where
-    by_test : (b : Bool) → is_had f t ≡ b → is_had f t ≡ true
-    by_test true k = k
-    by_test false k = absurd (subst (λ (o : Option (Kind × ℕ)). NotBefore o BadToken 0) e (all_judged before f t h BadToken 0 (not_had before f t h k, refl)))
-
-pub none_exact : (ts before : List Token) (f : Front) (n : ℕ) → IsFrontOf before f → ShowNothing before → first_from f ts n ≡ None → ShowNothing (before ++ ts)
-none_exact [] before f n h nothing r = subst ShowNothing (sym (append-nil before)) nothing
-none_exact (t ∷ ts) before f n h nothing r = by_judged (λ b g m. none_exact ts b g m) (judged f t) refl r
-  where
-    Again : Type 0
-    Again = (b : List Token) (g : Front) (m : ℕ) → IsFrontOf b g → ShowNothing b → first_from g ts m ≡ None → ShowNothing (b ++ ts)
-
-    later : ℕ → Option (Kind × ℕ)
-    later m = from_next (next_front f t) (λ g. first_from g ts m)
-
-    stops : next_front f t ≡ None → judged f t ≡ None → ShowNothing (before ++ t ∷ ts)
-    stops k j front u more split g l kind m shows = ⊎_elim
-        (λ a. nothing_more before f t h nothing j front u a.0 (sym a.1) g l kind m shows)
-        (λ a. no_front before a.0 f g t h k (subst (λ (x : List Token). IsFrontOf x g) (a.1 ∙ append_assoc before (t ∷ []) a.0) l))
-        (split_at front more (before ++ t ∷ []) ts u (sym (append_assoc before (t ∷ []) ts ∙ split)))
-
-    goes_on : Again → (o : Option Front) → next_front f t ≡ o → judged f t ≡ None → from_next o (λ g. first_from g ts (n + 1)) ≡ None → ShowNothing (before ++ t ∷ ts)
-    goes_on again None k j r = stops k j
-    goes_on again (Some g) k j r = subst ShowNothing (append_assoc before (t ∷ []) ts) (again (before ++ t ∷ []) g (n + 1) (front_sound before f g t h k) (nothing_more before f t h nothing j) r)
-
-    by_judged : Again → (o : Option (Kind × ℕ)) → judged f t ≡ o → go o n later ≡ None → ShowNothing (before ++ t ∷ ts)
-    by_judged again (Some p) k r = absurd (cc)
-    by_judged again None k r = goes_on again (next_front f t) refl k r
-
--- tokens of which the machine refuses none show nothing
-pub none_shown : (ts : List Token) → first_from start ts 0 ≡ None → ShowNothing ts
-none_shown ts r = none_exact ts [] start 0 start_front empty_nothing r

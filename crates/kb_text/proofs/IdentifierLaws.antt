@@ -1,16 +1,14 @@
 -- Where neither white space nor a mark begins.
-use Rattle.std.proofs.Common.{◌≡◌, ℕ, ◌+◌, ◌<◌, ◌==◌, List, [], ◌∷◌, Bool, true, false, cond, not, ◌&&◌, ◌||◌, length, map, refl, sym, ◌∙◌, ap, arith, drop, get_or, ◌≤◌, Vec, Global}
+use Rattle.std.proofs.Common.{◌≡◌, ℕ, ◌<◌, ◌==◌, List, [], ◌∷◌, Bool, true, false, cond, ◌||◌, length, map, refl, sym, ◌∙◌, ap, arith, ◌≤◌, Vec, Global}
 use Rattle.std.specs.Prelude.{nat_eq}
 use Rattle.std.specs.List.{list_any, starts_with}
-use Rattle.std.proofs.lemmas.List.{at_drop_more, get_or-map}
+use Rattle.std.proofs.lemmas.List.{get_or-map}
 use Rattle.std.proofs.lemmas.List.Elements.{All-map}
 use Rattle.std.specs.Prelude.{All, AllPairs}
-use Rattle.kb_term.specs.Identifier.{begins_otherwise, is_unbroken}
+use Rattle.kb_term.specs.Identifier.{begins_otherwise}
 use Rattle.kb_text.specs.Tokens.{Token, white, mark, letter, marks, mark_of, start_of, is_white}
-use Rattle.kb_text.specs.Starts.{start_in}
 use Rattle.kb_term.specs.Identifier.{IsIdentifier}
 use Rattle.kb_term.specs.Signature.{SymbolEntry, IsSignature, symbols_of_list}
-use Rattle.kb_text.proofs.Runs.{start_in_place}
 
 no_mark : (ms : List (Token × List ℕ)) (text : List ℕ) → mark_of ms text ≡ letter → list_any (λ (m : List ℕ). starts_with ◌==◌ text m) (map (λ (m : Token × List ℕ). m.1) ms) ≡ false
 no_mark [] text h = refl
@@ -37,12 +35,6 @@ letter_begins b text h = go (is_white b) refl
     go false e =
         ap (λ (w : Bool). w || list_any (λ (m : List ℕ). starts_with ◌==◌ (b ∷ text) m) (map (λ (m : Token × List ℕ). m.1) marks)) (white_tests (b == 32) (b == 9) (b == 13) (b == 10) e)
         ∙ no_mark marks (b ∷ text) (sym (ap (λ (w : Bool). cond w white (mark_of marks (b ∷ text))) e) ∙ h)
-
--- a letter leaves the rest to decide
-pub unbroken-left : (bytes : List ℕ) (i : ℕ) → i < length bytes → start_in bytes i ≡ letter → is_unbroken (drop i bytes) ≡ is_unbroken (drop (i + 1) bytes)
-unbroken-left bytes i h e =
-    at_drop_more is_unbroken bytes i 0 h
-    ∙ ap (λ (b : Bool). not b && is_unbroken (drop (i + 1) bytes)) (letter_begins (get_or bytes i 0) (drop (i + 1) bytes) (start_in_place bytes i ∙ e))
 
 -- a relation of the images of each two members
 pub AllPairs-map : {X Y : Type 0} (R : Y → Y → Type 0) (f : X → Y) (xs : List X) → AllPairs (λ (a b : X). R (f a) (f b)) xs → AllPairs R (map f xs)

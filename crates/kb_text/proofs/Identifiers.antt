@@ -1,9 +1,9 @@
--- An identifier by the definition of terms is one token.
-use Rattle.std.proofs.Common.{◌≡◌, ℕ, ◌+◌, ◌==◌, List, [], ◌∷◌, Bool, true, false, cond, not, ◌&&◌, ◌||◌, length, map, refl, ◌∙◌, ap, arith}
+-- Where an identifier by the definition of terms goes on, so does a token.
+use Rattle.std.proofs.Common.{◌≡◌, ℕ, ◌==◌, List, [], ◌∷◌, Bool, true, false, cond, not, ◌&&◌, ◌||◌, length, map, refl, ◌∙◌, ap, arith}
 use Rattle.std.specs.List.{list_any, starts_with}
 use Rattle.std.proofs.lemmas.Bool.Decides.{nat_tests}
-use Rattle.kb_term.specs.Identifier.{IsIdentifier, is_white_space, begins_otherwise, is_unbroken}
-use Rattle.kb_text.specs.Tokens.{Token, Placed, Start, white, mark, letter, marks, mark_of, start_of, tokens_by, tokens_from, tokens, letter_before, with_letter, identifier, end_of_input}
+use Rattle.kb_term.specs.Identifier.{is_white_space, begins_otherwise}
+use Rattle.kb_text.specs.Tokens.{Token, white, mark, letter, marks, mark_of, start_of}
 
 or_false : (a b : Bool) → (a || b) ≡ false → (a ≡ false) × (b ≡ false)
 or_false true b h = absurd (cc)
@@ -38,20 +38,3 @@ letter_start b text h =
 
 pub same_equal : (a : ℕ) → (a == a) ≡ true
 same_equal a = grind (arith, nat_tests)
-
-one_token : (text : List ℕ) (b n : ℕ) → is_unbroken (b ∷ text) ≡ true → tokens_from 0 n (b ∷ text) ≡ record { at = n; token = identifier (b ∷ text) } ∷ record { at = n + length (b ∷ text); token = end_of_input } ∷ []
-one_token [] b n h =
-    let r = and_true (not (begins_otherwise (b ∷ []))) true h in
-    ap (λ (s : Start). tokens_by s n b (λ k. tokens_from k (n + 1) [])) (letter_start b [] (not_true (begins_otherwise (b ∷ [])) r.0))
-one_token (c ∷ text) b n h =
-    let r = and_true (not (begins_otherwise (b ∷ c ∷ text))) (is_unbroken (c ∷ text)) h in
-    let last : n + 1 + length (c ∷ text) ≡ n + length (b ∷ c ∷ text) = omega arith in
-    ap (λ (s : Start). tokens_by s n b (λ k. tokens_from k (n + 1) (c ∷ text))) (letter_start b (c ∷ text) (not_true (begins_otherwise (b ∷ c ∷ text)) r.0))
-    ∙ ap (λ (ts : List Placed). letter_before n b ts) (one_token text c (n + 1) r.1)
-    ∙ ap (λ (t : Bool). with_letter n b (record { at = n + 1; token = identifier (c ∷ text) }) (record { at = n + 1 + length (c ∷ text); token = end_of_input } ∷ []) (identifier (c ∷ text)) t) (same_equal (n + 1))
-    ∙ ap (λ (m : ℕ). record { at = n; token = identifier (b ∷ c ∷ text) } ∷ record { at = m; token = end_of_input } ∷ []) last
-
--- a name that is an identifier is one token
-pub identifier_token : (name : List ℕ) → IsIdentifier name → tokens name ≡ identifier name ∷ end_of_input ∷ []
-identifier_token [] h = absurd (let some = h.some in omega arith)
-identifier_token (b ∷ name) h = ap (map (λ (t : Placed). t.token)) (one_token name b 0 h.unbroken)

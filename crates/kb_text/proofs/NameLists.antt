@@ -1,9 +1,9 @@
 -- Lists of names, from a place on.
-use Rattle.std.proofs.Common.{◌≡◌, ◌+◌, ◌<◌, ◌≤◌, ◌||◌, ap, sym, ◌∙◌, ℕ, List, [], ◌∷◌, false, Bool, cond, drop, length, get_or, Vec, Global}
+use Rattle.std.proofs.Common.{◌≡◌, ◌+◌, ◌<◌, ◌≤◌, ◌||◌, ap, sym, ◌∙◌, ℕ, List, [], ◌∷◌, Bool, drop, length, get_or, Vec, Global}
 use Rattle.std.specs.Prelude.{map, bytes_eq}
 use Rattle.std.proofs.lemmas.List.{at_drop_more}
 use Rattle.std.proofs.Math.ListN.{drop_of_length-le}
-use Rattle.kb_text.specs.Names.{Name, is_among, number_of, are_distinct}
+use Rattle.kb_text.specs.Names.{Name, is_among}
 
 abbrev pub NameVec : Type 0
 NameVec = Vec ℕ Global
@@ -26,13 +26,3 @@ pub is_among-left : (names : List NameVec) (i : ℕ) (name : Name) (next : NameV
     → is_among (names_from names i) name ≡ (b || is_among (names_from names (i + 1)) name)
 is_among-left names i name next b e h q =
     ap (λ (ns : List Name). is_among ns name) (names_from-more names i next e h) ∙ ap (λ (v : Bool). v || is_among (names_from names (i + 1)) name) q
-
-pub number_of-left : (names : List NameVec) (i : ℕ) (name : Name) (next : NameVec) (b : Bool) → next ≡ get_or names i next → i < length names → bytes_eq name next.items ≡ b
-    → number_of (names_from names i) name ≡ cond b 0 (number_of (names_from names (i + 1)) name + 1)
-number_of-left names i name next b e h q =
-    ap (λ (ns : List Name). number_of ns name) (names_from-more names i next e h) ∙ ap (λ (v : Bool). cond v 0 (number_of (names_from names (i + 1)) name + 1)) q
-
-pub are_distinct-left : (names : List NameVec) (i : ℕ) (next : NameVec) (b : Bool) → next ≡ get_or names i next → i < length names → is_among (names_from names (i + 1)) next.items ≡ b
-    → are_distinct (names_from names i) ≡ cond b false (are_distinct (names_from names (i + 1)))
-are_distinct-left names i next b e h q =
-    ap are_distinct (names_from-more names i next e h) ∙ ap (λ (v : Bool). cond v false (are_distinct (names_from names (i + 1)))) q

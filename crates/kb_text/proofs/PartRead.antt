@@ -70,16 +70,6 @@ pub record IsPartRead (signature : Signature) (d arity : ℕ) (behind : List ℕ
   pub ends : IsNameEnd (drop at behind)
   pub left : (us : Trees) (rest : List ℕ) → AreBounded signature d us → length (list_of us) ≡ arity → IsNameEnd rest → behind ≡ arguments_text (names_of signature) us ++ rest → IsLeft signature d arity (drop at behind) i rest
 
-pub part_none : (signature : Signature) (d arity : ℕ) (behind : List ℕ) → IsNameEnd behind → IsPartRead signature d arity behind [] 0 0
-part_none signature d arity behind h = record {
-  count = refl;
-  within = omega arith;
-  bounded = tt;
-  spelling = refl;
-  ends = h;
-  left = λ us rest b n e k. (us, b, omega arith, k);
-}
-
 pub part_more : (signature : Signature) → IsSignature signature → (d arity : ℕ) (behind : List ℕ) (items : List Tree) (i at : ℕ) (rest : List ℕ) (t : Tree) (size : ℕ) → IsPartRead signature d arity behind items i at → i < arity → drop at behind ≡ separator i ∷ rest → BeginsWithTerm signature rest d t size
     → IsPartRead signature d arity behind (items ++ t ∷ []) (suc i) (at + (1 + size))
 part_more signature s d arity behind items i at rest t size p l cut b = record {
@@ -173,14 +163,6 @@ cut_at text name behind size h e f n b = record {
   ends = subst IsNameEnd (sym f) b;
   whole = sym (take-append-drop size text) ∙ ap₂ ◌++◌ (sym e) (sym f);
   behind_is = f;
-}
-
-pub variable_read : (signature : Signature) (text name behind : List ℕ) (size d n : ℕ) → IsCut text name behind size → 1 ≤ d → n < 64 → variable_text (names_of signature) n ≡ name → BeginsWithTerm signature text d (variable n) (length name)
-variable_read signature text name behind size d n c h l e = record {
-  bounded = (h, l);
-  within = omega (arith, ap length c.whole, length-append name behind);
-  spelling = c.whole ∙ ap₂ ◌++◌ (sym e) (c.behind_is ∙ ap (λ k. drop k text) (sym c.size_is));
-  ends = subst IsNameEnd (c.behind_is ∙ ap (λ k. drop k text) (sym c.size_is)) c.ends;
 }
 
 abbrev NoVariable : Signature → List ℕ → Type 0

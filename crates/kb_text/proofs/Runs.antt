@@ -1,7 +1,7 @@
 -- The tokens of a text, by what stands at each place.
 use Rattle.std.proofs.Common.{◌≡◌, ◌⊎◌, inl, inr, ⊎_elim, ℕ, zero, suc, ◌+◌, ◌-◌, ◌<◌, ◌≤◌, ◌==◌, List, [], ◌∷◌, Bool, true, false, length, take, drop, get_or, refl, sym, ◌∙◌, ap, subst, arith, length-drop}
 use Rattle.std.proofs.Math.Nat.{eq-or-lt_of_le}
-use Rattle.std.proofs.lemmas.List.{drop_more, get_or-drop, drop-drop}
+use Rattle.std.proofs.lemmas.List.{drop_more, get_or-drop}
 use Rattle.std.proofs.lemmas.Bool.Decides.{nat_tests}
 use Rattle.kb_text.specs.Tokens.{Token, Placed, Start, white, mark, letter, start_of, tokens_by, tokens_from, letter_before, with_letter, identifier}
 use Rattle.kb_text.specs.declared.lexer.Mark.{Mark}
@@ -27,20 +27,6 @@ from_place bytes at n h = ap (tokens_from 0 n) (drop_more bytes at 0 h) ∙ ap (
 
 pub after_white : (bytes : List ℕ) (at : ℕ) → at < length bytes → start_in bytes at ≡ white → tokens_from 0 at (drop at bytes) ≡ tokens_from 0 (at + 1) (drop (at + 1) bytes)
 after_white bytes at h w = from_place bytes at at h ∙ ap (λ (s : Start). tokens_by s at (get_or bytes at 0) (λ k. tokens_from k (at + 1) (drop (at + 1) bytes))) w
-
--- the bytes of a mark are passed over
-passed : (k n : ℕ) (text : List ℕ) → k ≤ length text → tokens_from k n text ≡ tokens_from 0 (n + k) (drop k text)
-passed zero n text h = let e : n ≡ n + 0 = omega arith in ap (λ (m : ℕ). tokens_from 0 m text) e
-passed (suc k) n [] h = absurd (omega arith)
-passed (suc k) n (b ∷ text) h = passed k (n + 1) text (omega arith) ∙ (let e : n + 1 + k ≡ n + suc k = omega arith in ap (λ (m : ℕ). tokens_from 0 m (drop k text)) e)
-
-pub after_mark : (bytes : List ℕ) (at : ℕ) (t : Token) (size : ℕ) → at < length bytes → 0 < size → at + size ≤ length bytes → start_in bytes at ≡ mark t size
-    → tokens_from 0 at (drop at bytes) ≡ record { at = at; token = t } ∷ tokens_from 0 (at + size) (drop (at + size) bytes)
-after_mark bytes at t size h some fits m =
-    from_place bytes at at h ∙ ap (λ (s : Start). tokens_by s at (get_or bytes at 0) (λ k. tokens_from k (at + 1) (drop (at + 1) bytes))) m
-    ∙ ap (λ (ts : List Placed). record { at = at; token = t } ∷ ts) (passed (size - 1) (at + 1) (drop (at + 1) bytes) (omega (arith, length-drop (at + 1) bytes))
-    ∙ ap (λ (l : List ℕ). tokens_from 0 (at + 1 + (size - 1)) l) (drop-drop (size - 1) (at + 1) bytes)
-    ∙ (let e : at + 1 + (size - 1) ≡ at + size = omega arith in ap (λ (m : ℕ). tokens_from 0 m (drop m bytes)) e))
 
 -- ---- identifiers
 

@@ -46,15 +46,6 @@ symbol_text-is [] f e p h = absurd (omega arith)
 symbol_text-is (d ∷ es) zero e p h = ap (λ (x : Vec ℕ Global × ℕ). x.0.items) (sym p)
 symbol_text-is (d ∷ es) (suc f) e p h = symbol_text-is es f e p (omega arith)
 
-pub symbol_text-none : (es : List (Vec ℕ Global × ℕ)) (f : ℕ) → length es ≤ f → symbol_text (names_of (symbols_of_list es)) f ≡ []
-symbol_text-none [] f h = refl
-symbol_text-none (d ∷ es) zero h = absurd (omega arith)
-symbol_text-none (d ∷ es) (suc f) h = symbol_text-none es f (omega arith)
-
-pub length-names : (es : List (Vec ℕ Global × ℕ)) → length (names_of (symbols_of_list es)) ≡ length es
-length-names [] = refl
-length-names (e ∷ es) = omega (arith, length-names es)
-
 -- arguments without the closing parenthesis
 abbrev pub opened_text : List Name → Trees → List ℕ
 opened_text names no_trees = []

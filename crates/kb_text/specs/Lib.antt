@@ -8,7 +8,6 @@ pub mod Lines
 pub mod Fields
 pub mod Terms
 pub mod Starts
-pub mod TokenValues
 pub mod Written
 pub mod WrittenSizes
 pub mod WrittenFalls

@@ -2,10 +2,10 @@
 -- and the first refusal is computed with it.
 use Rattle.std.proofs.Common.{ℕ, zero, ◌+◌, ◌-◌, List, [], ◌∷◌, ◌++◌, Bool, true, false, cond, Option, Some, None, codes, nat_lt, bytes_eq, is_some, option_map, option_and_then}
 use Rattle.kb_text.specs.Names.{Name, is_among}
-use Rattle.kb_text.specs.Tokens.{Token, tokens, arrow, equals, left_paren, right_paren, comma, identifier, end_of_input}
+use Rattle.kb_text.specs.Tokens.{Token, arrow, equals, left_paren, right_paren, comma, identifier, end_of_input}
 use Rattle.kb_text.specs.Grammar.{Written, alone, applied, Arguments, no_arguments, argument, Sign, by_arrow, by_equals, WrittenEquation, Section, variables, rules, skipped, open_after, reserved_names}
 use Rattle.kb_text.specs.Fronts.{TermFront, whole, opened, within, EquationFront, in_left, behind_sign, in_right, SectionFront, begun, in_variables, in_rules, in_equation, in_skipped, Front}
-use Rattle.kb_text.specs.Refusals.{shown, place_of}
+use Rattle.kb_text.specs.Refusals.{shown}
 use Rattle.kb_text.specs.declared.kind.Kind.{Kind}
 use Rattle.kb_text.specs.declared.kind.Kind.TheVariants.{Unclosed, BadSection, Theory, Strategy, DoubleVariable, Relative, Conditional, VariableApplied, ArityClash, BadToken, Limit}
 use Rattle.kb_text.specs.declared.kind.Bound.TheVariants.{Name as NameLimit, Equations, Size, Depth, Symbols, Variables, Arity}
@@ -148,6 +148,3 @@ first_from f (t ∷ ts) n = go (judged f t) n (λ m. from_next (next_front f t) 
 
 abbrev pub start : Front
 start = record { sections = []; open_section = None }
-
-abbrev pub first_refusal : List ℕ → Option (Kind × ℕ)
-first_refusal bytes = option_map (λ (p : Kind × ℕ). (p.0, place_of bytes p.1)) (first_from start (tokens bytes) 0)

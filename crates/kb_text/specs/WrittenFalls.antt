@@ -1,23 +1,11 @@
--- The arguments of a written term are less deep than the term, as a recursion over it needs.
-use Rattle.std.specs.Prelude.{◌≤◌, ◌≡◌, max, List, [], ◌∷◌, map}
-use Rattle.std.proofs.Common.{arith, ap, refl}
-use denote.Param.Weighed.{most}
+-- The depth of arguments is that of their list, as a recursion over written terms needs.
+use Rattle.std.specs.Prelude.{◌≡◌, max, List, [], ◌∷◌}
+use Rattle.std.proofs.Common.{ap, refl}
 use Rattle.kb_text.specs.Grammar.{Written}
 use Rattle.kb_text.specs.Problems.{depth_in, depth_in_all}
-use Rattle.kb_text.specs.Written.{arguments_of, written_of}
+use Rattle.kb_text.specs.Written.{arguments_of}
 use Rattle.kb_text.specs.WrittenSizes.{list_depth_in}
-use Rattle.kb_text.specs.declared.written.WrittenTerm.{WrittenTerm}
-use Rattle.kb_text.specs.declared.written.WrittenTerm.TheVariants.{Alone, Applied}
-use Rattle.kb_text.specs.declared.written.WrittenTerms.TheDeep.{deep-WrittenTerm}
 
 pub depth_in_all-of : (ts : List Written) → depth_in_all (arguments_of ts) ≡ list_depth_in ts
 depth_in_all-of [] = refl
 depth_in_all-of (t ∷ ts) = ap (max (depth_in t)) (depth_in_all-of ts)
-
-pub deep-WrittenTerm_le : (t : WrittenTerm) → deep-WrittenTerm t ≤ depth_in (written_of t)
-deep-WrittenTerm_le (Alone name) = omega arith
-deep-WrittenTerm_le (Applied name ts) = omega (arith, depth_in_all-of ts)
-
-pub most_le-list_depth_in : (ts : List WrittenTerm) → max (most deep-WrittenTerm ts) 0 ≤ list_depth_in (map written_of ts)
-most_le-list_depth_in [] = omega arith
-most_le-list_depth_in (t ∷ ts) = omega (arith, deep-WrittenTerm_le t, most_le-list_depth_in ts)

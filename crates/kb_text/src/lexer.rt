@@ -1,13 +1,8 @@
 // One token at a time.
-ghost use Rattle.std.specs.Prelude.{IfOk, map, ◌∷◌, ◌≡◌, ◌+◌, ◌<◌, ◌≤◌, List, length, drop, get_or, slice_index, IsUtf8};
+ghost use Rattle.std.specs.Prelude.{◌∷◌, ◌≡◌, ◌+◌, ◌<◌, ◌≤◌, List, length, drop, get_or, slice_index, IsUtf8};
 ghost use Rattle.std.specs.Str.{IsCharBoundary};
-ghost use Rattle.std.specs.Bool.{OnTrue};
-ghost use Rattle.kb_text.specs.Tokens.{tokens, tokens_from, letter};
+ghost use Rattle.kb_text.specs.Tokens.{tokens_from, letter};
 ghost use Rattle.kb_text.specs.Starts.{start_by, start_in, start_view, start_length, mark_length_of, first_and_rest, AreAscii, HasBytes, IsInText, IsNameTo, IsAhead};
-ghost use Rattle.kb_text.specs.TokenValues.{token_of, tokens_of as values_of};
-
-use kb_term::Memory;
-use std::alloc::Global;
 
 /// A token that is no identifier.
 #[derive(Clone, Copy, PartialEq, Eq)]
@@ -152,47 +147,5 @@ pub fn next_token(bytes: &[u8], from: usize) -> Found
         form: Form::End,
         at,
         end: at,
-    }
-}
-
-/// A token, without its place.
-#[derive(Drop)]
-pub enum Token {
-    Mark(Mark),
-    Identifier(Vec<u8>),
-    End,
-}
-
-/// All tokens of the text. The end of the input is the last of them.
-pub fn tokens_of(alloc: Global, bytes: &[u8]) -> Result<Vec<Token>, Memory>
-    ensures { IfOk result (λ v. values_of v.items ≡ tokens bytes.now) }
-{
-    let mut tokens = Vec::new(alloc);
-    let mut at = 0;
-    loop {
-        let found = next_token(bytes, at);
-        match found.form {
-            Form::Mark(mark) => tokens.push(Token::Mark(mark))?,
-            Form::Identifier => {
-                let name = Vec::from_slice(alloc, &bytes[found.at..found.end])?;
-                tokens.push(Token::Identifier(name))?;
-            }
-            Form::End => {
-                tokens.push(Token::End)?;
-                return Ok(tokens);
-            }
-        }
-        at = found.end;
-    }
-}
-
-/// Whether neither white space nor a mark begins at the place.
-pub(crate) fn is_letter(bytes: &[u8], at: usize) -> bool
-    requires { at < length bytes.now }
-    ensures { OnTrue result (start_in bytes.now at ≡ letter) }
-{
-    match start_at(bytes, at) {
-        Start::Letter => true,
-        Start::White | Start::Mark(_) => false,
     }
 }

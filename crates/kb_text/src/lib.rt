@@ -1,4 +1,4 @@
-//! The text of problems: tokens, names, written terms, and what is written of terms.
+//! The text of problems: tokens, names, and what is written of terms.
 #![tactic(auto)]
 
 mod fault;
@@ -11,22 +11,22 @@ mod names;
 mod number;
 mod printer;
 mod read;
+mod sign;
 #[cfg(test)]
 mod tests;
 mod text;
 mod uses;
-mod written;
 
 pub use fault::TextFault;
-pub use identifier::{NAME_BYTES, is_identifier, signature_of};
+pub use identifier::NAME_BYTES;
 pub use kind::{Bound, Kind, Refusal};
 pub use laws::{bytes_spell_one_term, written_problems_are_spelled};
-pub use lexer::{Form, Found, Mark, Token, next_token, tokens_of};
+pub use lexer::{Form, Found, Mark, next_token};
 pub use line::Fields;
 pub use names::Names;
 pub use number::{line_length, read_number};
 pub use printer::problem_text;
 pub use read::read_term;
+pub use sign::Sign;
 pub use text::{prefix_of, push_number, push_term, term_text};
 pub use uses::{Use, Uses};
-pub use written::{Sign, WrittenEquation, WrittenTerm, WrittenTerms, followed_tokens};

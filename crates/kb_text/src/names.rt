@@ -1,6 +1,6 @@
 // Lists of names.
 ghost use Rattle.std.specs.Prelude.{◌≡◌, ◌<◌, ◌≤◌, [], ◌∷◌, ◌++◌, OnOk, OnErr, IfOk, length, List, map};
-ghost use Rattle.kb_text.specs.Names.{Name, is_among, number_of as number_in, are_distinct as are_distinct_in, firsts, with_name};
+ghost use Rattle.kb_text.specs.Names.{Name, is_among, number_of as number_in, firsts, with_name};
 ghost use Rattle.kb_text.specs.Problems.{variables_among, symbols_among};
 
 use kb_term::Memory;
@@ -27,17 +27,6 @@ fn place_of(names: &[Vec<u8>], name: &[u8]) -> usize
         }
     }
     names.len()
-}
-
-fn no_two_are_equal(names: &[Vec<u8>]) -> bool
-    ensures { result ≡ are_distinct_in (map (λ n. n.items) names.now) }
-{
-    for i in 0..names.len() {
-        if is_one_of(&names[i + 1..], &names[i]) {
-            return false;
-        }
-    }
-    true
 }
 
 // Adds the name to the variables or to the symbols that were found.
@@ -118,13 +107,6 @@ impl Names {
         ensures { result ≡ number_in self.now name.now }
     {
         place_of(&self.items, name)
-    }
-
-    /// Whether no name stands there twice.
-    pub fn are_distinct(&self) -> bool
-        ensures { result ≡ are_distinct_in self.now }
-    {
-        no_two_are_equal(&self.items)
     }
 
     /// Adds a copy of the name at the end, where it isn't there yet. After want of memory the names are as before.

@@ -8,7 +8,7 @@ fn signature(rt: &impl Abort, alloc: Global) -> Signature {
     let mut symbols = Vec::new(alloc);
     let name = Vec::from_slice(alloc, b"x1").expect(rt, "memory");
     symbols.push((name, 1)).expect(rt, "memory");
-    signature_of(symbols).expect(rt, "a signature")
+    Signature::new(symbols)
 }
 
 #[test]

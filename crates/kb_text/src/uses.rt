@@ -1,8 +1,6 @@
 // Uses of names with a number of arguments.
-ghost use Rattle.std.specs.Prelude.{◌≡◌, ◌<◌, ◌≤◌, [], ◌∷◌, ◌++◌, OnOk, OnErr, map, true, unwrap_or, nat_le, ℕ};
-ghost use Rattle.std.specs.List.{list_all};
-ghost use Rattle.kb_text.specs.Names.{Name};
-ghost use Rattle.kb_text.specs.Problems.{arity_in, agree};
+ghost use Rattle.std.specs.Prelude.{◌≡◌, ◌<◌, ◌≤◌, [], ◌∷◌, ◌++◌, OnOk, OnErr, map, unwrap_or, ℕ};
+ghost use Rattle.kb_text.specs.Problems.{arity_in};
 
 use kb_term::Memory;
 use std::alloc::Global;
@@ -63,20 +61,6 @@ impl Uses {
     {
         first_count(&self.items, name)
     }
-
-    /// Whether each use has as many arguments as the first of its name.
-    pub fn agree(&self) -> bool
-        ensures { result ≡ agree self.now }
-    {
-        all_agree(&self.items)
-    }
-
-    /// Whether no use has more arguments than this.
-    pub fn are_at_most(&self, most: usize) -> bool
-        ensures { result ≡ list_all (λ (u : Name × ℕ). nat_le u.1 most) self.now }
-    {
-        all_are_at_most(&self.items, most)
-    }
 }
 
 fn first_use(uses: &[Use], name: &[u8]) -> Option<usize>
@@ -99,26 +83,4 @@ fn first_count(uses: &[Use], name: &[u8]) -> usize
         }
     }
     0
-}
-
-fn all_agree(uses: &[Use]) -> bool
-    ensures { result ≡ agree (map (λ u. (u.name.items, u.count)) uses.now) }
-{
-    for usage in uses {
-        if usage.count != first_count(uses, &usage.name) {
-            return false;
-        }
-    }
-    true
-}
-
-fn all_are_at_most(uses: &[Use], most: usize) -> bool
-    ensures { result ≡ list_all (λ (u : Name × ℕ). nat_le u.1 most) (map (λ u. (u.name.items, u.count)) uses.now) }
-{
-    for usage in uses {
-        if usage.count > most {
-            return false;
-        }
-    }
-    true
 }
