@@ -1,102 +1,20 @@
 -- What a process costs, node by node.
 use Rattle.mkb_model.specs.declared.entry.Ticket.{Ticket}
-use Rattle.std.proofs.Common.{ℕ, zero, suc, ◌+◌, ◌*◌, ◌≤◌, ◌≡◌, refl, ap, ap₂, ◌∙◌, arith, List, [], ◌∷◌, ◌++◌, filter, flat_map, length, Bool, true, false, cond, Option, Some, None}
+use Rattle.std.proofs.Common.{ℕ, ◌+◌, ◌*◌, ◌≤◌, ◌≡◌, refl, ap₂, ◌∙◌, arith, List, [], ◌∷◌, length, Bool, true, false, Option, Some, None}
 use Rattle.std.specs.Prelude.{sum_by}
 use Rattle.std.specs.Option.{option_map_or}
 use Rattle.std.proofs.Math.Nat.{add-mul}
 use Rattle.std.proofs.lemmas.Nat.{mul-le}
-use Rattle.std.proofs.lemmas.List.Sums.{sum_by-cons, sum_by_push}
+use Rattle.std.proofs.lemmas.List.Sums.{sum_by-cons}
 use Rattle.kb_term.specs.Pair.{Pair}
 use Rattle.kb_term.specs.Signature.{Signature}
-use Rattle.kb_term.specs.declared.origin.RuleRef.{RuleRef}
 use Rattle.kb_label.specs.Names.{Name}
 use Rattle.mkb_model.specs.Limits.{AreLimited}
-use Rattle.mkb_model.specs.Plain.{Plain, numbers_from, node_numbers, directions, is_equation, is_rule, is_constraint, pair_at, pair_size, node_size, rule_sizes, counted_rules, cost, equations_of, constraints_of}
+use Rattle.mkb_model.specs.Plain.{Plain, node_numbers, is_equation, is_rule, is_constraint, pair_at, pair_size, node_size, rule_sizes, counted_rules, cost, equations_of, constraints_of}
 use Rattle.mkb_model.specs.declared.settings.Selection.{Selection}
 use Rattle.mkb_model.specs.declared.settings.Selection.TheVariants.{Stated, Size}
+use Rattle.mkb_rules.proofs.Costs.{times_of, shares, rule_shares}
 use Rattle.mkb_board.specs.Choosing.{one_if, rule_count, role_count}
-
--- ---- numbers
-
-numbers_more : (n k : ℕ) → numbers_from n (suc k) ≡ numbers_from n k ++ (n + k) ∷ []
-numbers_more n zero = let e : n ≡ n + 0 = omega arith in ap (λ (z : ℕ). z ∷ []) e
-numbers_more n (suc k) =
-    let e : (n + 1) + k ≡ n + suc k = omega arith in
-    ap (λ (zs : List ℕ). n ∷ zs) (numbers_more (n + 1) k) ∙ ap (λ (z : ℕ). n ∷ (numbers_from (n + 1) k ++ z ∷ [])) e
-
--- the numbers below n, and n
-pub numbers_next : (n : ℕ) → numbers_from 0 (n + 1) ≡ numbers_from 0 n ++ n ∷ []
-numbers_next n =
-    let e : n + 1 ≡ suc n = omega arith in
-    let f : 0 + n ≡ n = omega arith in
-    ap (numbers_from 0) e ∙ numbers_more 0 n ∙ ap (λ (z : ℕ). numbers_from 0 n ++ z ∷ []) f
-
--- one node's more
-pub sum_next : (f : ℕ → ℕ) (n : ℕ) → sum_by f (numbers_from 0 (n + 1)) ≡ sum_by f (numbers_from 0 n) + f n
-sum_next f n = ap (sum_by f) (numbers_next n) ∙ sum_by_push f (numbers_from 0 n) n
-
--- ---- sums
-
-kept : {A : Type 0} (f : A → ℕ) (t : A → Bool) (x : A) (xs : List A) → sum_by f (filter t (x ∷ xs)) ≡ cond (t x) (f x) 0 + sum_by f (filter t xs)
-kept f t x xs = go (t x)
-  where
-    go : (b : Bool) → sum_by f (cond b (x ∷ filter t xs) (filter t xs)) ≡ cond b (f x) 0 + sum_by f (filter t xs)
-    go true = sum_by-cons f x (filter t xs)
-    go false = omega arith
-
-times : (x y z : Bool) (s : ℕ) → (cond x 1 0 + (cond y 1 0 + cond z 1 0)) * s ≡ cond x s 0 + (cond y s 0 + cond z s 0)
-times true true true s = omega arith
-times true true false s = omega arith
-times true false true s = omega arith
-times true false false s = omega arith
-times false true true s = omega arith
-times false true false s = omega arith
-times false false true s = omega arith
-times false false false s = omega arith
-
-module _ (f : ℕ → ℕ) (e : ℕ → Bool) (c : RuleRef → Bool) where
-  abbrev times_of : ℕ → ℕ
-  times_of n = cond (e n) 1 0 + (cond (c (record { node = n; dir = 0 })) 1 0 + cond (c (record { node = n; dir = 1 })) 1 0)
-
-  abbrev of_rule : RuleRef → ℕ
-  of_rule a = f a.node
-
-  shares : (n k : ℕ) → sum_by f (filter e (numbers_from n k)) + sum_by of_rule (filter c (flat_map directions (numbers_from n k))) ≡ sum_by (λ m. times_of m * f m) (numbers_from n k)
-  shares n zero = refl
-  shares n (suc k) =
-      let ns = numbers_from (n + 1) k in
-      let rs = flat_map directions ns in
-      let forth : RuleRef = record { node = n; dir = 0 } in
-      let back : RuleRef = record { node = n; dir = 1 } in
-      let one = kept f e n ns in
-      let two = kept of_rule c forth (back ∷ rs) in
-      let three = kept of_rule c back rs in
-      let four = sum_by-cons (λ m. times_of m * f m) n ns in
-      let five = shares (n + 1) k in
-      let six = times (e n) (c forth) (c back) (f n) in
-      omega (arith, one, two, three, four, five, six)
-
-two_times : (y z : Bool) (s : ℕ) → (cond y 1 0 + cond z 1 0) * s ≡ cond y s 0 + cond z s 0
-two_times true true s = omega arith
-two_times true false s = omega arith
-two_times false true s = omega arith
-two_times false false s = omega arith
-
--- what the rules add, node by node
-rule_shares : (f : ℕ → ℕ) (c : RuleRef → Bool) (n k : ℕ) → sum_by (λ (a : RuleRef). f a.node) (filter c (flat_map directions (numbers_from n k))) ≡ sum_by (λ m. (one_if (c (record { node = m; dir = 0 })) + one_if (c (record { node = m; dir = 1 }))) * f m) (numbers_from n k)
-rule_shares f c n zero = refl
-rule_shares f c n (suc k) =
-    let ns = numbers_from (n + 1) k in
-    let rs = flat_map directions ns in
-    let forth : RuleRef = record { node = n; dir = 0 } in
-    let back : RuleRef = record { node = n; dir = 1 } in
-    let g = λ (m : ℕ). (one_if (c (record { node = m; dir = 0 })) + one_if (c (record { node = m; dir = 1 }))) * f m in
-    let two = kept (λ (a : RuleRef). f a.node) c forth (back ∷ rs) in
-    let three = kept (λ (a : RuleRef). f a.node) c back rs in
-    let four = sum_by-cons g n ns in
-    let five = rule_shares f c (n + 1) k in
-    let six = two_times (c forth) (c back) (f n) in
-    omega (arith, two, three, four, five, six)
 
 no_shares : (f : ℕ → ℕ) (ns : List ℕ) → 0 ≡ sum_by (λ m. 0 * f m) ns
 no_shares f [] = refl

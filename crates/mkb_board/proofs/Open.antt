@@ -1,7 +1,6 @@
 -- What a Reduce reads of the rules: those that can't be of use at the node are left out.
 use Rattle.std.proofs.Common.{ℕ, ◌≡◌, ◌≢◌, ◌⊎◌, inl, inr, refl, sym, ap, ap₂, ◌∙◌, subst, ⊎_elim, List, [], ◌∷◌, ◌++◌, map, filter, flat_map, Contains, Bool, true, false, cond, not, ◌&&◌, ◌||◌, ◌==◌, Option, Some, None}
 use Rattle.std.specs.Prelude.{option_map, is_none}
-use Rattle.std.specs.List.{list_any}
 use Rattle.kb_term.specs.Pair.{Pair}
 use Rattle.kb_term.specs.Rule.{Rule}
 use Rattle.kb_term.specs.declared.origin.RuleRef.{RuleRef}
@@ -20,7 +19,7 @@ use Rattle.mkb_model.proofs.Lists.{and_false, and_left, clash, filter_in, filter
 use Rattle.mkb_model.proofs.Resting.{known_holds}
 use Rattle.kb_jobs.specs.Reducing.{unknown_of}
 use Rattle.kb_jobs.specs.Rules.{listed}
-use Rattle.kb_jobs.specs.Taken.{IsIdleOn, IsTakenReduce}
+use Rattle.kb_jobs.specs.Taken.{IsTakenReduce}
 use Rattle.kb_jobs.specs.declared.reducing.ReduceSnapshot.{ReduceSnapshot}
 use Rattle.mkb_board.specs.Normal.{is_open_in, is_open_to, is_usable_in, roles_of}
 use Rattle.mkb_board.specs.Snapshots.{open_rules, unknown_on}

@@ -11,11 +11,14 @@ use mkb_model::Selection;
 use mkb_rules::State;
 
 /// The cost of a process: the sizes of its equations and its constraints, and of its rules where the selection counts them. It
-/// takes no memory.
+/// takes no memory, and goes over the nodes only where the state doesn't keep it.
 pub(crate) fn cost(state: &State, p: &Process) -> u32
     requires { AreLimited state.now.problem.signature state.now.nodes }
     ensures { result ≡ cost state.now p.now }
 {
+    if let Some(kept) = state.kept_cost(p) {
+        return kept;
+    }
     let mut total = 0;
     for n in 0..node_count(state) {
         total += share(state, p, NodeId(n as u16));

@@ -149,7 +149,7 @@ fn is_orient_due(state: &State, p: &Process, n: NodeId) -> bool
     requires { n.0 < length state.now.nodes }
     ensures { result ≡ is_work_due state.now (jobs.Orient p.now n) }
 {
-    is_equation(state, p, n) && !state.is_refused(p, n)
+    !state.is_dead(n) && (is_equation(state, p, n) && !state.is_refused(p, n))
 }
 
 // Whether the process has both rules, in this order, and has not overlapped them.

@@ -16,7 +16,7 @@ use crate::cost::cost;
 use crate::due::{first_work, is_free};
 use crate::lightest::lightest_work;
 use crate::normal::Normal;
-use crate::snapshots::named::view_of;
+use crate::snapshots::named::rules_of;
 use kb_label::Process;
 use kb_node::Job;
 use kb_term::{Memory, RuleRef};
@@ -116,8 +116,8 @@ fn first_choice(
     if is_over(state, p) {
         return Ok(None);
     }
-    let view = view_of(state, p)?;
-    let rules = view.rules.items();
+    let rules = rules_of(normal.allocator(), state, p)?;
+    let rules = rules.as_slice();
     normal.turn_to(state, p, rules)?;
     if let Some(job) = selected_work(state, flight, normal, p, rules) {
         return Ok(Some(job));

@@ -31,6 +31,13 @@ impl Roles {
         requires { n.0 < length state.now.nodes }
         ensures { result ≡ roles_of state.now p.now n.0 }
     {
+        if state.is_dead(n) {
+            return Roles {
+                equation: false,
+                first: false,
+                second: false,
+            };
+        }
         Roles {
             equation: is_equation(state, p, n),
             first: is_rule(state, p, RuleRef { node: n.0, dir: 0 }),
@@ -152,6 +159,11 @@ impl Normal {
             rules: Vec::new(alloc),
             nodes: Vec::new(alloc),
         }
+    }
+
+    /// Where its memory comes from.
+    pub(crate) fn allocator(&self) -> Global {
+        self.alloc
     }
 
     /// Takes the rules of the process, and forgets each node to which one of those that are new is open.

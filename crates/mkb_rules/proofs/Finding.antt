@@ -94,3 +94,12 @@ module _ (old new : List (Node (List Name))) (q : Pair) (o : Origin) (r : Result
       go b (Err f) g = same (subst {A = Result NodeId NodeFault} (λ s. OnErr s (new ≡ old)) g err)
       go (inl e) (Ok n) g = same (present (node_of (plain_nodes old) q) (has_pair old q e)).1
       go (inr e) (Ok n) g = let h = subst {A = Result NodeId NodeFault} (λ s. IfOk s (λ (m : NodeId). (m.0 ≡ length old) × AddsNode {L = List Name} {K = List Name} (λ log l. l) old new q o)) g (added (lacks_pair old q e)) in (h.1.node ∷ [], h.1.appended)
+
+  -- nothing changes, or a node without labels comes at the end
+  pub found-added : (new ≡ old) ⊎ AddsNode {L = List Name} {K = List Name} (λ log l. l) old new q o
+  found-added = go (decide (is_present (plain_nodes old) q)) r refl
+    where
+      go : (is_present (plain_nodes old) q ≡ true) ⊎ (is_present (plain_nodes old) q ≡ false) → (s : Result NodeId NodeFault) → r ≡ s → (new ≡ old) ⊎ AddsNode {L = List Name} {K = List Name} (λ log l. l) old new q o
+      go b (Err f) g = inl (subst {A = Result NodeId NodeFault} (λ s. OnErr s (new ≡ old)) g err)
+      go (inl e) (Ok n) g = inl (present (node_of (plain_nodes old) q) (has_pair old q e)).1
+      go (inr e) (Ok n) g = inr (subst {A = Result NodeId NodeFault} (λ s. IfOk s (λ (m : NodeId). (m.0 ≡ length old) × AddsNode {L = List Name} {K = List Name} (λ log l. l) old new q o)) g (added (lacks_pair old q e))).1

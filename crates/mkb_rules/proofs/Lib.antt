@@ -11,5 +11,7 @@ pub mod Answered
 pub mod Forks
 pub mod Committed
 pub mod FirstOrder
-pub mod Indexed
+pub mod Tabled
 pub mod Viewed
+pub mod Paying
+pub mod Costs

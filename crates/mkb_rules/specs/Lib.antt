@@ -1,5 +1,5 @@
 pub mod Parts
-pub mod Indexed
+pub mod Tabled
 pub mod Nodes
 pub mod Kept
 pub mod Over
@@ -8,3 +8,4 @@ pub mod Applying
 pub mod Named
 pub mod Rewriting
 pub mod Applicable
+pub mod Sizes

@@ -1,45 +1,37 @@
 // Facts that are found by what they are about.
-ghost use Rattle.std.specs.Prelude.{◌≡◌, ℕ, ◌+◌, ◌<◌, ◌≤◌, ◌∷◌, ◌++◌, [], List, OnErr, OnOk};
-ghost use Rattle.indexmap.specs.IndexMap.{spare};
+ghost use Rattle.std.specs.Prelude.{◌≡◌, ℕ, ◌+◌, ◌*◌, ◌<◌, ◌≤◌, ◌∷◌, ◌++◌, [], List, All, length, get_or, None, OnErr, OnOk, ◌&&◌, ◌==◌};
 ghost use Rattle.kb_node.specs.declared.job.Fact.{Fact as Told};
-ghost use Rattle.mkb_rules.specs.Indexed.{about, IsIndexed};
+ghost use Rattle.mkb_rules.specs.Tabled.{known_at, place, HasRoom, IsTabled, is_plain};
 ghost use Rattle.mkb_rules.specs.Parts.{known_in};
+ghost use Rattle.mkb_model.specs.Jobs.{ref_eq};
 
-use indexmap::IndexMap;
+use crate::row::Row;
+use crate::state::is_same;
 use kb_node::{Fact, NodeId};
 use kb_term::{Found, RuleRef};
 use std::alloc::{AllocError, Global};
 use std::marker::Model;
 
-/// What a fact is about: a side of a node, and a rule.
-#[derive(Clone, Copy, Debug, PartialEq, Eq, Hash)]
-pub(crate) struct About {
-    node: u16,
-    side: u8,
-    rule: u16,
-    dir: u8,
-}
-
 /// Facts in the order in which they became known. Contracts see them as their list.
 ///
-/// The first fact about a side of a node and a rule is found in constant time, expected over hashes.
+/// The first fact about a side of a node and a rule stands in the rule's row, at the number of the side.
 #[derive(Drop)]
 pub(crate) struct Facts {
     list: Vec<Fact>,
-    found: IndexMap<About, Found>,
+    rows: Vec<Row>,
 }
 
 impl Model for Facts {
     ghost use Rattle.std.specs.Prelude.{List};
     ghost use Rattle.std.specs.Coded.{codes};
     ghost use Rattle.kb_node.specs.declared.job.Fact.{Fact};
-    ghost use Rattle.mkb_rules.specs.Indexed.{IsIndexed};
+    ghost use Rattle.mkb_rules.specs.Tabled.{IsTabled};
 
     ghost Value = { List Fact };
 
     ghost view = { λ f. f.list.items };
 
-    ghost invariant = { λ f. IsIndexed f.found f.list.items };
+    ghost invariant = { λ f. IsTabled f.rows.items f.list.items };
 }
 
 impl Facts {
@@ -49,7 +41,7 @@ impl Facts {
     {
         Facts {
             list: Vec::new(alloc),
-            found: IndexMap::new(alloc),
+            rows: Vec::new(alloc),
         }
     }
 
@@ -57,7 +49,15 @@ impl Facts {
     pub(crate) fn known(&self, n: NodeId, side: u8, rule: RuleRef) -> Option<Found>
         ensures { result ≡ known_in self.now n.0 side rule }
     {
-        self.found.get(&key_of(n, side, rule)).copied()
+        if side > 1 || rule.dir > 1 {
+            return first_of(self.list.as_slice(), n, side, rule);
+        }
+        let row = place(rule.node, rule.dir);
+        if row < self.rows.len() {
+            self.rows[row].get(place(n.0, side))
+        } else {
+            None
+        }
     }
 
     /// Adds the facts at the end.
@@ -69,35 +69,75 @@ impl Facts {
         ensures ok { OnOk result (self.new ≡ self.old ++ facts.now) }
         ensures err { OnErr result (self.new ≡ self.old) }
     {
-        self.found.reserve(facts.len())?;
+        let alloc = *self.list.allocator();
+        for i in 0..facts.len() {
+            make_room(alloc, &mut self.rows, &facts[i])?;
+        }
         self.list.extend_from_slice(facts)?;
         for i in 0..facts.len() {
-            note(&mut self.found, &facts[i]);
+            note(&mut self.rows, &facts[i]);
         }
         Ok(())
     }
 }
 
-// This side of the node, and this rule.
-fn key_of(n: NodeId, side: u8, rule: RuleRef) -> About
-    ensures { result ≡ about n.0 side rule }
+// The number of a side of a node, or of a rule in a direction of it.
+fn place(node: u16, side: u8) -> usize
+    requires { side ≤ 1 }
+    ensures value { result ≡ place node side }
+    ensures most { result < 131072 }
 {
-    About {
-        node: n.0,
-        side,
-        rule: rule.node,
-        dir: rule.dir,
+    2 * node as usize + side as usize
+}
+
+// Whether the fact is about one of two sides, and a rule of one of two directions.
+fn is_plain(fact: &Fact) -> bool
+    ensures { result ≡ is_plain fact.now }
+{
+    fact.side <= 1 && fact.rule.dir <= 1
+}
+
+// Whether the fact is about the side and the rule.
+fn is_about(fact: &Fact, n: NodeId, side: u8, rule: RuleRef) -> bool
+    ensures { result ≡ ((fact.now.node.0 == n.0) && ((fact.now.side == side) && ref_eq fact.now.rule rule)) }
+{
+    fact.node.0 == n.0 && (fact.side == side && is_same(fact.rule, rule))
+}
+
+// What the first of the facts of the side and the rule says.
+fn first_of(facts: &[Fact], n: NodeId, side: u8, rule: RuleRef) -> Option<Found>
+    ensures { result ≡ known_in facts.now n.0 side rule }
+{
+    match facts.iter().find(|fact| is_about(fact, n, side, rule)) {
+        Some(fact) => Some(fact.found),
+        None => None,
     }
 }
 
-// The fact is found by what it is about, unless an earlier one is about the same.
-fn note(found: &mut IndexMap<About, Found>, fact: &Fact)
-    requires room { 0 < spare found.old }
-    ensures indexed { (fs : List Told) → IsIndexed found.old fs → IsIndexed found.new (fs ++ fact.now ∷ []) }
-    ensures room { spare found.old ≤ spare found.new + 1 }
+// Makes room for what the fact is about. What is known stays, after want of memory too.
+fn make_room(alloc: Global, rows: &mut Vec<Row>, fact: &Fact) -> Result<(), AllocError>
+    ensures room { OnOk result (HasRoom rows.new.items fact.now) }
+    ensures rooms { (f : Told) → HasRoom rows.old.items f → HasRoom rows.new.items f }
+    ensures kept { (i j : ℕ) → known_at rows.new.items i j ≡ known_at rows.old.items i j }
 {
-    let key = key_of(fact.node, fact.side, fact.rule);
-    if !found.contains_key(&key) {
-        found.insert(key, fact.found).unwrap();
+    if !is_plain(fact) {
+        return Ok(());
+    }
+    let row = place(fact.rule.node, fact.rule.dir);
+    for _ in rows.len()..row + 1 {
+        rows.push(Row::new(alloc))?;
+    }
+    rows[row].make_room(place(fact.node.0, fact.side) + 1)
+}
+
+// The fact is found by what it is about, unless an earlier one is about the same.
+fn note(rows: &mut Vec<Row>, fact: &Fact)
+    requires room { HasRoom rows.old.items fact.now }
+    ensures tabled { (fs : List Told) → IsTabled rows.old.items fs → IsTabled rows.new.items (fs ++ fact.now ∷ []) }
+    ensures rooms { (f : Told) → HasRoom rows.old.items f → HasRoom rows.new.items f }
+{
+    if is_plain(fact) {
+        let row = place(fact.rule.node, fact.rule.dir);
+        rows[row].note(place(fact.node.0, fact.side), fact.found);
     }
 }

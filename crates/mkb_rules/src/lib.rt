@@ -7,8 +7,11 @@ mod facts;
 mod labels;
 mod nodes;
 mod opening;
+mod row;
+mod sizes;
 mod sleepers;
 mod state;
+mod tracked;
 
 pub use applied::Applied;
 pub use state::State;

@@ -1,14 +1,17 @@
 // Nodes whose last changes can be taken back.
-ghost use Rattle.std.specs.Prelude.{◌≡◌, ◌<◌, ◌≤◌, ◌↔◌, [], length, All, IsFalse, OnOk, OnErr, IfOk};
+ghost use Rattle.std.specs.Prelude.{◌≡◌, ◌<◌, ◌≤◌, ◌↔◌, [], length, All, IsFalse, OnOk, OnErr, IfOk, IfSome};
 ghost use Rattle.mkb_model.specs.Plain.{label_at};
 ghost use Rattle.mkb_model.specs.Effects.{with_label, with_node, node_of, is_present, most_nodes, gains as with_gain, loses as with_loss, gains_equation as with_equation, gains_rule as with_rule};
 ghost use Rattle.kb_label.specs.Names.{minus};
 ghost use Rattle.mkb_rules.specs.Parts.{plain_nodes};
 ghost use Rattle.mkb_rules.specs.Nodes.{put_back};
+ghost use Rattle.mkb_rules.specs.Sizes.{is_dead_at, AreSizesOf};
 
 use crate::effects::label::rule_kind;
 use crate::labels::{copy_of, joined};
-use kb_label::{Labels, ListLabels, NameLog};
+use crate::sizes::Sizes;
+use crate::tracked::Tracked;
+use kb_label::{Labels, ListLabels, NameLog, Process};
 use kb_node::{LabelKind, NodeFault, NodeId, NodeTable};
 use kb_term::{Origin, Pair, RuleRef};
 use std::alloc::{AllocError, Global};
@@ -26,7 +29,7 @@ struct Replaced {
 /// and as they were then.
 #[derive(Drop)]
 pub(crate) struct Nodes {
-    table: NodeTable<ListLabels>,
+    table: Tracked,
     kept: u32,
     replaced: Vec<Replaced>,
 }
@@ -54,7 +57,7 @@ impl Nodes {
         ensures { result ≡ record { now = []; before = [] } }
     {
         Nodes {
-            table: NodeTable::new(alloc),
+            table: Tracked::new(alloc),
             kept: 0,
             replaced: Vec::new(alloc),
         }
@@ -64,7 +67,37 @@ impl Nodes {
     pub(crate) fn table(&self) -> &NodeTable<ListLabels>
         ensures { plain_nodes result.now ≡ self.now.now }
     {
-        &self.table
+        self.table.table()
+    }
+
+    /// Whether no process has the node as an equation or as a rule.
+    pub(crate) fn is_dead(&self, log: &NameLog, n: NodeId) -> bool
+        requires { n.0 < length self.now.now }
+        ensures { result ≡ is_dead_at self.now.now n.0 }
+    {
+        self.table.is_dead(log, n)
+    }
+
+    /// Keeps what each living process pays, where memory allows.
+    pub(crate) fn keep_sizes(&mut self, log: &NameLog)
+        ensures { self.new ≡ self.old }
+    {
+        self.table.keep_sizes(log);
+    }
+
+    /// Nothing is kept of what the process pays from here on.
+    pub(crate) fn forget(&mut self, p: &Process)
+        ensures { self.new ≡ self.old }
+    {
+        self.table.forget(p);
+    }
+
+    /// What the process pays, where that is kept at this place.
+    pub(crate) fn sizes(&self, place: usize, p: &Process) -> Option<Sizes>
+        ensures process { IfSome result (λ s. s.process ≡ p.now) }
+        ensures right { IfSome result (AreSizesOf self.now.now) }
+    {
+        self.table.sizes(place, p)
     }
 
     /// Keeps all changes: from here on they can't be taken back.
@@ -89,6 +122,7 @@ impl Nodes {
     /// Puts a label in the place of the node's label of this kind.
     pub(crate) fn set(
         &mut self,
+        log: &NameLog,
         n: NodeId,
         kind: LabelKind,
         label: ListLabels,
@@ -99,7 +133,7 @@ impl Nodes {
         ensures err { OnErr result (self.new ≡ self.old) }
     {
         self.replaced.reserve(1)?;
-        let label = self.table.set_label(n, kind, label);
+        let label = self.table.set_label(log, n, kind, label);
         self.replaced
             .push(Replaced {
                 node: n,
@@ -138,7 +172,7 @@ impl Nodes {
         ensures before { self.new.before ≡ self.old.before }
     {
         let label = joined(self.allocator(), log, self.label(n, kind), names)?;
-        self.set(n, kind, label)
+        self.set(log, n, kind, label)
     }
 
     /// A label of a node loses these names.
@@ -154,7 +188,7 @@ impl Nodes {
         ensures before { self.new.before ≡ self.old.before }
     {
         let label = left(self.allocator(), log, self.label(n, kind), names)?;
-        self.set(n, kind, label)
+        self.set(log, n, kind, label)
     }
 
     /// The names gain the node as an equation, but for those that have it as a rule.
@@ -194,7 +228,7 @@ impl Nodes {
         requires { n.0 < length self.now.now }
         ensures { result.now ≡ label_at self.now.now n.0 kind }
     {
-        self.table.label(n, kind)
+        self.table.table().label(n, kind)
     }
 
     fn allocator(&self) -> Global {
@@ -217,13 +251,13 @@ fn left(
 }
 
 // Puts the replaced labels back, the last one first.
-fn put_all_back(table: &mut NodeTable<ListLabels>, replaced: &mut Vec<Replaced>)
+fn put_all_back(table: &mut Tracked, replaced: &mut Vec<Replaced>)
     requires { All (λ (r : Replaced). r.node.0 < length table.old) replaced.old.items }
     ensures nodes { plain_nodes table.new ≡ put_back replaced.old.items (plain_nodes table.old) }
     ensures none { replaced.new.items ≡ [] }
 {
     while let Some(last) = replaced.pop() {
         let Replaced { node, kind, label } = last;
-        let _changed = table.set_label(node, kind, label);
+        table.put_back(node, kind, label);
     }
 }

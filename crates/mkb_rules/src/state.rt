@@ -1,10 +1,11 @@
 // The state: the board without flight and journal.
-ghost use Rattle.std.specs.Prelude.{◌≡◌, ◌<◌, ◌&&◌, [], ◌∷◌, length, Some, IsSome, MatchOption};
+ghost use Rattle.std.specs.Prelude.{◌≡◌, ◌<◌, ◌&&◌, [], ◌∷◌, length, Some, IfSome, IsSome, MatchOption};
 ghost use Rattle.kb_label.specs.Names.{add, has, minus, name_eq};
 ghost use Rattle.kb_node.specs.declared.node.LabelKind.TheVariants.{X};
 ghost use Rattle.mkb_model.specs.Jobs.{ref_eq};
-ghost use Rattle.mkb_model.specs.Plain.{known, done_in, done_of, label, over_reason, certificate_of};
+ghost use Rattle.mkb_model.specs.Plain.{cost, known, done_in, done_of, label, over_reason, certificate_of};
 ghost use Rattle.mkb_rules.specs.Parts.{plain_nodes};
+ghost use Rattle.mkb_rules.specs.Sizes.{is_dead_at};
 ghost use Rattle.mkb_rules.specs.Kept.{plain_done, plain_certificates, place_in};
 
 use crate::facts::Facts;
@@ -139,6 +140,24 @@ impl State {
         ensures { result ≡ has (label self.now n.0 X) p.now }
     {
         self.nodes.table().label(n, LabelKind::X).has(&self.log, p)
+    }
+
+    /// Whether no process has the node as an equation or as a rule. It takes constant time.
+    pub fn is_dead(&self, n: NodeId) -> bool
+        requires { n.0 < length self.now.nodes }
+        ensures { result ≡ is_dead_at self.now.nodes n.0 }
+    {
+        self.nodes.is_dead(&self.log, n)
+    }
+
+    /// What a process costs, where that is kept. It is for each living process, where memory allows.
+    pub fn kept_cost(&self, p: &Process) -> Option<u32>
+        ensures { IfSome result (λ c. c ≡ cost self.now p.now) }
+    {
+        match self.log.processes().binary_search(p) {
+            Ok(place) => self.nodes.sizes(place, p)?.cost(self.settings.selection),
+            Err(_) => None,
+        }
     }
 
     /// Whether a process is closed.

@@ -7,7 +7,7 @@ ghost use Rattle.mkb_model.specs.Invariants.{FactsHold};
 ghost use Rattle.mkb_board.specs.Normal.{is_open_to};
 ghost use Rattle.mkb_board.specs.Snapshots.{AreWithin, IsWholeReduce, open_rules, unknown_on, with_names};
 
-use super::named::{named_rules, pair_at, view_of};
+use super::named::{named_rules, pair_at, rules_of};
 use crate::choosing::{is_equation, is_rule};
 use crate::normal::{Roles, is_open_to};
 use kb_jobs::ReduceSnapshot;
@@ -73,10 +73,10 @@ fn open_rules(alloc: Global, state: &State, p: &Process, n: NodeId) -> Result<Ve
     ensures names { IfOk result (λ names. names.items ≡ open_rules state.now p.now n.0) }
     ensures few { IfOk result (λ names. length names.items < 2 ^ 32) }
 {
-    let view = view_of(state, p)?;
+    let rules = rules_of(alloc, state, p)?;
     // Each node gives at most two rules.
     let count = state.nodes().len();
-    let names = open_to(alloc, state, view.rules.items(), n, Roles::of(state, p, n))?;
+    let names = open_to(alloc, state, rules.as_slice(), n, Roles::of(state, p, n))?;
     prove!(count <= 4096);
     Ok(names)
 }

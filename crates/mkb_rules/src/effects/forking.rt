@@ -58,7 +58,17 @@ impl State {
             let names = self.orient_names(alloc, p, n)?;
             return self.give_up(alloc, Reason::Processes, &names);
         }
-        self.fork(alloc, p, n, cert0, cert1)
+        let applied = self.fork(alloc, p, n, cert0, cert1)?;
+        self.keep_costs_after_fork(p);
+        Ok(applied)
+    }
+
+    // What the process costs is kept no more, but what its children cost is.
+    fn keep_costs_after_fork(&mut self, p: &Process)
+        ensures { self.new ≡ self.old }
+    {
+        self.nodes.forget(p);
+        self.nodes.keep_sizes(&self.log);
     }
 
     // The process forks, where there is room.
@@ -382,5 +392,5 @@ fn fork_label(
         return Ok(());
     }
     let label = relabelled(alloc, log, old, p)?;
-    nodes.set(n, kind, label)
+    nodes.set(log, n, kind, label)
 }

@@ -2,7 +2,8 @@ use Rattle.std.proofs.Common.{◌+◌, ◌*◌, ◌≡◌, ◌∙◌, length, ap
 use Rattle.std.specs.Prelude.{sum_by}
 use Rattle.mkb_model.specs.Plain.{numbers_from, node_size}
 use Rattle.mkb_board.specs.Choosing.{role_count}
-use Rattle.mkb_board.proofs.Costs.{sum_next, cost_as}
+use Rattle.mkb_rules.proofs.Costs.{sum_next}
+use Rattle.mkb_board.proofs.Costs.{cost_as}
 use Rattle.mkb_board.proofs.cost.cost.Goals as goal
 
 pub loop-n-preserved : goal.loop-n-preserved

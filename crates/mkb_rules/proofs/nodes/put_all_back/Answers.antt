@@ -9,9 +9,9 @@ loop-last-preserved c =
     let last = c.in-Some.last in
     record {
       there =
-          rw (c.in-Some.ensures.rest, c.set_label-changed.ensures.new, length-with_label c.loop-last.table last.node.0 last.kind last.label)
+          rw (c.in-Some.ensures.rest, c.put_back.ensures.new, length-with_label c.loop-last.table last.node.0 last.kind last.label)
           (All-take (λ (r : Replaced). r.node.0 < length c.loop-last.table) _ c.loop-last.replaced.items c.loop-last.invariant.there);
       same =
-          put_back-last c.loop-last.table c.set_label-changed.new.self c.loop-last.replaced.items c.pop.new.self.items last c.in-Some.ensures.items c.set_label-changed.ensures.new
+          put_back-last c.loop-last.table c.put_back.new.self c.loop-last.replaced.items c.pop.new.self.items last c.in-Some.ensures.items c.put_back.ensures.new
           ∙ c.loop-last.invariant.same;
     }

@@ -1,0 +1,13 @@
+use Rattle.std.proofs.Common.{◌∙◌, ◌++◌, ap, sym, filter}
+use Rattle.mkb_model.specs.Plain.{directions, is_rule}
+use Rattle.mkb_board.proofs.Viewed.{rules_more}
+use Rattle.mkb_board.proofs.snapshots.named.rules_of.Goals as goal
+
+pub loop-n-preserved : goal.loop-n-preserved
+loop-n-preserved c =
+    let b = c.args.state.now in
+    let p = c.args.p.now in
+    let n = c.loop-n.n in
+    record {
+      rules = c.in_ok-push_rules.ensures ∙ ap (λ xs. xs ++ filter (is_rule b p) (directions n)) c.loop-n.invariant.rules ∙ sym (rules_more (is_rule b p) n);
+    }

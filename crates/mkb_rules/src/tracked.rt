@@ -1,0 +1,210 @@
+// The table of nodes, with what is kept beside it.
+ghost use Rattle.std.specs.Prelude.{◌≡◌, ℕ, List, [], Some, ◌+◌, ◌<◌, ◌≤◌, ◌↔◌, length, take, set, get_or, true, slice_get, option_map, All, IfOk, IfSome, IsTrue, OnErr};
+ghost use Rattle.kb_node.specs.Labelled.{label_in, with_label_at, HasPair, LacksPair, AddsNode};
+ghost use Rattle.kb_label.specs.Names.{Name};
+ghost use Rattle.mkb_rules.specs.Parts.{plain_nodes};
+ghost use Rattle.mkb_rules.specs.Sizes.{is_dead_at, AreSizesOf};
+
+use crate::sizes::{Sizes, follow, sizes_of};
+use kb_label::{Labels, ListLabels, NameLog, Process};
+use kb_node::{LabelKind, MAX_NODES, NodeFault, NodeId, NodeTable};
+use kb_term::{Origin, Pair};
+use std::alloc::Global;
+use std::marker::Model;
+
+/// The table of nodes. Contracts see the nodes alone.
+///
+/// Beside it stands which nodes no process has as an equation or as a rule, and what processes pay for theirs; both follow each
+/// label that is put. Where memory is short they say less, and nothing false.
+#[derive(Drop)]
+pub(crate) struct Tracked {
+    table: NodeTable<ListLabels>,
+    used: Vec<bool>,
+    kept: Vec<Sizes>,
+}
+
+impl Model for Tracked {
+    ghost use Rattle.std.specs.Prelude.{List, All};
+    ghost use Rattle.std.specs.Coded.{codes};
+    ghost use Rattle.kb_term.specs.Coding.{coded_pair};
+    ghost use Rattle.kb_label.specs.Names.{Name};
+    ghost use Rattle.kb_node.specs.Labelled.{Node};
+    ghost use Rattle.mkb_rules.specs.Parts.{plain_nodes};
+    ghost use Rattle.mkb_rules.specs.Sizes.{AreMarked, AreSizesOf};
+
+    ghost Value = { List (Node (List Name)) };
+
+    ghost coded = { Prim.hlevel (codes, coded_pair) };
+
+    ghost view = { λ t. t.table };
+
+    ghost invariant = { λ t. AreMarked (plain_nodes t.table) t.used.items × All (AreSizesOf (plain_nodes t.table)) t.kept.items };
+}
+
+impl Tracked {
+    /// No node. It takes no memory.
+    pub(crate) fn new(alloc: Global) -> Tracked
+        ensures { result ≡ [] }
+    {
+        Tracked {
+            table: NodeTable::new(alloc),
+            used: Vec::new(alloc),
+            kept: Vec::new(alloc),
+        }
+    }
+
+    /// The table of nodes.
+    pub(crate) fn table(&self) -> &NodeTable<ListLabels>
+        ensures { result.now ≡ self.now }
+    {
+        &self.table
+    }
+
+    /// How many nodes there are, at most 4,096.
+    pub(crate) fn len(&self) -> u32
+        ensures count { result ≡ length self.now }
+        ensures most { result ≤ MAX_NODES }
+    {
+        self.table.len()
+    }
+
+    /// Whether no process has the node as an equation or as a rule.
+    pub(crate) fn is_dead(&self, log: &NameLog, n: NodeId) -> bool
+        requires { n.0 < length self.now }
+        ensures { result ≡ is_dead_at (plain_nodes self.now) n.0 }
+    {
+        match self.used.get(n.0 as usize) {
+            Some(false) => true,
+            _ => self.table.is_dead(log, n),
+        }
+    }
+
+    /// Puts a label in the place of the node's label of this kind, which it gives. It takes no memory.
+    pub(crate) fn set_label(
+        &mut self,
+        log: &NameLog,
+        n: NodeId,
+        kind: LabelKind,
+        label: ListLabels,
+    ) -> ListLabels
+        requires { n.0 < length self.old }
+        ensures old { option_map (λ node. label_in node kind) (slice_get self.old n.0) ≡ Some result }
+        ensures new { self.new ≡ with_label_at self.old n.0 kind label }
+    {
+        follow(&mut self.kept, &self.table, log, n, kind, &label);
+        let replaced = self.table.set_label(n, kind, label);
+        let is_dead = self.table.is_dead(log, n);
+        mark(&mut self.used, n, !is_dead);
+        replaced
+    }
+
+    /// Puts a label back in the place of the node's label of this kind. It takes no memory.
+    pub(crate) fn put_back(&mut self, n: NodeId, kind: LabelKind, label: ListLabels)
+        requires { n.0 < length self.old }
+        ensures new { self.new ≡ with_label_at self.old n.0 kind label }
+    {
+        self.kept.clear();
+        mark(&mut self.used, n, true);
+        let _replaced = self.table.set_label(n, kind, label);
+    }
+
+    /// Keeps the first nodes alone. It takes no memory.
+    pub(crate) fn truncate(&mut self, len: u32)
+        requires { len ≤ length self.old }
+        ensures { self.new ≡ take len self.old }
+    {
+        self.kept.clear();
+        self.table.truncate(len);
+    }
+
+    /// The node that has the pair, which keeps its origin; else one more node, without labels.
+    ///
+    /// # Errors
+    ///
+    /// `Full` where the pair is new and the table has 4,096 nodes, and want of memory; the table is then as before.
+    pub(crate) fn find_or_add(&mut self, pair: Pair, origin: Origin) -> Result<NodeId, NodeFault>
+        ensures present { (n : ℕ) → HasPair self.old n pair → (result ≡ Ok (record { 0 = n })) × (self.new ≡ self.old) }
+        ensures added { LacksPair self.old pair → IfOk result (λ n. (n.0 ≡ length self.old) × AddsNode {K = List Name} (λ log l. l) self.old self.new pair origin) }
+        ensures full { (result ≡ Err NodeFault.Full) ↔ (LacksPair self.old pair × (length self.old ≡ MAX_NODES)) }
+        ensures err { OnErr result (self.new ≡ self.old) }
+    {
+        let n = self.table.find_or_add(pair, origin)?;
+        mark_more(&mut self.used, n);
+        Ok(n)
+    }
+
+    /// Keeps what each living process pays, where memory allows.
+    pub(crate) fn keep_sizes(&mut self, log: &NameLog)
+        ensures { self.new ≡ self.old }
+    {
+        let living = log.processes();
+        if self.kept.len() == living.len() {
+            return;
+        }
+        for i in 0..living.len() {
+            if !keep_one(&mut self.kept, &self.table, log, i, &living[i]) {
+                return;
+            }
+        }
+    }
+
+    /// Nothing is kept of the process from here on.
+    pub(crate) fn forget(&mut self, p: &Process)
+        ensures { self.new ≡ self.old }
+    {
+        self.kept.retain(|sizes| sizes.process != *p);
+    }
+
+    /// What the process pays, where that is kept at this place.
+    pub(crate) fn sizes(&self, place: usize, p: &Process) -> Option<Sizes>
+        ensures process { IfSome result (λ s. s.process ≡ p.now) }
+        ensures right { IfSome result (AreSizesOf (plain_nodes self.now)) }
+    {
+        match self.kept.get(place) {
+            Some(sizes) if sizes.process == *p => Some(*sizes),
+            _ => None,
+        }
+    }
+}
+
+// Marks whether the node is in use, where there is room for that.
+fn mark(used: &mut Vec<bool>, n: NodeId, is_used: bool)
+    ensures { used.new.items ≡ set used.old.items n.0 is_used }
+{
+    if (n.0 as usize) < used.len() {
+        used[n.0 as usize] = is_used;
+    }
+}
+
+// Makes room for the mark of the node, which counts as used. Where memory is short there is none.
+fn mark_more(used: &mut Vec<bool>, n: NodeId)
+    ensures { (m : ℕ) → get_or used.new.items m true ≡ get_or used.old.items m true }
+{
+    let len = n.0 as usize + 1;
+    if used.len() < len {
+        used.resize(len, true).ok();
+    }
+}
+
+// Keeps what the process pays at this place, unless it stands there; whether it does then.
+fn keep_one(
+    kept: &mut Vec<Sizes>,
+    table: &NodeTable<ListLabels>,
+    log: &NameLog,
+    place: usize,
+    p: &Process,
+) -> bool
+    requires within { place ≤ length kept.old.items }
+    requires right { All (AreSizesOf (plain_nodes table.now)) kept.old.items }
+    ensures within { IsTrue result → place + 1 ≤ length kept.new.items }
+    ensures right { All (AreSizesOf (plain_nodes table.now)) kept.new.items }
+{
+    match kept.get(place) {
+        Some(sizes) if sizes.process == *p => return true,
+        _ => {}
+    }
+    match sizes_of(table, log, p) {
+        Some(sizes) => kept.insert(place, sizes).is_ok(),
+        None => false,
+    }
+}
