@@ -12,6 +12,8 @@ mod crews;
 #[cfg(test)]
 mod journals;
 #[cfg(test)]
+mod limits;
+#[cfg(test)]
 mod refusals;
 #[cfg(test)]
 mod rounds;

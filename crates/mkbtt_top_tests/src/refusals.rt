@@ -62,14 +62,15 @@ fn a_source_that_fails_at_any_call_is_told(rt: HostRuntime) {
         rt: &rt,
         alloc: rt.alloc(),
     };
-    for call in 1..=3u64 {
+    for call in 1..=10u64 {
         let bytes = Vec::from_slice(bench.alloc, EMPTY.as_bytes()).expect(&rt, "memory");
         let fails = Vec::from_slice(bench.alloc, &[call]).expect(&rt, "memory");
-        let mut source = MemorySource::new(bytes, fails, 7);
+        let mut source = MemorySource::new(bytes, fails, 1);
         let mut sink = bench.sink(1000);
         let outcome = bench.perform(&["complete"], &mut source, &mut sink, &OpenGate);
-        assert!(rt; status_code(&outcome.status) == 4);
-        assert!(rt; sink.bytes().is_empty());
+        let is_read = call == 10;
+        assert!(rt; status_code(&outcome.status) == if is_read { 0 } else { 4 });
+        assert!(rt; sink.bytes().is_empty() == !is_read);
     }
 }
 
@@ -87,6 +88,24 @@ fn a_sink_that_fails_at_any_call_has_the_front_of_the_answer(rt: HostRuntime) {
         let outcome = bench.perform(words, &mut source, &mut sink, &OpenGate);
         let written = call as usize - 1;
         assert!(rt; status_code(&outcome.status) == if written < 72 { 5 } else { 0 });
+        assert!(rt; sink.bytes() == &EMPTY_ANSWER.as_bytes()[..written]);
+    }
+}
+
+#[test]
+fn a_sink_without_room_has_the_front_of_the_answer(rt: HostRuntime) {
+    let bench = Bench {
+        rt: &rt,
+        alloc: rt.alloc(),
+    };
+    let words = &["complete", "--workers", "1"];
+    for (room, most, written) in [(16, 64, 16), (0, 64, 0), (1000, 0, 0)] {
+        let mut source = bench.source(&[EMPTY]);
+        let mut sink = MemorySink::new(bench.alloc, room, Vec::new(bench.alloc), most).expect(
+            &rt, "memory",
+        );
+        let outcome = bench.perform(words, &mut source, &mut sink, &OpenGate);
+        assert!(rt; status_code(&outcome.status) == 5);
         assert!(rt; sink.bytes() == &EMPTY_ANSWER.as_bytes()[..written]);
     }
 }
