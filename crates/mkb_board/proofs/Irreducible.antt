@@ -1,9 +1,11 @@
 -- Nodes that none of some rules reduces.
-use Rattle.std.proofs.Common.{ℕ, suc, ◌≡◌, zero, replicate, take, refl, sym, ap, ap₂, ◌∙◌, subst, arith, List, [], ◌∷◌, ◌++◌, filter, slice_get, Bool, true, false, cond, not, ◌&&◌, ◌||◌, ◌==◌, Option, Some, None}
+use Rattle.std.proofs.Common.{ℕ, suc, ◌≡◌, zero, replicate, take, set, get_or, refl, sym, ap, ap₂, ◌∙◌, subst, arith, List, [], ◌∷◌, ◌++◌, filter, slice_get, Bool, true, false, cond, not, ◌&&◌, ◌||◌, ◌==◌, Option, Some, None}
 use Rattle.std.specs.Prelude.{option_map}
 use Rattle.std.specs.List.{find, list_any}
 use Rattle.std.specs.Option.{option_or}
 use Rattle.std.proofs.lemmas.Bool.Decides.{nat_tests}
+use Rattle.std.proofs.lemmas.List.{length-set}
+use Rattle.std.proofs.lemmas.List.Elements.{All-set}
 use Rattle.std.proofs.lemmas.List.Folds.{find-append}
 use Rattle.kb_term.specs.declared.origin.RuleRef.{RuleRef}
 use Rattle.kb_term.specs.declared.origin.Found.{Found}
@@ -19,7 +21,7 @@ use Rattle.std.specs.Option.{option_map_or}
 use Rattle.mkb_model.specs.declared.proposed.Proposed.{Proposed}
 use Rattle.mkb_model.specs.declared.proposed.Proposed.TheVariants.{Facts, Rewrite, One, Both, Refuse, Deduce, Unjoined, Closed, Limit}
 use Rattle.mkb_model.proofs.Lists.{and_left, and_right, any_in, any_none, clash, none_some, or_none, or_off, some_is}
-use Rattle.mkb_board.specs.Normal.{AreNormal, NoneOpens, Serves, is_open_in, is_open_to, roles_of}
+use Rattle.mkb_board.specs.Normal.{AreAllNormal, AreNormal, NoneOpens, Serves, is_open_in, is_open_to, roles_of}
 use Rattle.mkb_board.specs.declared.normal.Roles.{Roles}
 use Rattle.mkb_board.specs.declared.normal.Normal.{Normal}
 use Rattle.mkb_board.proofs.Picking.{any_filter}
@@ -158,3 +160,16 @@ noted_before (x ∷ xs) (suc n) k (suc i) r e = noted_before xs n k i r e
 
 pub normal_with_room : (b : Plain) (old : Normal) (nodes : List (Option Roles)) (n k : ℕ) → nodes ≡ take n old.nodes.items ++ replicate k None → NoneOpens b old.nodes.items old.rules.items → NoneOpens b nodes old.rules.items
 normal_with_room b old nodes n k e h m r i = h m r (noted_before old.nodes.items n k m r (ap (λ z. slice_get z m) (sym e) ∙ i))
+
+-- ---- what is noted of several processes
+
+-- another one that holds at a place
+pub normals_with : (b : Plain) (ks : List Normal) (i : ℕ) (k : Normal) → AreAllNormal b ks → AreNormal b k → AreAllNormal b (set ks i k)
+normals_with b ks i k all one = record {
+  some = omega (arith, all.some, length-set ks i k);
+  each = All-set (AreNormal b) ks i k one all.each;
+}
+
+-- what holds at each place holds on each later board
+pub normals_after : (b : Plain) (x : Proposed) (ks : List Normal) → AreAllNormal b ks → AreAllNormal (effect b x) ks
+normals_after b x ks all = record { some = all.some; each = λ n d h. normal_after b x (get_or ks n d) (all.each n d h) }

@@ -1,5 +1,5 @@
 -- Nodes that are known to be reduced by none of some rules.
-use Rattle.std.specs.Prelude.{ℕ, zero, suc, List, [], ◌∷◌, Bool, true, false, ◌&&◌, ◌||◌, ◌==◌, ◌≡◌, ◌≤◌, length, not, slice_get, Option, Some, None}
+use Rattle.std.specs.Prelude.{ℕ, zero, suc, List, [], ◌∷◌, Bool, true, false, ◌&&◌, ◌||◌, ◌==◌, ◌≡◌, ◌<◌, ◌≤◌, All, length, not, slice_get, Option, Some, None}
 use Rattle.std.specs.List.{list_any}
 use Rattle.kb_term.specs.declared.origin.RuleRef.{RuleRef}
 use Rattle.kb_term.specs.declared.origin.Found.{Found}
@@ -50,3 +50,8 @@ pub record AreNormal (b : Plain) (k : Normal) : Type 0 where
 pub record Serves (b : Plain) (p : Name) (k : Normal) : Type 0 where
   pub rules : k.rules.items ≡ rules_of b p
   pub known : AreNormal b k
+
+-- there is a place at least, and what is noted at each holds
+pub record AreAllNormal (b : Plain) (ks : List Normal) : Type 0 where
+  pub some : 0 < length ks
+  pub each : All (AreNormal b) ks

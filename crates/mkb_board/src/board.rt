@@ -16,7 +16,7 @@ ghost use Rattle.mkb_board.specs.Boards.{IsLegalBoard, takes_in, drops_in, has_h
 use crate::choosing;
 use crate::cost::cost;
 use crate::finishing::process_of;
-use crate::normal::Normal;
+use crate::normal::{Normal, nothing_noted};
 use crate::snapshots::named::view_of;
 use kb_cert::Certificate;
 use kb_label::{Labels, ListLabels, Living, NameLog, Process, Verdict};
@@ -40,7 +40,7 @@ pub struct Board {
     pub(crate) taken: u64,
     pub(crate) dropped: u64,
     pub(crate) halted: bool,
-    pub(crate) normal: Normal,
+    pub(crate) normals: Vec<Normal>,
 }
 
 impl Model for Board {
@@ -49,7 +49,7 @@ impl Model for Board {
     ghost use Rattle.kb_term.specs.Coding.{coded_pair, coded_problem, coded_tree};
     ghost use Rattle.mkb_model.specs.Verdicts.{verdict as verdict_on};
     ghost use Rattle.mkb_board.specs.Boards.{Seen, seen, IsBoard, owed};
-    ghost use Rattle.mkb_board.specs.Normal.{AreNormal};
+    ghost use Rattle.mkb_board.specs.Normal.{AreAllNormal};
 
     ghost Value = { Seen };
 
@@ -57,7 +57,7 @@ impl Model for Board {
 
     ghost view = { λ b. seen b.state b.flight.items b.journal.items };
 
-    ghost invariant = { λ b. IsBoard (seen b.state b.flight.items b.journal.items) b.taken b.dropped b.halted × (vec_len b.journal + owed (vec_len b.flight) b.halted ≤ vec_capacity b.journal) × (b.verdict ≡ verdict_on b.state) × AreNormal b.state b.normal };
+    ghost invariant = { λ b. IsBoard (seen b.state b.flight.items b.journal.items) b.taken b.dropped b.halted × (vec_len b.journal + owed (vec_len b.flight) b.halted ≤ vec_capacity b.journal) × (b.verdict ≡ verdict_on b.state) × AreAllNormal b.state b.normals.items };
 }
 
 impl Board {
@@ -75,6 +75,7 @@ impl Board {
         let verdict = choosing::verdict(&state);
         let mut journal = Vec::new(alloc);
         journal.reserve(1)?;
+        let normals = nothing_noted(alloc)?;
         Ok(Board {
             state,
             verdict,
@@ -83,7 +84,7 @@ impl Board {
             taken: 0,
             dropped: 0,
             halted: false,
-            normal: Normal::new(alloc),
+            normals,
         })
     }
 

@@ -8,7 +8,7 @@ ghost use Rattle.mkb_model.specs.Jobs.{process_of, job_cmp, is_free};
 ghost use Rattle.mkb_model.specs.Plain.{cost, weight, rules_of};
 ghost use Rattle.mkb_model.specs.DueJobs.{first_job, work_of};
 ghost use Rattle.mkb_board.specs.Choosing.{jobs_of, first_choice, least_choice, merged, IsCosted, StandsBefore};
-ghost use Rattle.mkb_board.specs.Normal.{AreNormal, Serves};
+ghost use Rattle.mkb_board.specs.Normal.{AreAllNormal, AreNormal, Serves};
 ghost use Rattle.mkb_board.specs.declared.first.Choice.{Choice};
 
 use crate::choosing::is_over;
@@ -33,18 +33,19 @@ struct Choice {
 /// The first job beside those in flight, if there is one: the least due job of an awake process that clashes with none of
 /// them.
 ///
-/// A process is searched only where its cost is below that of the best job so far. By the stated selection the search of a
+/// What is noted of one process at another's place is of no use, so each process has the place of its number, again from the first
+/// after the last. A process is searched only where its cost is below that of the best job so far. By the stated selection the search of a
 /// process ends at its first job that serves; by size it goes over its jobs of one kind.
 pub(crate) fn first_job(
     state: &State,
     flight: &[Ticket],
-    normal: &mut Normal,
+    normals: &mut Vec<Normal>,
 ) -> Result<Option<Job>, Memory>
     requires limited { AreLimited state.now.problem.signature state.now.nodes }
     requires in_order { IsInNameOrder state.now.living }
-    requires normal { AreNormal state.now normal.old }
+    requires normals { AreAllNormal state.now normals.old.items }
     ensures first { IfOk result (λ o. o ≡ first_job (record state.now { flight = flight.now })) }
-    ensures normal { AreNormal state.now normal.new }
+    ensures normals { AreAllNormal state.now normals.new.items }
 {
     let living = state.log().processes();
     let mut best = None;
@@ -53,7 +54,8 @@ pub(crate) fn first_job(
         if state.is_asleep(process) {
             continue;
         }
-        best = lesser_choice(state, flight, normal, best, process)?;
+        let place = i % normals.len();
+        best = lesser_choice(state, flight, &mut normals[place], best, process)?;
     }
     match best {
         Some(choice) => Ok(Some(choice.job)),

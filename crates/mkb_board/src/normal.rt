@@ -7,7 +7,7 @@ ghost use Rattle.kb_node.specs.declared.job.Job.TheVariants as jobs;
 ghost use Rattle.mkb_model.specs.Jobs.{ref_eq};
 ghost use Rattle.mkb_model.specs.Plain.{Plain, known, other, rules_of};
 ghost use Rattle.mkb_model.specs.DueJobs.{is_work_due};
-ghost use Rattle.mkb_board.specs.Normal.{AreNormal, NoneOpens, Serves, has_rule, is_in_use, is_open_in, is_open_to, roles_of};
+ghost use Rattle.mkb_board.specs.Normal.{AreAllNormal, AreNormal, NoneOpens, Serves, has_rule, is_in_use, is_open_in, is_open_to, roles_of};
 
 use crate::choosing::{is_equation, is_rule, node_count};
 use crate::due::is_same;
@@ -147,6 +147,20 @@ pub(crate) struct Normal {
     alloc: Global,
     rules: Vec<RuleRef>,
     nodes: Vec<Option<Roles>>,
+}
+
+// For how many processes something is noted at once: as many as may be active and awake.
+const PLACES: usize = 64;
+
+/// Places for what is noted of several processes, with nothing noted.
+pub(crate) fn nothing_noted(alloc: Global) -> Result<Vec<Normal>, AllocError>
+    ensures { IfOk result (λ normals. (b : Plain) → AreAllNormal b normals.items) }
+{
+    let mut normals = Vec::new(alloc);
+    for _ in 0..PLACES {
+        normals.push(Normal::new(alloc))?;
+    }
+    Ok(normals)
 }
 
 impl Normal {

@@ -39,7 +39,7 @@ impl Board {
         if self.halted {
             return Ok(Taken::Halted);
         }
-        match first_job(&self.state, self.flight.as_slice(), &mut self.normal)? {
+        match first_job(&self.state, self.flight.as_slice(), &mut self.normals)? {
             None => Ok(Taken::Idle(self.flight.len())),
             Some(job) => self.take_job(alloc, worker, &job),
         }

@@ -1,5 +1,5 @@
 // Completions of problems by one worker, generated problems and their summaries.
-use crate::bench::{Bench, Want};
+use crate::bench::{Bench, Want, commits};
 use kb_io::{MemorySource, OpenGate};
 use kb_syntax::{Bound, Kind};
 use mkbtt_top::{Outcome, Status};
@@ -197,6 +197,38 @@ fn summaries_are_written(rt: HostRuntime) {
         output,
     };
     assert!(rt; bench.ends(&["summary", "--number", "1"], &[], want));
+}
+
+#[test]
+fn a_run_of_5000_commits_is_spent_with_all_of_them(rt: HostRuntime) {
+    let bench = Bench {
+        rt: &rt,
+        alloc: rt.alloc(),
+    };
+    let words = &["complete", "--workers", "1", "--budget", "5000"];
+    let want = Want {
+        code: 2,
+        commits: Some(5000),
+        output: "MKBTT 2\nSPENT COMMITS 5000 2\nEND\n",
+    };
+    assert!(rt; bench.ends(words, &[GROUP], want));
+}
+
+#[test]
+fn two_runs_of_a_summary_write_the_same_bytes(rt: HostRuntime) {
+    let bench = Bench {
+        rt: &rt,
+        alloc: rt.alloc(),
+    };
+    let words = &["summary", "--number", "8", "--budget", "500"];
+    let mut first = bench.sink(2000);
+    let outcome = bench.perform(words, &mut bench.source(&[]), &mut first, &OpenGate);
+    assert!(rt; outcome.status == Status::Done);
+    assert!(rt; commits(&outcome) == Some(500));
+    let mut second = bench.sink(2000);
+    let outcome = bench.perform(words, &mut bench.source(&[]), &mut second, &OpenGate);
+    assert!(rt; outcome.status == Status::Done);
+    assert!(rt; first.bytes() == second.bytes());
 }
 
 /// A comment with so many letters, and the empty problem behind it.

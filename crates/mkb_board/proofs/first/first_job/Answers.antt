@@ -10,6 +10,7 @@ use Rattle.mkb_board.specs.Choosing.{jobs_of, merged}
 use Rattle.mkb_board.specs.declared.first.Choice.{Choice}
 use Rattle.mkb_board.proofs.Better.{best_next, best_of_all, before_next, ordered_from, drop_at}
 use Rattle.mkb_board.proofs.Firsts.{least_free}
+use Rattle.mkb_board.proofs.Irreducible.{normals_with}
 use Rattle.mkb_board.proofs.Sleepers.{filter_at}
 use Rattle.mkb_board.proofs.first.first_job.Goals as goal
 
@@ -43,7 +44,7 @@ loop-i-preserved-then-is_asleep c =
     record {
       least = sym (ap (λ (ps : List Name). merged (job_cmp (cost b) (weight b)) (option_map (λ (k : Choice). k.job) c.loop-i.best) (least_free b (jobs_of c.args.flight.now) ps)) up) ∙ c.loop-i.invariant.least;
       costed = c.loop-i.invariant.costed;
-      normal = c.loop-i.invariant.normal;
+      normals = c.loop-i.invariant.normals;
       before = λ q k. c.loop-i.invariant.before q (subst {A = List Name} (λ z. Contains z q) (sym from) (contains_behind p left q k));
     }
 
@@ -65,7 +66,7 @@ loop-i-preserved c =
           ∙ sym (ap (λ (ps : List Name). merged (job_cmp (cost b) (weight b)) (job_in c.loop-i.best) (least_free b flight ps)) up)
           ∙ c.loop-i.invariant.least;
       costed = c.in_ok-best.ensures.costed;
-      normal = c.lesser_choice.ensures.normal;
+      normals = normals_with b c.loop-i.normals.items _ c.lesser_choice.new.normal c.loop-i.invariant.normals c.lesser_choice.ensures.normal;
       before = before_next c.loop-i.best c.in_ok-best.best p left (subst {A = List Name} IsInNameOrder from (ordered_from c.loop-i.i b.living c.requires.in_order))
           (λ q k. c.loop-i.invariant.before q (subst {A = List Name} (λ z. Contains z q) (sym from) (contains_behind p left q k)))
           c.in_ok-best.ensures.of_either;

@@ -22,7 +22,7 @@ invariant_of-result c = (
   opening_board c.args.problem c.args.settings c.in_ok-state.state c.new.result.items c.reserve.new.self.items c.requires c.in_ok-state.ensures c.new.ensures.items (c.in_ok-reserve.ensures.items ∙ c.new-journal.ensures.items),
   omega (arith, c.in_ok-reserve.ensures.ok, c.in_ok-reserve.ensures.len, c.new-journal.ensures.len, c.new.ensures.len),
   c.verdict-verdict.ensures,
-  c.new-2.ensures c.in_ok-state.state,
+  c.in_ok-normals.ensures c.in_ok-state.state,
 )
 
 pub verdict-verdict-requires : goal.verdict-verdict-requires
