@@ -28,6 +28,8 @@ use Rattle.mkb_rules.proofs.state.Certified.TheSendSync as certified
 use Rattle.mkb_rules.proofs.state.DonePair.TheSendSync as done
 use Rattle.mkb_rules.proofs.state.GivenUp.TheSendSync as over
 use Rattle.mkb_rules.proofs.sleepers.Sleepers.TheSendSync as sleepers
+use Rattle.mkb_rules.proofs.sizes.Sizes.TheSendSync as sizes
+use Rattle.mkb_board.proofs.normal.Normal.TheSendSync as normal
 use Rattle.std.specs.contracts.alloc.Global as Global
 use Rattle.std.specs.contracts.impls.GlobalAllocator.TheImpl as heap
 use Rattle.std.proofs.vec.Vec.TheSendSync as vec
@@ -46,6 +48,8 @@ use Rattle.kb_node.specs.contracts.table.NodeTable.TheInside as TableInside
 use Rattle.mkb_rules.specs.contracts.nodes.Nodes as Nodes
 use Rattle.mkb_rules.specs.contracts.nodes.Nodes.TheInside as NodesInside
 use Rattle.mkb_rules.specs.contracts.state.State.TheInside as StateInside
+use Rattle.mkb_rules.specs.contracts.tracked.Tracked as Tracked
+use Rattle.mkb_rules.specs.contracts.tracked.Tracked.TheInside as TrackedInside
 use Rattle.kb_term.specs.contracts.pair.Pair as Pair
 use Rattle.kb_term.specs.contracts.problem.Problem as Problem
 use Rattle.kb_node.specs.contracts.job.Deduced as Deduced
@@ -107,9 +111,15 @@ table_send T L g h s = view_send (TableInside.the_row T L g h) _ _ _ _ (recorded
   (bank.the_send, (search (sendable, crosses, set.the_send, sides.the_send, global.the_send) depth 20 fits 100000, (search (sendable, crosses), tt))),
 )))
 
+tracked_send : IsSend Tracked.the_row
+tracked_send = view_send TrackedInside.the_row _ _ _ _ (recorded_send (TrackedInside.the_field).row _ _ (TrackedInside.the_type).to_one (struct_send (S.shape TrackedInside.the_type) (
+  table_send LabelList.the_row NameLog.the_row label_ghosts.ghosts log_ghosts.ghosts labels.the_send,
+  (search (sendable, crosses), (search (sendable, crosses, sizes.the_send), tt)),
+)))
+
 nodes_send : IsSend Nodes.the_row
 nodes_send = view_send NodesInside.the_row _ _ _ _ (recorded_send (NodesInside.the_field).row _ _ (NodesInside.the_type).to_one (struct_send (S.shape NodesInside.the_type) (
-  table_send LabelList.the_row NameLog.the_row label_ghosts.ghosts log_ghosts.ghosts labels.the_send,
+  tracked_send,
   (plain_send _ _ _ _ _, (search (sendable, crosses, replaced.the_send), tt)),
 )))
 
@@ -126,7 +136,7 @@ state_send = view_send StateInside.the_row _ _ _ _ (recorded_send (StateInside.t
 )))
 
 pub board_send : IsSend Board.the_row
-board_send = search (sendable, crosses, state_send, entry_send, ticket.the_send, verdict.the_send) depth 60
+board_send = search (sendable, crosses, state_send, entry_send, ticket.the_send, verdict.the_send, normal.the_send) depth 60
 
 pub shared_send : IsSend Shared.the_row
 shared_send = search (sendable, board_send) depth 20
