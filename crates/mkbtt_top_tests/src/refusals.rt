@@ -106,6 +106,7 @@ fn a_sink_without_room_has_the_front_of_the_answer(rt: HostRuntime) {
         );
         let outcome = bench.perform(words, &mut source, &mut sink, &OpenGate);
         assert!(rt; status_code(&outcome.status) == 5);
-        assert!(rt; sink.bytes() == &EMPTY_ANSWER.as_bytes()[..written]);
+        assert!(rt; sink.bytes().len() == written);
+        assert!(rt; EMPTY_ANSWER.as_bytes().starts_with(sink.bytes()));
     }
 }
