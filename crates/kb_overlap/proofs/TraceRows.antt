@@ -24,9 +24,10 @@ ff-a-is-rule = record { no_variable = λ n. apply≢variable; holds_variables = 
 
 pub ff-a-right : IsRightTrace ((one 0 (one 0 (variable 4)), none 1) ∷ []) ff-a-trace
 ff-a-right = (
-  ((one 0 (one 0 (variable 4)), none 1), refl, refl),
+  (tt, ((one 0 (one 0 (variable 4)), none 1), refl, refl)),
   (
     (
+      (omega arith, omega arith),
       record { first = one 0 (one 0 (variable 0)); second = none 1 },
       record { first = one 0 (one 0 (variable 0)); second = none 1 },
       refl,
@@ -74,11 +75,12 @@ fa-trace =
 
 pub fa-right : IsRightTrace ((one 0 (none 1), none 2) ∷ (one 0 (none 1), none 3) ∷ []) fa-trace
 fa-right = (
-  ((one 0 (none 1), none 2), refl, refl),
+  (tt, ((one 0 (none 1), none 2), refl, refl)),
   (
-    ((one 0 (none 1), none 3), refl, refl),
+    (tt, ((one 0 (none 1), none 3), refl, refl)),
     (
       (
+        (omega arith, omega arith),
         record { first = one 0 (none 1); second = none 3 },
         record { first = one 0 (none 1); second = none 2 },
         refl,

@@ -1,5 +1,5 @@
 -- Traces: how each pair follows from the equations and earlier pairs.
-use Rattle.std.specs.Prelude.{ℕ, zero, suc, ◌≡◌, List, [], ◌∷◌, ◌++◌, map, Option, Some, None, slice_get, Ok, ⊤}
+use Rattle.std.specs.Prelude.{ℕ, zero, suc, ◌≡◌, ◌≤◌, List, [], ◌∷◌, ◌++◌, map, Option, Some, None, slice_get, Ok, ⊤}
 use Rattle.kb_term.specs.Tree.{Tree}
 use Rattle.kb_term.specs.Pair.{Pair, canonical_pair}
 use Rattle.kb_term.specs.Rule.{Rule, IsRule, rule_of, pair_of_rule}
@@ -47,13 +47,23 @@ pub record IsRightOverlap (outer inner : Rule) (p : List ℕ) (pair : Pair) : Ty
   pub overlap : IsOverlapOrLimit outer inner (record { position = p; sides = Ok (s, t) })
   pub canonical : canonical_pair s t ≡ Some pair
 
+-- the sides and directions that the origin names are 0 or 1
+abbrev pub IsOriginOfForm : Origin → Type 0
+IsOriginOfForm (Input i) = ⊤
+IsOriginOfForm (Rewrite n w p r) = (w ≤ 1) × (r.dir ≤ 1)
+IsOriginOfForm (Overlap a b p) = (a.dir ≤ 1) × (b.dir ≤ 1)
+
 -- the pair follows from the equations and the pairs that `earlier` gives by number, in the way that the origin says
-abbrev pub IsRightOrigin : List (Tree × Tree) → (ℕ → Option Pair) → Origin → Pair → Type 0
-IsRightOrigin equations earlier (Input i) pair = IsRightInput equations i pair
-IsRightOrigin equations earlier (Rewrite a w p b) pair =
+abbrev pub FollowsBy : List (Tree × Tree) → (ℕ → Option Pair) → Origin → Pair → Type 0
+FollowsBy equations earlier (Input i) pair = IsRightInput equations i pair
+FollowsBy equations earlier (Rewrite a w p b) pair =
     (old : Pair) × (by : Pair) × (earlier a ≡ Some old) × (earlier b.node ≡ Some by) × IsRightRewrite old w p (rule_of by b.dir) pair
-IsRightOrigin equations earlier (Overlap a b p) pair =
+FollowsBy equations earlier (Overlap a b p) pair =
     (outer : Pair) × (inner : Pair) × (earlier a.node ≡ Some outer) × (earlier b.node ≡ Some inner) × IsRightOverlap (rule_of outer a.dir) (rule_of inner b.dir) p pair
+
+-- the origin is of the form, and the pair follows as it says
+abbrev pub IsRightOrigin : List (Tree × Tree) → (ℕ → Option Pair) → Origin → Pair → Type 0
+IsRightOrigin equations earlier origin pair = IsOriginOfForm origin × FollowsBy equations earlier origin pair
 
 -- each step of the rest is right, given the pairs of the steps before it; they are cited by their numbers from 1
 abbrev pub IsRightAfter : List (Tree × Tree) → List Pair → List TraceStep → Type 0

@@ -22,7 +22,7 @@ use Rattle.mkb_model.specs.DueJobs.{reducers}
 use Rattle.mkb_model.specs.Effects.{with_node, new_node, node_of, is_present, gains_equation, oriented, added, rewritten, rewrite_label, overlap_label, applied, forked_node}
 use Rattle.mkb_model.specs.Proposals.{Proposes, NamedRule, NamedOverlap, OverlapsOfAll, AreDeduced, both_ways, all_ways, rules_on}
 use Rattle.mkb_model.specs.Journals.{Moment, Follows, IsPossibleRun, IsFreeJob, with_input, with_inputs}
-use Rattle.mkb_model.specs.Origins.{IsOriginOfForm}
+use Rattle.kb_overlap.specs.Trace.{IsOriginOfForm}
 use Rattle.mkb_model.specs.declared.proposed.Proposed.{Proposed}
 use Rattle.mkb_model.specs.declared.proposed.Proposed.TheVariants.{Facts, Rewrite, One, Both, Refuse, Deduce, Unjoined, Closed, Limit}
 use Rattle.mkb_model.specs.declared.entry.Entry.{Entry}

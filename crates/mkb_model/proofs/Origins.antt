@@ -13,7 +13,7 @@ use Rattle.kb_term.specs.declared.origin.RuleRef.{RuleRef}
 use Rattle.kb_term.specs.declared.origin.Found.{Found}
 use Rattle.kb_term.specs.declared.origin.Origin.{Origin}
 use Rattle.kb_term.specs.declared.origin.Origin.TheVariants.{Input, Rewrite as ByRewrite, Overlap as ByOverlap}
-use Rattle.kb_overlap.specs.Trace.{item, other_side, IsRightOrigin, IsRightOverlap}
+use Rattle.kb_overlap.specs.Trace.{item, other_side, FollowsBy, IsRightOverlap}
 use Rattle.kb_overlap.specs.Overlap.{Overlap as Listed, IsOverlapOrLimit}
 use Rattle.kb_label.specs.Names.{Name, root, has, child, is_empty, join}
 use Rattle.kb_label.proofs.Members.{name_eq-refl}
@@ -66,10 +66,10 @@ at_is (x ∷ xs) (suc k) = at_is xs k
 
 -- each follows from those before it
 abbrev AreRight : List (Tree × Tree) → List Bone → Type 0
-AreRight es bs = (n : ℕ) (b : Bone) → slice_get bs n ≡ Some b → IsRightOrigin es (at (take n bs)) b.1 b.0
+AreRight es bs = (n : ℕ) (b : Bone) → slice_get bs n ≡ Some b → FollowsBy es (at (take n bs)) b.1 b.0
 
 -- what follows from some pairs follows from more
-origin_more : (es : List (Tree × Tree)) (e f : ℕ → Option Pair) → ((k : ℕ) (q : Pair) → e k ≡ Some q → f k ≡ Some q) → (o : Origin) (z : Pair) → IsRightOrigin es e o z → IsRightOrigin es f o z
+origin_more : (es : List (Tree × Tree)) (e f : ℕ → Option Pair) → ((k : ℕ) (q : Pair) → e k ≡ Some q → f k ≡ Some q) → (o : Origin) (z : Pair) → FollowsBy es e o z → FollowsBy es f o z
 origin_more es e f h (Input i) z r = r
 origin_more es e f h (ByRewrite a w p b) z (old, by, i, j, r) = (old, by, h a old i, h b.node by j, r)
 origin_more es e f h (ByOverlap a b p) z (outer, inner, i, j, r) = (outer, inner, h a.node outer i, h b.node inner j, r)
@@ -91,10 +91,10 @@ last_or_old [] y (suc n) b h = none_some h
 last_or_old (x ∷ bs) y zero b h = inl h
 last_or_old (x ∷ bs) y (suc n) b h = ⊎_elim (λ k. inl k) (λ k. inr (ap suc k.0, k.1)) (last_or_old bs y n b h)
 
-right_push : (es : List (Tree × Tree)) (bs : List Bone) (z : Pair) (o : Origin) → AreRight es bs → IsRightOrigin es (at bs) o z → AreRight es (bs ++ (z, o) ∷ [])
+right_push : (es : List (Tree × Tree)) (bs : List Bone) (z : Pair) (o : Origin) → AreRight es bs → FollowsBy es (at bs) o z → AreRight es (bs ++ (z, o) ∷ [])
 right_push es bs z o h r n b e = ⊎_elim
     (λ k. origin_more es (at (take n bs)) (at (take n (bs ++ (z, o) ∷ []))) (take_more bs ((z, o) ∷ []) n) b.1 b.0 (h n b k))
-    (λ k. subst {A = Bone} (λ y. IsRightOrigin es (at (take n (bs ++ (z, o) ∷ []))) y.1 y.0) k.1 (subst {A = ℕ} (λ m. IsRightOrigin es (at (take m (bs ++ (z, o) ∷ []))) o z) (sym k.0) (origin_more es (at bs) (at (take (length bs) (bs ++ (z, o) ∷ []))) (take_whole bs ((z, o) ∷ [])) o z r)))
+    (λ k. subst {A = Bone} (λ y. FollowsBy es (at (take n (bs ++ (z, o) ∷ []))) y.1 y.0) k.1 (subst {A = ℕ} (λ m. FollowsBy es (at (take m (bs ++ (z, o) ∷ []))) o z) (sym k.0) (origin_more es (at bs) (at (take (length bs) (bs ++ (z, o) ∷ []))) (take_whole bs ((z, o) ∷ [])) o z r)))
     (last_or_old bs (z, o) n b e)
 
 -- ---- nodes
@@ -130,7 +130,7 @@ pub bones_append : (xs : List PlainNode) (y : PlainNode) → bones (xs ++ y ∷ 
 bones_append [] y = refl
 bones_append (x ∷ xs) y = ap ((x.pair, x.origin) ∷◌) (bones_append xs y)
 
-right_with_node : (es : List (Tree × Tree)) (z : Pair) (o : Origin) (xs : List PlainNode) → Right es xs → IsRightOrigin es (pair_in xs) o z → Right es (with_node z o xs)
+right_with_node : (es : List (Tree × Tree)) (z : Pair) (o : Origin) (xs : List PlainNode) → Right es xs → FollowsBy es (pair_in xs) o z → Right es (with_node z o xs)
 right_with_node es z o xs h r = go (is_present xs z)
   where
     go : (b : Bool) → Right es (cond b xs (xs ++ new_node z o ∷ []))
@@ -326,5 +326,5 @@ bone_at (y ∷ xs) (suc n) x h = bone_at xs n x h
 
 -- each pair of a board of a run follows from the input and earlier pairs
 pub pairs_follow_run : (P : Problem) (n : Settings) (ms : List Moment) (c : Plain) → IsWithinLimits P → IsPossibleRun P n ms c → PairsFollow c
-pairs_follow_run P n ms c within run k x h = subst {A = Problem} (λ z. IsRightOrigin z.equations (pair_in (take k c.nodes)) x.origin x.pair) (sym (within_budget IsFreeJob P n ms c run).problem)
+pairs_follow_run P n ms c within run k x h = subst {A = Problem} (λ z. FollowsBy z.equations (pair_in (take k c.nodes)) x.origin x.pair) (sym (within_budget IsFreeJob P n ms c run).problem)
     (origin_more P.equations (at (take k (bones c.nodes))) (pair_in (take k c.nodes)) (λ m q e. sym (at_is (take k c.nodes) m) ∙ sym (ap (λ bs. at bs m) (bones_take k c.nodes)) ∙ e) x.origin x.pair (right_run P n ms c within run k (bone x) (bone_at c.nodes k x h)))

@@ -7,7 +7,7 @@ use Rattle.kb_term.specs.Rule.{Rule}
 use Rattle.kb_term.specs.Signature.{Problem}
 use Rattle.kb_term.specs.Proving.{IsChain}
 use Rattle.kb_cert.specs.Family.{IsFirstOrder}
-use Rattle.kb_overlap.specs.Trace.{IsRightOrigin, side}
+use Rattle.kb_overlap.specs.Trace.{FollowsBy, side}
 use Rattle.kb_term.specs.declared.origin.Found.TheVariants.{Strict}
 use Rattle.kb_term.specs.declared.origin.RuleRef.{RuleRef}
 use Rattle.kb_cert.specs.declared.certificate.Certificate.{Certificate}
@@ -98,7 +98,7 @@ pub record PairsDiffer (b : Plain) : Type 0 where
 
 -- 7, besides: each pair follows from the input and earlier pairs as its origin says
 abbrev pub PairsFollow : Plain → Type 0
-PairsFollow b = (n : ℕ) (x : PlainNode) → slice_get b.nodes n ≡ Some x → IsRightOrigin b.problem.equations (pair_in (take n b.nodes)) x.origin x.pair
+PairsFollow b = (n : ℕ) (x : PlainNode) → slice_get b.nodes n ≡ Some x → FollowsBy b.problem.equations (pair_in (take n b.nodes)) x.origin x.pair
 
 -- no name of the list begins another
 abbrev pub AreApart : List Name → Type 0

@@ -12,5 +12,4 @@ pub mod Headline
 pub mod Invariants
 pub mod GoodAnswers
 pub mod Tickets
-pub mod Origins
 pub mod Changing

@@ -12,7 +12,7 @@ ghost use Rattle.mkb_model.specs.Verdicts.{verdict, VerdictMeans};
 ghost use Rattle.mkb_model.specs.Journals.{Alone, Moment, Follows, IsFreeJob, IsPossibleRun, IsRun, IsLeaving, IsCommitting, IsDropping, After, journal_of, landed, moves_of, opening, tickets};
 ghost use Rattle.mkb_model.specs.Limits.{AreLimited};
 ghost use Rattle.mkb_model.specs.Effects.{counted};
-ghost use Rattle.mkb_model.specs.Origins.{IsOriginOfForm};
+ghost use Rattle.kb_overlap.specs.Trace.{IsOriginOfForm};
 ghost use Rattle.mkb_model.specs.Changing.{IsChanged, IsIdleLimit};
 ghost use Rattle.mkb_model.specs.Ready.{KeepsPairs, AllFine};
 ghost use Rattle.kb_node.specs.declared.job.Job.{Job};

@@ -20,7 +20,7 @@ use Rattle.mkb_model.specs.Verdicts.{verdict}
 use Rattle.mkb_model.specs.Journals.{IsPossibleRun, IsFreeJob, tickets}
 use Rattle.mkb_model.specs.Invariants.{IsSound, PairsFollow}
 use Rattle.mkb_model.specs.Limits.{AreLimited}
-use Rattle.mkb_model.specs.Origins.{IsOriginOfForm}
+use Rattle.kb_overlap.specs.Trace.{IsOriginOfForm}
 use Rattle.mkb_model.specs.GoodAnswers.{IsGoodAnswer}
 use Rattle.mkb_model.proofs.Changes.{Fits}
 use Rattle.mkb_model.proofs.Fitting.{fits_run}

@@ -27,7 +27,7 @@ use Rattle.kb_laws.proofs.Closing.{slice_contains}
 use Rattle.kb_laws.proofs.LoneRule.{rule_same}
 use Rattle.kb_checker.specs.Answers.{IsRuleForm}
 use Rattle.mkb_model.specs.Limits.{IsLimitedPair}
-use Rattle.mkb_model.specs.Origins.{IsOriginOfForm}
+use Rattle.kb_overlap.specs.Trace.{IsOriginOfForm}
 use Rattle.mkb_model.proofs.Lists.{and_both, none_some, some_is}
 use Rattle.mkb_model.proofs.Sizes.{numbered_within, turned}
 use Rattle.mkb_report.proofs.Traces.{mapped_is}

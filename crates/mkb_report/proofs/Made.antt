@@ -40,7 +40,7 @@ use Rattle.kb_report.specs.declared.report.Report.TheVariants.{System}
 use Rattle.mkb_model.specs.Plain.{Plain, PlainNode, rules_of, constraints_of, pair_at, rule_at, rules_at, certificate_of}
 use Rattle.mkb_model.specs.Effects.{pair_eq}
 use Rattle.mkb_model.specs.Limits.{IsLimitedPair}
-use Rattle.mkb_model.specs.Origins.{IsOriginOfForm}
+use Rattle.kb_overlap.specs.Trace.{IsOriginOfForm}
 use Rattle.mkb_model.specs.Verdicts.{verdict}
 use Rattle.mkb_model.proofs.AllFine.{pair_there}
 use Rattle.mkb_model.proofs.Lists.{in_map, map_in, none_in, same_test, some_is}
