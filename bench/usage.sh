@@ -28,7 +28,7 @@ agree_on() {
 agree_on_names() {
     local option="$1" enum="$2" standard names listed name file
     names="$(grep -o "(\"[a-z]*\", $enum::" "$words/${enum,}.rt" | cut -d '"' -f 2 | tr '\n' ' ')"
-    standard="$(sed -n "s/.*name_option(alloc, \"$option\", [&A-Z_]*, \"\([a-z]*\)\").*/\1/p" "$words/command.rt")"
+    standard="$(sed -n "s/.*name_option(alloc, \"$option\", \"\([a-z]*\)\").*/\1/p" "$words/command.rt")"
     [ -n "$names" ] && [ -n "$standard" ] || lacks "a source of the option $option to be compared with"
     listed="$(sed 's/ \([a-z]*\) $/ or \1/; s/\([a-z]\) \([a-z]* or\)/\1, \2/' <<<"$names")"
     grep -Eq "^  --$option .*, $listed +default $standard\$" "$page" || lacks "the option $option, $listed, default $standard"

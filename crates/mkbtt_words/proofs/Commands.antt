@@ -26,13 +26,9 @@ use Rattle.clap.specs.declared.parser.matches.ArgMatches.{ArgMatches}
 use Rattle.clap.proofs.CallerLemmas.{default_present, present_has_entry, required_present}
 use Rattle.clap.proofs.OnLiterals.{clap_on_literals}
 use Rattle.clap.proofs.WalkLemmas.{both}
-use Rattle.mkbtt_words.specs.Command.{IsCommand, NumberOption, budget, command_with, format_rule, mode_rule, number, option_rule, selection_rule, workers}
-use Rattle.mkbtt_words.specs.Formats.{format_names, formats as all_formats}
-use Rattle.mkbtt_words.specs.Selections.{selection_names, selections as all_selections}
-use Rattle.mkbtt_words.specs.Modes.{mode_names, modes}
-use Rattle.mkbtt_words.specs.Parsed.{HasName, HasNumber}
+use Rattle.mkbtt_words.specs.Command.{NumberOption, budget, command, mode_rule, name_rule, number, option_rule, workers}
+use Rattle.mkbtt_words.specs.Parsed.{HasNumber}
 use Rattle.mkbtt_words.proofs.Entries.{HasText, entry_text, found_in}
-use Rattle.mkbtt_words.proofs.NameLists.{known_name}
 
 -- ---- what a rule says of its argument
 
@@ -89,20 +85,29 @@ own_id id own = (
   ],
 )
 
-abbrev rules : Bor (List (Bor Text)) → Bor (List (Bor Text)) → Bor (List (Bor Text)) → List Rule
-rules names formats selections = (command_with names formats selections).top.rules
-
 -- the command is one of which the matches and the faults are exact
-simple_command : (names formats selections : Bor (List (Bor Text))) → is_simple_and_free (command_with names formats selections) ≡ true
-unfolding clap_on_literals
-simple_command names formats selections = refl
+pub simple_command : is_simple_and_free command ≡ true
+unfolding clap_on_literals command
+simple_command = refl
 
-pub simple_app : {a : App} → IsCommand a → is_simple_and_free a ≡ true
-simple_app is = ap is_simple_and_free is.is ∙ simple_command is.names is.formats is.selections
+abbrev rules : List Rule
+rules = mode_rule ∷ option_rule workers ∷ option_rule budget ∷ option_rule number ∷ name_rule (codes "to") (codes "answer") ∷ name_rule (codes "select") (codes "stated") ∷ []
 
-module _ (c : Command) (m : ArgMatches) (p : IsParsedFrom c m) (names formats selections : Bor (List (Bor Text))) (is : app_of c ≡ command_with names formats selections) (d : Arg) where
-  rules_are : map rule_of (args_of c) ≡ rules names formats selections
-  rules_are = ap (λ (a : App). a.top.rules) is
+command_rules : command.top.rules ≡ rules
+unfolding command
+command_rules = refl
+
+command_plain : command.top.is_plain ≡ true
+unfolding command
+command_plain = refl
+
+command_negates : command.top.subcommand_negates_reqs ≡ false
+unfolding command
+command_negates = refl
+
+module _ (c : Command) (m : ArgMatches) (p : IsParsedFrom c m) (is : app_of c ≡ command) (d : Arg) where
+  rules_are : map rule_of (args_of c) ≡ rules
+  rules_are = ap (λ (a : App). a.top.rules) is ∙ command_rules
 
   abbrev arg_at : ℕ → Arg
   arg_at j = slice_index_or (args_of c) j d
@@ -110,13 +115,13 @@ module _ (c : Command) (m : ArgMatches) (p : IsParsedFrom c m) (names formats se
   count : length (args_of c) ≡ 6
   count = sym (length-map (args_of c) rule_of) ∙ ap length rules_are
 
-  rule_at : (j : ℕ) (e : Arg) → j < length (args_of c) → rule_of (slice_index_or (args_of c) j e) ≡ slice_index_or (rules names formats selections) j (rule_of d)
+  rule_at : (j : ℕ) (e : Arg) → j < length (args_of c) → rule_of (slice_index_or (args_of c) j e) ≡ slice_index_or rules j (rule_of d)
   rule_at j e lt = sym (get_or-map rule_of (args_of c) j e (rule_of d) lt) ∙ ap (λ (rs : List Rule). slice_index_or rs j (rule_of d)) rules_are
 
   id_at : (j : ℕ) (e : Arg) → j < length (args_of c) → (slice_index_or (args_of c) j e).id.now ≡ slice_index_or ids j []
   id_at j e lt = ap (λ (r : Rule). r.id) (rule_at j e lt) ∙ at_place j (rw (← count) lt)
     where
-      at_place : (j : ℕ) → j < 6 → (slice_index_or (rules names formats selections) j (rule_of d)).id ≡ slice_index_or ids j []
+      at_place : (j : ℕ) → j < 6 → (slice_index_or rules j (rule_of d)).id ≡ slice_index_or ids j []
       at_place zero lt = refl
       at_place (suc zero) lt = refl
       at_place (suc (suc zero)) lt = refl
@@ -141,7 +146,7 @@ module _ (c : Command) (m : ArgMatches) (p : IsParsedFrom c m) (names formats se
       plain_arg (slice_index_or (args_of c) j e) halves.0 halves.1
 
   fields : has_plain_fields (out-Command c) ≡ true
-  fields = ap (λ (a : App). a.top.is_plain) is
+  fields = ap (λ (a : App). a.top.is_plain) is ∙ command_plain
 
   plain : IsPlain c
   plain = (λ j e lt. (plain_at j e lt).0, empty_list _ (both _ _ fields).0)
@@ -150,10 +155,10 @@ module _ (c : Command) (m : ArgMatches) (p : IsParsedFrom c m) (names formats se
   globals = not-true _ (both _ _ (both _ _ (both _ _ fields).1).1).0
 
   negates : (out-Command c).subcommand_negates_reqs ≡ false
-  negates = ap (λ (a : App). a.top.subcommand_negates_reqs) is
+  negates = ap (λ (a : App). a.top.subcommand_negates_reqs) is ∙ command_negates
 
   -- the text of the argument with the rule r
-  text_at : (k : ℕ) (r : Rule) (q : ValueParser) → k < 6 → slice_index_or (rules names formats selections) k (rule_of d) ≡ r → is_own r.id ≡ true
+  text_at : (k : ℕ) (r : Rule) (q : ValueParser) → k < 6 → slice_index_or rules k (rule_of d) ≡ r → is_own r.id ≡ true
       → r.action ≡ Some Set → r.range ≡ None → r.parser ≡ Some q → (r.required ≡ true) ⊎ (0 < length r.defaults)
       → HasText (found_of m) r.id r.ignore_case q
   text_at k r q small at own set range parser given =
@@ -176,25 +181,10 @@ module _ (c : Command) (m : ArgMatches) (p : IsParsedFrom c m) (names formats se
       has_default : (a : Arg) (r : Rule) → rule_of a ≡ r → 0 < length r.defaults → 0 < length (items_of a.default_vals)
       has_default a r is some = rw (← length-map (items_of a.default_vals) (λ (s : Bor Text). s.now), ap (λ (x : Rule). length x.defaults) is) some
 
-  number_at : (k : ℕ) (o : NumberOption) → k < 6 → slice_index_or (rules names formats selections) k (rule_of d) ≡ option_rule o → is_own o.name ≡ true → HasNumber o (found_of m)
+  number_at : (k : ℕ) (o : NumberOption) → k < 6 → slice_index_or rules k (rule_of d) ≡ option_rule o → is_own o.name ≡ true → HasNumber o (found_of m)
   number_at k o small at own =
       let text = text_at k (option_rule o) (vp.Signed (pos o.low) (pos o.high)) small at own refl refl refl (inr (omega arith)) in
       record { text = text.0; given = text.2; within = text.3 }
-
-  mode_at : map (λ n. n.now) names.now ≡ mode_names → HasName (codes "mode") modes (found_of m)
-  mode_at texts =
-      let text = text_at 0 (mode_rule names) (vp.Names names) (omega arith) refl refl refl refl refl (inl refl) in
-      record { name = text.0; given = text.1; known = known_name modes names.now text.0 texts text.3 }
-
-  format_at : map (λ n. n.now) formats.now ≡ format_names → HasName (codes "to") all_formats (found_of m)
-  format_at texts =
-      let text = text_at 4 (format_rule formats) (vp.Names formats) (omega arith) refl refl refl refl refl (inr (omega arith)) in
-      record { name = text.0; given = text.1; known = known_name all_formats formats.now text.0 texts text.3 }
-
-  selection_at : map (λ n. n.now) selections.now ≡ selection_names → HasName (codes "select") all_selections (found_of m)
-  selection_at texts =
-      let text = text_at 5 (selection_rule selections) (vp.Names selections) (omega arith) refl refl refl refl refl (inr (omega arith)) in
-      record { name = text.0; given = text.1; known = known_name all_selections selections.now text.0 texts text.3 }
 
 -- an argument of the command
 first_arg : (xs : List Arg) (r : Rule) (rs : List Rule) → map rule_of xs ≡ r ∷ rs → Arg
@@ -203,24 +193,15 @@ first_arg [] r rs e =
     absurd (omega arith)
 first_arg (x ∷ xs) r rs e = x
 
-module _ (c : Command) (m : ArgMatches) (p : IsParsedFrom c m) (is : IsCommand (app_of c)) where
+module _ (c : Command) (m : ArgMatches) (p : IsParsedFrom c m) (is : app_of c ≡ command) where
   some_arg : Arg
-  some_arg = first_arg (args_of c) _ _ (ap (λ (a : App). a.top.rules) is.is)
-
-  pub mode_found : HasName (codes "mode") modes (found_of m)
-  mode_found = mode_at c m p is.names is.formats is.selections is.is some_arg is.texts
-
-  pub format_found : HasName (codes "to") all_formats (found_of m)
-  format_found = format_at c m p is.names is.formats is.selections is.is some_arg is.format_texts
-
-  pub selection_found : HasName (codes "select") all_selections (found_of m)
-  selection_found = selection_at c m p is.names is.formats is.selections is.is some_arg is.selection_texts
+  some_arg = first_arg (args_of c) _ _ (ap (λ (a : App). a.top.rules) is ∙ command_rules)
 
   pub workers_found : HasNumber workers (found_of m)
-  workers_found = number_at c m p is.names is.formats is.selections is.is some_arg 1 workers (omega arith) refl refl
+  workers_found = number_at c m p is some_arg 1 workers (omega arith) refl refl
 
   pub budget_found : HasNumber budget (found_of m)
-  budget_found = number_at c m p is.names is.formats is.selections is.is some_arg 2 budget (omega arith) refl refl
+  budget_found = number_at c m p is some_arg 2 budget (omega arith) refl refl
 
   pub number_found : HasNumber number (found_of m)
-  number_found = number_at c m p is.names is.formats is.selections is.is some_arg 3 number (omega arith) refl refl
+  number_found = number_at c m p is some_arg 3 number (omega arith) refl refl

@@ -1,4 +1,4 @@
-pub mod NameLists
 pub mod Entries
 pub mod Numbers
 pub mod Commands
+pub mod Read

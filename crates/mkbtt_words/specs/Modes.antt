@@ -1,6 +1,6 @@
 -- The modes and their names.
 use Rattle.std.specs.Prelude.{ℕ, List, [], ◌∷◌, Option, codes}
-use Rattle.mkbtt_words.specs.Named.{named, names_of}
+use Rattle.mkbtt_words.specs.Named.{named}
 use Rattle.mkbtt_words.specs.declared.mode.Mode.{Mode}
 use Rattle.mkbtt_words.specs.declared.mode.Mode.TheVariants.{Complete, Rounds, Check, Convert, Reduce, Decide, Simplify, Summary, Journal, Replay, Gen}
 
@@ -8,9 +8,6 @@ use Rattle.mkbtt_words.specs.declared.mode.Mode.TheVariants.{Complete, Rounds, C
 abbrev pub modes : List (List ℕ × Mode)
 modes = (codes "complete", Complete) ∷ (codes "rounds", Rounds) ∷ (codes "check", Check) ∷ (codes "convert", Convert) ∷ (codes "reduce", Reduce) ∷ (codes "decide", Decide) ∷ (codes "simplify", Simplify) ∷ (codes "summary", Summary) ∷ (codes "journal", Journal) ∷ (codes "replay", Replay)
     ∷ (codes "gen", Gen) ∷ []
-
-abbrev pub mode_names : List (List ℕ)
-mode_names = names_of modes
 
 abbrev pub mode_of : List ℕ → Option Mode
 mode_of = named modes

@@ -15,11 +15,8 @@ pub enum Format {
     Dot,
 }
 
-/// The names of all formats, as the command reads them.
-pub(crate) static FORMAT_NAMES: [&str; 3] = ["answer", "trs", "dot"];
-
 /// Each format under its name.
-static FORMATS: [(&str, Format); 3] = [
+pub(crate) static FORMATS: [(&str, Format); 3] = [
     ("answer", Format::Answer),
     ("trs", Format::Trs),
     ("dot", Format::Dot),

@@ -4,9 +4,11 @@
 mod command;
 mod fault;
 mod format;
+mod laws;
 mod message;
 mod mode;
 mod named;
+mod naming;
 mod selection;
 #[cfg(test)]
 mod tests;
@@ -14,6 +16,7 @@ mod words;
 
 pub use fault::WordsFault;
 pub use format::Format;
+pub use laws::words_are_read_or_refused;
 pub use message::refusal_message;
 pub use mode::Mode;
 pub use selection::Selection;

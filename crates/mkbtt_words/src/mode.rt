@@ -1,9 +1,8 @@
 // The modes of the program and their names.
-ghost use Rattle.std.specs.Prelude.{◌≡◌, IfOk, map};
-ghost use Rattle.mkbtt_words.specs.Modes.{mode_names, mode_of};
+ghost use Rattle.std.specs.Prelude.{◌≡◌};
+ghost use Rattle.mkbtt_words.specs.Modes.{mode_of};
 
 use crate::named::named_in;
-use std::alloc::{AllocError, Global};
 
 /// What the program is to do.
 #[derive(Clone, Copy, Debug, PartialEq, Eq)]
@@ -33,7 +32,7 @@ pub enum Mode {
 }
 
 /// Each mode under its name.
-static MODES: [(&str, Mode); 11] = [
+pub(crate) static MODES: [(&str, Mode); 11] = [
     ("complete", Mode::Complete),
     ("rounds", Mode::Rounds),
     ("check", Mode::Check),
@@ -46,24 +45,6 @@ static MODES: [(&str, Mode); 11] = [
     ("replay", Mode::Replay),
     ("gen", Mode::Gen),
 ];
-
-// The names of these modes, in their order.
-fn names_in<'a>(alloc: Global, modes: &[(&'a str, Mode)]) -> Result<Vec<&'a str>, AllocError>
-    ensures { IfOk result (λ names. map (λ n. n.now) names.items ≡ map (λ m. m.0.now) modes.now) }
-{
-    let mut names = Vec::new(alloc);
-    for mode in modes {
-        names.push(mode.0)?;
-    }
-    Ok(names)
-}
-
-/// The names of all modes.
-pub(crate) fn mode_names(alloc: Global) -> Result<Vec<&'static str>, AllocError>
-    ensures { IfOk result (λ names. map (λ n. n.now) names.items ≡ mode_names) }
-{
-    names_in(alloc, &MODES)
-}
 
 /// The mode of this name.
 pub(crate) fn mode_of(name: &str) -> Option<Mode>

@@ -13,11 +13,8 @@ pub enum Selection {
     Size,
 }
 
-/// The names of all selections, as the command reads them.
-pub(crate) static SELECTION_NAMES: [&str; 2] = ["stated", "size"];
-
 /// Each selection under its name.
-static SELECTIONS: [(&str, Selection); 2] = [
+pub(crate) static SELECTIONS: [(&str, Selection); 2] = [
     ("stated", Selection::Stated),
     ("size", Selection::Size),
 ];

@@ -159,3 +159,44 @@ fn other_words_are_refused(rt: HostRuntime) {
     assert!(rt; refuses(alloc, &["complete", "--workers=3", "--workers=3"]));
     assert!(rt; refuses(alloc, &["convert", "--to=dot", "--to", "trs"]));
 }
+
+fn says(alloc: Global, line: &[&str], want: &str) -> bool {
+    match refusal_message(alloc, line) {
+        Ok(Some(message)) => message.as_str() == want,
+        _ => false,
+    }
+}
+
+#[test]
+fn a_name_in_no_table_is_told(rt: HostRuntime) {
+    let alloc = rt.alloc();
+    assert!(rt;
+        says(
+            alloc,
+            &["complet"],
+            "error: invalid value 'complet' for '<mode>'\n  [possible values: complete, rounds, check, convert, reduce, decide, simplify, summary, journal, replay, gen]\n\n  tip: a similar value exists: 'complete'\n\nFor more information, try '--help'.\n"
+        )
+    );
+    assert!(rt;
+        says(
+            alloc,
+            &["convert", "--to=svg"],
+            "error: invalid value 'svg' for '--to <to>'\n  [possible values: answer, trs, dot]\n\nFor more information, try '--help'.\n"
+        )
+    );
+    assert!(rt;
+        says(
+            alloc,
+            &["convert", "--select="],
+            "error: a value is required for '--select <select>' but none was supplied\n  [possible values: stated, size]\n\nFor more information, try '--help'.\n"
+        )
+    );
+    assert!(rt;
+        says(
+            alloc,
+            &["complet", "--workers=x"],
+            "error: invalid value 'x' for '--workers <workers>': invalid digit found in string\n\nFor more information, try '--help'.\n"
+        )
+    );
+    assert!(rt; refusal_message(alloc, &["gen"]) == Ok(None));
+}

@@ -1,17 +1,17 @@
 // What the words of a command line come to.
-ghost use Rattle.std.specs.Prelude.{◌≡◌, ℕ, List, Some, IfOk, Err, codes, map};
-ghost use Rattle.clap.specs.Words.{first_value, found_of, rows_of};
+ghost use Rattle.std.specs.Prelude.{◌≡◌, IfOk, Err, codes, map};
+ghost use Rattle.clap.specs.Words.{found_of, rows_of};
 ghost use Rattle.mkbtt_words.specs.Command.{budget, number, workers};
-ghost use Rattle.mkbtt_words.specs.Formats.{format_of, formats};
-ghost use Rattle.mkbtt_words.specs.Modes.{mode_of, modes};
-ghost use Rattle.mkbtt_words.specs.Parsed.{HasName, HasNumber};
-ghost use Rattle.mkbtt_words.specs.Selections.{selection_of, selections};
-ghost use Rattle.mkbtt_words.specs.Reading.{AreRead, AreRefused, HoldsNumber};
+ghost use Rattle.mkbtt_words.specs.Parsed.{HasNumber};
+ghost use Rattle.mkbtt_words.specs.Formats.{format_of as format_by};
+ghost use Rattle.mkbtt_words.specs.Modes.{mode_of as mode_by};
+ghost use Rattle.mkbtt_words.specs.Selections.{selection_of as selection_by};
+ghost use Rattle.mkbtt_words.specs.Reading.{AreRead, AreRefused, named_in, together, words_in};
 
 use crate::command::command;
 use crate::fault::{WordsFault, fault_of};
 use crate::format::{Format, format_of};
-use crate::mode::{Mode, mode_names, mode_of};
+use crate::mode::{Mode, mode_of};
 use crate::selection::{Selection, selection_of};
 use clap::ArgMatches;
 use std::alloc::Global;
@@ -33,32 +33,63 @@ pub struct Words {
     pub selection: Selection,
 }
 
-// What a parse of the command found.
-fn words_of(matches: &ArgMatches<'_>) -> Words
-    requires mode { HasName (codes "mode") modes (found_of matches.now) }
+/// The mode that a parse found.
+pub(crate) fn mode_in(matches: &ArgMatches<'_>) -> Option<Mode>
+    ensures { result ≡ named_in mode_by (codes "mode") (rows_of (found_of matches.now)) }
+{
+    mode_of(matches.get_str("mode")?)
+}
+
+/// The format that a parse found.
+pub(crate) fn format_in(matches: &ArgMatches<'_>) -> Option<Format>
+    ensures { result ≡ named_in format_by (codes "to") (rows_of (found_of matches.now)) }
+{
+    format_of(matches.get_str("to")?)
+}
+
+// The selection that a parse found.
+fn selection_in(matches: &ArgMatches<'_>) -> Option<Selection>
+    ensures { result ≡ named_in selection_by (codes "select") (rows_of (found_of matches.now)) }
+{
+    selection_of(matches.get_str("select")?)
+}
+
+// These together, where each is there.
+fn together(
+    mode: Option<Mode>,
+    workers: Option<u8>,
+    budget: Option<u32>,
+    number: Option<u32>,
+    format: Option<Format>,
+    selection: Option<Selection>,
+) -> Option<Words>
+    ensures { result ≡ together mode workers budget number format selection }
+{
+    Some(Words {
+        mode: mode?,
+        workers: workers?,
+        budget: budget?,
+        number: number?,
+        format: format?,
+        selection: selection?,
+    })
+}
+
+/// What a parse of the command found; nothing where the mode, the format or the selection has none of their names.
+pub(crate) fn words_of(matches: &ArgMatches<'_>) -> Option<Words>
     requires workers { HasNumber workers (found_of matches.now) }
     requires budget { HasNumber budget (found_of matches.now) }
     requires number { HasNumber number (found_of matches.now) }
-    requires format { HasName (codes "to") formats (found_of matches.now) }
-    requires selection { HasName (codes "select") selections (found_of matches.now) }
-    ensures mode { (name : List ℕ) → first_value (found_of matches.now) (codes "mode") ≡ Some name → mode_of name ≡ Some result.mode }
-    ensures workers { HoldsNumber workers (rows_of (found_of matches.now)) result.workers }
-    ensures budget { HoldsNumber budget (rows_of (found_of matches.now)) result.budget }
-    ensures number { HoldsNumber number (rows_of (found_of matches.now)) result.number }
-    ensures format { (name : List ℕ) → first_value (found_of matches.now) (codes "to") ≡ Some name → format_of name ≡ Some result.format }
-    ensures selection { (name : List ℕ) → first_value (found_of matches.now) (codes "select") ≡ Some name → selection_of name ≡ Some result.selection }
+    ensures { result ≡ words_in (rows_of (found_of matches.now)) }
 {
-    let name = matches.get_str("mode").unwrap();
-    let format = matches.get_str("to").unwrap();
-    let selection = matches.get_str("select").unwrap();
-    Words {
-        mode: mode_of(name).unwrap(),
-        workers: matches.get_one::<u8>("workers").unwrap(),
-        budget: matches.get_one::<u32>("budget").unwrap(),
-        number: matches.get_one::<u32>("number").unwrap(),
-        format: format_of(format).unwrap(),
-        selection: selection_of(selection).unwrap(),
-    }
+    together(
+        mode_in(matches),
+        matches.get_one::<u8>("workers"),
+        matches.get_one::<u32>("budget"),
+        matches.get_one::<u32>("number"),
+        format_in(matches),
+        selection_in(matches),
+    )
 }
 
 /// Reads the words after the program's name: a mode, and the options `--workers`, `--budget`, `--number`, `--to` and `--select`
@@ -66,14 +97,18 @@ fn words_of(matches: &ArgMatches<'_>) -> Words
 ///
 /// An option that is not given has its standard value: 4 workers, a budget of 20,000 commits, problem 8, the answer's text, the
 /// stated selection.
+///
+/// # Errors
+///
+/// `Refused` where the command does not take the words, or they ask for its help, or the mode, the format or the selection is
+/// none of those there are; `Memory` for want of memory.
 pub fn read_words(alloc: Global, words: &[&str]) -> Result<Words, WordsFault>
     ensures read { IfOk result (AreRead (map (λ w. w.now) words.now)) }
     ensures refused { result ≡ Err WordsFault.Refused → AreRefused (map (λ w. w.now) words.now) }
 {
-    let names = mode_names(alloc)?;
-    let command = command(alloc, &names)?;
+    let command = command(alloc)?;
     match command.try_get_matches_from(words) {
-        Ok(matches) => Ok(words_of(&matches)),
+        Ok(matches) => words_of(&matches).ok_or(WordsFault::Refused),
         Err(error) => Err(fault_of(&error)),
     }
 }

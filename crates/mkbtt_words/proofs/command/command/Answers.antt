@@ -1,13 +1,14 @@
-use Rattle.std.proofs.Common.{refl, ◌∙◌, ◌≡◌, ap, ap₂, true, Some}
+use Rattle.std.proofs.Common.{◌∙◌, ◌≡◌, ap, ap₂, true, Some}
 use Rattle.std.specs.Prelude.{pos}
 use Rattle.std.proofs.lemmas.Result.{IfOk-weaker}
 use Rattle.clap.specs.Walk.{rule_of}
 use Rattle.clap.specs.Simple.{app_of, app_of_fields, on_top, with_rule}
 use Rattle.clap.specs.declared.builder.value_parser.ValueParser.TheVariants as vp
-use Rattle.mkbtt_words.specs.Command.{budget, empty_command, number, option_rule, workers}
+use Rattle.mkbtt_words.specs.Command.{budget, command, empty_command, number, option_rule, workers}
 use Rattle.mkbtt_words.proofs.command.command.Goals as goal
 
 pub returns : goal.returns
+unfolding command
 returns c =
     let to_16 : c.range-workers.result ≡ vp.Signed (pos 1) (pos 16) = rw (c.value_parser.ensures, c.new.ensures.start, c.new.ensures.end) at c.range-workers.ensures in
     let to_100000 : c.range-budget.result ≡ vp.Signed (pos 1) (pos 100000) = rw (c.value_parser-2.ensures, c.new-2.ensures.start, c.new-2.ensures.end) at c.range-budget.ensures in
@@ -22,12 +23,4 @@ returns c =
     let with_budget = c.in_ok-arg-3.ensures.shape c.number_option-2.ensures.local ∙ ap₂ with_rule with_workers budget_is in
     let with_number = c.in_ok-arg-4.ensures.shape c.number_option-3.ensures.local ∙ ap₂ with_rule with_budget number_is in
     let with_format = c.in_ok-arg-5.ensures.shape c.name_option.ensures.local ∙ ap₂ with_rule with_number c.name_option.ensures.rule in
-    IfOk-weaker c.arg-6.result _ _ (λ r h. record {
-      names = c.args.names;
-      texts = c.requires;
-      formats = _;
-      format_texts = refl;
-      selections = _;
-      selection_texts = refl;
-      is = h.shape c.name_option-2.ensures.local ∙ ap₂ with_rule with_format c.name_option-2.ensures.rule;
-    }) c.arg-6.ensures
+    IfOk-weaker c.arg-6.result _ _ (λ r h. h.shape c.name_option-2.ensures.local ∙ ap₂ with_rule with_format c.name_option-2.ensures.rule) c.arg-6.ensures
