@@ -1,6 +1,7 @@
 -- The numbers of tasks.
-use Rattle.std.proofs.Common.{ℕ, ◌≡◌, ◌≤◌, ◌∙◌, sym, subst, List}
+use Rattle.std.proofs.Common.{ℕ, ◌≡◌, ◌≤◌, ◌∙◌, ap, sym, subst, List}
 use Rattle.mkbtt_words.specs.Reading.{AreRead}
+use Rattle.mkbtt_words.proofs.Read.{read_within}
 use Rattle.mkbtt_words.specs.declared.mode.Mode.{Mode}
 use Rattle.mkbtt_words.specs.declared.mode.Mode.TheVariants.{Complete, Rounds, Journal, Replay, Check, Convert, Reduce, Decide, Simplify, Summary, Gen}
 use Rattle.mkbtt_words.specs.declared.words.Words.{Words}
@@ -23,8 +24,17 @@ number_in Simplify w least most low high = tt
 -- the words' numbers are in their ranges
 pub number_of : (task : Task) (words : List (List ℕ)) → AskFor task words → HasNumber task
 number_of task words h =
-    subst {A = Task} HasNumber h.asked (number_in h.read.mode h.read h.are_read.workers_read.low h.are_read.workers_read.high h.are_read.number_read.low h.are_read.number_read.high)
+    let within = read_within words h.read h.are_read in
+    subst {A = Task} HasNumber h.asked (number_in h.read.mode h.read within.workers_within.0 within.workers_within.1 within.number_within.0 within.number_within.1)
 
 -- what the words ask for, as it was found
 pub asked_of : (task : Task) (read : Words) (words : List (List ℕ)) → AreRead words read → task ≡ task_of read → AskFor task words
 asked_of task read words h e = record { read = read; are_read = h; asked = sym e }
+
+-- words ask for one task
+pub one_task : (one other : Task) (words : List (List ℕ)) → AskFor one words → AskFor other words → one ≡ other
+one_task one other words a b =
+    let first = a.are_read in
+    let second = b.are_read in
+    let same : a.read ≡ b.read = cc in
+    sym a.asked ∙ ap task_of same ∙ b.asked

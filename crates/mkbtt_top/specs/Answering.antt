@@ -1,6 +1,6 @@
 -- The answer that a task reads, alone or with what stands behind it.
-use Rattle.std.specs.Prelude.{ℕ, ◌≡◌, List, Option, ⊤}
-use Rattle.kb_io.specs.Bytes.{HasMoreThan, Rose, TakesAll}
+use Rattle.std.specs.Prelude.{ℕ, ◌≡◌, List, Option, None, Bool}
+use Rattle.kb_io.specs.Bytes.{HasMoreThan, TakesAll}
 use Rattle.kb_term.specs.Tree.{Tree}
 use Rattle.kb_text.specs.Lines.{IsBadLine}
 use Rattle.kb_text.specs.declared.kind.Kind.{Kind}
@@ -10,6 +10,7 @@ use Rattle.kb_checker.specs.Answers.{Answer}
 use Rattle.kb_report.specs.Answers.{IsTextOf}
 use Rattle.kb_goals.specs.Asking.{IsGoalsTextOf}
 use Rattle.kb_goals.specs.Simplifying.{IsTermsTextOf}
+use Rattle.mkbtt_top.specs.Replies.{Fails}
 use Rattle.mkbtt_top.specs.declared.reply.Stop.{Stop}
 use Rattle.mkbtt_top.specs.declared.reply.Stop.TheVariants as stops
 
@@ -46,15 +47,15 @@ abbrev pub IsAnswerLong : Option (List ℕ) → Kind → ℕ → Type 0
 IsAnswerLong left_old kind at = (kind ≡ Limit Input) × (at ≡ 67108864) × HasMoreThan 67108864 left_old
 
 -- why no bytes were read
-abbrev pub IsUnreadBy : Option (List ℕ) → ℕ → ℕ → Stop → Type 0
-IsUnreadBy left_old before after (stops.Refused kind at) = IsAnswerLong left_old kind at
-IsUnreadBy left_old before after (stops.BadText n) = ⊥
-IsUnreadBy left_old before after stops.ReadFault = Rose before after
-IsUnreadBy left_old before after (stops.Memory board) = ⊤
+abbrev pub IsUnreadBy : Option (List ℕ) → Bool → ℕ → ℕ → Stop → Type 0
+IsUnreadBy left_old quiet before after (stops.Refused kind at) = IsAnswerLong left_old kind at
+IsUnreadBy left_old quiet before after (stops.BadText n) = ⊥
+IsUnreadBy left_old quiet before after stops.ReadFault = Fails quiet before after
+IsUnreadBy left_old quiet before after (stops.Memory board) = board ≡ None
 
 -- why no text of this form was read
-abbrev pub IsNoTextBy : (List ℕ → Type 0) → Option (List ℕ) → Option (List ℕ) → ℕ → ℕ → Stop → Type 0
-IsNoTextBy IsOfForm left_old left_new before after (stops.Refused kind at) = IsAnswerLong left_old kind at
-IsNoTextBy IsOfForm left_old left_new before after (stops.BadText n) = HasBadLine IsOfForm left_old left_new n
-IsNoTextBy IsOfForm left_old left_new before after stops.ReadFault = Rose before after
-IsNoTextBy IsOfForm left_old left_new before after (stops.Memory board) = ⊤
+abbrev pub IsNoTextBy : (List ℕ → Type 0) → Option (List ℕ) → Option (List ℕ) → Bool → ℕ → ℕ → Stop → Type 0
+IsNoTextBy IsOfForm left_old left_new quiet before after (stops.Refused kind at) = IsAnswerLong left_old kind at
+IsNoTextBy IsOfForm left_old left_new quiet before after (stops.BadText n) = HasBadLine IsOfForm left_old left_new n
+IsNoTextBy IsOfForm left_old left_new quiet before after stops.ReadFault = Fails quiet before after
+IsNoTextBy IsOfForm left_old left_new quiet before after (stops.Memory board) = board ≡ None

@@ -1,6 +1,6 @@
 -- What a completion of a problem comes to.
-use Rattle.std.specs.Prelude.{ℕ, ◌≡◌, IsTrue, List, Option, Some, ⊤}
-use Rattle.kb_io.specs.Bytes.{HasMoreThan, Rose, TakesAll}
+use Rattle.std.specs.Prelude.{ℕ, ◌≡◌, ◌≢◌, ◌⊎◌, IsTrue, IfSome, Bool, List, [], Option, Some, None, ⊤}
+use Rattle.kb_io.specs.Bytes.{HasMoreThan, TakesAll}
 use Rattle.kb_text.specs.declared.kind.Kind.{Kind}
 use Rattle.kb_text.specs.declared.kind.Kind.TheVariants.{Limit}
 use Rattle.kb_text.specs.declared.kind.Bound.TheVariants.{Input}
@@ -18,13 +18,15 @@ use Rattle.mkbtt_top.specs.declared.completing.Told.{Told}
 use Rattle.mkbtt_top.specs.declared.completing.Told.TheVariants.{Report, Journal}
 use Rattle.kb_report.specs.declared.report.Report.{Report as Said}
 use Rattle.kb_report.specs.declared.report.Report.TheVariants.{System}
-use Rattle.mkb_model.specs.Headline.{IsOutcome, HasVerdict}
+use Rattle.mkb_model.specs.Headline.{IsOutcome, HasVerdict, TakesAreBy}
+use Rattle.mkb_model.specs.Verdicts.{verdict as verdict_on}
 use Rattle.mkb_model.specs.Journals.{Alone}
-use Rattle.mkb_board.specs.Boards.{Seen}
+use Rattle.mkb_board.specs.Boards.{Seen, has_halt}
 use Rattle.mkb_rounds.specs.Rounds.{IsRounds}
 use Rattle.mkb_report.specs.Reports.{IsReportOf}
 use Rattle.mkbtt_top.specs.declared.reply.Stop.{Stop}
 use Rattle.mkbtt_top.specs.declared.reply.Stop.TheVariants as stops
+use Rattle.mkbtt_top.specs.Replies.{Fails}
 use Rattle.mkbtt_top.specs.Workers.{are_in_rounds, takers_of}
 use Rattle.mkbtt_top.specs.declared.status.Status.{Status}
 use Rattle.mkbtt_top.specs.declared.status.Status.TheVariants.{Done, AllFailed, Spent}
@@ -93,11 +95,39 @@ pub record Completes (told : Told) (settings : Settings) (workers : Workers) (st
   pub read : TakesAll left_old bytes left_new
   pub completion : IsCompletionOf told bytes settings workers status board text
 
--- the bytes are refused so, or there was no memory
-abbrev pub IsRefusal : List ℕ → Stop → Type 0
-IsRefusal bytes (stops.Refused kind at) = IsRefused bytes kind at
-IsRefusal bytes (stops.Memory board) = ⊤
-IsRefusal bytes stop = ⊥
+-- ---- what is left where there was no memory
+
+-- no verdict stands on the board: the workers' work on the problem was broken off by a halt; its journal is legal for the settings, the views of each living process are a completion run of that process alone, where several worked freely each take is by one of them, and else nothing is in flight
+pub record IsBroken (problem : Problem) (settings : Settings) (workers : Workers) (board : Seen) : Type 0 where
+  pub outcome : IsOutcome problem settings 16 board.journal board.plain
+  pub takes : (n : ℕ) → workers ≡ Free n → n ≢ 1 → TakesAreBy n board.journal
+  pub grounded : ((n : ℕ) → workers ≡ Free n → n ≡ 1) → board.plain.flight ≡ []
+  pub no_verdict : verdict_on board.plain ≡ None
+  pub halted : IsTrue (has_halt board.journal)
+
+-- the board on which the workers' work on the problem was broken off, or on which they completed it and there was no memory for the text
+abbrev pub IsLeft : Problem → Settings → Workers → Seen → Type 0
+IsLeft problem settings workers board = IsBroken problem settings workers board ⊎ ((v : Verdict) × IsFinished problem settings workers board v)
+
+-- the bytes spell a problem, and this board is left of its completion
+pub record IsLeftFrom (settings : Settings) (workers : Workers) (bytes : List ℕ) (board : Seen) : Type 0 where
+  pub problem : Problem
+  pub spelled : Spells bytes problem
+  pub left : IsLeft problem settings workers board
+
+-- the source was read to its end, and this board is left of the completion of the problem that its bytes spell
+pub record IsLeftOf (settings : Settings) (workers : Workers) (left_old left_new : Option (List ℕ)) (board : Seen) : Type 0 where
+  pub bytes : List ℕ
+  pub read : TakesAll left_old bytes left_new
+  pub left : IsLeftFrom settings workers bytes board
+
+-- ---- why no completion is told
+
+-- the bytes are refused so, or there was no memory, and a board that was made is left
+abbrev pub IsRefusal : Settings → Workers → List ℕ → Stop → Type 0
+IsRefusal settings workers bytes (stops.Refused kind at) = IsRefused bytes kind at
+IsRefusal settings workers bytes (stops.Memory board) = IfSome board (IsLeftFrom settings workers bytes)
+IsRefusal settings workers bytes stop = ⊥
 
 -- the refusal of what was read: the bytes up to the end are refused so, or there are too many of them
 pub data IsProblemRefused (left_old left_new : Option (List ℕ)) : Kind → ℕ → Type 0 where
@@ -105,8 +135,8 @@ pub data IsProblemRefused (left_old left_new : Option (List ℕ)) : Kind → ℕ
   too_long : HasMoreThan 1048576 left_old → IsProblemRefused left_old left_new (Limit Input) 1048576
 
 -- why no completion of what is read was told
-abbrev pub IsUnfinishedBy : Option (List ℕ) → Option (List ℕ) → ℕ → ℕ → Stop → Type 0
-IsUnfinishedBy left_old left_new before after (stops.Refused kind at) = IsProblemRefused left_old left_new kind at
-IsUnfinishedBy left_old left_new before after (stops.BadText n) = ⊥
-IsUnfinishedBy left_old left_new before after stops.ReadFault = Rose before after
-IsUnfinishedBy left_old left_new before after (stops.Memory board) = ⊤
+abbrev pub IsUnfinishedBy : Settings → Workers → Option (List ℕ) → Option (List ℕ) → Bool → ℕ → ℕ → Stop → Type 0
+IsUnfinishedBy settings workers left_old left_new quiet before after (stops.Refused kind at) = IsProblemRefused left_old left_new kind at
+IsUnfinishedBy settings workers left_old left_new quiet before after (stops.BadText n) = ⊥
+IsUnfinishedBy settings workers left_old left_new quiet before after stops.ReadFault = Fails quiet before after
+IsUnfinishedBy settings workers left_old left_new quiet before after (stops.Memory board) = IfSome board (IsLeftOf settings workers left_old left_new)

@@ -1,23 +1,27 @@
 -- What a run comes to, by its words.
-use Rattle.std.specs.Prelude.{ℕ, ◌≡◌, ◌⊎◌, List, Option, ⊤, IsTrue}
-use Rattle.kb_io.specs.Bytes.{Appends, AppendsPart, Rose}
+use Rattle.std.specs.Prelude.{ℕ, ◌≡◌, ◌⊎◌, ◌≤◌, Bool, List, length, Option, Some, ⊤, IfSome, IsTrue}
+use Rattle.kb_io.specs.Bytes.{Appends, AppendsPart}
+use Rattle.kb_term.specs.Signature.{Problem}
+use Rattle.kb_text.specs.Problems.{Spells}
 use Rattle.kb_text.specs.declared.kind.Kind.{Kind}
+use Rattle.kb_syntax.specs.Generator.{generated}
 use Rattle.mkb_board.specs.Boards.{Seen}
 use Rattle.mkbtt_top.specs.Answering.{HasBadLine, IsAnswerLong}
 use Rattle.mkbtt_top.specs.Checking.{Checks}
-use Rattle.mkbtt_top.specs.Completing.{Completes, IsProblemRefused}
+use Rattle.mkbtt_top.specs.Completing.{Completes, IsLeft, IsLeftOf, IsProblemRefused}
 use Rattle.mkbtt_top.specs.Replaying.{Replays}
 use Rattle.mkbtt_top.specs.declared.completing.Told.TheVariants as told
 use Rattle.mkbtt_top.specs.Converting.{Converts}
 use Rattle.mkbtt_top.specs.Deciding.{Decides, Simplifies}
 use Rattle.mkbtt_top.specs.Reducing.{Reduces}
 use Rattle.mkbtt_top.specs.Generating.{Generates, Summarises}
-use Rattle.mkbtt_top.specs.Replies.{board_of_stop, status_of_stop}
-use Rattle.mkbtt_top.specs.Tasks.{AskFor, form_of, is_reading, reads_lines, TakesFew}
+use Rattle.mkbtt_top.specs.Replies.{board_of_stop, status_of_stop, Fails}
+use Rattle.mkbtt_top.specs.Tasks.{AskFor, form_of, is_reading, limit_of, reads_lines, TakesFew}
 use Rattle.mkbtt_top.specs.declared.reply.Stop.{Stop}
 use Rattle.mkbtt_top.specs.declared.reply.Stop.TheVariants as stops
 use Rattle.mkbtt_top.specs.declared.task.Task.{Task}
 use Rattle.mkbtt_top.specs.declared.task.Task.TheVariants.{Complete, Journal, Replay, Check, Convert, Reduce, Decide, Simplify, Summary, Generate}
+use Rattle.mkbtt_top.specs.declared.workers.Workers.TheVariants.{Free}
 use Rattle.mkbtt_top.specs.declared.status.Status.{Status}
 use Rattle.mkbtt_top.specs.declared.status.Status.TheVariants.{Done, AllFailed, Rejected, BadEntry, Unreduced, Spent, Refused, BadText, ReadFault, WriteFault, Memory}
 use Rattle.mkbtt_top.specs.declared.status.Status.TheVariants as status
@@ -60,14 +64,15 @@ pub record Answers (words : List (List ℕ)) (end : Status) (board : Option Seen
   pub made : Makes task end board left_old left_new text
   pub written : Appends written_old text written_new
 
--- the words ask for a task, and the sink gained a proper front of the text that it makes
-pub record AnswersInPart (words : List (List ℕ)) (board : Option Seen) (left_old left_new written_old written_new : Option (List ℕ)) : Type 0 where
+-- the words ask for a task, and the sink, which isn't quiet for the text that it makes, gained a proper front of it
+pub record AnswersInPart (words : List (List ℕ)) (board : Option Seen) (left_old left_new written_old written_new : Option (List ℕ)) (quiet : ℕ → Bool) : Type 0 where
   pub task : Task
   pub asked : AskFor task words
   pub text : List ℕ
   pub end : Status
   pub made : Makes task end board left_old left_new text
   pub written : AppendsPart written_old text written_new
+  pub loud : IsTrue (quiet (length text)) → ⊥
 
 -- ---- why nothing is written
 
@@ -97,12 +102,25 @@ pub record HasBadAnswer (words : List (List ℕ)) (left_old left_new : Option (L
   pub reads : IsTrue (reads_lines task)
   pub line : HasBadLine (form_of task) left_old left_new n
 
+-- the board is left of the completion for which the task asks, where there was no memory: of the problem that was read, or of the generated one; the other tasks leave none
+abbrev pub Leaves : Task → Option (List ℕ) → Option (List ℕ) → Seen → Type 0
+Leaves (Complete settings workers) old new board = IsLeftOf settings workers old new board
+Leaves (Journal settings workers) old new board = IsLeftOf settings workers old new board
+Leaves (Summary settings number) old new board = IsLeft (generated number) settings (Free 1) board
+Leaves task old new board = ⊥
+
+-- the words ask for a task that leaves the board
+pub record LeavesBoard (words : List (List ℕ)) (left_old left_new : Option (List ℕ)) (board : Seen) : Type 0 where
+  pub task : Task
+  pub asked : AskFor task words
+  pub left : Leaves task left_old left_new board
+
 -- why the task makes nothing
-abbrev pub StopsBy : Task → Option (List ℕ) → Option (List ℕ) → ℕ → ℕ → Stop → Type 0
-StopsBy task old new before after (stops.Refused kind at) = IsRefusedBy task old new kind at
-StopsBy task old new before after (stops.BadText n) = IsTrue (reads_lines task) × HasBadLine (form_of task) old new n
-StopsBy task old new before after stops.ReadFault = IsTrue (is_reading task) × Rose before after
-StopsBy task old new before after (stops.Memory board) = ⊤
+abbrev pub StopsBy : Task → Option (List ℕ) → Option (List ℕ) → Bool → ℕ → ℕ → Stop → Type 0
+StopsBy task old new quiet before after (stops.Refused kind at) = IsRefusedBy task old new kind at
+StopsBy task old new quiet before after (stops.BadText n) = IsTrue (reads_lines task) × HasBadLine (form_of task) old new n
+StopsBy task old new quiet before after stops.ReadFault = IsTrue (is_reading task) × Fails quiet before after
+StopsBy task old new quiet before after (stops.Memory board) = IfSome board (Leaves task old new)
 
 -- the words ask for a task that reads
 pub record AskToRead (words : List (List ℕ)) : Type 0 where
@@ -151,6 +169,37 @@ WritesNothing WriteFault old new = ⊤
 WritesNothing Memory old new = new ≡ old
 WritesNothing status.Words old new = new ≡ old
 
+-- ---- what is read in full
+
+-- the source tells its bytes, which are of this form, and at most so many
+pub record HoldsFew (IsOfForm : List ℕ → Type 0) (limit : ℕ) (left : Option (List ℕ)) : Type 0 where
+  pub bytes : List ℕ
+  pub told : left ≡ Some bytes
+  pub few : length bytes ≤ limit
+  pub of_form : IsOfForm bytes
+
+-- the bytes spell a problem
+abbrev pub SpellOne : List ℕ → Type 0
+SpellOne bytes = (problem : Problem) × Spells bytes problem
+
+-- the bytes of the source spell what the task reads: a problem, or a text of its form; for a task that reads nothing they may be any
+abbrev pub HoldsText : Task → Option (List ℕ) → Type 0
+HoldsText (Complete settings workers) left = HoldsFew SpellOne (limit_of (Complete settings workers)) left
+HoldsText (Journal settings workers) left = HoldsFew SpellOne (limit_of (Journal settings workers)) left
+HoldsText (Summary settings number) left = ⊤
+HoldsText (Generate number) left = ⊤
+HoldsText task left = HoldsFew (form_of task) (limit_of task) left
+
+-- the source is quiet, where the task reads from it
+abbrev pub IsQuietFor : Task → Bool → Type 0
+IsQuietFor task quiet = IsTrue (is_reading task) → IsTrue quiet
+
+-- what was read isn't refused
+abbrev pub IsUnrefused : Status → Type 0
+IsUnrefused (Refused kind at) = ⊥
+IsUnrefused (BadText n) = ⊥
+IsUnrefused end = ⊤
+
 -- ---- a task
 
 -- the text that the task makes was written whole
@@ -159,25 +208,25 @@ pub record EndsWhole (task : Task) (end : Status) (board : Option Seen) (left_ol
   pub made : Makes task end board left_old left_new text
   pub written : Appends written_old text written_new
 
--- the sink failed after a proper front of the text that the task makes
-pub record EndsInPart (task : Task) (end : Status) (board : Option Seen) (left_old left_new written_old written_new : Option (List ℕ)) (before after : ℕ) : Type 0 where
+-- the sink, which isn't quiet for the text that the task makes, failed after a proper front of it
+pub record EndsInPart (task : Task) (end : Status) (board : Option Seen) (left_old left_new written_old written_new : Option (List ℕ)) (quiet : ℕ → Bool) (before after : ℕ) : Type 0 where
   pub text : List ℕ
   pub whole : Status
   pub made : Makes task whole board left_old left_new text
   pub written : AppendsPart written_old text written_new
   pub end_is : end ≡ WriteFault
-  pub cause : Rose before after
+  pub cause : Fails (quiet (length text)) before after
 
 -- the task makes nothing, and nothing is written
-pub record EndsStopped (task : Task) (end : Status) (board : Option Seen) (left_old left_new written_old written_new : Option (List ℕ)) (before after : ℕ) : Type 0 where
+pub record EndsStopped (task : Task) (end : Status) (board : Option Seen) (left_old left_new written_old written_new : Option (List ℕ)) (quiet : Bool) (before after : ℕ) : Type 0 where
   pub stop : Stop
-  pub cause : StopsBy task left_old left_new before after stop
+  pub cause : StopsBy task left_old left_new quiet before after stop
   pub end_is : end ≡ status_of_stop stop
   pub board_is : board ≡ board_of_stop stop
   pub nothing : written_new ≡ written_old
 
 -- one of these
-pub data Ends (task : Task) (end : Status) (board : Option Seen) (left_old left_new : Option (List ℕ)) (reads_before reads_after : ℕ) (written_old written_new : Option (List ℕ)) (writes_before writes_after : ℕ) : Type 0 where
-  whole : EndsWhole task end board left_old left_new written_old written_new → Ends task end board left_old left_new reads_before reads_after written_old written_new writes_before writes_after
-  in_part : EndsInPart task end board left_old left_new written_old written_new writes_before writes_after → Ends task end board left_old left_new reads_before reads_after written_old written_new writes_before writes_after
-  stopped : EndsStopped task end board left_old left_new written_old written_new reads_before reads_after → Ends task end board left_old left_new reads_before reads_after written_old written_new writes_before writes_after
+pub data Ends (task : Task) (end : Status) (board : Option Seen) (left_old left_new : Option (List ℕ)) (source_quiet : Bool) (reads_before reads_after : ℕ) (written_old written_new : Option (List ℕ)) (sink_quiet : ℕ → Bool) (writes_before writes_after : ℕ) : Type 0 where
+  whole : EndsWhole task end board left_old left_new written_old written_new → Ends task end board left_old left_new source_quiet reads_before reads_after written_old written_new sink_quiet writes_before writes_after
+  in_part : EndsInPart task end board left_old left_new written_old written_new sink_quiet writes_before writes_after → Ends task end board left_old left_new source_quiet reads_before reads_after written_old written_new sink_quiet writes_before writes_after
+  stopped : EndsStopped task end board left_old left_new written_old written_new source_quiet reads_before reads_after → Ends task end board left_old left_new source_quiet reads_before reads_after written_old written_new sink_quiet writes_before writes_after

@@ -26,7 +26,7 @@ const ANSWER_BYTES: usize = 67_108_864;
 // Reads the source to its end.
 fn bytes_from<S: Source>(alloc: Global, source: &mut S) -> Result<Vec<u8>, Stop>
     ensures bytes { IfOk result (λ bytes. TakesAll (S.left source.old) bytes.items (S.left source.new)) }
-    ensures stop { IfErr result (IsUnreadBy (S.left source.old) (S.faults source.old) (S.faults source.new)) }
+    ensures stop { IfErr result (IsUnreadBy (S.left source.old) (S.quiet source.old) (S.faults source.old) (S.faults source.new)) }
     ensures few { TakesAtMost (S.left source.old) 67108865 (S.left source.new) }
     ensures count { S.faults source.old ≤ S.faults source.new }
 {
@@ -41,7 +41,7 @@ fn bytes_from<S: Source>(alloc: Global, source: &mut S) -> Result<Vec<u8>, Stop>
 /// Reads the source to its end, and the answer whose text its bytes are.
 pub(crate) fn answer_from<S: Source>(alloc: Global, source: &mut S) -> Result<Answer, Stop>
     ensures answer { IfOk result (IsReadFrom (S.left source.old) (S.left source.new)) }
-    ensures stop { IfErr result (IsNoTextBy IsSystemText (S.left source.old) (S.left source.new) (S.faults source.old) (S.faults source.new)) }
+    ensures stop { IfErr result (IsNoTextBy IsSystemText (S.left source.old) (S.left source.new) (S.quiet source.old) (S.faults source.old) (S.faults source.new)) }
     ensures few { TakesAtMost (S.left source.old) 67108865 (S.left source.new) }
     ensures count { S.faults source.old ≤ S.faults source.new }
 {
@@ -59,7 +59,7 @@ pub(crate) fn goals_from<S: Source>(
     source: &mut S,
 ) -> Result<(Answer, Vec<(Term, Term)>), Stop>
     ensures goals { IfOk result (λ r. AreGoalsFrom (S.left source.old) (S.left source.new) r.0 (equations_of_list r.1.items)) }
-    ensures stop { IfErr result (IsNoTextBy IsGoalsText (S.left source.old) (S.left source.new) (S.faults source.old) (S.faults source.new)) }
+    ensures stop { IfErr result (IsNoTextBy IsGoalsText (S.left source.old) (S.left source.new) (S.quiet source.old) (S.faults source.old) (S.faults source.new)) }
     ensures few { TakesAtMost (S.left source.old) 67108865 (S.left source.new) }
     ensures count { S.faults source.old ≤ S.faults source.new }
 {
@@ -77,7 +77,7 @@ pub(crate) fn terms_from<S: Source>(
     source: &mut S,
 ) -> Result<(Answer, Vec<Term>), Stop>
     ensures terms { IfOk result (λ r. AreTermsFrom (S.left source.old) (S.left source.new) r.0 (map tree_of r.1.items)) }
-    ensures stop { IfErr result (IsNoTextBy IsTermsText (S.left source.old) (S.left source.new) (S.faults source.old) (S.faults source.new)) }
+    ensures stop { IfErr result (IsNoTextBy IsTermsText (S.left source.old) (S.left source.new) (S.quiet source.old) (S.faults source.old) (S.faults source.new)) }
     ensures few { TakesAtMost (S.left source.old) 67108865 (S.left source.new) }
     ensures count { S.faults source.old ≤ S.faults source.new }
 {
@@ -92,7 +92,7 @@ pub(crate) fn terms_from<S: Source>(
 /// Reads the source to its end, and the journal whose text its bytes are.
 pub(crate) fn journal_from<S: Source>(alloc: Global, source: &mut S) -> Result<JournalText, Stop>
     ensures journal { IfOk result (IsJournalFrom (S.left source.old) (S.left source.new)) }
-    ensures stop { IfErr result (IsNoTextBy IsJournalText (S.left source.old) (S.left source.new) (S.faults source.old) (S.faults source.new)) }
+    ensures stop { IfErr result (IsNoTextBy IsJournalText (S.left source.old) (S.left source.new) (S.quiet source.old) (S.faults source.old) (S.faults source.new)) }
     ensures few { TakesAtMost (S.left source.old) 67108865 (S.left source.new) }
     ensures count { S.faults source.old ≤ S.faults source.new }
 {

@@ -79,7 +79,7 @@ pub(crate) fn rejection(alloc: Global, reason: Reject, n: u64) -> Result<Reply, 
 /// Reads an answer from the source and checks it; the reply is what the checker says.
 pub(crate) fn check_source<S: Source>(alloc: Global, source: &mut S) -> Result<Reply, Stop>
     ensures reply { IfOk result (λ r. Checks r.status r.board (S.left source.old) (S.left source.new) r.text.items) }
-    ensures stop { IfErr result (StopsBy Task.Check (S.left source.old) (S.left source.new) (S.faults source.old) (S.faults source.new)) }
+    ensures stop { IfErr result (StopsBy Task.Check (S.left source.old) (S.left source.new) (S.quiet source.old) (S.faults source.old) (S.faults source.new)) }
     ensures few { TakesAtMost (S.left source.old) 67108865 (S.left source.new) }
     ensures count { S.faults source.old ≤ S.faults source.new }
 {

@@ -1,9 +1,9 @@
 // The completion of a problem.
-ghost use Rattle.std.specs.Prelude.{◌≡◌, ◌≤◌, Some, IfOk, IfErr};
+ghost use Rattle.std.specs.Prelude.{◌≡◌, ◌≤◌, Some, IfOk, IfErr, IfSome};
 ghost use Rattle.kb_term.specs.Signature.{IsWithinLimits};
 ghost use Rattle.mkb_model.specs.Verdicts.{verdict as verdict_on};
 ghost use Rattle.kb_io.specs.Bytes.{TakesAtMost};
-ghost use Rattle.mkbtt_top.specs.Completing.{status_of as status_by, IsFinished, IsReported, IsTold, IsCompletion, IsCompletionOf, Completes, IsRefusal, IsUnfinishedBy};
+ghost use Rattle.mkbtt_top.specs.Completing.{status_of as status_by, IsBroken, IsFinished, IsLeft, IsReported, IsTold, IsCompletion, IsCompletionOf, Completes, IsRefusal, IsUnfinishedBy};
 ghost use Rattle.mkbtt_top.specs.Workers.{FewWorkers};
 
 use crate::host::Host;
@@ -81,7 +81,8 @@ pub(crate) fn finish<R: Threads + Wait + Sync, G: Gate>(
 ) -> Result<(Board, Verdict), Option<Board>>
     requires within { IsWithinLimits problem }
     requires few { FewWorkers workers }
-    ensures { IfOk result (λ end. IsFinished problem settings workers end.0 end.1) }
+    ensures finished { IfOk result (λ end. IsFinished problem settings workers end.0 end.1) }
+    ensures broken { IfErr result (λ board. IfSome board (IsBroken problem settings workers)) }
 {
     let Ok(board) = Board::start(host.alloc, problem, settings) else {
         return Err(None);
@@ -103,7 +104,8 @@ fn complete_problem<R: Threads + Wait + Sync, G: Gate>(
 ) -> Result<Reply, Option<Board>>
     requires within { IsWithinLimits problem }
     requires few { FewWorkers workers }
-    ensures { IfOk result (λ r. IsCompletion told problem settings workers r.status r.board r.text.items) }
+    ensures reply { IfOk result (λ r. IsCompletion told problem settings workers r.status r.board r.text.items) }
+    ensures left { IfErr result (λ board. IfSome board (IsLeft problem settings workers)) }
 {
     let (board, verdict) = finish(host, problem, settings, workers)?;
     match told_text(host.alloc, &board, &verdict, told) {
@@ -126,7 +128,7 @@ fn complete_bytes<R: Threads + Wait + Sync, G: Gate>(
 ) -> Result<Reply, Stop>
     requires few { FewWorkers workers }
     ensures reply { IfOk result (λ r. IsCompletionOf told bytes.now settings workers r.status r.board r.text.items) }
-    ensures stop { IfErr result (IsRefusal bytes.now) }
+    ensures stop { IfErr result (IsRefusal settings workers bytes.now) }
 {
     // a law: what the bytes spell is within the limits
     spelled_problems_are_within_limits();
@@ -148,7 +150,7 @@ pub(crate) fn complete_source<R: Threads + Wait + Sync, S: Source, G: Gate>(
 ) -> Result<Reply, Stop>
     requires few { FewWorkers workers }
     ensures reply { IfOk result (λ r. Completes told settings workers r.status r.board (S.left source.old) (S.left source.new) r.text.items) }
-    ensures stop { IfErr result (IsUnfinishedBy (S.left source.old) (S.left source.new) (S.faults source.old) (S.faults source.new)) }
+    ensures stop { IfErr result (IsUnfinishedBy settings workers (S.left source.old) (S.left source.new) (S.quiet source.old) (S.faults source.old) (S.faults source.new)) }
     ensures few { TakesAtMost (S.left source.old) 1048577 (S.left source.new) }
     ensures count { S.faults source.old ≤ S.faults source.new }
 {

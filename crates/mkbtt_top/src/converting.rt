@@ -38,7 +38,7 @@ pub(crate) fn convert_source<S: Source>(
     format: Format,
 ) -> Result<Reply, Stop>
     ensures reply { IfOk result (λ r. Converts format r.status r.board (S.left source.old) (S.left source.new) r.text.items) }
-    ensures stop { IfErr result (StopsBy (Task.Convert format) (S.left source.old) (S.left source.new) (S.faults source.old) (S.faults source.new)) }
+    ensures stop { IfErr result (StopsBy (Task.Convert format) (S.left source.old) (S.left source.new) (S.quiet source.old) (S.faults source.old) (S.faults source.new)) }
     ensures few { TakesAtMost (S.left source.old) 67108865 (S.left source.new) }
     ensures count { S.faults source.old ≤ S.faults source.new }
 {

@@ -34,7 +34,7 @@ fn said_of_goals(alloc: Global, answer: &Answer, goals: &[(Term, Term)]) -> Resu
 /// Reads an answer and goals behind it from the source; the reply is what the answer's system says of each goal.
 pub(crate) fn decide_source<S: Source>(alloc: Global, source: &mut S) -> Result<Reply, Stop>
     ensures reply { IfOk result (λ r. Decides r.status r.board (S.left source.old) (S.left source.new) r.text.items) }
-    ensures stop { IfErr result (StopsBy Task.Decide (S.left source.old) (S.left source.new) (S.faults source.old) (S.faults source.new)) }
+    ensures stop { IfErr result (StopsBy Task.Decide (S.left source.old) (S.left source.new) (S.quiet source.old) (S.faults source.old) (S.faults source.new)) }
     ensures few { TakesAtMost (S.left source.old) 67108865 (S.left source.new) }
     ensures count { S.faults source.old ≤ S.faults source.new }
 {
@@ -59,7 +59,7 @@ fn said_of_terms(alloc: Global, answer: &Answer, terms: &[Term]) -> Result<Reply
 /// Reads an answer and terms behind it from the source; the reply is what the answer's system makes of each term.
 pub(crate) fn simplify_source<S: Source>(alloc: Global, source: &mut S) -> Result<Reply, Stop>
     ensures reply { IfOk result (λ r. Simplifies r.status r.board (S.left source.old) (S.left source.new) r.text.items) }
-    ensures stop { IfErr result (StopsBy Task.Simplify (S.left source.old) (S.left source.new) (S.faults source.old) (S.faults source.new)) }
+    ensures stop { IfErr result (StopsBy Task.Simplify (S.left source.old) (S.left source.new) (S.quiet source.old) (S.faults source.old) (S.faults source.new)) }
     ensures few { TakesAtMost (S.left source.old) 67108865 (S.left source.new) }
     ensures count { S.faults source.old ≤ S.faults source.new }
 {

@@ -1,5 +1,8 @@
 // Generated problems: their text, and the summary of their completion.
-ghost use Rattle.std.specs.Prelude.{◌≡◌, ◌≤◌, IfOk};
+ghost use Rattle.std.specs.Prelude.{◌≡◌, ◌≤◌, IfOk, IfErr, IfSome};
+ghost use Rattle.kb_syntax.specs.Generator.{generated};
+ghost use Rattle.mkbtt_top.specs.Completing.{IsLeft};
+ghost use Rattle.mkbtt_top.specs.declared.workers.Workers.TheVariants.{Free};
 ghost use Rattle.mkbtt_top.specs.Generating.{board_text as text_of_board, Generates, Summarises};
 
 use crate::completing::finish;
@@ -48,7 +51,8 @@ pub(crate) fn summarise<R: Threads + Wait + Sync, G: Gate>(
 ) -> Result<Reply, Option<Board>>
     requires some { 1 ≤ number }
     requires most { number ≤ 64 }
-    ensures { IfOk result (λ r. Summarises settings number r.status r.board r.text.items) }
+    ensures reply { IfOk result (λ r. Summarises settings number r.status r.board r.text.items) }
+    ensures left { IfErr result (λ board. IfSome board (IsLeft (generated number) settings (Free 1))) }
 {
     let Ok(problem) = generate(host.alloc, number as usize) else {
         return Err(None);

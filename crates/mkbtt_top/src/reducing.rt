@@ -61,7 +61,7 @@ fn reduced(alloc: Global, answer: &Answer) -> Result<Reply, Memory>
 /// Reads an answer from the source and reduces its rules; the reply is the reduced answer, or why there is none.
 pub(crate) fn reduce_source<S: Source>(alloc: Global, source: &mut S) -> Result<Reply, Stop>
     ensures reply { IfOk result (λ r. Reduces r.status r.board (S.left source.old) (S.left source.new) r.text.items) }
-    ensures stop { IfErr result (StopsBy Task.Reduce (S.left source.old) (S.left source.new) (S.faults source.old) (S.faults source.new)) }
+    ensures stop { IfErr result (StopsBy Task.Reduce (S.left source.old) (S.left source.new) (S.quiet source.old) (S.faults source.old) (S.faults source.new)) }
     ensures few { TakesAtMost (S.left source.old) 67108865 (S.left source.new) }
     ensures count { S.faults source.old ≤ S.faults source.new }
 {

@@ -51,7 +51,7 @@ fn replay_journal(alloc: Global, journal: &JournalText) -> Result<Reply, Memory>
 /// names the first entry that no board makes.
 pub(crate) fn replay_source<S: Source>(alloc: Global, source: &mut S) -> Result<Reply, Stop>
     ensures reply { IfOk result (λ r. Replays r.status r.board (S.left source.old) (S.left source.new) r.text.items) }
-    ensures stop { IfErr result (StopsBy Task.Replay (S.left source.old) (S.left source.new) (S.faults source.old) (S.faults source.new)) }
+    ensures stop { IfErr result (StopsBy Task.Replay (S.left source.old) (S.left source.new) (S.quiet source.old) (S.faults source.old) (S.faults source.new)) }
     ensures few { TakesAtMost (S.left source.old) 67108865 (S.left source.new) }
     ensures count { S.faults source.old ≤ S.faults source.new }
 {

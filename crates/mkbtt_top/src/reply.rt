@@ -65,7 +65,7 @@ impl From<Memory> for Stop {
 
 /// Writes the reply to the sink.
 pub(crate) fn write_reply<K: Sink>(reply: Reply, sink: &mut K) -> Outcome
-    ensures written { IsWritten reply.status reply.text.items result.status (K.written sink.old) (K.written sink.new) (K.faults sink.old) (K.faults sink.new) }
+    ensures written { IsWritten reply.status reply.text.items result.status (K.written sink.old) (K.written sink.new) (K.quiet sink.old) (K.faults sink.old) (K.faults sink.new) }
     ensures board { result.board ≡ reply.board }
     ensures count { K.faults sink.old ≤ K.faults sink.new }
 {

@@ -1,8 +1,8 @@
 // The top call.
-ghost use Rattle.std.specs.Prelude.{◌≡◌, ◌≤◌, None, map, IfOk, IfErr};
+ghost use Rattle.std.specs.Prelude.{◌≡◌, ◌⊎◌, ◌≤◌, None, map, IfOk, IfErr, IfSome, IsTrue};
 ghost use Rattle.kb_io.specs.Bytes.{Rose};
-ghost use Rattle.mkbtt_top.specs.Runs.{Answers, AnswersInPart, AskToRead, Ends, HasBadAnswer, HasNoBoard, IsAnswered, Makes, ReadsIfAsked, Refuses, StopsBy, WritesNothing};
-ghost use Rattle.mkbtt_words.specs.Reading.{AreRefused};
+ghost use Rattle.mkbtt_top.specs.Runs.{Answers, AnswersInPart, AskToRead, Ends, HasBadAnswer, HasNoBoard, HoldsText, IsAnswered, IsQuietFor, IsUnrefused, LeavesBoard, Makes, ReadsIfAsked, Refuses, StopsBy, WritesNothing};
+ghost use Rattle.mkbtt_words.specs.Reading.{AreRefused, AreTaken};
 ghost use Rattle.mkbtt_top.specs.Tasks.{AskFor, HasNumber, TakesFew};
 
 use crate::checking::check_source;
@@ -30,7 +30,7 @@ fn make<R: Threads + Wait + Sync, S: Source, G: Gate>(
 ) -> Result<Reply, Stop>
     requires { HasNumber task }
     ensures reply { IfOk result (λ r. Makes task r.status r.board (S.left source.old) (S.left source.new) r.text.items) }
-    ensures stop { IfErr result (StopsBy task (S.left source.old) (S.left source.new) (S.faults source.old) (S.faults source.new)) }
+    ensures stop { IfErr result (StopsBy task (S.left source.old) (S.left source.new) (S.quiet source.old) (S.faults source.old) (S.faults source.new)) }
     ensures few { TakesFew task (S.left source.old) (S.left source.new) }
     ensures count { S.faults source.old ≤ S.faults source.new }
 {
@@ -62,7 +62,7 @@ fn run_task<R: Threads + Wait + Sync, S: Source, K: Sink, G: Gate>(
     sink: &mut K,
 ) -> Outcome
     requires { HasNumber task }
-    ensures ends { Ends task result.status result.board (S.left source.old) (S.left source.new) (S.faults source.old) (S.faults source.new) (K.written sink.old) (K.written sink.new) (K.faults sink.old) (K.faults sink.new) }
+    ensures ends { Ends task result.status result.board (S.left source.old) (S.left source.new) (S.quiet source.old) (S.faults source.old) (S.faults source.new) (K.written sink.old) (K.written sink.new) (K.quiet sink.old) (K.faults sink.old) (K.faults sink.new) }
     ensures few { TakesFew task (S.left source.old) (S.left source.new) }
     ensures source_count { S.faults source.old ≤ S.faults source.new }
     ensures sink_count { K.faults sink.old ≤ K.faults sink.new }
@@ -98,20 +98,30 @@ pub fn run<R: Threads + Wait + Sync, S: Source, K: Sink, G: Gate>(
 ) -> Outcome
     // With Done, AllFailed, Rejected, BadEntry, Unreduced and Spent the sink gained the whole text that the words ask for.
     ensures answered { IsAnswered result.status → Answers (map (λ w. w.now) words.now) result.status result.board (S.left source.old) (S.left source.new) (K.written sink.old) (K.written sink.new) }
-    // With WriteFault it gained a proper front of such a text.
-    ensures write_fault { result.status ≡ Status.WriteFault → AnswersInPart (map (λ w. w.now) words.now) result.board (S.left source.old) (S.left source.new) (K.written sink.old) (K.written sink.new) }
+    // With WriteFault it gained a proper front of such a text, for which it isn't quiet.
+    ensures write_fault { result.status ≡ Status.WriteFault → AnswersInPart (map (λ w. w.now) words.now) result.board (S.left source.old) (S.left source.new) (K.written sink.old) (K.written sink.new) (K.quiet sink.old) }
 
     // Causes.
     ensures words { result.status ≡ Status.Words → AreRefused (map (λ w. w.now) words.now) }
+    ensures refused_words { AreRefused (map (λ w. w.now) words.now) → (result.status ≡ Status.Words) ⊎ (result.status ≡ Status.Memory) }
+    ensures taken_words { AreTaken (map (λ w. w.now) words.now) → ¬ (result.status ≡ Status.Words) }
     ensures taken { ¬ (result.status ≡ Status.Words) → ¬ (result.status ≡ Status.Memory) → (task : Task) × AskFor task (map (λ w. w.now) words.now) }
     ensures read_task { result.status ≡ Status.ReadFault → AskToRead (map (λ w. w.now) words.now) }
     ensures read_cause { result.status ≡ Status.ReadFault → Rose (S.faults source.old) (S.faults source.new) }
+    ensures read_quiet { IsTrue (S.quiet source.old) → ¬ (result.status ≡ Status.ReadFault) }
     ensures write_cause { result.status ≡ Status.WriteFault → Rose (K.faults sink.old) (K.faults sink.new) }
     ensures refused { (kind : _) (at : _) → result.status ≡ Status.Refused kind at → Refuses (map (λ w. w.now) words.now) (S.left source.old) (S.left source.new) kind at }
     ensures bad_text { (n : _) → result.status ≡ Status.BadText n → HasBadAnswer (map (λ w. w.now) words.now) (S.left source.old) (S.left source.new) n }
 
+    // Bytes that spell what the task reads aren't refused; where the source is quiet too, the whole text is written, or there is no
+    // memory, or the sink fails in a text for which it isn't quiet.
+    ensures unrefused { (task : Task) → AskFor task (map (λ w. w.now) words.now) → HoldsText task (S.left source.old) → IsUnrefused result.status }
+    ensures completes { (task : Task) → AskFor task (map (λ w. w.now) words.now) → HoldsText task (S.left source.old) → IsQuietFor task (S.quiet source.old) → IsAnswered result.status ⊎ ((result.status ≡ Status.Memory) ⊎ ((result.status ≡ Status.WriteFault) × AnswersInPart (map (λ w. w.now) words.now) result.board (S.left source.old) (S.left source.new) (K.written sink.old) (K.written sink.new) (K.quiet sink.old))) }
+
     // No board is made where nothing is completed.
     ensures no_board { HasNoBoard result.status → result.board ≡ None }
+    // With Memory it is one that is left of the completion for which the words ask.
+    ensures memory { result.status ≡ Status.Memory → IfSome result.board (LeavesBoard (map (λ w. w.now) words.now) (S.left source.old) (S.left source.new)) }
 
     // With every other status nothing is written; with Words nothing is read, nor for a mode that reads nothing, and else at most
     // one byte more than the mode may read.

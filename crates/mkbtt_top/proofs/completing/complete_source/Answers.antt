@@ -11,8 +11,9 @@ pub returns-clause-stop : goal.returns-clause-stop
 returns-clause-stop g c =
     let old = g.S.Source.left c.args.source.now in
     let new = g.S.Source.left c.read_all.new.source in
+    let quiet = g.S.Source.quiet c.args.source.now in
     let before = g.S.Source.faults c.args.source.now in
     let after = g.S.Source.faults c.read_all.new.source in
-    IfErr-weaker c.complete_bytes.result (IsRefusal c.deref.result.now) (IsUnfinishedBy old new before after)
-    (λ stop h. stop_of_refusal old new before after c.in-Ok.bytes.items stop c.in-Ok.ensures.whole (subst {A = List ℕ} (λ b. IsRefusal b stop) c.deref.ensures.value h))
+    IfErr-weaker c.complete_bytes.result (IsRefusal c.args.settings c.args.workers c.deref.result.now) (IsUnfinishedBy c.args.settings c.args.workers old new quiet before after)
+    (λ stop h. stop_of_refusal c.args.settings c.args.workers old new quiet before after c.in-Ok.bytes.items stop c.in-Ok.ensures.whole (subst {A = List ℕ} (λ b. IsRefusal c.args.settings c.args.workers b stop) c.deref.ensures.value h))
     c.complete_bytes.ensures.stop

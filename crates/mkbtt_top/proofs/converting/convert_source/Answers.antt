@@ -9,7 +9,8 @@ pub returns-in_err-answer-clause-stop : goal.returns-in_err-answer-clause-stop
 returns-in_err-answer-clause-stop g c =
     let old = g.S.Source.left c.args.source.now in
     let new = g.S.Source.left c.answer_from.new.source in
+    let quiet = g.S.Source.quiet c.args.source.now in
     let before = g.S.Source.faults c.args.source.now in
     let after = g.S.Source.faults c.answer_from.new.source in
     let stop = c.in_err-answer.field-0.0 in
-    handed_on (StopsBy (Convert c.args.format) old new before after) c.from_residual.result stop c.from_residual.ensures.0 c.from_residual.ensures.1 (stops_by (Convert c.args.format) old new before after stop refl c.in_err-answer.ensures.stop)
+    handed_on (StopsBy (Convert c.args.format) old new quiet before after) c.from_residual.result stop c.from_residual.ensures.0 c.from_residual.ensures.1 (stops_by (Convert c.args.format) old new quiet before after stop refl c.in_err-answer.ensures.stop)
