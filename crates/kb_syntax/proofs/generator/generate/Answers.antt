@@ -10,8 +10,8 @@ use Rattle.kb_syntax.specs.Generator.{letter_entry, generated_equation, on, oute
 use Rattle.kb_syntax.proofs.GeneratorLaws.{is_signature_of_letters}
 use Rattle.kb_syntax.proofs.generator.generate.Goals as goal
 
-pub new-signature-requires : goal.new-signature-requires
-new-signature-requires c = subst IsSignature (ap (map letter_entry) (sym c.deref.ensures.value) ∙ sym c.in_ok-entries.ensures) (is_signature_of_letters c.in_ok-letters.letters.items c.in_ok-letters.ensures.kept)
+pub new-signature-requires-clause-names : goal.new-signature-requires-clause-names
+new-signature-requires-clause-names c = subst IsSignature (ap (map letter_entry) (sym c.deref.ensures.value) ∙ sym c.in_ok-entries.ensures) (is_signature_of_letters c.in_ok-letters.letters.items c.in_ok-letters.ensures.kept)
 
 pub loop-i-preserved : goal.loop-i-preserved
 loop-i-preserved c =
