@@ -28,7 +28,7 @@ ff-a-right = (
   (
     (
       (omega arith, omega arith),
-      record { first = one 0 (one 0 (variable 0)); second = none 1 },
+      (record { first = one 0 (one 0 (variable 0)); second = none 1 },
       record { first = one 0 (one 0 (variable 0)); second = none 1 },
       refl,
       refl,
@@ -55,7 +55,7 @@ ff-a-right = (
               sides = refl;
             };
         canonical = refl;
-      },
+      }),
     ),
     tt,
   ),
@@ -81,7 +81,7 @@ fa-right = (
     (
       (
         (omega arith, omega arith),
-        record { first = one 0 (none 1); second = none 3 },
+        (record { first = one 0 (none 1); second = none 3 },
         record { first = one 0 (none 1); second = none 2 },
         refl,
         refl,
@@ -90,7 +90,7 @@ fa-right = (
           result = none 2;
           rewrites = (variable, record { redex = refl; result = refl });
           canonical = refl;
-        },
+        }),
       ),
       tt,
     ),
