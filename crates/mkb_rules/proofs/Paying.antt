@@ -13,6 +13,7 @@ use Rattle.kb_node.specs.declared.node.LabelKind.TheVariants.{R0, R1, E, C0, C1,
 use Rattle.kb_node.specs.Labelled.{Node, is_dead_under}
 use Rattle.mkb_model.specs.Plain.{PlainNode, label_in, label_at, pair_size}
 use Rattle.mkb_model.specs.Effects.{with_label_in, with_label}
+use Rattle.mkb_rules.specs.Accounts.{IsBare}
 use Rattle.mkb_rules.specs.Parts.{plain_nodes}
 use Rattle.mkb_rules.specs.Sizes.{size_if, open_share, rule_share, size_at, open_share_at, rule_share_at, open_sizes, rule_sizes, is_open_kind, is_rule_kind, is_dead_node, is_dead_at, AreMarked, AreSizesOf}
 use Rattle.mkb_rules.specs.declared.sizes.Sizes.{Sizes}
@@ -130,14 +131,6 @@ dead_plain (x ∷ xs) zero t h = let e : is_dead_under {L = List Name} {K = List
 dead_plain (x ∷ xs) (suc n) t h = dead_plain xs n t h
 
 -- ---- a node comes
-
--- the node has no label
-pub record IsBare (x : PlainNode) : Type 0 where
-  pub rule0 : x.rule0 ≡ []
-  pub rule1 : x.rule1 ≡ []
-  pub equation : x.equation ≡ []
-  pub constraint0 : x.constraint0 ≡ []
-  pub constraint1 : x.constraint1 ≡ []
 
 module _ (xs : List PlainNode) (x : PlainNode) (bare : IsBare x) where
   open_none : (p : Name) → open_share p x ≡ 0

@@ -9,3 +9,5 @@ pub mod Named
 pub mod Rewriting
 pub mod Applicable
 pub mod Sizes
+pub mod Roles
+pub mod Accounts

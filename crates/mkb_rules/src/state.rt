@@ -5,11 +5,13 @@ ghost use Rattle.kb_node.specs.declared.node.LabelKind.TheVariants.{X};
 ghost use Rattle.mkb_model.specs.Jobs.{ref_eq};
 ghost use Rattle.mkb_model.specs.Plain.{cost, known, done_in, done_of, label, over_reason, certificate_of};
 ghost use Rattle.mkb_rules.specs.Parts.{plain_nodes};
+ghost use Rattle.mkb_rules.specs.Roles.{AreRolesOf};
 ghost use Rattle.mkb_rules.specs.Sizes.{is_dead_at};
 ghost use Rattle.mkb_rules.specs.Kept.{plain_done, plain_certificates, place_in};
 
 use crate::facts::Facts;
 use crate::nodes::Nodes;
+use crate::roles::Roles;
 use crate::sleepers::Sleepers;
 use kb_cert::Certificate;
 use kb_label::{Labels, ListLabels, MAX_LIVING, NameLog, Process, Reason};
@@ -150,13 +152,22 @@ impl State {
         self.nodes.is_dead(&self.log, n)
     }
 
-    /// What a process costs, where that is kept. It is for each living process, where memory allows.
-    pub fn kept_cost(&self, p: &Process) -> Option<u32>
+    /// What the process at this place among the living costs, where that is kept. It is for each living process, where memory
+    /// allows.
+    pub fn kept_cost(&self, place: usize, p: &Process) -> Option<u32>
         ensures { IfSome result (λ c. c ≡ cost self.now p.now) }
     {
+        self.nodes.sizes(place, p)?.cost(self.settings.selection)
+    }
+
+    /// How a process has each of the first nodes, where that is kept; else of none. It is kept for each living process and for all
+    /// nodes, where memory allows.
+    pub fn roles(&self, p: &Process) -> &[Roles]
+        ensures { AreRolesOf self.now.nodes p.now result.now }
+    {
         match self.log.processes().binary_search(p) {
-            Ok(place) => self.nodes.sizes(place, p)?.cost(self.settings.selection),
-            Err(_) => None,
+            Ok(place) => self.nodes.roles(place, p),
+            Err(_) => &[],
         }
     }
 
