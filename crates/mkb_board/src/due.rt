@@ -4,7 +4,7 @@ ghost use Rattle.std.specs.List.{find, flat_map};
 ghost use Rattle.kb_label.specs.Names.{has};
 ghost use Rattle.kb_term.specs.declared.origin.RuleRef.{RuleRef as Reference};
 ghost use Rattle.kb_node.specs.declared.job.Job.TheVariants as jobs;
-ghost use Rattle.mkb_model.specs.Jobs.{clashes, is_free, process_of, ref_eq, ref_le};
+ghost use Rattle.mkb_model.specs.Jobs.{clashes, is_free, process_of, ref_eq};
 ghost use Rattle.mkb_model.specs.Plain.{node_numbers, rules_of};
 ghost use Rattle.mkb_model.specs.DueJobs.{is_work_due, work_of};
 ghost use Rattle.mkb_board.specs.Choosing.{jobs_of, is_choice, HasNodes};
@@ -16,7 +16,7 @@ use kb_label::Process;
 use kb_node::{Job, NodeId};
 use kb_term::RuleRef;
 use mkb_model::Ticket;
-use mkb_rules::State;
+use mkb_rules::{State, is_ordered};
 
 /// The first job of the process, in their order, that is due by what it sees and clashes with none in flight; closing is
 /// none of them. It takes no memory.
@@ -184,13 +184,6 @@ fn is_overlap_due(state: &State, p: &Process, a: RuleRef, c: RuleRef) -> bool
     ensures { result ≡ is_work_due state.now (jobs.Overlap p.now a c) }
 {
     (is_rule(state, p, a) && is_rule(state, p, c)) && (is_ordered(a, c) && !state.is_done(p, a, c))
-}
-
-// Whether the first rule does not come after the second.
-fn is_ordered(a: RuleRef, c: RuleRef) -> bool
-    ensures { result ≡ ref_le a c }
-{
-    a.node < c.node || (a.node == c.node && a.dir <= c.dir)
 }
 
 // Whether the job clashes with none in flight.

@@ -11,3 +11,4 @@ pub mod Applicable
 pub mod Sizes
 pub mod Roles
 pub mod Accounts
+pub mod Overlapped

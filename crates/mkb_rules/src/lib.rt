@@ -17,4 +17,4 @@ mod tracked;
 
 pub use applied::Applied;
 pub use roles::Roles;
-pub use state::State;
+pub use state::{State, is_ordered};

@@ -2,9 +2,10 @@
 ghost use Rattle.std.specs.Prelude.{◌≡◌, ◌<◌, ◌&&◌, [], ◌∷◌, length, Some, IfSome, IsSome, MatchOption};
 ghost use Rattle.kb_label.specs.Names.{add, has, minus, name_eq};
 ghost use Rattle.kb_node.specs.declared.node.LabelKind.TheVariants.{X};
-ghost use Rattle.mkb_model.specs.Jobs.{ref_eq};
+ghost use Rattle.mkb_model.specs.Jobs.{ref_eq, ref_le};
 ghost use Rattle.mkb_model.specs.Plain.{cost, known, done_in, done_of, label, over_reason, certificate_of};
 ghost use Rattle.mkb_rules.specs.Parts.{plain_nodes};
+ghost use Rattle.mkb_rules.specs.Overlapped.{is_overlapped};
 ghost use Rattle.mkb_rules.specs.Roles.{AreRolesOf};
 ghost use Rattle.mkb_rules.specs.Sizes.{is_dead_at};
 ghost use Rattle.mkb_rules.specs.Kept.{plain_done, plain_certificates, place_in};
@@ -126,8 +127,19 @@ impl State {
         self.facts.known(n, side, rule)
     }
 
-    /// Whether two rules have been overlapped for a process.
+    /// Whether two rules have been overlapped for a process, in whichever order they are named.
     pub fn is_done(&self, p: &Process, a: RuleRef, b: RuleRef) -> bool
+        ensures { result ≡ is_overlapped self.now p.now a b }
+    {
+        if is_ordered(a, b) {
+            self.is_done_in_order(p, a, b)
+        } else {
+            self.is_done_in_order(p, b, a)
+        }
+    }
+
+    // Whether the first rule has been overlapped with the second for a process.
+    fn is_done_in_order(&self, p: &Process, a: RuleRef, b: RuleRef) -> bool
         ensures { result ≡ has (done_of self.now a b) p.now }
     {
         match done_names(&self.done, a, b) {
@@ -253,6 +265,13 @@ impl GivenUp {
         }
         None
     }
+}
+
+/// Whether the first rule does not come after the second, by node, then direction.
+pub fn is_ordered(a: RuleRef, b: RuleRef) -> bool
+    ensures { result ≡ ref_le a b }
+{
+    a.node < b.node || (a.node == b.node && a.dir <= b.dir)
 }
 
 /// Whether both name one rule.
