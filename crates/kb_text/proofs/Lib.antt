@@ -6,6 +6,7 @@ pub mod WrittenLists
 pub mod TokenCounts
 pub mod IdentifierLaws
 pub mod BadLines
+pub mod Spelling
 pub mod Boundaries
 pub mod TextLaws
 pub mod FrontParts
