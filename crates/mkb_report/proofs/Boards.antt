@@ -64,11 +64,10 @@ pair_of_first xs n m = ap (λ (ys : List (Pair × Origin)). node_pair ys m) (tak
 
 origins_right : (b : Plain) → PairsFollow b → ((x : PlainNode) → Contains b.nodes x → IsOriginOfForm x.origin) → OriginsAreRight b.problem.equations (pairs_of b)
 origins_right b h formed n x e =
-    let y = mapped_is (λ (z : PlainNode). (z.pair, z.origin)) (slice_get b.nodes n) x (sym (slice_get-map (λ (z : PlainNode). (z.pair, z.origin)) b.nodes n) ∙ e) in
-    (
+    let y = mapped_is (λ (z : PlainNode). (z.pair, z.origin)) (slice_get b.nodes n) x (sym (slice_get-map (λ (z : PlainNode). (z.pair, z.origin)) b.nodes n) ∙ e) in (
       subst (λ (z : Pair × Origin). IsOriginOfForm z.1) y.2 (formed y.0 (slice_contains b.nodes n y.0 y.1)),
       follows_alike b.problem.equations (pair_in (take n b.nodes)) (node_pair (take n (pairs_of b))) x.1 x.0 (λ m. sym (pair_of_first b.nodes n m))
-      (subst (λ (z : Pair × Origin). FollowsBy b.problem.equations (pair_in (take n b.nodes)) z.1 z.0) y.2 (h n y.0 y.1)),
+          (subst (λ (z : Pair × Origin). FollowsBy b.problem.equations (pair_in (take n b.nodes)) z.1 z.0) y.2 (h n y.0 y.1)),
     )
 
 -- ---- at most one rule for each node
