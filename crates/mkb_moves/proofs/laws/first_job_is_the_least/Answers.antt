@@ -1,0 +1,8 @@
+use Rattle.mkb_moves.proofs.FirstJob.{first_least, free_may}
+use Rattle.mkb_moves.proofs.laws.first_job_is_the_least.Goals as goal
+
+pub returns-clause-least : goal.returns-clause-least
+returns-clause-least c = first_least
+
+pub returns-clause-free : goal.returns-clause-free
+returns-clause-free c = free_may
