@@ -15,17 +15,16 @@ use Rattle.mkb_model.specs.Effects.{added, overlap_label, gains_done_in}
 use Rattle.mkb_model.specs.Journals.{Moment, IsPossibleRun, IsCommitting}
 use Rattle.mkb_model.specs.Ready.{IsOn}
 use Rattle.mkb_model.specs.declared.entry.Effect.TheVariants.{Made}
-use Rattle.mkb_model.specs.declared.proposed.Proposed.{Proposed}
 use Rattle.mkb_model.specs.declared.proposed.Proposed.TheVariants.{Deduce, Unjoined}
 use Rattle.mkb_model.specs.declared.settings.Settings.{Settings}
-use Rattle.mkb_model.proofs.Lists.{clash, none_in, and_both, or_right}
+use Rattle.mkb_model.proofs.Lists.{none_in, and_both, or_right}
 use Rattle.mkb_model.proofs.Roles.{keeps-with_node, equation-no_rule, equation-no_constraint}
 use Rattle.mkb_model.proofs.Pairs.{pairs-added}
 use Rattle.mkb_model.proofs.Changes.{Fits}
 use Rattle.mkb_model.proofs.Completed.{ref_self}
 use Rattle.mkb_model.proofs.Orienting.{self}
-use Rattle.mkb_model.proofs.Adding.{add_one, with_pair, place, add-pairs, add-place, add-equations, add-others}
-use Rattle.mkb_moves.specs.Moves.{HasNoRule, Deduces}
+use Rattle.mkb_model.proofs.Adding.{add_one, with_pair, place, add-place, add-equations, add-others}
+use Rattle.mkb_moves.specs.Moves.{Deduces}
 use Rattle.mkb_moves.proofs.Sight.{equations_are, no_rule_are, same_rules, same_constraints, kept_test}
 use Rattle.mkb_moves.proofs.Makes.{IsMaking, making, commit_fits}
 
@@ -44,44 +43,37 @@ rule_other d e = equation-no_rule d (sym e)
 abbrev IsNewPair : List Deduced → List PlainNode → List PlainNode → Name → ℕ → Type 0
 IsNewPair ds zs xs p m = (d : Deduced) × Contains ds d × (pair_in zs m ≡ Some d.pair) × (¬ IsOn xs p m R0) × (¬ IsOn xs p m R1)
 
+-- one pair more
+module _ (l : List Name) (d : Deduced) (ds : List Deduced) (xs : List PlainNode) (p : Name) (named : has l p ≡ true) (fits : Fits (added l ds (add_one l d xs))) (m : ℕ)
+    (ih : IsOn (added l ds (add_one l d xs)) p m E ↔ (IsOn (add_one l d xs) p m E ⊎ IsNewPair ds (added l ds (add_one l d xs)) (add_one l d xs) p m)) where
+  at_place : pair_in (added l ds (add_one l d xs)) (place l d xs p named) ≡ Some d.pair
+  at_place = pairs-added l ds (add_one l d xs) (place l d xs p named) d.pair (add-place l d xs p named)
+
+  -- the node of the pair is found without a change of roles
+  before : (j : LabelKind) → IsOn (with_pair d xs) p m j ↔ IsOn xs p m j
+  before j = keeps-with_node d.pair (ByOverlap d.outer d.inner d.position) xs p m j
+
+  one_more : IsOn (added l ds (add_one l d xs)) p m E → IsOn xs p m E ⊎ IsNewPair (d ∷ ds) (added l ds (add_one l d xs)) xs p m
+  one_more o = ⊎_elim
+      (λ i. ⊎_elim (λ u. inl u)
+      (λ u. inr (d, contains_first d ds, ap (pair_in (added l ds (add_one l d xs))) u.0 ∙ at_place, (λ v. u.1.0 (subst {A = ℕ} (λ z. IsOn (with_pair d xs) p z R0) u.0 ((before R0).1 v))), λ v. u.1.1 (subst {A = ℕ} (λ z. IsOn (with_pair d xs) p z R1) u.0 ((before R1).1 v))))
+      ((add-equations l d xs p named m).0 i))
+      (λ i. inr (i.0, contains_behind d ds i.0 i.1, i.2, (λ v. i.3 ((add-others l d xs p named m R0 (rule_other 0)).1 v)), λ v. i.4 ((add-others l d xs p named m R1 (rule_other 1)).1 v)))
+      (ih.0 o)
+
+  one_there : IsOn xs p m E ⊎ IsNewPair (d ∷ ds) (added l ds (add_one l d xs)) xs p m → IsOn (added l ds (add_one l d xs)) p m E
+  one_there (inl o) = ih.1 (inl ((add-equations l d xs p named m).1 (inl o)))
+  one_there (inr (e, i, there, n0, n1)) = ⊎_elim
+      (λ q. let s : m ≡ place l d xs p named = fits.distinct m (place l d xs p named) d.pair (there ∙ ap (λ (z : Deduced). Some z.pair) (sym q)) at_place in
+      ih.1 (inl ((add-equations l d xs p named m).1 (inr (s, ((λ v. n0 ((before R0).0 (subst {A = ℕ} (λ z. IsOn (with_pair d xs) p z R0) (sym s) v))), λ v. n1 ((before R1).0 (subst {A = ℕ} (λ z. IsOn (with_pair d xs) p z R1) (sym s) v))))))))
+      (λ c. ih.1 (inr (e, c, there, (λ v. n0 ((add-others l d xs p named m R0 (rule_other 0)).0 v)), λ v. n1 ((add-others l d xs p named m R1 (rule_other 1)).0 v))))
+      (contains_cases d ds e i)
+
 added-equations : (l : List Name) (ds : List Deduced) (xs : List PlainNode) (p : Name) → has l p ≡ true → Fits (added l ds xs) → (m : ℕ) → IsOn (added l ds xs) p m E ↔ (IsOn xs p m E ⊎ IsNewPair ds (added l ds xs) xs p m)
 added-equations l [] xs p named fits m = ((λ o. inl o), λ h. ⊎_elim (λ o. o) (λ i. none_in i.1) h)
-added-equations l (d ∷ ds) xs p named fits m = (to, from)
-  where
-    ys : List PlainNode
-    ys = add_one l d xs
-
-    zs : List PlainNode
-    zs = added l ds (add_one l d xs)
-
-    k : ℕ
-    k = place l d xs p named
-
-    at_place : pair_in (added l ds (add_one l d xs)) (place l d xs p named) ≡ Some d.pair
-    at_place = pairs-added l ds (add_one l d xs) (place l d xs p named) d.pair (add-place l d xs p named)
-
-    ih : IsOn (added l ds (add_one l d xs)) p m E ↔ (IsOn (add_one l d xs) p m E ⊎ IsNewPair ds (added l ds (add_one l d xs)) (add_one l d xs) p m)
-    ih = added-equations l ds (add_one l d xs) p named fits m
-
-    -- the node of the pair is found without a change of roles
-    before : (j : LabelKind) → IsOn (with_pair d xs) p m j ↔ IsOn xs p m j
-    before j = keeps-with_node d.pair (ByOverlap d.outer d.inner d.position) xs p m j
-
-    to : IsOn (added l ds (add_one l d xs)) p m E → IsOn xs p m E ⊎ IsNewPair (d ∷ ds) (added l ds (add_one l d xs)) xs p m
-    to o = ⊎_elim
-        (λ i. ⊎_elim (λ u. inl u)
-        (λ u. inr (d, contains_first d ds, ap (pair_in (added l ds (add_one l d xs))) u.0 ∙ at_place, (λ v. u.1.0 (subst {A = ℕ} (λ z. IsOn (with_pair d xs) p z R0) u.0 ((before R0).1 v))), λ v. u.1.1 (subst {A = ℕ} (λ z. IsOn (with_pair d xs) p z R1) u.0 ((before R1).1 v))))
-        ((add-equations l d xs p named m).0 i))
-        (λ i. inr (i.0, contains_behind d ds i.0 i.1, i.2, (λ v. i.3 ((add-others l d xs p named m R0 (rule_other 0)).1 v)), λ v. i.4 ((add-others l d xs p named m R1 (rule_other 1)).1 v)))
-        (ih.0 o)
-
-    from : IsOn xs p m E ⊎ IsNewPair (d ∷ ds) (added l ds (add_one l d xs)) xs p m → IsOn (added l ds (add_one l d xs)) p m E
-    from (inl o) = ih.1 (inl ((add-equations l d xs p named m).1 (inl o)))
-    from (inr (e, i, there, n0, n1)) = ⊎_elim
-        (λ q. let s : m ≡ place l d xs p named = fits.distinct m (place l d xs p named) d.pair (there ∙ ap (λ (z : Deduced). Some z.pair) (sym q)) at_place in
-        ih.1 (inl ((add-equations l d xs p named m).1 (inr (s, (λ v. n0 ((before R0).0 (subst {A = ℕ} (λ z. IsOn (with_pair d xs) p z R0) (sym s) v))), λ v. n1 ((before R1).0 (subst {A = ℕ} (λ z. IsOn (with_pair d xs) p z R1) (sym s) v)))))))
-        (λ c. ih.1 (inr (e, c, there, (λ v. n0 ((add-others l d xs p named m R0 (rule_other 0)).0 v)), λ v. n1 ((add-others l d xs p named m R1 (rule_other 1)).0 v))))
-        (contains_cases d ds e i)
+added-equations l (d ∷ ds) xs p named fits m =
+    let ih = added-equations l ds (add_one l d xs) p named fits m in
+    (one_more l d ds xs p named fits m ih, one_there l d ds xs p named fits m ih)
 
 -- what the roles say of the lists
 deduced : (b c : Plain) (p : Name) (l : List Name) (ds : List Deduced) → has l p ≡ true → c.nodes ≡ added l ds b.nodes → Fits c.nodes → Deduces b c p ds

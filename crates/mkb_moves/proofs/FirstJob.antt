@@ -1,6 +1,5 @@
 -- The first job is the least of those that may be taken, by the order told as a relation.
 use Rattle.std.proofs.Common.{ℕ, ◌<◌, ◌≡◌, ◌⊎◌, inl, inr, refl, sym, ap, ap₂, ◌∙◌, subst, arith, List, [], ◌∷◌, ◌++◌, map, flat_map, length, Contains, Bool, true, false, not, cond, Option, Some, None, Ordering, Less, Equal, Greater, is_le, nat_cmp, ⊎_elim}
-use Rattle.std.specs.Prelude.{IsFalse}
 use Rattle.std.specs.Option.{option_map_or}
 use Rattle.std.specs.Ordering.{ordering_then, MatchOrdering}
 use Rattle.std.proofs.lemmas.Cmp.{ranked}

@@ -1,13 +1,12 @@
 -- The reason that a verdict names is that of the first process by name that gave up.
-use Rattle.std.proofs.Common.{◌≡◌, inl, inr, refl, sym, ap, ◌∙◌, subst, List, [], ◌∷◌, Bool, true, false, cond, ◌||◌, ◌==◌, Option, Some, None, Ordering, Less, Equal, Greater, ⊎_elim}
+use Rattle.std.proofs.Common.{◌≡◌, refl, sym, ap, ◌∙◌, subst, List, [], ◌∷◌, Bool, true, false, cond, ◌||◌, ◌==◌, Option, Some, None, Less, Equal, ⊎_elim}
 use Rattle.std.specs.Prelude.{option_map, option_and_then}
 use Rattle.std.specs.List.{find, list_all}
 use Rattle.kb_term.specs.Signature.{Problem}
-use Rattle.kb_label.specs.Names.{Name, has, name_eq, name_cmp, IsInNameOrder}
+use Rattle.kb_label.specs.Names.{Name, has, name_eq, IsInNameOrder}
 use Rattle.kb_label.specs.NameOrder.{name_cmp-total, name_cmp-same}
 use Rattle.kb_label.specs.declared.verdict.Reason.{Reason}
 use Rattle.kb_label.specs.declared.verdict.Spent.TheVariants.{Commits, Over}
-use Rattle.kb_label.specs.declared.verdict.Verdict.{Verdict}
 use Rattle.kb_label.specs.declared.verdict.Verdict.TheVariants.{Complete, AllFailed, Spent as IsSpent}
 use Rattle.kb_label.proofs.Members.{name_eq-eq}
 use Rattle.kb_label.proofs.Ordered.{rest, skip}

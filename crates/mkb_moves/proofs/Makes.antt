@@ -1,12 +1,12 @@
 -- A commit whose entry is that a proposal had its effect.
 use Rattle.std.proofs.Common.{ℕ, ◌≡◌, refl, sym, ap, ◌∙◌, subst, List, Option, Some, None, ◌∷◌}
-use Rattle.std.specs.Prelude.{IsFalse, Contains}
+use Rattle.std.specs.Prelude.{IsFalse}
 use Rattle.std.specs.Option.{option_map_or}
 use Rattle.kb_term.specs.Signature.{Problem}
 use Rattle.kb_label.specs.declared.verdict.Reason.{Reason}
 use Rattle.kb_node.specs.declared.job.Job.{Job}
-use Rattle.mkb_model.specs.Plain.{Plain, PlainNode}
-use Rattle.mkb_model.specs.Effects.{applied, counted, give_up, effect, effect_entry, effect_label, limit_of, is_dropped}
+use Rattle.mkb_model.specs.Plain.{Plain}
+use Rattle.mkb_model.specs.Effects.{applied, counted, give_up, effect_entry, effect_label, limit_of, is_dropped}
 use Rattle.mkb_model.specs.Sleeping.{settle}
 use Rattle.mkb_model.specs.Journals.{Moment, IsPossibleRun, IsCommitting, IsFinishing, IsFreeJob, landed}
 use Rattle.mkb_model.specs.Ready.{KeepsPairs}

@@ -1,12 +1,11 @@
 -- A process that the effect label does not name is left alone.
-use Rattle.std.proofs.Common.{ℕ, ◌≡◌, refl, sym, ap, ◌∙◌, subst, List, [], ◌∷◌, Bool, true, false, cond}
+use Rattle.std.proofs.Common.{ℕ, ◌≡◌, sym, ap, ◌∙◌, subst, List, [], ◌∷◌, Bool, true, false, cond}
 use Rattle.std.specs.Prelude.{IsFalse}
 use Rattle.kb_term.specs.Signature.{Problem}
-use Rattle.kb_term.specs.declared.origin.RuleRef.{RuleRef}
-use Rattle.kb_label.specs.Names.{Name, has, name_eq}
+use Rattle.kb_label.specs.Names.{Name, has}
 use Rattle.kb_label.proofs.Members.{name_eq-refl}
 use Rattle.kb_node.specs.declared.node.LabelKind.TheVariants.{E, X}
-use Rattle.mkb_model.specs.Plain.{Plain, is_over, label_at}
+use Rattle.mkb_model.specs.Plain.{Plain, label_at}
 use Rattle.mkb_model.specs.Effects.{effect, effect_label, orient_label, is_dropped}
 use Rattle.mkb_model.specs.Journals.{Moment, IsPossibleRun, IsCommitting, landed}
 use Rattle.mkb_model.specs.declared.entry.Effect.{Effect}
@@ -24,7 +23,7 @@ use Rattle.mkb_moves.proofs.Sight.{kept_view}
 
 -- a process that the label does not name is not forked
 not_forked : (b : Plain) (x : Proposed) (p : Name) → IsFalse (is_dropped b x) → has (effect_label b x) p ≡ false → IsUnforked x p
-not_forked b (Both q n c0 c1) p acts h e = clash (subst {A = Name} (λ z. has (orient_label b q n.0) z ≡ true) (sym e) (named (orients b q n.0 acts))) h
+not_forked b (Both q n c0 c1) p acts h = λ e. clash (subst {A = Name} (λ z. has (orient_label b q n.0) z ≡ true) (sym e) (named (orients b q n.0 acts))) h
   where
     named : has (label_at b.nodes n.0 E) q ≡ true → has (orient_label b q n.0) q ≡ true
     named o = ap (λ (y : Bool). has (cond y (q ∷ []) []) q) o ∙ has-one q q ∙ name_eq-refl q

@@ -3,7 +3,6 @@ use Rattle.std.proofs.Common.{ℕ, ◌≡◌, ◌≢◌, ◌⊎◌, inl, inr, re
 use Rattle.std.specs.Prelude.{IsFalse}
 use Rattle.std.specs.Option.{option_map_or}
 use Rattle.std.proofs.lemmas.List.Elements.{Contains-append_left, Contains-append_right, Contains-append_cases}
-use Rattle.kb_term.proofs.Steps.{contains_cases, contains_first}
 use Rattle.kb_term.specs.Pair.{Pair, canonical_pair}
 use Rattle.kb_term.specs.Rule.{Rule}
 use Rattle.kb_term.specs.Tree.{Tree}
@@ -16,7 +15,6 @@ use Rattle.kb_term.specs.declared.origin.Origin.TheVariants.{Rewrite as ByRewrit
 use Rattle.kb_overlap.specs.Trace.{other_side}
 use Rattle.kb_cert.specs.Family.{IsFirstOrder}
 use Rattle.kb_cert.specs.declared.family.Family.{Family}
-use Rattle.kb_cert.specs.declared.certificate.Certificate.{Certificate}
 use Rattle.kb_cert.proofs.Ordering.{all_from}
 use Rattle.kb_cert.proofs.Parts.{none_more}
 use Rattle.kb_label.specs.Names.{Name, has, child, relabel, join, meet, minus}
@@ -31,14 +29,14 @@ use Rattle.kb_node.specs.declared.job.Job.TheVariants.{Reduce, Orient, Overlap, 
 use Rattle.mkb_model.specs.Plain.{Plain, PlainNode, label_at, rule_kind, constraint_kind, other, constraints_of, rules_at, rule_at, pair_at}
 use Rattle.mkb_model.specs.Effects.{with_label, with_node, node_of, loses, gains, gains_equation, gains_rule, moved_to, rewritten, rewrite_label, overlap_label, oriented, added, direction, if_strict, forked_node, applied, effect, effect_label, give_up, limit_of, is_dropped}
 use Rattle.mkb_model.specs.Proposals.{Proposes, OrientsBy}
-use Rattle.mkb_model.specs.Journals.{Moment, Follows, IsPossibleRun, IsFinishing, IsFreeJob, opening}
+use Rattle.mkb_model.specs.Journals.{Moment, Follows, IsPossibleRun, IsFinishing, IsFreeJob}
 use Rattle.mkb_model.specs.Ready.{IsOn, KeepsPairs}
 use Rattle.mkb_model.specs.declared.entry.Entry.{Entry}
 use Rattle.mkb_model.specs.declared.entry.Entry.TheVariants.{Take, Commit, Drop, Abandon, Halt}
 use Rattle.mkb_model.specs.declared.proposed.Proposed.{Proposed}
 use Rattle.mkb_model.specs.declared.proposed.Proposed.TheVariants.{Facts, Rewrite, One, Both, Refuse, Deduce, Unjoined, Closed, Limit}
 use Rattle.mkb_model.specs.declared.settings.Settings.{Settings}
-use Rattle.mkb_model.proofs.Lists.{clash, decide, none_in, filter_map_in, in_filter_map}
+use Rattle.mkb_model.proofs.Lists.{clash, filter_map_in, in_filter_map}
 use Rattle.mkb_model.proofs.Roles.{put_other, label-with_node, label-fork, keeps-fork, on-fork, on-gains, on-loses, equation-no_constraint, refused-no_rule, refused-no_constraint, kind_number}
 use Rattle.mkb_model.proofs.Commits.{orients, is_p, pairs-applied}
 use Rattle.mkb_model.proofs.Simulation.{forked_names, apart_from}

@@ -1,5 +1,5 @@
 -- A rewriting simplifies an equation of each process of its label, or composes or collapses a rule.
-use Rattle.std.proofs.Common.{ℕ, ◌≡◌, ◌≢◌, ◌⊎◌, ◌↔◌, inl, inr, refl, sym, ap, ◌∙◌, subst, List, Bool, true, false, cond, not, ◌==◌, Option, Some, ⊎_elim, Contains}
+use Rattle.std.proofs.Common.{ℕ, ◌≡◌, ◌≢◌, ◌⊎◌, inl, inr, refl, sym, ap, ◌∙◌, subst, List, Bool, true, false, cond, not, ◌==◌, Option, Some, ⊎_elim}
 use Rattle.std.specs.Option.{option_map_or}
 use Rattle.kb_term.specs.Tree.{Tree}
 use Rattle.kb_term.specs.View.{tree_of}
@@ -16,14 +16,13 @@ use Rattle.kb_node.specs.declared.node.LabelKind.{LabelKind}
 use Rattle.kb_node.specs.declared.node.LabelKind.TheVariants.{E}
 use Rattle.kb_node.specs.declared.job.Job.{Job}
 use Rattle.kb_node.specs.declared.job.Job.TheVariants.{Reduce, Orient, Overlap, Close}
-use Rattle.mkb_model.specs.Plain.{Plain, PlainNode, other, rule_kind, pair_at, equations_of, rules_of, constraints_of}
+use Rattle.mkb_model.specs.Plain.{Plain, PlainNode, other, rule_kind, pair_at, rules_of, constraints_of}
 use Rattle.mkb_model.specs.DueJobs.{reducers}
 use Rattle.mkb_model.specs.Effects.{rewrite_label, rewritten, direction, pair_eq}
 use Rattle.mkb_model.specs.Proposals.{Proposes}
 use Rattle.mkb_model.specs.Journals.{Moment, IsPossibleRun, IsCommitting}
 use Rattle.mkb_model.specs.Ready.{IsOn, KeepsPairs, IsRewriteOn}
 use Rattle.mkb_model.specs.declared.entry.Effect.TheVariants.{Made}
-use Rattle.mkb_model.specs.declared.proposed.Proposed.{Proposed}
 use Rattle.mkb_model.specs.declared.proposed.Proposed.TheVariants.{Rewrite}
 use Rattle.mkb_model.specs.declared.settings.Settings.{Settings}
 use Rattle.mkb_model.proofs.Lists.{filter_in}
@@ -33,10 +32,10 @@ use Rattle.mkb_model.proofs.Readiness.{named_rule, rewrite_ready}
 use Rattle.mkb_model.proofs.Resting.{IsBit, rules_in}
 use Rattle.mkb_model.proofs.Staying.{KeepsConstraints, constraints_applied}
 use Rattle.mkb_model.proofs.AllFine.{goes}
-use Rattle.mkb_moves.specs.Moves.{HasNoRule, IsNodeOf, IsRuleTo, Simplifies, Composes, Collapses, Rewrites}
+use Rattle.mkb_moves.specs.Moves.{Simplifies, Composes, Collapses, Rewrites}
 use Rattle.mkb_moves.proofs.Sight.{equations_are, rules_are, rule_ref, same_direction, no_rule_are, same_rules, kept_test, kept_constraints}
 use Rattle.mkb_moves.proofs.Makes.{IsMaking, making, taken_keeps, commit_fits}
-use Rattle.mkb_moves.proofs.Sources.{IsAt, IsSimplified, IsComposed, IsCollapsed, IsMoved, moved_by}
+use Rattle.mkb_moves.proofs.Sources.{IsSimplified, IsComposed, IsCollapsed, IsMoved, moved_by}
 
 bit_other : (w : ℕ) → IsBit w → IsBit (other w)
 bit_other w (inl e) = inr (ap other e)

@@ -1,5 +1,5 @@
 -- What a process sees of two boards is the same where each label names it alike; and its lists told by labels.
-use Rattle.std.proofs.Common.{ℕ, zero, suc, ◌+◌, ◌≤◌, ◌<◌, ◌≡◌, ◌≢◌, ◌⊎◌, ◌↔◌, inl, inr, refl, sym, ap, ap₂, ◌∙◌, subst, arith, List, [], ◌∷◌, filter, flat_map, length, Contains, Bool, true, false, cond, ⊎_elim}
+use Rattle.std.proofs.Common.{ℕ, zero, suc, ◌+◌, ◌≤◌, ◌≡◌, ◌↔◌, inl, inr, refl, sym, ap, ap₂, ◌∙◌, subst, arith, List, [], ◌∷◌, filter, flat_map, length, Contains, Bool, false, cond, ⊎_elim}
 use Rattle.kb_term.proofs.Steps.{contains_cases}
 use Rattle.kb_term.specs.declared.origin.RuleRef.{RuleRef}
 use Rattle.kb_label.specs.Names.{Name, has}
@@ -7,7 +7,7 @@ use Rattle.kb_node.specs.declared.node.LabelKind.{LabelKind}
 use Rattle.kb_node.specs.declared.node.LabelKind.TheVariants.{R0, R1, E, C0, C1}
 use Rattle.mkb_model.specs.Plain.{Plain, PlainNode, label_at, rule_kind, constraint_kind, numbers_from, node_numbers, directions, is_equation, is_rule, is_constraint, equations_of, rules_of, constraints_of, view}
 use Rattle.mkb_model.specs.Ready.{IsOn}
-use Rattle.mkb_model.proofs.Lists.{clash, none_in, filter_in, in_filter, flat_map_in, in_flat_map, in_numbers, numbers_in, all_left_out, same_test}
+use Rattle.mkb_model.proofs.Lists.{none_in, filter_in, in_filter, flat_map_in, in_numbers, numbers_in, all_left_out, same_test}
 use Rattle.mkb_model.proofs.Roles.{label_beyond, on_there, kind_number, KeepsRoles}
 use Rattle.mkb_model.proofs.Resting.{IsBit, in_rules, rules_in}
 use Rattle.mkb_model.proofs.AllFine.{constraints_in, in_constraints}

@@ -1,5 +1,5 @@
 -- What a rewriting does to the roles in which a process of its label has the nodes.
-use Rattle.std.proofs.Common.{ℕ, ◌<◌, ◌≡◌, ◌≢◌, ◌⊎◌, ◌↔◌, inl, inr, refl, sym, ap, ◌∙◌, subst, List, length, Option, Some, None, true, false, ⊎_elim}
+use Rattle.std.proofs.Common.{ℕ, zero, suc, arith, ◌<◌, ◌≡◌, ◌≢◌, ◌⊎◌, ◌↔◌, inl, inr, refl, sym, ap, ◌∙◌, subst, List, length, Option, Some, None, true, false, ⊎_elim}
 use Rattle.kb_term.specs.Tree.{Tree}
 use Rattle.kb_term.specs.Pair.{Pair}
 use Rattle.kb_overlap.specs.Trace.{other_side}
@@ -14,13 +14,13 @@ use Rattle.mkb_model.specs.Plain.{PlainNode, label_at, rule_kind, other, pair_in
 use Rattle.mkb_model.specs.Effects.{with_node, node_of, loses, gains_rule, gains_equation, direction, is_strict, if_strict}
 use Rattle.mkb_model.specs.Ready.{IsOn, OneRole}
 use Rattle.mkb_model.proofs.Lists.{clash, false_unless, none_some, some_is}
-use Rattle.mkb_model.proofs.Roles.{on-gains_rule, keeps-with_node, keeps-gains_rule, keeps-gains_equation, equation-no_rule, KeepsRoles, keeps_trans, length-put}
+use Rattle.mkb_model.proofs.Roles.{kind_number, on-gains_rule, keeps-with_node, keeps-gains_rule, keeps-gains_equation, equation-no_rule, KeepsRoles, keeps_trans, length-put}
 use Rattle.mkb_model.proofs.Pairs.{pairs-gains_equation, pairs-gains_rule, node-with_node}
 use Rattle.mkb_model.proofs.Changes.{Fits}
 use Rattle.mkb_model.proofs.Adding.{rule_role}
 use Rattle.mkb_model.proofs.Rewriting.{strict_is, IsSource, on-lost, gains_from, gains_own, has-if_strict, if_strict-has}
 use Rattle.mkb_model.proofs.Rewritten.{eq_gain, others_gain}
-use Rattle.mkb_model.proofs.Rewritings.{other-rule, lost_nodes, moved_nodes}
+use Rattle.mkb_model.proofs.Rewritings.{lost_nodes, moved_nodes}
 
 -- the node has the pair, if there is one
 abbrev pub IsAt : Option Pair → List PlainNode → ℕ → Type 0
@@ -57,6 +57,10 @@ IsMoved xs ys p n w kind o rest u =
     (IsOn xs p n E × IsSimplified xs ys p n o)
     ⊎ ((IsOn xs p n (rule_kind (other w)) × IsComposed xs ys p n (other w) o rest u)
     ⊎ ((kind ≡ Strict) × IsOn xs p n (rule_kind w) × IsCollapsed xs ys p n w o))
+
+other-rule : (w : ℕ) → rule_kind w ≢ rule_kind (other w)
+other-rule zero e = omega (arith, ap kind_number e)
+other-rule (suc w) e = omega (arith, ap kind_number e)
 
 rule_other : (d : ℕ) → rule_kind d ≢ E
 rule_other d e = equation-no_rule d (sym e)
@@ -192,35 +196,45 @@ module _ (xs : List PlainNode) (p : Name) (l : List Name) (named : has l p ≡ t
       let on' : IsOn xs p n E = subst {A = LabelKind} (IsOn xs p n) e on in
       let g = gains_at o fits (inl on') in
       let lost : (m : ℕ) (j : LabelKind) → IsOn x3 p m j ↔ (IsOn xs p m j × ¬ ((m ≡ n) × (j ≡ E))) = on-lost l n w kind xs p named one E (inl refl) on' in
-      inl (on', (
-        λ m. (
-          (λ v. ⊎_elim (λ h. let r = (lost m E).0 h in inl (r.0, λ i. r.1 (i, refl))) (λ h. inr h) ((g.0 m).0 v)),
-          λ v. (g.0 m).1 (⊎_elim (λ h. inl ((lost m E).1 (h.0, λ i. h.1 i.0))) (λ h. inr h) v),
+      inl (
+        on',
+        (
+          λ m. (
+            (λ v. ⊎_elim (λ h. let r = (lost m E).0 h in inl (r.0, λ i. r.1 (i, refl))) (λ h. inr h) ((g.0 m).0 v)),
+            λ v. (g.0 m).1 (⊎_elim (λ h. inl ((lost m E).1 (h.0, λ i. h.1 i.0))) (λ h. inr h) v),
+          ),
+          λ m d. ((λ v. ((lost m (rule_kind d)).0 ((g.1 m (rule_kind d) (rule_other d)).0 v)).0), λ v. (g.1 m (rule_kind d) (rule_other d)).1 ((lost m (rule_kind d)).1 (v, λ i. rule_other d i.1))),
         ),
-        λ m d. ((λ v. ((lost m (rule_kind d)).0 ((g.1 m (rule_kind d) (rule_other d)).0 v)).0), λ v. (g.1 m (rule_kind d) (rule_other d)).1 ((lost m (rule_kind d)).1 (v, λ i. rule_other d i.1))),
-      ))
+      )
   moved_by o fits s (inr (inl e)) on =
       let on' : IsOn xs p n (rule_kind (other w)) = subst {A = LabelKind} (IsOn xs p n) e on in
       let g = makes_at o fits on' in
       let lost : (m : ℕ) (j : LabelKind) → IsOn x3 p m j ↔ (IsOn xs p m j × ¬ ((m ≡ n) × (j ≡ rule_kind (other w)))) = on-lost l n w kind xs p named one (rule_kind (other w)) (inr (inl refl)) on' in
-      inr (inl (on', (
-        λ m. (
-          (λ v. let r = (g.0 m).0 v in (((lost m E).0 r.0).0, r.1)),
-          λ v. (g.0 m).1 ((lost m E).1 (v.0, λ i. equation-no_rule (other w) i.1), v.1),
+      inr (inl (
+        on',
+        (
+          λ m. (
+            (λ v. let r = (g.0 m).0 v in (((lost m E).0 r.0).0, r.1)),
+            λ v. (g.0 m).1 ((lost m E).1 (v.0, λ i. equation-no_rule (other w) i.1), v.1),
+          ),
+          λ m d. (
+            (λ v. ⊎_elim (λ h. inl ((lost m (rule_kind d)).0 h)) (λ h. inr h) ((g.1 m d).0 v)),
+            λ v. (g.1 m d).1 (⊎_elim (λ h. inl ((lost m (rule_kind d)).1 h)) (λ h. inr h) v),
+          ),
         ),
-        λ m d. (
-          (λ v. ⊎_elim (λ h. inl ((lost m (rule_kind d)).0 h)) (λ h. inr h) ((g.1 m d).0 v)),
-          λ v. (g.1 m d).1 (⊎_elim (λ h. inl ((lost m (rule_kind d)).1 h)) (λ h. inr h) v),
-        ),
-      )))
+      ))
   moved_by o fits s (inr (inr e)) on =
       let on' : IsOn xs p n (rule_kind w) = subst {A = LabelKind} (IsOn xs p n) e.0 on in
       let g = gains_at o fits (inr (e.1, on')) in
       let lost : (m : ℕ) (j : LabelKind) → IsOn x3 p m j ↔ (IsOn xs p m j × ¬ ((m ≡ n) × (j ≡ rule_kind w))) = on-lost l n w kind xs p named one (rule_kind w) (inr (inr (refl, e.1))) on' in
-      inr (inr (strict_is kind e.1, on', (
-        λ m. (
-          (λ v. ⊎_elim (λ h. inl ((lost m E).0 h).0) (λ h. inr h) ((g.0 m).0 v)),
-          λ v. (g.0 m).1 (⊎_elim (λ h. inl ((lost m E).1 (h, λ i. equation-no_rule w i.1))) (λ h. inr h) v),
+      inr (inr (
+        strict_is kind e.1,
+        on',
+        (
+          λ m. (
+            (λ v. ⊎_elim (λ h. inl ((lost m E).0 h).0) (λ h. inr h) ((g.0 m).0 v)),
+            λ v. (g.0 m).1 (⊎_elim (λ h. inl ((lost m E).1 (h, λ i. equation-no_rule w i.1))) (λ h. inr h) v),
+          ),
+          λ m d. ((λ v. (lost m (rule_kind d)).0 ((g.1 m (rule_kind d) (rule_other d)).0 v)), λ v. (g.1 m (rule_kind d) (rule_other d)).1 ((lost m (rule_kind d)).1 v)),
         ),
-        λ m d. ((λ v. (lost m (rule_kind d)).0 ((g.1 m (rule_kind d) (rule_other d)).0 v)), λ v. (g.1 m (rule_kind d) (rule_other d)).1 ((lost m (rule_kind d)).1 v)),
-      )))
+      ))

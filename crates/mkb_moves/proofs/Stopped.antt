@@ -1,5 +1,5 @@
 -- What a closing and a limit do to the processes on which they act.
-use Rattle.std.proofs.Common.{ℕ, ◌≡◌, refl, sym, ap, ◌∙◌, subst, arith, eqb→eq, List, [], ◌∷◌, map, Bool, true, false, cond, not, ◌||◌, Some, ⊎_elim}
+use Rattle.std.proofs.Common.{ℕ, ◌≡◌, refl, sym, ap, ◌∙◌, subst, arith, eqb→eq, List, [], ◌∷◌, ◌++◌, map, Bool, true, false, cond, not, ◌||◌, Some, ⊎_elim}
 use Rattle.std.specs.Prelude.{T}
 use Rattle.std.specs.List.{list_any}
 use Rattle.kb_term.specs.Signature.{Problem}
@@ -7,11 +7,12 @@ use Rattle.kb_label.specs.Names.{Name, has, join, name_eq}
 use Rattle.kb_label.specs.declared.verdict.Reason.{Reason}
 use Rattle.kb_label.specs.declared.verdict.Reason.TheVariants.{Nodes, Processes, Size, Depth, Variables, Steps}
 use Rattle.kb_label.proofs.Members.{has-add, has-filter, has-join, name_eq-refl}
+use Rattle.kb_node.specs.declared.job.Fact.{Fact}
 use Rattle.mkb_model.specs.Plain.{Plain, GivenUp, is_over, over_in, view}
 use Rattle.mkb_model.specs.Effects.{give_up, effect_label, not_over, reason_eq, reason_number}
 use Rattle.mkb_model.specs.Journals.{Moment, IsPossibleRun, IsCommitting, IsFreeJob}
 use Rattle.mkb_model.specs.declared.entry.Effect.TheVariants.{Over, Made}
-use Rattle.mkb_model.specs.declared.proposed.Proposed.TheVariants.{Closed}
+use Rattle.mkb_model.specs.declared.proposed.Proposed.TheVariants.{Facts, Closed}
 use Rattle.mkb_model.specs.declared.settings.Settings.{Settings}
 use Rattle.mkb_model.proofs.Lists.{clash, decide, and_both, or_one, or_left, or_right, or_none, not_of_false}
 use Rattle.mkb_model.proofs.OverReasons.{given_over}
@@ -22,6 +23,10 @@ use Rattle.mkb_moves.proofs.Makes.{making, stopping}
 pub closing_noted : (past : List Moment) (b : Plain) (w t : ℕ) (p : Name) (next : Plain) → IsCommitting past b w t (Made (Closed p)) next → (has next.closed p ≡ true) × (view next p ≡ view b p)
 closing_noted past b w t p next f = subst {A = Plain} (λ z. (has z.closed p ≡ true) × (view z p ≡ view b p)) (sym (making past b w t (Closed p) next f).leads_to)
     (has-add p b.closed p ∙ or_left (name_eq p p) (has b.closed p) (name_eq-refl p), refl)
+
+-- facts are noted, and every process sees what it saw
+pub facts_noted : (past : List Moment) (b : Plain) (w t : ℕ) (fs : List Fact) (next : Plain) → IsCommitting past b w t (Made (Facts fs)) next → (next.facts ≡ b.facts ++ fs) × ((p : Name) → view next p ≡ view b p)
+facts_noted past b w t fs next f = subst {A = Plain} (λ z. (z.facts ≡ b.facts ++ fs) × ((p : Name) → view z p ≡ view b p)) (sym (making past b w t (Facts fs) next f).leads_to) (refl, λ p. refl)
 
 reason_is : (r s : Reason) → reason_number r ≡ reason_number s → r ≡ s
 reason_is Nodes Nodes e = refl

@@ -1,17 +1,12 @@
 -- A process that failed is stuck.
-use Rattle.std.proofs.Common.{ℕ, ◌≡◌, ◌≢◌, ◌⊎◌, refl, subst, List, true, false, ◌||◌, Some, Contains}
-use Rattle.kb_term.specs.Pair.{Pair}
-use Rattle.kb_term.specs.Rule.{Rule}
-use Rattle.kb_term.specs.Tree.{Tree}
+use Rattle.std.proofs.Common.{ℕ, ◌≡◌, ◌≢◌, refl, subst, List, true, false, ◌||◌, Some}
 use Rattle.kb_term.specs.Signature.{Problem, IsWithinLimits}
-use Rattle.kb_term.specs.Proving.{RewritesAt}
-use Rattle.kb_term.specs.declared.origin.RuleRef.{RuleRef}
 use Rattle.kb_term.specs.declared.origin.Found.{Found}
 use Rattle.kb_term.specs.declared.origin.Found.TheVariants.{No, Variant, Strict}
 use Rattle.kb_overlap.specs.Trace.{side}
 use Rattle.kb_label.specs.Names.{Name, has}
 use Rattle.kb_node.specs.declared.node.LabelKind.TheVariants.{E}
-use Rattle.mkb_model.specs.Plain.{Plain, other, rule_kind, is_equation, is_rule, equations_of, rules_of, pair_at, rule_at, known}
+use Rattle.mkb_model.specs.Plain.{Plain, other, rule_kind, is_equation, is_rule, known}
 use Rattle.mkb_model.specs.DueJobs.{is_usable}
 use Rattle.mkb_model.specs.Sleeping.{is_failed}
 use Rattle.mkb_model.specs.Verdicts.{HasFailed}
@@ -22,7 +17,7 @@ use Rattle.mkb_model.proofs.Lists.{clash, or_left}
 use Rattle.mkb_model.proofs.Roles.{equation-no_rule}
 use Rattle.mkb_model.proofs.Adding.{rule_role}
 use Rattle.mkb_model.proofs.Meanings.{has_failed}
-use Rattle.mkb_model.proofs.Resting.{IsBit, Rests, rules_in, known_holds}
+use Rattle.mkb_model.proofs.Resting.{Rests, rules_in, known_holds}
 use Rattle.mkb_model.proofs.Restful.{resting_run}
 use Rattle.mkb_model.proofs.KnownFacts.{facts_hold}
 use Rattle.mkb_model.proofs.Normal.{rewrites_encompassed}

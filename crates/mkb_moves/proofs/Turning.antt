@@ -3,7 +3,7 @@ use Rattle.std.proofs.Common.{ℕ, ◌≡◌, ◌≢◌, inl, inr, refl, sym, ap
 use Rattle.kb_term.specs.Signature.{Problem}
 use Rattle.kb_term.specs.declared.origin.RuleRef.{RuleRef}
 use Rattle.kb_cert.specs.declared.certificate.Certificate.{Certificate}
-use Rattle.kb_label.specs.Names.{Name, has, name_eq, child, relabel, join}
+use Rattle.kb_label.specs.Names.{Name, has, child, relabel, join}
 use Rattle.kb_label.proofs.Members.{name_eq-refl}
 use Rattle.kb_label.proofs.Forked.{after_fork}
 use Rattle.kb_node.specs.declared.node.NodeId.{NodeId}
@@ -11,13 +11,12 @@ use Rattle.kb_node.specs.declared.node.LabelKind.{LabelKind}
 use Rattle.kb_node.specs.declared.node.LabelKind.TheVariants.{E, X}
 use Rattle.kb_node.specs.declared.job.Job.{Job}
 use Rattle.kb_node.specs.declared.job.Job.TheVariants.{Reduce, Orient, Overlap, Close}
-use Rattle.mkb_model.specs.Plain.{Plain, PlainNode, label, label_at, rule_kind, constraint_kind, equations_of, rules_of, constraints_of, view}
+use Rattle.mkb_model.specs.Plain.{Plain, label, label_at, rule_kind, constraint_kind, rules_of, constraints_of, view}
 use Rattle.mkb_model.specs.Effects.{gains, applied}
 use Rattle.mkb_model.specs.Proposals.{Proposes}
 use Rattle.mkb_model.specs.Journals.{Moment, IsPossibleRun, IsCommitting}
 use Rattle.mkb_model.specs.Ready.{IsOn}
 use Rattle.mkb_model.specs.declared.entry.Effect.TheVariants.{Made}
-use Rattle.mkb_model.specs.declared.proposed.Proposed.{Proposed}
 use Rattle.mkb_model.specs.declared.proposed.Proposed.TheVariants.{One, Both, Refuse}
 use Rattle.mkb_model.specs.declared.settings.Settings.{Settings}
 use Rattle.mkb_model.proofs.Lists.{clash, false_unless}

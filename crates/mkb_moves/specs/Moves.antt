@@ -6,7 +6,7 @@ use Rattle.kb_term.specs.Pair.{Pair, canonical_pair}
 use Rattle.kb_term.specs.declared.origin.RuleRef.{RuleRef}
 use Rattle.kb_term.specs.declared.origin.Found.{Found}
 use Rattle.kb_term.specs.declared.origin.Found.TheVariants.{Strict}
-use Rattle.kb_overlap.specs.Trace.{side, other_side}
+use Rattle.kb_overlap.specs.Trace.{other_side}
 use Rattle.kb_label.specs.Names.{Name, has, child}
 use Rattle.kb_label.specs.declared.verdict.Reason.{Reason}
 use Rattle.kb_node.specs.declared.node.LabelKind.TheVariants.{X}
@@ -86,9 +86,9 @@ pub record Collapses (b c : Plain) (p : Name) (a : RuleRef) (rest result : Tree)
 pub record Rewrites (b c : Plain) (p : Name) (n w : ℕ) (a : RuleRef) (found : Found) (pair : Pair) (result : Tree) : Type 0 where
   pub by : Contains (rules_of b p) a
   pub moves :
-    Simplifies b c p n (other_side pair w) result
-    ⊎ (Composes b c p (record { node = n; dir = other w }) (other_side pair w) result
-    ⊎ ((found ≡ Strict) × Collapses b c p (record { node = n; dir = w }) (other_side pair w) result))
+      Simplifies b c p n (other_side pair w) result
+      ⊎ (Composes b c p (record { node = n; dir = other w }) (other_side pair w) result
+      ⊎ ((found ≡ Strict) × Collapses b c p (record { node = n; dir = w }) (other_side pair w) result))
   pub constraints : constraints_of c p ≡ constraints_of b p
 
 -- ---- giving up

@@ -1,5 +1,5 @@
 // The laws. A run lists its moments, each a board and the entry made on it, the newest first.
-ghost use Rattle.std.specs.Prelude.{◌≡◌, ◌⊎◌, ℕ, List, Contains, Some, IsTrue, IsFalse};
+ghost use Rattle.std.specs.Prelude.{◌≡◌, ◌⊎◌, ◌++◌, ℕ, List, Contains, Some, IsTrue, IsFalse};
 ghost use Rattle.kb_term.specs.Pair.{Pair};
 ghost use Rattle.kb_term.specs.Signature.{Problem, IsWithinLimits};
 ghost use Rattle.kb_term.specs.View.{tree_of};
@@ -15,6 +15,7 @@ ghost use Rattle.kb_node.specs.declared.node.NodeId.{NodeId};
 ghost use Rattle.kb_node.specs.declared.node.LabelKind.TheVariants.{X};
 ghost use Rattle.kb_node.specs.declared.job.Job.{Job};
 ghost use Rattle.kb_node.specs.declared.job.Deduced.{Deduced};
+ghost use Rattle.kb_node.specs.declared.job.Fact.{Fact};
 ghost use Rattle.mkb_model.specs.Plain.{Plain, label, view, done_of, pair_at};
 ghost use Rattle.mkb_model.specs.DueJobs.{first_job, free_jobs};
 ghost use Rattle.mkb_model.specs.Sleeping.{is_failed};
@@ -23,7 +24,7 @@ ghost use Rattle.mkb_model.specs.Verdicts.{verdict};
 ghost use Rattle.mkb_model.specs.Journals.{Moment, IsPossibleRun, IsCommitting};
 ghost use Rattle.mkb_model.specs.declared.entry.Effect.{Effect};
 ghost use Rattle.mkb_model.specs.declared.entry.Effect.TheVariants.{Over, Made};
-ghost use Rattle.mkb_model.specs.declared.proposed.Proposed.TheVariants.{Rewrite, One, Both, Refuse, Deduce, Unjoined, Closed};
+ghost use Rattle.mkb_model.specs.declared.proposed.Proposed.TheVariants.{Facts, Rewrite, One, Both, Refuse, Deduce, Unjoined, Closed};
 ghost use Rattle.mkb_model.specs.declared.settings.Settings.{Settings};
 ghost use Rattle.mkb_moves.specs.Moves.{IsLeftAlone, Orients, Forks, Deduces, Rewrites, GivesUp};
 ghost use Rattle.mkb_moves.specs.Order.{IsBefore, MayBeTaken, IsFirstOver};
@@ -60,9 +61,11 @@ pub fn rewriting_moves_its_label()
     ensures { (problem : Problem) (settings : Settings) (past : List Moment) (board : Plain) → IsWithinLimits problem → IsPossibleRun problem settings past board → (worker ticket : ℕ) (n : NodeId) (w : ℕ) (at : List ℕ) (a : RuleRef) (found : Found) (t : Term) (next : Plain) → IsCommitting past board worker ticket (Made (Rewrite n w at a found t)) next → (pair : Pair) × (pair_at board n.0 ≡ Some pair) × ((p : Name) → IsTrue (has (rewrite_label board n.0 w a found) p) → Rewrites board next p n.0 w a found pair (tree_of t)) }
 {}
 
-/// Where a closing has its effect, the process is closed, and has the equations, rules and constraints that it had.
-pub fn closings_are_noted()
-    ensures { (past : List Moment) (board : Plain) (worker ticket : ℕ) (p : Name) (next : Plain) → IsCommitting past board worker ticket (Made (Closed p)) next → IsTrue (has next.closed p) × (view next p ≡ view board p) }
+/// Where a closing has its effect, the process is closed, and has the equations, rules and constraints that it had. Facts are noted
+/// after those that were known, and act on no process.
+pub fn closings_and_facts_are_noted()
+    ensures closed { (past : List Moment) (board : Plain) (worker ticket : ℕ) (p : Name) (next : Plain) → IsCommitting past board worker ticket (Made (Closed p)) next → IsTrue (has next.closed p) × (view next p ≡ view board p) }
+    ensures facts { (past : List Moment) (board : Plain) (worker ticket : ℕ) (facts : List Fact) (next : Plain) → IsCommitting past board worker ticket (Made (Facts facts)) next → (next.facts ≡ board.facts ++ facts) × ((p : Name) → view next p ≡ view board p) }
 {}
 
 /// In each possible run, where a commit comes to a limit, each process of its effect label has given up, for this reason unless it
