@@ -11,7 +11,7 @@ use Rattle.kb_node.specs.declared.node.LabelKind.TheVariants.{R0, R1, E}
 use Rattle.kb_node.specs.declared.job.Deduced.{Deduced}
 use Rattle.mkb_model.specs.Jobs.{ref_eq}
 use Rattle.mkb_model.specs.Plain.{Plain, PlainNode, Done, rule_kind, constraint_kind, pair_in, done_in, done_of}
-use Rattle.mkb_model.specs.Effects.{added, overlap_label, gains_done_in}
+use Rattle.mkb_model.specs.Effects.{node_of, added, overlap_label, gains_done_in}
 use Rattle.mkb_model.specs.Journals.{Moment, IsPossibleRun, IsCommitting}
 use Rattle.mkb_model.specs.Ready.{IsOn}
 use Rattle.mkb_model.specs.declared.entry.Effect.TheVariants.{Made}
@@ -19,7 +19,7 @@ use Rattle.mkb_model.specs.declared.proposed.Proposed.TheVariants.{Deduce, Unjoi
 use Rattle.mkb_model.specs.declared.settings.Settings.{Settings}
 use Rattle.mkb_model.proofs.Lists.{none_in, and_both, or_right}
 use Rattle.mkb_model.proofs.Roles.{keeps-with_node, equation-no_rule, equation-no_constraint}
-use Rattle.mkb_model.proofs.Pairs.{pairs-added}
+use Rattle.mkb_model.proofs.Pairs.{pairs-added, pairs-gains_equation, node-with_node}
 use Rattle.mkb_model.proofs.Changes.{Fits}
 use Rattle.mkb_model.proofs.Completed.{ref_self}
 use Rattle.mkb_model.proofs.Orienting.{self}
@@ -75,9 +75,20 @@ added-equations l (d ∷ ds) xs p named fits m =
     let ih = added-equations l ds (add_one l d xs) p named fits m in
     (one_more l d ds xs p named fits m ih, one_there l d ds xs p named fits m ih)
 
+-- each pair has a node
+added-there : (l : List Name) (ds : List Deduced) (xs : List PlainNode) (d : Deduced) → Contains ds d → (m : ℕ) × (pair_in (added l ds xs) m ≡ Some d.pair)
+added-there l [] xs d i = none_in i
+added-there l (e ∷ ds) xs d i = ⊎_elim
+    (λ q. (k, subst {A = Deduced} (λ z. pair_in (added l ds (add_one l e xs)) k ≡ Some z.pair) q (pairs-added l ds (add_one l e xs) k e.pair (pairs-gains_equation k l (with_pair e xs) k ∙ (node-with_node e.pair (ByOverlap e.outer e.inner e.position) xs).0))))
+    (λ c. added-there l ds (add_one l e xs) d c) (contains_cases e ds d i)
+  where
+    k : ℕ
+    k = node_of (with_pair e xs) e.pair
+
 -- what the roles say of the lists
 deduced : (b c : Plain) (p : Name) (l : List Name) (ds : List Deduced) → has l p ≡ true → c.nodes ≡ added l ds b.nodes → Fits c.nodes → Deduces b c p ds
 deduced b c p l ds named e fits = record {
+  there = λ d i. subst {A = List PlainNode} (λ zs. (m : ℕ) × (pair_in zs m ≡ Some d.pair)) (sym e) (added-there l ds b.nodes d i);
   equations = λ m. (
     (λ i. ⊎_elim (λ o. inl ((equations_are b p m).1 o)) (λ o. inr (o.0, o.1, o.2, (no_rule_are c p m).1 ((λ v. o.3 ((others m R0 (rule_other 0)).0 v)), λ v. o.4 ((others m R1 (rule_other 1)).0 v)))) ((eqs m).0 ((equations_are c p m).0 i))),
     λ i. (equations_are c p m).1 ((eqs m).1 (⊎_elim (λ o. inl ((equations_are b p m).0 o)) (λ o. let n = (no_rule_are c p m).0 o.3 in inr (o.0, o.1, o.2, (λ v. n.0 ((others m R0 (rule_other 0)).1 v)), λ v. n.1 ((others m R1 (rule_other 1)).1 v))) i)),

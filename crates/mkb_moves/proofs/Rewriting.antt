@@ -16,7 +16,7 @@ use Rattle.kb_node.specs.declared.node.LabelKind.{LabelKind}
 use Rattle.kb_node.specs.declared.node.LabelKind.TheVariants.{E}
 use Rattle.kb_node.specs.declared.job.Job.{Job}
 use Rattle.kb_node.specs.declared.job.Job.TheVariants.{Reduce, Orient, Overlap, Close}
-use Rattle.mkb_model.specs.Plain.{Plain, PlainNode, other, rule_kind, pair_at, rules_of, constraints_of}
+use Rattle.mkb_model.specs.Plain.{Plain, PlainNode, other, rule_kind, pair_at, pair_in, rules_of, constraints_of}
 use Rattle.mkb_model.specs.DueJobs.{reducers}
 use Rattle.mkb_model.specs.Effects.{rewrite_label, rewritten, direction, pair_eq}
 use Rattle.mkb_model.specs.Proposals.{Proposes}
@@ -35,7 +35,7 @@ use Rattle.mkb_model.proofs.AllFine.{goes}
 use Rattle.mkb_moves.specs.Moves.{Simplifies, Composes, Collapses, Rewrites}
 use Rattle.mkb_moves.proofs.Sight.{equations_are, rules_are, rule_ref, same_direction, no_rule_are, same_rules, kept_test, kept_constraints}
 use Rattle.mkb_moves.proofs.Makes.{IsMaking, making, taken_keeps, commit_fits}
-use Rattle.mkb_moves.proofs.Sources.{IsSimplified, IsComposed, IsCollapsed, IsMoved, moved_by}
+use Rattle.mkb_moves.proofs.Sources.{IsSimplified, IsComposed, IsCollapsed, IsMoved, moved_by, result_there}
 
 bit_other : (w : ℕ) → IsBit w → IsBit (other w)
 bit_other w (inl e) = inr (ap other e)
@@ -53,8 +53,8 @@ module _ (b c : Plain) (p : Name) (n : ℕ) (rest u : Tree) where
   }
 
   -- the rule that is lost is told by its direction
-  lost_ref : (s : ℕ) → IsBit s → (e : RuleRef) → IsBit e.dir → (¬ ((e.node ≡ n) × (rule_kind e.dir ≡ rule_kind s))) → e ≢ record { node = n; dir = s }
-  lost_ref s bit e side h i = h (ap (λ (z : RuleRef). z.node) i, ap (λ (z : RuleRef). rule_kind z.dir) i)
+  lost_ref : (s : ℕ) (e : RuleRef) → ¬ ((e.node ≡ n) × (rule_kind e.dir ≡ rule_kind s)) → e ≢ record { node = n; dir = s }
+  lost_ref s e h i = h (ap (λ (z : RuleRef). z.node) i, ap (λ (z : RuleRef). rule_kind z.dir) i)
 
   ref_lost : (s : ℕ) → IsBit s → (e : RuleRef) → IsBit e.dir → e ≢ record { node = n; dir = s } → ¬ ((e.node ≡ n) × (rule_kind e.dir ≡ rule_kind s))
   ref_lost s bit e side h i = h (rule_ref (record { node = n; dir = s }) e i.0 (same_direction e.dir s side bit i.1))
@@ -74,7 +74,7 @@ module _ (b c : Plain) (p : Name) (n : ℕ) (rest u : Tree) where
       λ i. (equations_are c p m).1 ((h.0 m).1 ((equations_are b p m).0 i.0, i.1)),
     );
     rules = λ e. (
-      (λ i. let k = (rules_are c p e).0 i in ⊎_elim (λ o. inl ((rules_are b p e).1 (k.0, o.0), lost_ref s bit e k.0 o.1)) (λ o. inr (o.0, o.1, o.2, same_direction e.dir (direction rest u o.0) k.0 (direction_bit o.0) o.3)) ((h.1 e.node e.dir).0 k.1)),
+      (λ i. let k = (rules_are c p e).0 i in ⊎_elim (λ o. inl ((rules_are b p e).1 (k.0, o.0), lost_ref s e o.1)) (λ o. inr (o.0, o.1, o.2, same_direction e.dir (direction rest u o.0) k.0 (direction_bit o.0) o.3)) ((h.1 e.node e.dir).0 k.1)),
       λ i. ⊎_elim (λ o. let k = (rules_are b p e).0 o.0 in (rules_are c p e).1 (k.0, (h.1 e.node e.dir).1 (inl (k.1, ref_lost s bit e k.0 o.1))))
           (λ o. (rules_are c p e).1 (subst {A = ℕ} IsBit (sym o.3) (direction_bit o.0), (h.1 e.node e.dir).1 (inr (o.0, o.1, o.2, ap rule_kind o.3)))) i,
     );
@@ -88,7 +88,7 @@ module _ (b c : Plain) (p : Name) (n : ℕ) (rest u : Tree) where
       λ i. (equations_are c p m).1 ((h.0 m).1 (⊎_elim (λ o. inl ((equations_are b p m).0 o)) (λ o. inr (o.0, (no_rule_are c p m).0 o.1)) i)),
     );
     rules = λ e. (
-      (λ i. let k = (rules_are c p e).0 i in let o = (h.1 e.node e.dir).0 k.1 in ((rules_are b p e).1 (k.0, o.0), lost_ref s bit e k.0 o.1)),
+      (λ i. let k = (rules_are c p e).0 i in let o = (h.1 e.node e.dir).0 k.1 in ((rules_are b p e).1 (k.0, o.0), lost_ref s e o.1)),
       λ i. let k = (rules_are b p e).0 i.0 in (rules_are c p e).1 (k.0, (h.1 e.node e.dir).1 (k.1, ref_lost s bit e k.0 i.1)),
     );
   }
@@ -129,11 +129,13 @@ rewriting_moves P n past b within run v s m w at a kind t next f = (q, r.0.there
     constraints p = kept_constraints b next p (subst {A = Plain} (λ z. KeepsConstraints b.nodes z.nodes p) (sym k.leads_to) (constraints_applied b (Rewrite m w at a kind t) p tt))
 
     moves : (p : Name) → has (rewrite_label b m.0 w a kind) p ≡ true → Rewrites b next p m.0 w a kind r.0.pair (tree_of t)
-    moves p named = record { by = (rules_are b p a).1 (r.2, o.0); moves = go moved; constraints = constraints p }
+    moves p named = record {
+      by = (rules_are b p a).1 (r.2, o.0);
+      there = λ z e. subst {A = List PlainNode} (λ ys. (k : ℕ) × (pair_in ys k ≡ Some z)) (sym nodes_are) (result_there (rewrite_label b m.0 w a kind) m.0 w at a kind (tree_of t) r.0.pair b.nodes (canonical_pair (tree_of t) (other_side r.0.pair w)) z e);
+      moves = go moved;
+      constraints = constraints p;
+    }
       where
-        rest : Tree
-        rest = other_side r.0.pair w
-
         o : IsOn b.nodes p a.node (rule_kind a.dir) × ((j : LabelKind) × IsSource w kind j × IsOn b.nodes p m.0 j)
         o = source_of b m.0 w a kind p named
 

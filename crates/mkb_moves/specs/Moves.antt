@@ -48,8 +48,9 @@ pub record Forks (b : Plain) (p : Name) (c : Plain) (n : ℕ) : Type 0 where
 abbrev pub HasNoRule : Plain → Name → ℕ → Type 0
 HasNoRule b p m = (a : RuleRef) → Contains (rules_of b p) a → a.node ≢ m
 
--- the process gains the pairs as equations, but for those that it has as rules; its rules and its constraints stay
+-- each pair has a node, and the process gains the pairs as equations, but for those that it has as rules; its rules and its constraints stay
 pub record Deduces (b c : Plain) (p : Name) (pairs : List Deduced) : Type 0 where
+  pub there : (d : Deduced) → Contains pairs d → (m : ℕ) × (pair_at c m ≡ Some d.pair)
   pub equations : (m : ℕ) → Contains (equations_of c p) m ↔ (Contains (equations_of b p) m ⊎ ((d : Deduced) × Contains pairs d × (pair_at c m ≡ Some d.pair) × HasNoRule c p m))
   pub rules : rules_of c p ≡ rules_of b p
   pub constraints : constraints_of c p ≡ constraints_of b p
@@ -82,9 +83,10 @@ pub record Collapses (b c : Plain) (p : Name) (a : RuleRef) (rest result : Tree)
   pub equations : (m : ℕ) → Contains (equations_of c p) m ↔ (Contains (equations_of b p) m ⊎ (IsNodeOf c result rest m × HasNoRule c p m))
   pub rules : (e : RuleRef) → Contains (rules_of c p) e ↔ (Contains (rules_of b p) e × (e ≢ a))
 
--- the process has the rule that rewrites side w of the pair of node n, and its equation is simplified, its rule with w on the right is composed, or its rule with w on the left, of which the redex is strict, is collapsed
+-- the process has the rule that rewrites side w of the pair of node n; the equation of the result and the other side has a node, unless it is trivial; and the process's equation of n is simplified, its rule with side w on the right is composed, or its rule with side w on the left, of which the redex is strict, is collapsed
 pub record Rewrites (b c : Plain) (p : Name) (n w : ℕ) (a : RuleRef) (found : Found) (pair : Pair) (result : Tree) : Type 0 where
   pub by : Contains (rules_of b p) a
+  pub there : (q : Pair) → canonical_pair result (other_side pair w) ≡ Some q → (m : ℕ) × (pair_at c m ≡ Some q)
   pub moves :
       Simplifies b c p n (other_side pair w) result
       ⊎ (Composes b c p (record { node = n; dir = other w }) (other_side pair w) result
