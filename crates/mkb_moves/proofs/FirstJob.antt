@@ -213,6 +213,9 @@ module _ (b : Plain) where
   pub first_least : (j : Job) → first_job b ≡ Some j → Contains (free_jobs b) j × ((k : Job) → Contains (free_jobs b) k → ((k ≡ j) ⊎ IsBefore b j k) × ¬ IsBefore b k j)
   first_least j h = (least-in by (free_jobs b) j h, λ k c. let u = least_up (free_jobs b) j h k c in (u, λ l. ⊎_elim (λ e. before_self j (subst {A = Job} (λ z. IsBefore b z j) e l)) (λ g. before_self j (before_trans j k j g l)) u))
 
+  pub no_first : first_job b ≡ None → free_jobs b ≡ []
+  no_first h = least-none by (free_jobs b) h
+
 -- ---- which jobs may be taken
 
 process_in : (b : Plain) (p : Name) (j : Job) → Contains (work_of b p ++ Close p ∷ []) j → process_of j ≡ p

@@ -1,5 +1,5 @@
 // The laws. A run lists its moments, each a board and the entry made on it, the newest first.
-ghost use Rattle.std.specs.Prelude.{◌≡◌, ◌⊎◌, ◌++◌, ℕ, List, Contains, Some, IsTrue, IsFalse};
+ghost use Rattle.std.specs.Prelude.{◌≡◌, ◌⊎◌, ◌++◌, ℕ, List, [], Contains, Some, None, IsTrue, IsFalse};
 ghost use Rattle.kb_term.specs.Pair.{Pair};
 ghost use Rattle.kb_term.specs.Signature.{Problem, IsWithinLimits};
 ghost use Rattle.kb_term.specs.View.{tree_of};
@@ -76,9 +76,10 @@ pub fn limits_stop_their_processes()
 
 /// On any board, the first job is one of those that may be taken, and each other of these comes after it: by the cost of its
 /// process, then that process's name, the kind of the job, its weight by the selection, and the nodes and rules that it names.
-/// What may be taken is due, for a process that lives and does not sleep, and clashes with no job in flight.
+/// There is none only where none may be taken. What may be taken is due, for a process that lives and does not sleep, and clashes with no job in flight.
 pub fn first_job_is_the_least()
     ensures least { (board : Plain) (first : Job) → first_job board ≡ Some first → Contains (free_jobs board) first × ((job : Job) → Contains (free_jobs board) job → ((job ≡ first) ⊎ IsBefore board first job) × ¬ IsBefore board job first) }
+    ensures none { (board : Plain) → first_job board ≡ None → free_jobs board ≡ [] }
     ensures free { (board : Plain) (job : Job) → Contains (free_jobs board) job → MayBeTaken board job }
 {}
 
