@@ -76,7 +76,8 @@ pub fn limits_stop_their_processes()
 
 /// On any board, the first job is one of those that may be taken, and each other of these comes after it: by the cost of its
 /// process, then that process's name, the kind of the job, its weight by the selection, and the nodes and rules that it names.
-/// There is none only where none may be taken. What may be taken is due, for a process that lives and does not sleep, and clashes with no job in flight.
+/// There is none only where none may be taken. What may be taken is due, for a process that lives and does not sleep, and clashes
+/// with no job in flight.
 pub fn first_job_is_the_least()
     ensures least { (board : Plain) (first : Job) → first_job board ≡ Some first → Contains (free_jobs board) first × ((job : Job) → Contains (free_jobs board) job → ((job ≡ first) ⊎ IsBefore board first job) × ¬ IsBefore board job first) }
     ensures none { (board : Plain) → first_job board ≡ None → free_jobs board ≡ [] }
