@@ -9,14 +9,15 @@ use Rattle.kb_node.specs.declared.node.LabelKind.TheVariants.{E}
 use Rattle.mkb_model.specs.Plain.{Plain, other, rule_kind, is_equation, is_rule, known}
 use Rattle.mkb_model.specs.DueJobs.{is_usable}
 use Rattle.mkb_model.specs.Sleeping.{is_failed}
-use Rattle.mkb_model.specs.Verdicts.{HasFailed}
+use Rattle.mkb_model.specs.Verdicts.{verdict, HasFailed}
+use Rattle.kb_label.specs.declared.verdict.Verdict.TheVariants.{AllFailed}
 use Rattle.mkb_model.specs.Journals.{Moment, IsPossibleRun, IsFreeJob}
 use Rattle.mkb_model.specs.Ready.{IsOn}
 use Rattle.mkb_model.specs.declared.settings.Settings.{Settings}
 use Rattle.mkb_model.proofs.Lists.{clash, or_left}
 use Rattle.mkb_model.proofs.Roles.{equation-no_rule}
 use Rattle.mkb_model.proofs.Adding.{rule_role}
-use Rattle.mkb_model.proofs.Meanings.{has_failed}
+use Rattle.mkb_model.proofs.Meanings.{has_failed, verdict_means}
 use Rattle.mkb_model.proofs.Resting.{Rests, rules_in, known_holds}
 use Rattle.mkb_model.proofs.Restful.{resting_run}
 use Rattle.mkb_model.proofs.KnownFacts.{facts_hold}
@@ -32,16 +33,13 @@ no_redex b p n w No on h = refl
 no_redex b p n w Variant on h = clash (or_left (is_equation b p n) (is_rule b p (record { node = n; dir = other w })) on) h
 no_redex b p n w Strict on h = clash refl h
 
-pub failed_stuck : (P : Problem) (n : Settings) (ms : List Moment) (b : Plain) (p : Name) → IsWithinLimits P → IsPossibleRun P n ms b → has b.living p ≡ true → is_failed b p ≡ true → IsStuck b p
-failed_stuck P n ms b p within run lives failed = record {
+stuck : (P : Problem) (n : Settings) (ms : List Moment) (b : Plain) (p : Name) → IsWithinLimits P → IsPossibleRun P n ms b → HasFailed b p → IsStuck b p
+stuck P n ms b p within run h = record {
   some_equation = h.some_equation;
   unorientable = λ m i. refused_unorientable P n ms b run p m (h.refused m ((equations_are b p m).0 i));
   normal = λ m i. normal m ((equations_are b p m).0 i);
 }
   where
-    h : HasFailed b p
-    h = has_failed b p lives failed
-
     rest : Rests b p
     rest = (resting_run P n ms b run).closed p h.closed
 
@@ -52,3 +50,10 @@ failed_stuck P n ms b p within run lives failed = record {
         let k = rest.reduced m w a (or_left (is_equation b p m) (is_rule b p (record { node = m; dir = 0 }) || is_rule b p (record { node = m; dir = 1 })) on) side_is r.0 r.1 away in
         let none : known b m w a ≡ Some No = subst {A = Found} (λ z. known b m w a ≡ Some z) (no_redex b p m w k.0 on k.2) k.1 in
         (known_holds b m w a No (facts_hold IsFreeJob P n ms b run) none pair there rule rule_there).0 (rewrites_encompassed rule at (side pair w) t rewrites)
+
+pub failed_stuck : (P : Problem) (n : Settings) (ms : List Moment) (b : Plain) (p : Name) → IsWithinLimits P → IsPossibleRun P n ms b → has b.living p ≡ true → is_failed b p ≡ true → IsStuck b p
+failed_stuck P n ms b p within run lives failed = stuck P n ms b p within run (has_failed b p lives failed)
+
+-- where the verdict is that all failed, every living process is
+pub all_stuck : (P : Problem) (n : Settings) (ms : List Moment) (b : Plain) (p : Name) → IsWithinLimits P → IsPossibleRun P n ms b → verdict b ≡ Some AllFailed → has b.living p ≡ true → IsStuck b p
+all_stuck P n ms b p within run h lives = stuck P n ms b p within run (verdict_means b AllFailed h p lives)

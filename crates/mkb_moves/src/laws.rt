@@ -10,7 +10,7 @@ ghost use Rattle.kb_cert.specs.declared.certificate.Certificate.{Certificate};
 ghost use Rattle.kb_label.specs.Names.{Name, has};
 ghost use Rattle.kb_label.specs.declared.verdict.Reason.{Reason};
 ghost use Rattle.kb_label.specs.declared.verdict.Spent.TheVariants.{Over as OverFor};
-ghost use Rattle.kb_label.specs.declared.verdict.Verdict.TheVariants.{Spent};
+ghost use Rattle.kb_label.specs.declared.verdict.Verdict.TheVariants.{AllFailed, Spent};
 ghost use Rattle.kb_node.specs.declared.node.NodeId.{NodeId};
 ghost use Rattle.kb_node.specs.declared.node.LabelKind.TheVariants.{X};
 ghost use Rattle.kb_node.specs.declared.job.Job.{Job};
@@ -92,8 +92,10 @@ pub fn reasons_are_of_the_first()
 
 /// In each possible run no order of the run's family orders the constraints of a process and an equation that it is refused, in
 /// either direction. A living process that failed, of a problem within the limits, has an equation; each equation of it is
-/// refused so, and none of its rules rewrites a side of it at any position, to whatever term.
+/// refused so, and none of its rules rewrites a side of it at any position, to whatever term. Where the verdict is that all failed,
+/// this holds of each living process.
 pub fn failed_processes_are_stuck()
     ensures refused { (problem : Problem) (settings : Settings) (past : List Moment) (board : Plain) → IsPossibleRun problem settings past board → (p : Name) (n : ℕ) → IsTrue (has (label board n X) p) → IsUnorientable board p n }
     ensures stuck { (problem : Problem) (settings : Settings) (past : List Moment) (board : Plain) (p : Name) → IsWithinLimits problem → IsPossibleRun problem settings past board → IsTrue (has board.living p) → IsTrue (is_failed board p) → IsStuck board p }
+    ensures all { (problem : Problem) (settings : Settings) (past : List Moment) (board : Plain) (p : Name) → IsWithinLimits problem → IsPossibleRun problem settings past board → verdict board ≡ Some AllFailed → IsTrue (has board.living p) → IsStuck board p }
 {}
