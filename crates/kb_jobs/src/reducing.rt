@@ -35,10 +35,20 @@ pub fn reduce(alloc: Global, s: &ReduceSnapshot) -> Result<Proposed, Memory>
     requires { IsReducible s.now }
     ensures { IfOk result (ProposesReduce s.now) }
 {
-    if let Some(redex) = first_redex(alloc, s.rules.rules.as_slice(), s.pair.first(), !s.any_first)? {
+    if let Some(redex) = first_redex(
+        alloc,
+        s.rules.rules.as_slice(),
+        s.pair.first(),
+        !s.any_first,
+    )? {
         return rewrite(alloc, s, 0, s.pair.first(), redex);
     }
-    if let Some(redex) = first_redex(alloc, s.rules.rules.as_slice(), s.pair.second(), !s.any_second)? {
+    if let Some(redex) = first_redex(
+        alloc,
+        s.rules.rules.as_slice(),
+        s.pair.second(),
+        !s.any_second,
+    )? {
         return rewrite(alloc, s, 1, s.pair.second(), redex);
     }
     let facts = facts(alloc, s)?;

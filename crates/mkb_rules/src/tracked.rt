@@ -161,8 +161,7 @@ impl Tracked {
     pub(crate) fn forget(&mut self, p: &Process)
         ensures { self.new ≡ self.old }
     {
-        self.accounts
-            .retain(|account| account.sizes.process != *p);
+        self.accounts.retain(|account| account.sizes.process != *p);
     }
 
     // The account of the process, where it is kept at this place.
