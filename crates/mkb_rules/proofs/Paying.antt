@@ -151,15 +151,29 @@ module _ (xs : List PlainNode) (x : PlainNode) (bare : IsBare x) where
   bare_dead : is_dead_node x ≡ true
   bare_dead = ap (λ l. is_empty l && (is_empty x.rule1 && is_empty x.equation)) bare.rule0 ∙ ap₂ (λ l m. is_empty l && is_empty m) bare.rule1 bare.equation
 
-  -- it is dead
-  pub marked_more : (used : List Bool) → AreMarked xs used → AreMarked (xs ++ x ∷ []) used
-  marked_more used before m h = go xs m (before m h)
+  dead_before : (ys : List PlainNode) (i : ℕ) → is_dead_at ys i ≡ true → is_dead_at (ys ++ x ∷ []) i ≡ true
+  dead_before [] zero e = bare_dead
+  dead_before [] (suc i) e = refl
+  dead_before (y ∷ ys) zero e = e
+  dead_before (y ∷ ys) (suc i) e = dead_before ys i e
+
+  dead_new : (ys : List PlainNode) → is_dead_at (ys ++ x ∷ []) (length ys) ≡ true
+  dead_new [] = bare_dead
+  dead_new (y ∷ ys) = dead_new ys
+
+  -- it is dead, and the others are marked as before
+  pub marked_new : (used new : List Bool) → ((m : ℕ) → m ≢ length xs → get_or new m true ≡ get_or used m true) → AreMarked xs used → AreMarked (xs ++ x ∷ []) new
+  marked_new used new others before m h = go (m == length xs) refl
     where
-      go : (ys : List PlainNode) (i : ℕ) → is_dead_at ys i ≡ true → is_dead_at (ys ++ x ∷ []) i ≡ true
-      go [] zero e = bare_dead
-      go [] (suc i) e = refl
-      go (y ∷ ys) zero e = e
-      go (y ∷ ys) (suc i) e = go ys i e
+      go : (b : Bool) → (m == length xs) ≡ b → is_dead_at (xs ++ x ∷ []) m ≡ true
+      go true e = let same : m ≡ length xs = grind (arith, nat_tests) in ap (is_dead_at (xs ++ x ∷ [])) same ∙ dead_new xs
+      go false e = dead_before xs m (before m (sym (others m apart) ∙ h))
+        where
+          test : m ≡ length xs → (m == length xs) ≡ true
+          test same = grind (arith, nat_tests)
+
+          apart : m ≢ length xs
+          apart same = absurd (true≢false (sym (test same) ∙ e))
 
 -- ---- numbers
 

@@ -6,6 +6,7 @@ mod applied;
 mod effects;
 mod facts;
 mod labels;
+mod marks;
 mod nodes;
 mod opening;
 mod roles;

@@ -6,7 +6,7 @@ ghost use Rattle.kb_label.specs.Names.{minus};
 ghost use Rattle.mkb_rules.specs.Parts.{plain_nodes};
 ghost use Rattle.mkb_rules.specs.Nodes.{put_back};
 ghost use Rattle.mkb_rules.specs.Roles.{AreRolesOf};
-ghost use Rattle.mkb_rules.specs.Sizes.{is_dead_at, AreSizesOf};
+ghost use Rattle.mkb_rules.specs.Sizes.{is_dead_at, AreAlive, AreSizesOf};
 
 use crate::effects::label::rule_kind;
 use crate::labels::{copy_of, joined};
@@ -78,6 +78,14 @@ impl Nodes {
         ensures { result ≡ is_dead_at self.now.now n.0 }
     {
         self.table.is_dead(log, n)
+    }
+
+    /// The nodes that some process has as an equation or as a rule, in their order, and perhaps some that nobody has; none where
+    /// that isn't kept.
+    pub(crate) fn alive(&self) -> Option<&[NodeId]>
+        ensures { IfSome result (λ l. AreAlive self.now.now l.now) }
+    {
+        self.table.alive()
     }
 
     /// Keeps of each living process what it pays and how it has the nodes, where memory allows.

@@ -7,7 +7,7 @@ ghost use Rattle.mkb_model.specs.Plain.{cost, known, done_in, done_of, label, ov
 ghost use Rattle.mkb_rules.specs.Parts.{plain_nodes};
 ghost use Rattle.mkb_rules.specs.Overlapped.{is_overlapped};
 ghost use Rattle.mkb_rules.specs.Roles.{AreRolesOf};
-ghost use Rattle.mkb_rules.specs.Sizes.{is_dead_at};
+ghost use Rattle.mkb_rules.specs.Sizes.{is_dead_at, AreAlive};
 ghost use Rattle.mkb_rules.specs.Kept.{plain_done, plain_certificates, place_in};
 
 use crate::facts::Facts;
@@ -162,6 +162,14 @@ impl State {
         ensures { result ≡ is_dead_at self.now.nodes n.0 }
     {
         self.nodes.is_dead(&self.log, n)
+    }
+
+    /// The nodes that some process has as an equation or as a rule, in their order, and perhaps some that nobody has; none where
+    /// that isn't kept. It is kept where memory allows, and takes constant time.
+    pub fn alive(&self) -> Option<&[NodeId]>
+        ensures { IfSome result (λ l. AreAlive self.now.nodes l.now) }
+    {
+        self.nodes.alive()
     }
 
     /// What the process at this place among the living costs, where that is kept. It is for each living process, where memory

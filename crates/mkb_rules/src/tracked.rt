@@ -5,9 +5,10 @@ ghost use Rattle.kb_label.specs.Names.{Name};
 ghost use Rattle.mkb_rules.specs.Parts.{plain_nodes};
 ghost use Rattle.mkb_rules.specs.Accounts.{IsAccountOf};
 ghost use Rattle.mkb_rules.specs.Roles.{AreRolesOf};
-ghost use Rattle.mkb_rules.specs.Sizes.{is_dead_at, AreSizesOf};
+ghost use Rattle.mkb_rules.specs.Sizes.{is_dead_at, AreAlive, AreSizesOf};
 
 use crate::account::{Account, account_of, follow, follow_new};
+use crate::marks::Marks;
 use crate::roles::Roles;
 use crate::sizes::Sizes;
 use kb_label::{Labels, ListLabels, NameLog, Process};
@@ -18,12 +19,12 @@ use std::marker::Model;
 
 /// The table of nodes. Contracts see the nodes alone.
 ///
-/// Beside it stands which nodes no process has as an equation or as a rule, and an account for each process of what it pays for
+/// Beside it stands which nodes no process has as an equation or as a rule, with a list of the others, and an account for each process of what it pays for
 /// its nodes and how it has them; both follow each label that is put. Where memory is short they say less, and nothing false.
 #[derive(Drop)]
 pub(crate) struct Tracked {
     table: NodeTable<ListLabels>,
-    used: Vec<bool>,
+    used: Marks,
     accounts: Vec<Account>,
 }
 
@@ -43,7 +44,7 @@ impl Model for Tracked {
 
     ghost view = { λ t. t.table };
 
-    ghost invariant = { λ t. AreMarked (plain_nodes t.table) t.used.items × All (IsAccountOf (plain_nodes t.table)) t.accounts.items };
+    ghost invariant = { λ t. AreMarked (plain_nodes t.table) t.used × All (IsAccountOf (plain_nodes t.table)) t.accounts.items };
 }
 
 impl Tracked {
@@ -53,7 +54,7 @@ impl Tracked {
     {
         Tracked {
             table: NodeTable::new(alloc),
-            used: Vec::new(alloc),
+            used: Marks::new(alloc),
             accounts: Vec::new(alloc),
         }
     }
@@ -78,10 +79,7 @@ impl Tracked {
         requires { n.0 < length self.now }
         ensures { result ≡ is_dead_at (plain_nodes self.now) n.0 }
     {
-        match self.used.get(n.0 as usize) {
-            Some(false) => true,
-            _ => self.table.is_dead(log, n),
-        }
+        !self.used.is_used(n) || self.table.is_dead(log, n)
     }
 
     /// Puts a label in the place of the node's label of this kind, which it gives. It takes no memory.
@@ -99,7 +97,7 @@ impl Tracked {
         follow(&mut self.accounts, &self.table, log, n, kind, &label);
         let replaced = self.table.set_label(n, kind, label);
         let is_dead = self.table.is_dead(log, n);
-        mark(&mut self.used, n, !is_dead);
+        self.used.set(n, !is_dead);
         replaced
     }
 
@@ -109,7 +107,7 @@ impl Tracked {
         ensures new { self.new ≡ with_label_at self.old n.0 kind label }
     {
         self.accounts.clear();
-        mark(&mut self.used, n, true);
+        self.used.set(n, true);
         let _replaced = self.table.set_label(n, kind, label);
     }
 
@@ -135,11 +133,23 @@ impl Tracked {
     {
         let count = self.table.len();
         let n = self.table.find_or_add(pair, origin)?;
-        mark_more(&mut self.used, n);
         if count < self.table.len() {
-            follow_new(&mut self.accounts, NodeId(count as u16));
+            let new = NodeId(count as u16);
+            self.used.push(new);
+            follow_new(&mut self.accounts, new);
         }
         Ok(n)
+    }
+
+    /// The nodes that some process has as an equation or as a rule, in their order, and perhaps some that nobody has; none where
+    /// that isn't kept. It takes constant time.
+    pub(crate) fn alive(&self) -> Option<&[NodeId]>
+        ensures { IfSome result (λ l. AreAlive (plain_nodes self.now) l.now) }
+    {
+        if self.used.len() != self.table.len() as usize {
+            return None;
+        }
+        self.used.list()
     }
 
     /// Keeps an account for each living process, where memory allows.
@@ -194,25 +204,6 @@ impl Tracked {
             Some(account) => account.roles.as_slice(),
             None => &[],
         }
-    }
-}
-
-// Marks whether the node is in use, where there is room for that.
-fn mark(used: &mut Vec<bool>, n: NodeId, is_used: bool)
-    ensures { used.new.items ≡ set used.old.items n.0 is_used }
-{
-    if (n.0 as usize) < used.len() {
-        used[n.0 as usize] = is_used;
-    }
-}
-
-// Makes room for the mark of the node, which counts as used. Where memory is short there is none.
-fn mark_more(used: &mut Vec<bool>, n: NodeId)
-    ensures { (m : ℕ) → get_or used.new.items m true ≡ get_or used.old.items m true }
-{
-    let len = n.0 as usize + 1;
-    if used.len() < len {
-        used.resize(len, true).ok();
     }
 }
 

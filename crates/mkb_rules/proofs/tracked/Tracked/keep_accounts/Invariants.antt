@@ -9,7 +9,7 @@ use Rattle.mkb_rules.proofs.tracked.Tracked.keep_accounts.Given as goal
 abbrev pub invariant-loop-i : goal.invariant-loop-i
 invariant-loop-i l = record {
   table : l.self-inside.table ≡ l.fn.self;
-  marked : AreMarked (plain_nodes l.self-inside.table) l.self-inside.used.items;
+  marked : AreMarked (plain_nodes l.self-inside.table) l.self-inside.used;
   right : All (IsAccountOf (plain_nodes l.self-inside.table)) l.self-inside.accounts.items;
   within : l.i ≤ length l.self-inside.accounts.items;
 }
