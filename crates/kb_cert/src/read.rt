@@ -79,7 +79,6 @@ fn read_number(text: &[u8]) -> Option<u8>
 
 /// The symbol with the name.
 fn symbol_named(sig: &Signature, name: &[u8]) -> Option<Symbol>
-    requires { length sig.now ≤ 24 }
     ensures { MatchOption result ((f : ℕ) → f < length sig.now → ¬ (name_at (names_of sig.now) f ≡ name.now)) (λ f. (f.0 < length sig.now) × (name_at (names_of sig.now) f.0 ≡ name.now)) }
 {
     for f in 0..sig.count() {
@@ -97,8 +96,7 @@ fn read_symbols(
     count: usize,
     symbols: &mut Vec<Symbol>,
 ) -> Result<bool, Memory>
-    requires few { length sig.now ≤ 24 }
-    requires names { IsSignature sig.now }
+    requires { IsSignature sig.now }
     ensures { IfOk result (λ found. SpellsNames sig.now count text.now symbols.old.items symbols.new.items found) }
 {
     if count == 0 {
@@ -175,8 +173,7 @@ fn read_rows(
     text: &[u8],
     rows: &mut Vec<(u8, Vec<u8>)>,
 ) -> Result<bool, Memory>
-    requires few { length sig.now ≤ 24 }
-    requires within { f ≤ length sig.now }
+    requires { f ≤ length sig.now }
     ensures { IfOk result (λ found. SpellsRows (drop f sig.now) text.now rows.old.items rows.new.items found) }
 {
     if f == sig.count() {
@@ -224,7 +221,6 @@ fn read_precedence(
     sig: &Signature,
     text: &[u8],
 ) -> Result<Option<Precedence>, Memory>
-    requires { length sig.now ≤ 24 }
     ensures { IfOk result (λ read. MatchOption read ((symbols : List ℕ) → ¬ IsPrecedenceText sig.now text.now symbols) (IsPrecedenceText sig.now text.now)) }
 {
     let count = sig.symbols().len();
@@ -243,7 +239,6 @@ fn read_interpretation(
     sig: &Signature,
     text: &[u8],
 ) -> Result<Option<Interp>, Memory>
-    requires { length sig.now ≤ 24 }
     ensures { IfOk result (λ read. MatchOption read ((rows : List (ℕ × List ℕ)) → ¬ AreRows sig.now text.now rows) (AreRows sig.now text.now)) }
 {
     let mut rows = Vec::new(alloc);
@@ -275,7 +270,6 @@ fn read_weights(alloc: Global, text: &[u8], count: usize) -> Result<Option<Vec<u
 }
 
 fn read_order(alloc: Global, sig: &Signature, text: &[u8]) -> Result<Option<Kbo>, Memory>
-    requires { length sig.now ≤ 24 }
     ensures { IfOk result (λ read. MatchOption read ((order : KboOrder) → ¬ IsOrderText sig.now text.now order) (IsOrderText sig.now text.now)) }
 {
     if sig.count() == 0 {
@@ -299,7 +293,6 @@ fn read_order(alloc: Global, sig: &Signature, text: &[u8]) -> Result<Option<Kbo>
 
 /// The certificate that a line without its line feed spells; none where it spells no certificate of the signature within the limits.
 pub fn read_cert(alloc: Global, sig: &Signature, line: &[u8]) -> Result<Option<Certificate>, Memory>
-    requires { length sig.now ≤ 24 }
     ensures { IfOk result (λ read. MatchOption read ((c : Certificate) → ¬ CertSpelled sig.now line.now c) (CertSpelled sig.now line.now)) }
 {
     if let Some(text) = line.strip_prefix(b"LPO".as_slice()) {

@@ -15,7 +15,7 @@ use Rattle.kb_term.proofs.Subtrees.{subtree-instance}
 use Rattle.kb_term.proofs.Bridge.{step_from_position}
 use Rattle.kb_term.proofs.StepsInside.{reaches_instance}
 use Rattle.kb_overlap.specs.Overlap.{overlap_limit, pair_or_limit}
-use Rattle.kb_overlap.specs.Trace.{TraceStep, item, side, other_side, IsRightRewrite, IsRightOverlap, IsRightOrigin, IsRightAfter, IsRightTrace}
+use Rattle.kb_overlap.specs.Trace.{TraceStep, item, side, other_side, IsRightRewrite, IsRightOverlap, FollowsBy, IsRightAfter, IsRightTrace}
 use Rattle.kb_trace.specs.Steps.{pairs_of}
 use Rattle.kb_laws.proofs.Conversion.{Either, Equal, equal_sym, equal_trans, equal_rule, equal_same, equal_variant, step_made_up}
 use Rattle.kb_laws.proofs.CompletionLaws.{Members}
@@ -70,8 +70,8 @@ module _ (P : Rule → Type 0) where
       let both : Equal P o.s o.t = equal_trans P o.s peak o.t (equal_sym P peak o.s left) right in
       canonical_proved h.s h.t pair h.canonical (subst (λ x. Equal P x h.t) same.0 (subst (Equal P o.s) same.1 both))
 
--- a right step of equations and proved pairs is proved
-origin_proved : (es : List (Tree × Tree)) (before : List Pair) (origin : Origin) (pair : Pair) → ((e : Pair) → Contains before e → ProvesPair (Members es) e) → IsRightOrigin es (item before) origin pair → ProvesPair (Members es) pair
+-- what follows from equations and proved pairs is proved
+origin_proved : (es : List (Tree × Tree)) (before : List Pair) (origin : Origin) (pair : Pair) → ((e : Pair) → Contains before e → ProvesPair (Members es) e) → FollowsBy es (item before) origin pair → ProvesPair (Members es) pair
 origin_proved es before (Input i) pair h r =
     canonical_proved (Members es) r.0.0 r.0.1 pair r.2 (equal_rule (Members es) (record { left = r.0.0; right = r.0.1 }) (item_contains es i r.0 r.1))
 origin_proved es before (Rewrite a w p b) pair h r =
@@ -82,7 +82,7 @@ origin_proved es before (Overlap a b p) pair h r =
 after_proved : (es : List (Tree × Tree)) (before : List Pair) (trace : List TraceStep) → ((e : Pair) → Contains before e → ProvesPair (Members es) e) → IsRightAfter es before trace → (e : Pair) → Contains (pairs_of trace) e → ProvesPair (Members es) e
 after_proved es before [] h r e c = absurd (omega (arith, c.1))
 after_proved es before (step ∷ trace) h r e c =
-    let here = origin_proved es before step.origin step.pair h r.0 in
+    let here = origin_proved es before step.origin step.pair h r.0.1 in
     ⊎_elim
     (λ q. subst (ProvesPair (Members es)) q here)
     (λ d. after_proved es (before ++ step.pair ∷ []) trace (λ x k. ⊎_elim (h x) (λ g. ⊎_elim (λ q. subst (ProvesPair (Members es)) q here) (λ z. absurd (omega (arith, z.1))) (contains_cases step.pair [] x g)) (Contains-append_cases before (step.pair ∷ []) x k)) r.1 e d)

@@ -19,7 +19,6 @@ use std::alloc::Global;
 
 // The term that a line is.
 fn term_of_line(alloc: Global, sig: &Signature, line: &[u8]) -> Result<Option<Term>, Memory>
-    requires few { length sig.now ≤ 24 }
     requires names { IsSignature sig.now }
     ensures { IfOk result (λ read. MatchOption read ((t : Tree) → ¬ IsTermLine sig.now line.now t) (λ t. IsTermLine sig.now line.now (tree_of t))) }
 {
@@ -34,7 +33,6 @@ fn term_of_line(alloc: Global, sig: &Signature, line: &[u8]) -> Result<Option<Te
 
 // The term on the line that the text begins with, and how many bytes it takes.
 fn next_term(alloc: Global, sig: &Signature, text: &[u8]) -> Result<Option<(Term, usize)>, Memory>
-    requires few { length sig.now ≤ 24 }
     requires names { IsSignature sig.now }
     ensures read { IfOk result (λ read. MatchOption read ((t : Tree) (back : List ℕ) → ¬ BeginsWithLine (IsNumberedTerm sig.now) (term_text (names_of sig.now)) text.now t back) (λ p. BeginsWithLine (IsNumberedTerm sig.now) (term_text (names_of sig.now)) text.now (tree_of p.0) (drop p.1 text.now))) }
     ensures size { IfOk result (λ read. MatchOption read ⊤ (λ p. p.1 ≤ length text.now)) }
@@ -56,7 +54,6 @@ fn read_lines(
     text: &[u8],
     first: u64,
 ) -> Result<(Vec<Term>, usize), TextFault>
-    requires few { length sig.now ≤ 24 }
     requires names { IsSignature sig.now }
     requires count { count ≤ 256 }
     requires first { first ≤ 2 ^ 63 }

@@ -77,7 +77,7 @@ slice_there [] i h = absurd (omega (arith, h))
 slice_there (x ∷ xs) zero h = (x, refl)
 slice_there (x ∷ xs) (suc i) h = slice_there xs i (omega (arith, h))
 
-pub name_there : (s : ReduceSnapshot) → AreNamed s.rules → (i : ℕ) → i < length s.rules.rules.items → slice_get s.rules.names.items i ≡ Some (name_at s i)
+pub name_there : (s : ReduceSnapshot) → AreNamed s.rules → (i : ℕ) → i < length s.rules.rules → slice_get s.rules.names.items i ≡ Some (name_at s i)
 name_there s h i l =
     let m = slice_there s.rules.names.items i (let e = h.as_many in omega (arith, e, l)) in
     m.1 ∙ ap Some (sym (ap (λ (o : Option RuleRef). option_map_or (λ (a : RuleRef). a) o no_name) m.1))
@@ -109,12 +109,12 @@ equal_fine o h k = absurd (clash_orders (sym h ∙ k))
 module _ (s : ReduceSnapshot) (fits : IsReducible s) where
   -- the search goes over strict redexes alone where not any may be rewritten
   abbrev Searched : ℕ → List ℕ → ℕ → Type 0
-  Searched w p i = IsRedex s.rules.rules.items (not (is_any s w)) (side s.pair w) p i
+  Searched w p i = IsRedex s.rules.rules (not (is_any s w)) (side s.pair w) p i
 
   -- what may be rewritten is what the search goes over
   searched : (w : ℕ) (p : List ℕ) (c : RuleRef) (k : Found) (t : Tree) → IsUsableRedex (listed s.rules) s.pair (usable s) w p c k t → (i : ℕ) × (slice_get s.rules.names.items i ≡ Some c) × Searched w p i
   searched w p c k t u =
-      let m = named_in s.rules.names.items s.rules.rules.items (record { ref = c; rule = u.rule }) u.listed in
+      let m = named_in s.rules.names.items s.rules.rules (record { ref = c; rule = u.rule }) u.listed in
       (m.0, m.1, record { rule = u.rule; there = m.2; matches = (instance u.rewrites.0 u.rule.left, u.rewrites.1.redex, (u.rewrites.0, refl)); strict = strict k u.found u.may_be })
     where
       strict : (k : Found) → IsFound (side s.pair w) u.rule k → IsTrue (usable s w k) → not (is_any s w) ≡ true → ¬ IsVariant (side s.pair w) u.rule.left
@@ -122,15 +122,15 @@ module _ (s : ReduceSnapshot) (fits : IsReducible s) where
       strict Variant f h e = clash h (not_true e)
       strict Strict f h e = f.1
 
-  none_usable : HasNoRedex s.rules.rules.items (not (is_any s 0)) (side s.pair 0) → HasNoRedex s.rules.rules.items (not (is_any s 1)) (side s.pair 1) → IsIrreducible (listed s.rules) s.pair (usable s)
+  none_usable : HasNoRedex s.rules.rules (not (is_any s 0)) (side s.pair 0) → HasNoRedex s.rules.rules (not (is_any s 1)) (side s.pair 1) → IsIrreducible (listed s.rules) s.pair (usable s)
   none_usable first second w p c k t u = go u.is_side
     where
       r : (i : ℕ) × (slice_get s.rules.names.items i ≡ Some c) × Searched w p i
       r = searched w p c k t u
 
       go : (w ≡ 0) ⊎ (w ≡ 1) → ⊥
-      go (inl e) = first p r.0 (subst {A = ℕ} (λ z. IsRedex s.rules.rules.items (not (is_any s z)) (side s.pair z) p r.0) e r.2)
-      go (inr e) = second p r.0 (subst {A = ℕ} (λ z. IsRedex s.rules.rules.items (not (is_any s z)) (side s.pair z) p r.0) e r.2)
+      go (inl e) = first p r.0 (subst {A = ℕ} (λ z. IsRedex s.rules.rules (not (is_any s z)) (side s.pair z) p r.0) e r.2)
+      go (inr e) = second p r.0 (subst {A = ℕ} (λ z. IsRedex s.rules.rules (not (is_any s z)) (side s.pair z) p r.0) e r.2)
 
   -- a found redex may be rewritten
   may_be : (w : ℕ) (p : List ℕ) (i : ℕ) (r : Searched w p i) (k : Found) → IsFound (side s.pair w) r.rule k → IsTrue (usable s w k)
@@ -142,7 +142,7 @@ module _ (s : ReduceSnapshot) (fits : IsReducible s) where
       go false e = absurd (r.strict (ap not e) f)
   may_be w p i r Strict f = refl
 
-  same_side : (w : ℕ) (p : List ℕ) (i : ℕ) (a : RuleRef) (f : IsFirst s.rules.rules.items (not (is_any s w)) (side s.pair w) p i) → slice_get s.rules.names.items i ≡ Some a
+  same_side : (w : ℕ) (p : List ℕ) (i : ℕ) (a : RuleRef) (f : IsFirst s.rules.rules (not (is_any s w)) (side s.pair w) p i) → slice_get s.rules.names.items i ≡ Some a
       → (q : List ℕ) (j : ℕ) (c : RuleRef) (u : Tree) → subtree_at (side s.pair w) q ≡ Some u → Searched w q j → slice_get s.rules.names.items j ≡ Some c
       → ordering_then (numbers_cmp p q) (ordering_then (nat_cmp a.node c.node) (nat_cmp a.dir c.dir)) ≢ Greater
   same_side w p i a f there q j c u at r there' =
@@ -167,15 +167,15 @@ module _ (s : ReduceSnapshot) (fits : IsReducible s) where
           (⊎_elim equal_rules
           (⊎_elim
           (λ l. less_fine (ordering_then (nat_cmp a.node c.node) (nat_cmp a.dir c.dir)) (in_order s.rules.names.items fits.rules.ordered i j a c l there there'))
-          (λ l. absurd (f.first_rule j l (subst {A = List ℕ} (λ z. IsRedex s.rules.rules.items (not (is_any s w)) (side s.pair w) z j) (sym e) r))))
+          (λ l. absurd (f.first_rule j l (subst {A = List ℕ} (λ z. IsRedex s.rules.rules (not (is_any s w)) (side s.pair w) z j) (sym e) r))))
           (cases_order i j))
 
   -- the first redex that the search finds, with its result, is the first that may be rewritten
-  pub first_found : (w : ℕ) (p : List ℕ) (i : ℕ) (a : RuleRef) (kind : Found) (v : Tree) → (w ≡ 0) ⊎ (w ≡ 1) → (f : IsFirst s.rules.rules.items (not (is_any s w)) (side s.pair w) p i) → slice_get s.rules.names.items i ≡ Some a
-      → IsFound (side s.pair w) f.redex.rule kind → RewritesAt f.redex.rule p (side s.pair w) v → (w ≡ 1 → HasNoRedex s.rules.rules.items (not (is_any s 0)) (side s.pair 0))
+  pub first_found : (w : ℕ) (p : List ℕ) (i : ℕ) (a : RuleRef) (kind : Found) (v : Tree) → (w ≡ 0) ⊎ (w ≡ 1) → (f : IsFirst s.rules.rules (not (is_any s w)) (side s.pair w) p i) → slice_get s.rules.names.items i ≡ Some a
+      → IsFound (side s.pair w) f.redex.rule kind → RewritesAt f.redex.rule p (side s.pair w) v → (w ≡ 1 → HasNoRedex s.rules.rules (not (is_any s 0)) (side s.pair 0))
       → IsFirstRedex (listed s.rules) s.pair (usable s) w p a kind v
   first_found w p i a kind v sided f there found rewrites before = record {
-    is_redex = record { rule = f.redex.rule; listed = named_at s.rules.names.items s.rules.rules.items i a f.redex.rule there f.redex.there; is_side = sided; rewrites = rewrites; found = found; may_be = may_be w p i f.redex kind found };
+    is_redex = record { rule = f.redex.rule; listed = named_at s.rules.names.items s.rules.rules i a f.redex.rule there f.redex.there; is_side = sided; rewrites = rewrites; found = found; may_be = may_be w p i f.redex kind found };
     is_first = λ x q c k t u. go x q c k t u sided u.is_side;
   }
     where
@@ -197,8 +197,8 @@ module _ (s : ReduceSnapshot) (fits : IsReducible s) where
           absurd (before d q m.0 m.2)
 
   -- the first redex found, with what the step answers, is what is proposed
-  pub rewriting : (w : ℕ) (redex : Redex) (a : RuleRef) (t : Tree) (answer : Result Term TermFault) (u : Term) → w ≤ 1 → t ≡ side s.pair w → IsRedexAnswer s.rules.rules.items (not (is_any s w)) (side s.pair w) (Some redex)
-      → slice_get s.rules.names.items redex.rule ≡ Some a → IsStepAnswer s.rules.rules.items t redex.position redex.rule answer → answer ≡ Ok u → (w ≡ 1 → HasNoRedex s.rules.rules.items (not (is_any s 0)) (side s.pair 0))
+  pub rewriting : (w : ℕ) (redex : Redex) (a : RuleRef) (t : Tree) (answer : Result Term TermFault) (u : Term) → w ≤ 1 → t ≡ side s.pair w → IsRedexAnswer s.rules.rules (not (is_any s w)) (side s.pair w) (Some redex)
+      → slice_get s.rules.names.items redex.rule ≡ Some a → IsStepAnswer s.rules.rules t redex.position redex.rule answer → answer ≡ Ok u → (w ≡ 1 → HasNoRedex s.rules.rules (not (is_any s 0)) (side s.pair 0))
       → IsRewriting (listed s.rules) s.pair (usable s) w redex.position a redex.kind (tree_of u)
   rewriting w redex a t answer u small e found there step is before =
       let f = found.0 in
@@ -210,8 +210,8 @@ module _ (s : ReduceSnapshot) (fits : IsReducible s) where
         fits = made.1;
       })
 
-  pub large : (w : ℕ) (redex : Redex) (a : RuleRef) (t : Tree) (answer : Result Term TermFault) (limit : Limit) (cause : LimitCause) → w ≤ 1 → t ≡ side s.pair w → IsRedexAnswer s.rules.rules.items (not (is_any s w)) (side s.pair w) (Some redex)
-      → slice_get s.rules.names.items redex.rule ≡ Some a → IsStepAnswer s.rules.rules.items t redex.position redex.rule answer → answer ≡ Err (Large limit) → (w ≡ 1 → HasNoRedex s.rules.rules.items (not (is_any s 0)) (side s.pair 0))
+  pub large : (w : ℕ) (redex : Redex) (a : RuleRef) (t : Tree) (answer : Result Term TermFault) (limit : Limit) (cause : LimitCause) → w ≤ 1 → t ≡ side s.pair w → IsRedexAnswer s.rules.rules (not (is_any s w)) (side s.pair w) (Some redex)
+      → slice_get s.rules.names.items redex.rule ≡ Some a → IsStepAnswer s.rules.rules t redex.position redex.rule answer → answer ≡ Err (Large limit) → (w ≡ 1 → HasNoRedex s.rules.rules (not (is_any s 0)) (side s.pair 0))
       → cause.redex ≡ Some (w, a, redex.kind) → cause.reason ≡ reason_of limit → IsLargeRewriting (listed s.rules) s.pair (usable s) cause
   large w redex a t answer limit cause small e found there step is before redex_is reason_is =
       let f = found.0 in
@@ -252,18 +252,18 @@ module _ (s : ReduceSnapshot) (fits : IsReducible s) where
   fact_keys (u ∷ us) fs (g, rest, e, one, more) =
       ap (map key) e ∙ ap (λ (x : ℕ × RuleRef). x ∷ map key rest) (ap {B = ℕ × RuleRef} (λ z. (z, g.rule)) one.side_is ∙ ap {B = ℕ × RuleRef} (λ (z : RuleRef). (u.0, z)) one.name) ∙ ap (λ zs. place u ∷ zs) (fact_keys us rest more)
 
-  fact_true : (u : ℕ × ℕ) (f : Fact) → u.1 < length s.rules.rules.items → IsFactAt s u f → IsFactOf (listed s.rules) s.pair f
+  fact_true : (u : ℕ × ℕ) (f : Fact) → u.1 < length s.rules.rules → IsFactAt s u f → IsFactOf (listed s.rules) s.pair f
   fact_true u f l h =
-      (h.rule, named_at s.rules.names.items s.rules.rules.items u.1 f.rule h.rule (name_there s fits.rules u.1 l ∙ ap Some (sym h.name)) h.there, subst {A = ℕ} (λ z. IsFound (side s.pair z) h.rule f.found) (sym h.side_is) h.found)
+      (h.rule, named_at s.rules.names.items s.rules.rules u.1 f.rule h.rule (name_there s fits.rules u.1 l ∙ ap Some (sym h.name)) h.there, subst {A = ℕ} (λ z. IsFound (side s.pair z) h.rule f.found) (sym h.side_is) h.found)
 
-  facts_true : (us : List (ℕ × ℕ)) → All (λ (u : ℕ × ℕ). (u.0 ≤ 1) × (u.1 < length s.rules.rules.items)) us → (fs : List Fact) → AreFactsAt s us fs → (f : Fact) → Contains fs f → IsFactOf (listed s.rules) s.pair f
+  facts_true : (us : List (ℕ × ℕ)) → All (λ (u : ℕ × ℕ). (u.0 ≤ 1) × (u.1 < length s.rules.rules)) us → (fs : List Fact) → AreFactsAt s us fs → (f : Fact) → Contains fs f → IsFactOf (listed s.rules) s.pair f
   facts_true [] l fs h f i = none_in (subst {A = List Fact} (λ z. Contains z f) h i)
   facts_true (u ∷ us) l fs (g, rest, e, one, more) f i =
-      ⊎_elim (λ q. subst {A = Fact} (IsFactOf (listed s.rules) s.pair) q (fact_true u g (All-head (λ (u : ℕ × ℕ). (u.0 ≤ 1) × (u.1 < length s.rules.rules.items)) u us l).1 one))
-      (λ j. facts_true us (All-tail (λ (u : ℕ × ℕ). (u.0 ≤ 1) × (u.1 < length s.rules.rules.items)) u us l) rest more f j) (contains_cases g rest f (subst {A = List Fact} (λ z. Contains z f) e i))
+      ⊎_elim (λ q. subst {A = Fact} (IsFactOf (listed s.rules) s.pair) q (fact_true u g (All-head (λ (u : ℕ × ℕ). (u.0 ≤ 1) × (u.1 < length s.rules.rules)) u us l).1 one))
+      (λ j. facts_true us (All-tail (λ (u : ℕ × ℕ). (u.0 ≤ 1) × (u.1 < length s.rules.rules)) u us l) rest more f j) (contains_cases g rest f (subst {A = List Fact} (λ z. Contains z f) e i))
 
   -- where nothing may be rewritten, these facts are what is proposed
-  pub facts_missing : HasNoRedex s.rules.rules.items (not (is_any s 0)) (side s.pair 0) → HasNoRedex s.rules.rules.items (not (is_any s 1)) (side s.pair 1) → (fs : List Fact) → AreFactsAt s s.unknown.items fs
+  pub facts_missing : HasNoRedex s.rules.rules (not (is_any s 0)) (side s.pair 0) → HasNoRedex s.rules.rules (not (is_any s 1)) (side s.pair 1) → (fs : List Fact) → AreFactsAt s s.unknown.items fs
       → AreMissingFacts (listed s.rules) s.pair (usable s) s.node.0 (unknown_of s) fs
   facts_missing first second fs h = record {
     none_usable = none_usable first second;

@@ -59,7 +59,7 @@ as_listed (a ∷ names) [] h = absurd (omega (arith, h))
 as_listed (a ∷ names) (r ∷ rules) h = ap (λ z. r ∷ z) (as_listed names rules (omega (arith, h)))
 
 pub held_listed : (s : CloseSnapshot) → IsClosable s → HoldVariables (as_rules (listed s.rules))
-held_listed s h = subst {A = List Rule} HoldVariables (sym (as_listed s.rules.names.items s.rules.rules.items h.overlappable.as_many)) h.held
+held_listed s h = subst {A = List Rule} HoldVariables (sym (as_listed s.rules.names.items s.rules.rules h.overlappable.as_many)) h.held
 
 -- ---- settling
 
@@ -175,6 +175,6 @@ row_more names rules i j a c r q old mid new g e f k l is one h x pairs there so
 -- ---- normalising
 
 -- what normalising answered, in the words of the snapshot
-pub form_there : (rs : NamedRules) (rules : List Rule) (t : Tree) (a b : Normal) → length rs.names.items ≡ length rs.rules.items → rules ≡ rs.rules.items → a ≡ b → NormalisesTo rules t (normalised a) → NormalisesTo (as_rules (listed rs)) t (normalised b)
+pub form_there : (rs : NamedRules) (rules : List Rule) (t : Tree) (a b : Normal) → length rs.names.items ≡ length rs.rules → rules ≡ rs.rules → a ≡ b → NormalisesTo rules t (normalised a) → NormalisesTo (as_rules (listed rs)) t (normalised b)
 form_there rs rules t a b many e f h =
-    subst {A = List Rule} (λ z. NormalisesTo z t (normalised b)) (e ∙ sym (as_listed rs.names.items rs.rules.items many)) (subst {A = Normal} (λ z. NormalisesTo rules t (normalised z)) f h)
+    subst {A = List Rule} (λ z. NormalisesTo z t (normalised b)) (e ∙ sym (as_listed rs.names.items rs.rules many)) (subst {A = Normal} (λ z. NormalisesTo rules t (normalised z)) f h)

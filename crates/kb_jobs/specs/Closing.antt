@@ -37,13 +37,13 @@ all_pairs rs = all_ways (listed rs)
 
 -- as many names as rules, of fewer than 64 variables each, with at most 255 arguments of each symbol
 pub record AreOverlappable (rs : NamedRules) : Type 0 where
-  pub as_many : length rs.names.items ≡ length rs.rules.items
-  pub each : (rule : Rule) → Contains rs.rules.items rule → IsOverlappable rule
+  pub as_many : length rs.names.items ≡ length rs.rules
+  pub each : (rule : Rule) → Contains rs.rules rule → IsOverlappable rule
 
 -- what a Close may read: named rules whose left sides hold the variables of their right sides, of fewer than 64 variables each
 pub record IsClosable (s : CloseSnapshot) : Type 0 where
   pub overlappable : AreOverlappable s.rules
-  pub held : HoldVariables s.rules.rules.items
+  pub held : HoldVariables s.rules.rules
 
 -- what a Close proposes: the pairs of the overlaps that don't join, that the process is closed, or a limit
 abbrev pub ProposesClose : CloseSnapshot → Proposed → Type 0

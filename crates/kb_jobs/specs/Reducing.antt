@@ -43,10 +43,10 @@ unknown_of s = map (λ (u : ℕ × ℕ). (u.0, name_at s u.1)) s.unknown.items
 -- what a Reduce may read: named rules, fewer than 2^32, and terms with at most 255 arguments of each symbol; what is unknown names sides and rules that are there
 pub record IsReducible (s : ReduceSnapshot) : Type 0 where
   pub rules : AreNamed s.rules
-  pub few : length s.rules.rules.items < 2 ^ 32
+  pub few : length s.rules.rules < 2 ^ 32
   pub first : HasFewArguments s.pair.first
   pub second : HasFewArguments s.pair.second
-  pub unknown : All (λ (u : ℕ × ℕ). (u.0 ≤ 1) × (u.1 < length s.rules.rules.items)) s.unknown.items
+  pub unknown : All (λ (u : ℕ × ℕ). (u.0 ≤ 1) × (u.1 < length s.rules.rules)) s.unknown.items
 
 -- the fact says what the rule with the number can do to the side
 pub record IsFactAt (s : ReduceSnapshot) (u : ℕ × ℕ) (f : Fact) : Type 0 where
@@ -54,7 +54,7 @@ pub record IsFactAt (s : ReduceSnapshot) (u : ℕ × ℕ) (f : Fact) : Type 0 wh
   pub side_is : f.side ≡ u.0
   pub name : f.rule ≡ name_at s u.1
   pub rule : Rule
-  pub there : slice_get s.rules.rules.items u.1 ≡ Some rule
+  pub there : slice_get s.rules.rules u.1 ≡ Some rule
   pub found : IsFound (side s.pair u.0) rule f.found
 
 -- one such fact for each

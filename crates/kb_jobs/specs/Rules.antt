@@ -24,9 +24,9 @@ AreInOrder (a ∷ names) = ((c : RuleRef) → Contains names c → ComesBefore a
 
 -- the rules with their names
 abbrev pub listed : NamedRules → List NamedRule
-listed rs = named rs.names.items rs.rules.items
+listed rs = named rs.names.items rs.rules
 
 -- there are as many names as rules, and the names are in order
 pub record AreNamed (rs : NamedRules) : Type 0 where
-  pub as_many : length rs.names.items ≡ length rs.rules.items
+  pub as_many : length rs.names.items ≡ length rs.rules
   pub ordered : AreInOrder rs.names.items

@@ -115,7 +115,8 @@ fn all_ways(alloc: Global, rules: &NamedRules) -> Result<Vec<Group>, Memory>
     ensures { IfOk result (λ groups. AreGroupsOf (all_pairs rules.now) groups.items) }
 {
     let mut groups = Vec::new(alloc);
-    for i in 0..rules.rules.len() {
+    let count = rules.rules.as_slice().len();
+    for i in 0..count {
         push_row(alloc, rules, &mut groups, i)?;
     }
     Ok(groups)
@@ -129,16 +130,17 @@ fn push_row(
     i: usize,
 ) -> Result<(), Memory>
     requires rules { AreOverlappable rules.now }
-    requires there { i < length rules.now.rules.items }
+    requires there { i < length rules.now.rules }
     ensures { IfOk result (λ _. AddsRow (listed rules.now) (listed rules.now) i groups.old.items groups.new.items) }
 {
-    for j in 0..rules.rules.len() {
+    let listed = rules.rules.as_slice();
+    for j in 0..listed.len() {
         groups.push(group_of(
             alloc,
             rules.names[i],
-            &rules.rules[i],
+            &listed[i],
             rules.names[j],
-            &rules.rules[j],
+            &listed[j],
         )?)?;
     }
     Ok(())
@@ -227,13 +229,13 @@ fn normal_forms(
     first: &Term,
     second: &Term,
 ) -> Result<Forms, Memory>
-    requires { length rules.now.names.items ≡ length rules.now.rules.items }
+    requires { length rules.now.names.items ≡ length rules.now.rules }
     ensures { IfOk result (AreForms (listed rules.now) (tree_of first.now) (tree_of second.now)) }
 {
-    match normal_form(alloc, &rules.rules, first)? {
+    match normal_form(alloc, rules.rules.as_slice(), first)? {
         Normal::Long(_) => Ok(Forms::Stop(Reason::Steps)),
         Normal::Large(limit) => Ok(Forms::Stop(reason_of(limit))),
-        Normal::Form(u, _) => match normal_form(alloc, &rules.rules, second)? {
+        Normal::Form(u, _) => match normal_form(alloc, rules.rules.as_slice(), second)? {
             Normal::Long(_) => Ok(Forms::Stop(Reason::Steps)),
             Normal::Large(limit) => Ok(Forms::Stop(reason_of(limit))),
             Normal::Form(v, _) => Ok(Forms::Both(u, v)),

@@ -35,10 +35,20 @@ pub fn reduce(alloc: Global, s: &ReduceSnapshot) -> Result<Proposed, Memory>
     requires { IsReducible s.now }
     ensures { IfOk result (ProposesReduce s.now) }
 {
-    if let Some(redex) = first_redex(alloc, &s.rules.rules, s.pair.first(), !s.any_first)? {
+    if let Some(redex) = first_redex(
+        alloc,
+        s.rules.rules.as_slice(),
+        s.pair.first(),
+        !s.any_first,
+    )? {
         return rewrite(alloc, s, 0, s.pair.first(), redex);
     }
-    if let Some(redex) = first_redex(alloc, &s.rules.rules, s.pair.second(), !s.any_second)? {
+    if let Some(redex) = first_redex(
+        alloc,
+        s.rules.rules.as_slice(),
+        s.pair.second(),
+        !s.any_second,
+    )? {
         return rewrite(alloc, s, 1, s.pair.second(), redex);
     }
     let facts = facts(alloc, s)?;
@@ -56,12 +66,12 @@ fn rewrite(
     requires reducible { IsReducible s.now }
     requires side { w ≤ 1 }
     requires term { tree_of t.now ≡ side s.now.pair w }
-    requires first { IsRedexAnswer s.now.rules.rules.items (not (is_any s.now w)) (side s.now.pair w) (Some redex) }
-    requires before { w ≡ 1 → HasNoRedex s.now.rules.rules.items (not (is_any s.now 0)) (side s.now.pair 0) }
+    requires first { IsRedexAnswer s.now.rules.rules (not (is_any s.now w)) (side s.now.pair w) (Some redex) }
+    requires before { w ≡ 1 → HasNoRedex s.now.rules.rules (not (is_any s.now 0)) (side s.now.pair 0) }
     ensures { IfOk result (ProposesReduce s.now) }
 {
     let rule = s.rules.names[redex.rule as usize];
-    let stepped = step(alloc, &s.rules.rules, t, &redex);
+    let stepped = step(alloc, s.rules.rules.as_slice(), t, &redex);
     let Redex {
         position,
         rule: _,
@@ -105,7 +115,7 @@ fn facts(alloc: Global, s: &ReduceSnapshot) -> Result<Vec<Fact>, Memory>
 // What the rule with the number can do to the side.
 fn fact(alloc: Global, s: &ReduceSnapshot, w: u8, number: u32) -> Result<Fact, Memory>
     requires reducible { IsReducible s.now }
-    requires there { number < length s.now.rules.rules.items }
+    requires there { number < length s.now.rules.rules }
     ensures { IfOk result (IsFactAt s.now (w, number)) }
 {
     let t = if w == 0 {
@@ -113,7 +123,7 @@ fn fact(alloc: Global, s: &ReduceSnapshot, w: u8, number: u32) -> Result<Fact, M
     } else {
         s.pair.second()
     };
-    let found = found(alloc, t, &s.rules.rules[number as usize])?;
+    let found = found(alloc, t, &s.rules.rules.as_slice()[number as usize])?;
     Ok(Fact {
         node: s.node,
         side: w,

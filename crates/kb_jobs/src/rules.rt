@@ -1,14 +1,68 @@
 // Rules with their names.
-ghost use Rattle.std.specs.Prelude.{◌≡◌};
+ghost use Rattle.std.specs.Prelude.{◌≡◌, IfOk};
 ghost use Rattle.mkb_model.specs.Jobs.{ref_eq};
 
 use kb_term::{Rule, RuleRef};
+use std::alloc::{AllocError, Global};
+use std::marker::Model;
+use std::sync::Arc;
+
+/// Rules that several snapshots may hold at once. Contracts see them as their list. A copy holds the same rules.
+#[derive(Drop)]
+pub struct SharedRules {
+    rules: Arc<Vec<Rule>>,
+}
+
+impl Model for SharedRules {
+    ghost use Rattle.std.specs.Prelude.{List};
+    ghost use Rattle.std.specs.Coded.{coded_list};
+    ghost use Rattle.kb_term.specs.Coding.{coded_rule};
+    ghost use Rattle.kb_term.specs.Rule.{Rule};
+
+    ghost Value = { List Rule };
+
+    ghost coded = { coded_list coded_rule };
+
+    ghost view = { λ s. s.rules.value.items };
+}
+
+impl SharedRules {
+    /// These rules.
+    ///
+    /// # Errors
+    ///
+    /// Want of memory.
+    pub fn new(alloc: Global, rules: Vec<Rule>) -> Result<SharedRules, AllocError>
+        ensures { IfOk result (λ shared. shared ≡ rules.items) }
+    {
+        match Arc::new(alloc, rules) {
+            Ok(rules) => Ok(SharedRules { rules }),
+            Err(_) => Err(AllocError),
+        }
+    }
+
+    /// The rules, in their order.
+    pub fn as_slice(&self) -> &[Rule]
+        ensures { result.now ≡ self.now }
+    {
+        self.rules.as_slice()
+    }
+}
+
+impl Clone for SharedRules {
+    ghost is_clone = { λ a b. b ≡ a };
+
+    fn clone(&self) -> Result<SharedRules, AllocError> {
+        let rules = self.rules.clone()?;
+        Ok(SharedRules { rules })
+    }
+}
 
 /// Rules with their names on the board, in the order of the names; there are as many of both.
 #[derive(Drop)]
 pub struct NamedRules {
     pub names: Vec<RuleRef>,
-    pub rules: Vec<Rule>,
+    pub rules: SharedRules,
 }
 
 /// Whether both name one rule.

@@ -29,6 +29,7 @@ fn one_rule(alloc: Global) -> Result<NamedRules, Memory>
     names.push(RuleRef { node: 1, dir: 0 })?;
     let mut rules = Vec::new(alloc);
     rules.push(Rule::new(unary(alloc, 0, Term::Var(0))?, Term::Var(0)))?;
+    let rules = SharedRules::new(alloc, rules)?;
     Ok(NamedRules { names, rules })
 }
 
@@ -45,7 +46,7 @@ fn pair_of(alloc: Global, a: &Term, b: &Term) -> Option<Pair> {
 fn reduced(alloc: Global, pair: Pair, rules: NamedRules) -> Result<Proposed, Memory>
     requires { AreNamed rules }
 {
-    if rules.rules.len() < 1000 {
+    if rules.rules.as_slice().len() < 1000 {
         if has_few_arguments(pair.first()) {
             if has_few_arguments(pair.second()) {
                 let s = ReduceSnapshot {

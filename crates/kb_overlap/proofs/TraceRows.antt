@@ -28,34 +28,36 @@ ff-a-right = (
   (
     (
       (omega arith, omega arith),
-      record { first = one 0 (one 0 (variable 0)); second = none 1 },
-      record { first = one 0 (one 0 (variable 0)); second = none 1 },
-      refl,
-      refl,
-      record {
-        outer_rule = ff-a-is-rule;
-        inner_rule = ff-a-is-rule;
-        s = none 1;
-        t = one 0 (none 1);
-        overlap =
-            record {
-              renamed = record { left = one 0 (one 0 (variable 64)); right = none 1 };
-              m = m;
-              s = none 1;
-              t = one 0 (none 1);
-              renamed_apart = ff-apart;
-              overlaps =
-                  record {
-                    subterm = one 0 (variable 0);
-                    there = refl;
-                    no_variable = (1, omega arith, refl);
-                    unifier = record { unifies = refl; most_general = m-most-general };
-                  };
-              pair = record { by_outer = refl; by_inner = refl };
-              sides = refl;
-            };
-        canonical = refl;
-      },
+      (
+        record { first = one 0 (one 0 (variable 0)); second = none 1 },
+        record { first = one 0 (one 0 (variable 0)); second = none 1 },
+        refl,
+        refl,
+        record {
+          outer_rule = ff-a-is-rule;
+          inner_rule = ff-a-is-rule;
+          s = none 1;
+          t = one 0 (none 1);
+          overlap =
+              record {
+                renamed = record { left = one 0 (one 0 (variable 64)); right = none 1 };
+                m = m;
+                s = none 1;
+                t = one 0 (none 1);
+                renamed_apart = ff-apart;
+                overlaps =
+                    record {
+                      subterm = one 0 (variable 0);
+                      there = refl;
+                      no_variable = (1, omega arith, refl);
+                      unifier = record { unifies = refl; most_general = m-most-general };
+                    };
+                pair = record { by_outer = refl; by_inner = refl };
+                sides = refl;
+              };
+          canonical = refl;
+        },
+      ),
     ),
     tt,
   ),
@@ -81,16 +83,18 @@ fa-right = (
     (
       (
         (omega arith, omega arith),
-        record { first = one 0 (none 1); second = none 3 },
-        record { first = one 0 (none 1); second = none 2 },
-        refl,
-        refl,
-        record {
-          is_rule = record { no_variable = λ n. apply≢variable; holds_variables = each-none _ };
-          result = none 2;
-          rewrites = (variable, record { redex = refl; result = refl });
-          canonical = refl;
-        },
+        (
+          record { first = one 0 (none 1); second = none 3 },
+          record { first = one 0 (none 1); second = none 2 },
+          refl,
+          refl,
+          record {
+            is_rule = record { no_variable = λ n. apply≢variable; holds_variables = each-none _ };
+            result = none 2;
+            rewrites = (variable, record { redex = refl; result = refl });
+            canonical = refl;
+          },
+        ),
       ),
       tt,
     ),

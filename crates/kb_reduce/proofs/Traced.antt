@@ -144,7 +144,7 @@ module _ (a : Answer) (form : IsAnswer a) (good : IsGoodAnswer a) where
 
   pub rewriting_right : (pairs : List Pair) → Begins a pairs → (from : Rule × ℕ) (step : TraceStep) (u : Tree) → IsAt a pairs from → IsRewriting a.rules from step u → IsRightRewriting pairs from step u
   rewriting_right pairs begins from step u h w = subst (λ (s : TraceStep). IsRightRewriting pairs from s u) (sym w.told) (record {
-    right = (pair_of_rule from.0, pair_of_rule by.0, h.cited, by_at.cited, subst (λ (r : Rule). IsRightRewrite (pair_of_rule from.0) (1 - direction_of from.0) w.position r (canonical l u)) (sym (rule_back by.0 by_at.sides.by_occurrence)) (right_rewrite from.0 by.0 w.position u h.sides.by_occurrence by_over.is_rule w.rewrites new.2.is_rule.holds_variables new.1));
+    right = ((small, direction_small by.0), (pair_of_rule from.0, pair_of_rule by.0, h.cited, by_at.cited, subst (λ (r : Rule). IsRightRewrite (pair_of_rule from.0) (1 - direction_of from.0) w.position r (canonical l u)) (sym (rule_back by.0 by_at.sides.by_occurrence)) (right_rewrite from.0 by.0 w.position u h.sides.by_occurrence by_over.is_rule w.rewrites new.2.is_rule.holds_variables new.1)));
     next = record { sides = new.0; chain = rewriting_chain pairs from step u h w; cited = item_last pairs (canonical l u) };
     written = λ room. record { origin = origin room; pair = pair_form g l u new.2 new.0 new.1 };
   })

@@ -13,7 +13,6 @@ use std::alloc::Global;
 
 /// The certificate behind the first word of a line.
 fn order_of(alloc: Global, sig: &Signature, line: &[u8]) -> Result<Option<Certificate>, Memory>
-    requires { length sig.now ≤ 24 }
     ensures { IfOk result (λ read. MatchOption read ((c : Certificate) → ¬ IsOrderLine sig.now line.now c) (IsOrderLine sig.now line.now)) }
 {
     let Some(text) = line.strip_prefix(b"ORDER ".as_slice()) else {
@@ -29,7 +28,6 @@ pub(crate) fn read_order(
     text: &[u8],
     first: u64,
 ) -> Result<(Certificate, usize), TextFault>
-    requires few { length sig.now ≤ 24 }
     requires names { IsSignature sig.now }
     ensures read { IfOk result (λ p. BeginsWith (Order sig.now) text.now p.0 1 (drop p.1 text.now)) }
     ensures size { IfOk result (λ p. p.1 ≤ length text.now) }

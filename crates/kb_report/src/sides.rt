@@ -52,7 +52,6 @@ fn read_sides(
     fields: &Fields,
     sign: &[u8],
 ) -> Result<Option<(Term, Term)>, Memory>
-    requires few { length sig.now ≤ 24 }
     requires names { IsSignature sig.now }
     requires three { 3 ≤ length fields.now }
     ensures { IfOk result (λ read. MatchOption read ((e : Tree × Tree) → ¬ AreSidesIn sig.now fields.now sign.now e) (λ e. AreSidesIn sig.now fields.now sign.now (tree_of e.0, tree_of e.1))) }
@@ -74,7 +73,6 @@ fn read_sides(
 
 /// The equation that a line is.
 fn equation_of(alloc: Global, sig: &Signature, line: &[u8]) -> Result<Option<(Term, Term)>, Memory>
-    requires few { length sig.now ≤ 24 }
     requires names { IsSignature sig.now }
     ensures { IfOk result (λ read. MatchOption read ((e : Tree × Tree) → ¬ IsEquationLine sig.now line.now e) (λ e. IsEquationLine sig.now line.now (tree_of e.0, tree_of e.1))) }
 {
@@ -103,7 +101,6 @@ fn step_number(field: &[u8]) -> Option<u32>
 
 /// The rule that a line is, and the step that it cites.
 fn rule_of_line(alloc: Global, sig: &Signature, line: &[u8]) -> Result<Option<(Rule, u32)>, Memory>
-    requires few { length sig.now ≤ 24 }
     requires names { IsSignature sig.now }
     ensures { IfOk result (λ read. MatchOption read ((r : Rule × ℕ) → ¬ IsRuleLine sig.now line.now r) (IsRuleLine sig.now line.now)) }
 {
@@ -129,7 +126,6 @@ fn next_equation(
     sig: &Signature,
     text: &[u8],
 ) -> Result<Option<((Term, Term), usize)>, Memory>
-    requires few { length sig.now ≤ 24 }
     requires names { IsSignature sig.now }
     ensures read { IfOk result (λ read. MatchOption read ((e : Tree × Tree) (back : List ℕ) → ¬ BeginsWithLine (IsEquationWithinLimits sig.now) (equation_body (names_of sig.now)) text.now e back) (λ p. BeginsWithLine (IsEquationWithinLimits sig.now) (equation_body (names_of sig.now)) text.now (tree_of p.0.0, tree_of p.0.1) (drop p.1 text.now))) }
     ensures size { IfOk result (λ read. MatchOption read ⊤ (λ p. p.1 ≤ length text.now)) }
@@ -149,7 +145,6 @@ fn next_rule(
     sig: &Signature,
     text: &[u8],
 ) -> Result<Option<((Rule, u32), usize)>, Memory>
-    requires few { length sig.now ≤ 24 }
     requires names { IsSignature sig.now }
     ensures read { IfOk result (λ read. MatchOption read ((r : Rule × ℕ) (back : List ℕ) → ¬ BeginsWithLine (IsRuleForm sig.now) (rule_body (names_of sig.now)) text.now r back) (λ p. BeginsWithLine (IsRuleForm sig.now) (rule_body (names_of sig.now)) text.now p.0 (drop p.1 text.now))) }
     ensures size { IfOk result (λ read. MatchOption read ⊤ (λ p. p.1 ≤ length text.now)) }
@@ -176,7 +171,6 @@ pub fn read_equations(
     text: &[u8],
     first: u64,
 ) -> Result<(Vec<(Term, Term)>, usize), TextFault>
-    requires few { length sig.now ≤ 24 }
     requires names { IsSignature sig.now }
     requires count { count ≤ 4096 }
     requires first { first ≤ 2 ^ 63 }
@@ -205,7 +199,6 @@ pub(crate) fn read_rules(
     text: &[u8],
     first: u64,
 ) -> Result<(Vec<(Rule, u32)>, usize), TextFault>
-    requires few { length sig.now ≤ 24 }
     requires names { IsSignature sig.now }
     requires count { count ≤ 4096 }
     requires first { first ≤ 10000 }

@@ -33,7 +33,6 @@ pub(crate) fn read_steps(
     text: &[u8],
     first: u64,
 ) -> Result<(Trace, usize), TextFault>
-    requires few { length sig.now ≤ 24 }
     requires names { IsSignature sig.now }
     requires count { count ≤ 4096 }
     requires first { first ≤ 10000 }

@@ -1,6 +1,6 @@
 // Reading the line of the symbols.
-ghost use Rattle.std.specs.Prelude.{◌≡◌, ◌≤◌, ◌<◌, ◌↔◌, ℕ, IfOk, IfErr, IsTrue, MatchOption, All, drop, get_or, length, map, ◌==◌, ◌||◌};
-ghost use Rattle.kb_term.specs.Identifier.{IsIdentifier, begins_otherwise as begins_otherwise_in, is_unbroken as is_unbroken_text};
+ghost use Rattle.std.specs.Prelude.{◌≡◌, ◌≤◌, ◌<◌, ◌↔◌, ℕ, IfOk, IfErr, IsTrue, MatchOption, All, drop, get_or, length, map};
+ghost use Rattle.kb_term.specs.Identifier.{IsIdentifier, begins_otherwise as begins_otherwise_in, is_unbroken as is_unbroken_text, is_white_space};
 ghost use Rattle.kb_term.specs.Signature.{IsSignature, Signature, SymbolEntry, symbols_of_list};
 ghost use Rattle.kb_report.specs.Answers.{entry_text};
 ghost use Rattle.kb_report.specs.Sections.{BeginsWith, IsSectionFault};
@@ -15,7 +15,7 @@ use std::alloc::Global;
 const FIELDS: usize = 25;
 
 fn is_white(b: u8) -> bool
-    ensures { result ≡ (b == 32) || (b == 9) || (b == 10) || (b == 13) }
+    ensures { result ≡ is_white_space b }
 {
     b == b' ' || b == b'\t' || b == b'\n' || b == b'\r'
 }

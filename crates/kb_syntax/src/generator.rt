@@ -87,15 +87,16 @@ fn applied(alloc: Global, letters: &[usize], letter: usize, t: Term) -> Result<T
 }
 
 /// The problem of the generator with so many equations, from 1 to 64.
-pub fn generate(alloc: Global, n: usize) -> Result<Problem, Memory>
+pub fn generate(alloc: Global, n: u32) -> Result<Problem, Memory>
     requires some { 1 ≤ n }
     requires most { n ≤ 64 }
     ensures { IfOk result (λ p. p ≡ generated n) }
 {
-    let letters = letters(alloc, n)?;
+    let count = n as usize;
+    let letters = letters(alloc, count)?;
     let signature = Signature::new(entries(alloc, &letters)?);
     let mut equations = Vec::new(alloc);
-    for i in 0..n {
+    for i in 0..count {
         let (outer, inner) = (i % 8, i / 8);
         let inside = applied(alloc, &letters, inner, Term::Var(0))?;
         let left = applied(alloc, &letters, outer, inside)?;

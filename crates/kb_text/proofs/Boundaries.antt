@@ -6,8 +6,8 @@ use Rattle.std.specs.Str.{IsCharBoundary}
 use Rattle.std.proofs.lemmas.Str.{IsUtf8-between, IsCharBoundary-before_ascii, IsCharBoundary-after_ascii, IsCharBoundary-end}
 use Rattle.std.proofs.lemmas.Slice.Eq.{bytes_eq-Decides}
 use Rattle.std.proofs.Math.Nat.{eq-or-lt_of_le}
-use Rattle.kb_term.specs.Identifier.{IsIdentifier, is_unbroken}
-use Rattle.kb_text.specs.Tokens.{Token, white, mark, letter, marks, mark_of, start_of, is_white}
+use Rattle.kb_term.specs.Identifier.{IsIdentifier, is_unbroken, is_white_space}
+use Rattle.kb_text.specs.Tokens.{Token, white, mark, letter, marks, mark_of, start_of}
 use Rattle.kb_text.specs.Starts.{start_in, IsNameTo, AreAscii, mark_length_of}
 use Rattle.kb_text.specs.declared.lexer.Mark.{Mark}
 use Rattle.kb_text.specs.declared.lexer.Mark.TheVariants.{ArrowEquals, Arrow, Equals, Bar, LeftParen, RightParen, Comma, Quotation}
@@ -73,9 +73,9 @@ part_mark (m ∷ ms) xs n h = go (part_mark ms xs n) (starts_with nat_eq xs m.1)
         ∙ ih (sym (ap (λ (b : Bool). cond b (mark m.0 (length m.1)) (mark_of ms xs)) e) ∙ h)
 
 part_letter : (b : ℕ) (xs : List ℕ) (n : ℕ) → start_of b xs ≡ letter → start_of b (take n xs) ≡ letter
-part_letter b xs n h = go (is_white b) refl
+part_letter b xs n h = go (is_white_space b) refl
   where
-    go : (w : Bool) → is_white b ≡ w → start_of b (take n xs) ≡ letter
+    go : (w : Bool) → is_white_space b ≡ w → start_of b (take n xs) ≡ letter
     go true e = absurd (let f : white ≡ letter = sym (ap (λ (w : Bool). cond w white (mark_of marks (b ∷ xs))) e) ∙ h in cc)
     go false e = ap (λ (w : Bool). cond w white (mark_of marks (b ∷ take n xs))) e ∙ part_mark marks (b ∷ xs) (suc n) (sym (ap (λ (w : Bool). cond w white (mark_of marks (b ∷ xs))) e) ∙ h)
 

@@ -5,8 +5,8 @@ use Rattle.std.specs.List.{list_any, starts_with}
 use Rattle.std.proofs.lemmas.List.{get_or-map}
 use Rattle.std.proofs.lemmas.List.Elements.{All-map}
 use Rattle.std.specs.Prelude.{All, AllPairs}
-use Rattle.kb_term.specs.Identifier.{begins_otherwise}
-use Rattle.kb_text.specs.Tokens.{Token, white, mark, letter, marks, mark_of, start_of, is_white}
+use Rattle.kb_term.specs.Identifier.{begins_otherwise, is_white_space}
+use Rattle.kb_text.specs.Tokens.{Token, white, mark, letter, marks, mark_of, start_of}
 use Rattle.kb_term.specs.Identifier.{IsIdentifier}
 use Rattle.kb_term.specs.Signature.{SymbolEntry, IsSignature, symbols_of_list}
 
@@ -20,20 +20,13 @@ no_mark (m ∷ ms) text h = go (no_mark ms text) (starts_with nat_eq text m.1) r
         ap (λ (b : Bool). b || list_any (λ (x : List ℕ). starts_with ◌==◌ text x) (map (λ (x : Token × List ℕ). x.1) ms)) e
         ∙ rest (sym (ap (λ (b : Bool). cond b (mark m.0 (length m.1)) (mark_of ms text)) e) ∙ h)
 
-white_tests : (a b c d : Bool) → (a || b || c || d) ≡ false → (a || b || d || c) ≡ false
-white_tests true b c d h = absurd (cc)
-white_tests false true c d h = absurd (cc)
-white_tests false false true d h = absurd (cc)
-white_tests false false false true h = absurd (cc)
-white_tests false false false false h = refl
-
 pub letter_begins : (b : ℕ) (text : List ℕ) → start_of b text ≡ letter → begins_otherwise (b ∷ text) ≡ false
-letter_begins b text h = go (is_white b) refl
+letter_begins b text h = go (is_white_space b) refl
   where
-    go : (w : Bool) → is_white b ≡ w → begins_otherwise (b ∷ text) ≡ false
+    go : (w : Bool) → is_white_space b ≡ w → begins_otherwise (b ∷ text) ≡ false
     go true e = absurd (let f : white ≡ letter = sym (ap (λ (w : Bool). cond w white (mark_of marks (b ∷ text))) e) ∙ h in cc)
     go false e =
-        ap (λ (w : Bool). w || list_any (λ (m : List ℕ). starts_with ◌==◌ (b ∷ text) m) (map (λ (m : Token × List ℕ). m.1) marks)) (white_tests (b == 32) (b == 9) (b == 13) (b == 10) e)
+        ap (λ (w : Bool). w || list_any (λ (m : List ℕ). starts_with ◌==◌ (b ∷ text) m) (map (λ (m : Token × List ℕ). m.1) marks)) e
         ∙ no_mark marks (b ∷ text) (sym (ap (λ (w : Bool). cond w white (mark_of marks (b ∷ text))) e) ∙ h)
 
 -- a relation of the images of each two members

@@ -23,18 +23,10 @@ no_mark (m ∷ ms) text h =
     let r = or_false (starts_with ◌==◌ text m.1) (list_any (λ (x : List ℕ). starts_with ◌==◌ text x) (map (λ (x : Token × List ℕ). x.1) ms)) h in
     ap (λ (b : Bool). cond b (mark m.0 (length m.1)) (mark_of ms text)) r.0 ∙ no_mark ms text r.1
 
--- the order of the tests for white space is no matter
-white_tests : (a b c d : Bool) → (a || b || c || d) ≡ false → (a || b || d || c) ≡ false
-white_tests true b c d h = absurd (cc)
-white_tests false true c d h = absurd (cc)
-white_tests false false true d h = absurd (cc)
-white_tests false false false true h = absurd (cc)
-white_tests false false false false h = refl
-
 pub letter_start : (b : ℕ) (text : List ℕ) → begins_otherwise (b ∷ text) ≡ false → start_of b text ≡ letter
 letter_start b text h =
     let r = or_false (is_white_space b) (list_any (λ (m : List ℕ). starts_with ◌==◌ (b ∷ text) m) (map (λ (m : Token × List ℕ). m.1) marks)) h in
-    ap (λ (w : Bool). cond w white (mark_of marks (b ∷ text))) (white_tests (b == 32) (b == 9) (b == 10) (b == 13) r.0) ∙ no_mark marks (b ∷ text) r.1
+    ap (λ (w : Bool). cond w white (mark_of marks (b ∷ text))) r.0 ∙ no_mark marks (b ∷ text) r.1
 
 pub same_equal : (a : ℕ) → (a == a) ≡ true
 same_equal a = grind (arith, nat_tests)

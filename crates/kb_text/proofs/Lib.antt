@@ -5,6 +5,8 @@ pub mod Vectors
 pub mod WrittenLists
 pub mod TokenCounts
 pub mod IdentifierLaws
+pub mod BadLines
+pub mod Spelling
 pub mod Boundaries
 pub mod TextLaws
 pub mod FrontParts

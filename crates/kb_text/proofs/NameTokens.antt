@@ -2,8 +2,8 @@
 use Rattle.std.proofs.Common.{◌≡◌, refl, ap, sym, ◌∙◌, subst, inl, arith, ℕ, ◌+◌, ◌<◌, ◌==◌, List, [], ◌∷◌, ◌++◌, Bool, true, false, not, ◌&&◌, ◌||◌, cond, length, get_or}
 use Rattle.std.specs.Prelude.{map, nat_eq, ⊤}
 use Rattle.std.proofs.lemmas.Bool.{false≢true, eqb-true}
-use Rattle.kb_term.specs.Identifier.{begins_otherwise, is_unbroken}
-use Rattle.kb_text.specs.Tokens.{Token, Placed, Start, white, mark, letter, start_of, is_white, tokens_by, tokens_from, letter_before, with_letter, arrow_equals, arrow, equals, bar, left_paren, right_paren, comma, quotation, identifier}
+use Rattle.kb_term.specs.Identifier.{begins_otherwise, is_unbroken, is_white_space}
+use Rattle.kb_text.specs.Tokens.{Token, Placed, Start, white, mark, letter, start_of, tokens_by, tokens_from, letter_before, with_letter, arrow_equals, arrow, equals, bar, left_paren, right_paren, comma, quotation, identifier}
 use Rattle.kb_text.specs.Starts.{Stops}
 use Rattle.kb_text.proofs.Identifiers.{and_true, letter_start, not_true, same_equal}
 use Rattle.kb_text.proofs.Runs.{IsApart, alone_letter, at_stop, stands_from, start_is}
@@ -47,7 +47,7 @@ at_stops P s l o c m b h = first (b == 32) refl
 -- ---- what stands behind a letter
 
 abbrev start_form : ℕ → Bool → Bool → Bool → Start
-start_form b p q r = cond (is_white b) white
+start_form b p q r = cond (is_white_space b) white
     (cond (nat_eq 45 b && (p && (q && true))) (mark arrow_equals 3)
     (cond (nat_eq 45 b && (p && true)) (mark arrow 2)
     (cond (nat_eq 61 b && (r && true)) (mark equals 2)
@@ -81,7 +81,7 @@ same_start b [] rest s h = go (first_plain rest s)
     go p =
         start_is b rest
         ∙ (λ i. start_form b (p.no_greater i) (nat_eq 61 (get_or rest 1 0)) (p.no_equals i))
-        ∙ ap (λ v. cond (is_white b) white (cond v (mark arrow_equals 3)
+        ∙ ap (λ v. cond (is_white_space b) white (cond v (mark arrow_equals 3)
         (cond (nat_eq 45 b && (false && true)) (mark arrow 2)
         (cond (nat_eq 61 b && (false && true)) (mark equals 2)
         (cond (nat_eq 124 b && true) (mark bar 1)

@@ -1,5 +1,6 @@
 pub mod Names
 pub mod Tokens
+pub mod Spelling
 pub mod Grammar
 pub mod Fronts
 pub mod Problems

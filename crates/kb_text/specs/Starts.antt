@@ -1,8 +1,8 @@
 -- What stands at a place, by the byte there and the two behind it.
 use Rattle.std.specs.Prelude.{◌≡◌, ℕ, ◌+◌, ◌-◌, ◌<◌, ◌≤◌, List, [], ◌∷◌, true, cond, nat_eq, ◌&&◌, length, take, drop, get_or, ⊤}
 use Rattle.std.specs.Str.{IsCharBoundary}
-use Rattle.kb_term.specs.Identifier.{IsIdentifier}
-use Rattle.kb_text.specs.Tokens.{Token, Placed, is_white, white, mark, letter, tokens_from, arrow_equals, arrow, equals, bar, left_paren, right_paren, comma, quotation, identifier, end_of_input}
+use Rattle.kb_term.specs.Identifier.{IsIdentifier, is_white_space}
+use Rattle.kb_text.specs.Tokens.{Token, Placed, white, mark, letter, tokens_from, arrow_equals, arrow, equals, bar, left_paren, right_paren, comma, quotation, identifier, end_of_input}
 use Rattle.kb_text.specs.Tokens as toks
 use Rattle.kb_text.specs.declared.lexer.Mark.{Mark}
 use Rattle.kb_text.specs.declared.lexer.Mark.TheVariants.{ArrowEquals, Arrow, Equals, Bar, LeftParen, RightParen, Comma, Quotation}
@@ -39,7 +39,7 @@ start_view Letter = letter
 
 -- by the byte and the two behind it, which are 0 where there is none
 abbrev pub start_by : ℕ → ℕ → ℕ → toks.Start
-start_by b c d = cond (is_white b) white
+start_by b c d = cond (is_white_space b) white
     (cond (nat_eq 45 b && (nat_eq 62 c && (nat_eq 61 d && true))) (mark arrow_equals 3)
     (cond (nat_eq 45 b && (nat_eq 62 c && true)) (mark arrow 2)
     (cond (nat_eq 61 b && (nat_eq 61 c && true)) (mark equals 2)

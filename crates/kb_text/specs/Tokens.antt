@@ -1,6 +1,8 @@
 -- The tokens of a text, each with its place.
-use Rattle.std.specs.Prelude.{ℕ, zero, suc, ◌+◌, ◌-◌, ◌==◌, List, [], ◌∷◌, length, map, Bool, ◌||◌, cond, codes, nat_eq}
+use Rattle.std.specs.Prelude.{ℕ, zero, suc, ◌+◌, ◌-◌, ◌==◌, List, [], ◌∷◌, length, map, Bool, cond, nat_eq, zip}
 use Rattle.std.specs.List.{starts_with}
+use Rattle.kb_term.specs.Identifier.{is_white_space}
+use Rattle.kb_term.specs.Identifier.{marks as mark_texts}
 use Rattle.kb_text.specs.Names.{Name}
 
 pub data Token : Type 0 where
@@ -20,13 +22,13 @@ pub record Placed : Type 0 where
   pub at : ℕ
   pub token : Token
 
--- space, tab, carriage return, line feed
-abbrev pub is_white : ℕ → Bool
-is_white b = b == 32 || b == 9 || b == 13 || b == 10
+-- the tokens that are marks: ->= -> == | ( ) , "
+abbrev pub mark_tokens : List Token
+mark_tokens = arrow_equals ∷ arrow ∷ equals ∷ bar ∷ left_paren ∷ right_paren ∷ comma ∷ quotation ∷ []
 
--- the fixed tokens with their spellings, a longer one before its fronts
+-- these tokens with their texts, a longer one before its fronts
 abbrev pub marks : List (Token × List ℕ)
-marks = (arrow_equals, codes "->=") ∷ (arrow, codes "->") ∷ (equals, codes "==") ∷ (bar, codes "|") ∷ (left_paren, codes "(") ∷ (right_paren, codes ")") ∷ (comma, codes ",") ∷ (quotation, codes "\"") ∷ []
+marks = zip mark_tokens mark_texts
 
 -- what stands at the front of a text that isn't empty
 pub data Start : Type 0 where
@@ -41,7 +43,7 @@ mark_of (m ∷ ms) text = cond (starts_with nat_eq text m.1) (mark m.0 (length m
 
 -- white space, a mark, or a byte of an identifier
 abbrev pub start_of : ℕ → List ℕ → Start
-start_of b text = cond (is_white b) white (mark_of marks (b ∷ text))
+start_of b text = cond (is_white_space b) white (mark_of marks (b ∷ text))
 
 -- an identifier that begins with the byte b at the place n, and goes on with the identifier that stands directly behind it, if one does
 abbrev pub with_letter : ℕ → ℕ → Placed → List Placed → Token → Bool → List Placed

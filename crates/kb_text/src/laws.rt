@@ -3,7 +3,15 @@ ghost use Rattle.std.specs.Prelude.{◌≡◌, ◌≤◌, ℕ, List, length};
 ghost use Rattle.kb_term.specs.Signature.{IsSignature, Problem, Signature};
 ghost use Rattle.kb_term.specs.Tree.{Tree};
 ghost use Rattle.kb_text.specs.Problems.{Spells};
+ghost use Rattle.kb_text.specs.Spelling.{AreSpelled};
 ghost use Rattle.kb_text.specs.Terms.{TermSpelled, problem_text};
+ghost use Rattle.kb_text.specs.Tokens.{placed_tokens};
+
+/// The bytes of a text are the texts of its tokens in order, each at its place, with white space between. A mark is the longest
+/// that begins there; at no byte of an identifier does white space or a mark begin, and one of them, or the end, stands behind it.
+pub fn tokens_spell_their_text()
+    ensures { (bytes : List ℕ) → AreSpelled 0 (placed_tokens bytes) bytes }
+{}
 
 /// Bytes spell at most one term over a signature.
 pub fn bytes_spell_one_term()

@@ -65,7 +65,7 @@ fn start_of(b: u8, c: u8, d: u8) -> Start
     ensures bytes { HasBytes result c d }
     ensures ascii { AreAscii result b c d }
 {
-    if b == 32 || b == 9 || b == 13 || b == 10 {
+    if b == 32 || b == 9 || b == 10 || b == 13 {
         return Start::White;
     }
     if b == b'-' && c == b'>' {

@@ -20,7 +20,7 @@ mod uses;
 pub use fault::TextFault;
 pub use identifier::NAME_BYTES;
 pub use kind::{Bound, Kind, Refusal};
-pub use laws::{bytes_spell_one_term, written_problems_are_spelled};
+pub use laws::{bytes_spell_one_term, tokens_spell_their_text, written_problems_are_spelled};
 pub use lexer::{Form, Found, Mark, next_token};
 pub use line::Fields;
 pub use names::Names;

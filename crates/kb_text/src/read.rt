@@ -78,7 +78,6 @@ fn variable_named(prefix: usize, name: &[u8]) -> Option<u16>
 
 // The symbol with the name.
 fn symbol_named(signature: &Signature, name: &[u8]) -> Option<Symbol>
-    requires { length signature.now ≤ 256 }
     ensures { MatchOption result ((f : ℕ) → f < length signature.now → ¬ (symbol_text (names_of signature.now) f ≡ name.now)) (λ f. (f.0 < length signature.now) × (symbol_text (names_of signature.now) f.0 ≡ name.now)) }
 {
     for f in 0..signature.count() {
@@ -125,7 +124,6 @@ fn read_from(
     text: &[u8],
     depth: usize,
 ) -> Result<Option<(Term, usize)>, Memory>
-    requires few { length signature.now ≤ 256 }
     requires names { IsSignature signature.now }
     requires prefix { prefix ≡ prefix_length (names_of signature.now) }
     ensures { IfOk result (λ found. MatchOption found (BeginsWithNone signature.now text.now depth) (λ p. BeginsWithTerm signature.now text.now depth (tree_of p.0) p.1)) }
@@ -170,7 +168,6 @@ fn read_from(
 /// term over the signature within the limits: size 512, depth 64, variables `x1` to `x64`. The time is linear in the
 /// bytes, and the recursion at most 64 deep.
 pub fn read_term(alloc: Global, signature: &Signature, bytes: &[u8]) -> Result<Option<Term>, Memory>
-    requires { length signature.now ≤ 256 }
     ensures read { IfOk result (λ read. MatchOption read ((t : Tree) → ¬ TermSpelled signature.now bytes.now t) (λ t. TermSpelled signature.now bytes.now (tree_of t))) }
     ensures same { IfOk result (λ read. (t : Tree) → TermSpelled signature.now bytes.now t → option_map tree_of read ≡ Some t) }
 {

@@ -1,5 +1,5 @@
 -- When a step is right, by what is made of its rules.
-use Rattle.std.proofs.Common.{ℕ, ◌≡◌, ◌∙◌, sym, ap, subst, subst₂, List, Option, Some, None, Ok}
+use Rattle.std.proofs.Common.{ℕ, ◌≡◌, ◌∙◌, sym, ap, subst, subst₂, List, Option, Some, None}
 use Rattle.std.specs.Prelude.{Bool, IsTrue, ◌↔◌}
 use Rattle.kb_term.specs.Tree.{Tree}
 use Rattle.kb_term.specs.Pair.{Pair, canonical_pair, ArePairWithin}
@@ -9,7 +9,7 @@ use Rattle.kb_term.specs.declared.term.Term.{Term}
 use Rattle.kb_term.specs.declared.origin.RuleRef.{RuleRef}
 use Rattle.kb_term.specs.declared.origin.Origin.TheVariants.{Rewrite, Overlap}
 use Rattle.kb_term.proofs.Subtrees.{some_same}
-use Rattle.kb_overlap.specs.Trace.{side, other_side, IsRightRewrite, IsRightOverlap, IsRightOrigin}
+use Rattle.kb_overlap.specs.Trace.{side, other_side, IsRightRewrite, IsRightOverlap, FollowsBy}
 use Rattle.kb_trace.specs.Steps.{IsRewritten, IsOverlapped, IsCitedRule}
 use Rattle.kb_trace.proofs.Canonical.{within_canonical}
 use Rattle.kb_trace.proofs.Overlapping.{one_pair}
@@ -40,7 +40,7 @@ cited_pair None d rule h = absurd h
 cited_pair (Some e) d rule h = (e, (λ i. Some e), h.0)
 
 pub rewrite_origin : (equations : List (Tree × Tree)) (earlier : ℕ → Option Pair) (a w : ℕ) (p : List ℕ) (r : RuleRef) (pair old : Pair) (rule : Rule) (b : Bool)
-    → earlier a ≡ Some old → IsCitedRule (earlier r.node) r.dir (Some rule) → IsTrue b ↔ IsRightRewrite old w p rule pair → IsTrue b ↔ IsRightOrigin equations earlier (Rewrite a w p r) pair
+    → earlier a ≡ Some old → IsCitedRule (earlier r.node) r.dir (Some rule) → IsTrue b ↔ IsRightRewrite old w p rule pair → IsTrue b ↔ FollowsBy equations earlier (Rewrite a w p r) pair
 rewrite_origin equations earlier a w p r pair old rule b at cited h =
     let e = cited_pair (earlier r.node) r.dir rule cited in (
       λ y. (old, e.0, at, e.1, subst (λ q. IsRightRewrite old w p q pair) e.2 (h.0 y)),
@@ -48,7 +48,7 @@ rewrite_origin equations earlier a w p r pair old rule b at cited h =
     )
 
 pub overlap_origin : (equations : List (Tree × Tree)) (earlier : ℕ → Option Pair) (x y : RuleRef) (p : List ℕ) (pair : Pair) (outer inner : Rule) (b : Bool)
-    → IsCitedRule (earlier x.node) x.dir (Some outer) → IsCitedRule (earlier y.node) y.dir (Some inner) → IsTrue b ↔ IsRightOverlap outer inner p pair → IsTrue b ↔ IsRightOrigin equations earlier (Overlap x y p) pair
+    → IsCitedRule (earlier x.node) x.dir (Some outer) → IsCitedRule (earlier y.node) y.dir (Some inner) → IsTrue b ↔ IsRightOverlap outer inner p pair → IsTrue b ↔ FollowsBy equations earlier (Overlap x y p) pair
 overlap_origin equations earlier x y p pair outer inner b one other h =
     let d = cited_pair (earlier x.node) x.dir outer one in
     let e = cited_pair (earlier y.node) y.dir inner other in (

@@ -241,7 +241,6 @@ fn last_four(fields: &Fields) -> usize
 
 /// The pair in the last four fields.
 fn read_pair(alloc: Global, signature: &Signature, fields: &Fields) -> Result<Option<Pair>, Memory>
-    requires few { length signature.now ≤ 256 }
     requires names { IsSignature signature.now }
     requires four { 4 ≤ length fields.now }
     ensures { IfOk result (λ read. MatchOption read ((p : Pair) → ¬ IsPairIn signature.now fields.now (length fields.now - 4) p) (IsPairIn signature.now fields.now (length fields.now - 4))) }
@@ -273,8 +272,7 @@ pub(crate) fn step_of(
     number: u16,
     fields: &Fields,
 ) -> Result<Option<Step>, Memory>
-    requires few { length signature.now ≤ 256 }
-    requires names { IsSignature signature.now }
+    requires { IsSignature signature.now }
     ensures { IfOk result (λ read. MatchOption read ((s : TraceStep) → ¬ IsStepIn signature.now number fields.now s) (IsStepIn signature.now number fields.now)) }
 {
     if fields.len() < 5 {

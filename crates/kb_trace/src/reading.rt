@@ -26,8 +26,7 @@ fn read_step(
     number: u16,
     line: &[u8],
 ) -> Result<Option<Step>, Memory>
-    requires few { length signature.now ≤ 256 }
-    requires names { IsSignature signature.now }
+    requires { IsSignature signature.now }
     ensures { IfOk result (λ read. MatchOption read ((s : TraceStep) → ¬ IsStepText signature.now number line.now s) (IsStepText signature.now number line.now)) }
 {
     let fields = Fields::cut(alloc, line, b' ')?;
@@ -41,8 +40,7 @@ fn next_step(
     number: usize,
     text: &[u8],
 ) -> Result<Option<(Step, usize)>, Memory>
-    requires few { length signature.now ≤ 256 }
-    requires names { IsSignature signature.now }
+    requires { IsSignature signature.now }
     ensures step { IfOk result (λ read. MatchOption read ((s : TraceStep) (rest : List ℕ) → ¬ BeginsWithStep signature.now number text.now s rest) (λ e. BeginsWithStep signature.now number text.now e.0 (drop e.1 text.now))) }
     ensures size { IfOk result (λ read. MatchOption read (◌≤◌ 0 0) (λ e. (0 < e.1) × (e.1 ≤ length text.now))) }
 {
@@ -65,7 +63,6 @@ fn next_step(
 /// BadText has the number, from 1, of the first line that isn't of its form: it may be missing its line feed, or be the
 /// line 4,097. The time is linear in the bytes.
 pub fn read_trace(alloc: Global, sig: &Signature, lines: &[u8]) -> Result<Trace, TextFault>
-    requires { length sig.now ≤ 256 }
     ensures read { IfOk result (λ t. IsTraceForm sig.now t × (lines.now ≡ trace_text sig.now t)) }
     ensures one { IfOk result (λ t. (u : List TraceStep) → IsTraceForm sig.now u → lines.now ≡ trace_text sig.now u → t ≡ u) }
     ensures fault { IfErr result (IsTextFault (IsTraceText sig.now) lines.now) }

@@ -1,9 +1,9 @@
 // Which steps of a trace are right.
-ghost use Rattle.std.specs.Prelude.{◌≡◌, ◌↔◌, Some, None, IfOk, IsTrue, MatchOption, option_map};
+ghost use Rattle.std.specs.Prelude.{◌≡◌, ◌≤◌, ◌↔◌, Some, None, IfOk, IsTrue, MatchOption, option_map};
 ghost use Rattle.kb_term.specs.Pair.{ArePairWithin, canonical_pair};
 ghost use Rattle.kb_term.specs.Rule.{IsRule, IsRuleBelow, rule_of as rule_of_pair};
 ghost use Rattle.kb_term.specs.View.{tree_of, equations_of_list};
-ghost use Rattle.kb_overlap.specs.Trace.{item as item_of, side, other_side, IsRightInput, IsRightRewrite, IsRightOverlap, IsRightOrigin};
+ghost use Rattle.kb_overlap.specs.Trace.{item as item_of, side, other_side, IsRightInput, IsRightRewrite, IsRightOverlap, IsOriginOfForm, FollowsBy, IsRightOrigin};
 ghost use Rattle.kb_overlap.specs.View.{sides_of};
 ghost use Rattle.kb_trace.specs.Steps.{IsRewritten, IsOverlapped, IsPairWithin, IsCitedRule};
 
@@ -16,8 +16,8 @@ use kb_term::{
 };
 use std::alloc::Global;
 
-/// Whether the pair follows from the equations and the earlier pairs, which are cited by their numbers from 1, in the way
-/// that the origin says.
+/// Whether the origin is of the form, and the pair follows from the equations and the earlier pairs, which are cited by their
+/// numbers from 1, in the way that it says.
 pub(crate) fn is_right(
     alloc: Global,
     equations: &[(Term, Term)],
@@ -27,6 +27,35 @@ pub(crate) fn is_right(
 ) -> Result<bool, Memory>
     requires { ArePairWithin pair.now.first pair.now.second }
     ensures { IfOk result (λ b. IsTrue b ↔ IsRightOrigin (equations_of_list equations.now) (item_of earlier.now) origin.now pair.now) }
+{
+    if !is_of_form(origin) {
+        return Ok(false);
+    }
+    follows(alloc, equations, earlier, origin, pair)
+}
+
+/// Whether the sides and directions that the origin names are 0 or 1.
+fn is_of_form(origin: &Origin) -> bool
+    ensures { IsTrue result ↔ IsOriginOfForm origin.now }
+{
+    match origin {
+        Origin::Input(_) => true,
+        Origin::Rewrite { side, rule, .. } => *side <= 1 && rule.dir <= 1,
+        Origin::Overlap { outer, inner, .. } => outer.dir <= 1 && inner.dir <= 1,
+    }
+}
+
+/// Whether the pair follows from the equations and the earlier pairs in the way that the origin says.
+fn follows(
+    alloc: Global,
+    equations: &[(Term, Term)],
+    earlier: &[Pair],
+    origin: &Origin,
+    pair: &Pair,
+) -> Result<bool, Memory>
+    requires form { IsOriginOfForm origin.now }
+    requires within { ArePairWithin pair.now.first pair.now.second }
+    ensures { IfOk result (λ b. IsTrue b ↔ FollowsBy (equations_of_list equations.now) (item_of earlier.now) origin.now pair.now) }
 {
     match origin {
         Origin::Input(i) => is_right_input(alloc, equations, *i, pair),
@@ -82,12 +111,13 @@ fn equation_at(equations: &[(Term, Term)], number: u16) -> Option<&(Term, Term)>
 
 /// The rule that is cited; none where no pair has its number.
 fn cited_rule(alloc: Global, pairs: &[Pair], cited: RuleRef) -> Result<Option<Rule>, Memory>
+    requires { cited.dir ≤ 1 }
     ensures { IfOk result (IsCitedRule (item_of pairs.now cited.node) cited.dir) }
 {
     match pair_at(pairs, cited.node) {
         None => Ok(None),
         Some(pair) => {
-            let rule = rule_of(alloc, pair, cited.dir.min(1))?;
+            let rule = rule_of(alloc, pair, cited.dir)?;
             Ok(Some(rule))
         }
     }

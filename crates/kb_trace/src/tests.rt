@@ -1,4 +1,4 @@
-// A worked trace: f(f(x)) = a, and its overlap with itself.
+// Worked traces: f(f(x)) = a with its overlap with itself, and g(x) = h(x) that rewrites h(x) = k(x).
 ghost use Rattle.std.specs.Prelude.{◌≡◌, ◌≤◌, length, OnOk, IfOk, IsTrue};
 ghost use Rattle.std.specs.Bool.{OnTrue};
 ghost use Rattle.kb_trace.specs.Steps.{ArePairsWithin};
@@ -39,9 +39,20 @@ fn square(alloc: Global) -> Result<(Term, Term), Memory> {
     Ok((twice, constant(alloc, 1)))
 }
 
+/// The symbols with these numbers, applied to one variable.
+fn alike(alloc: Global, f: u8, g: u8) -> Result<(Term, Term), Memory> {
+    Ok((
+        applied(alloc, f, Term::Var(0))?,
+        applied(alloc, g, Term::Var(0))?,
+    ))
+}
+
+/// f(f(x)) = a, g(x) = h(x), and h(x) = k(x).
 fn problem(alloc: Global) -> Result<Problem, Memory> {
     let mut equations = Vec::new(alloc);
     equations.push(square(alloc)?)?;
+    equations.push(alike(alloc, 2, 3)?)?;
+    equations.push(alike(alloc, 3, 4)?)?;
     Ok(Problem::new(Signature::new(Vec::new(alloc)), equations))
 }
 
@@ -64,6 +75,27 @@ fn trace(alloc: Global, cited: u16, argument: u8) -> Result<Trace, Memory> {
     let mut steps = Vec::new(alloc);
     steps.push(input)?;
     steps.push(overlap)?;
+    Ok(Trace::new(steps))
+}
+
+/// A step with the pair of two such terms.
+fn step_alike(alloc: Global, origin: Origin, f: u8, g: u8) -> Result<Step, Memory> {
+    let (s, t) = alike(alloc, f, g)?;
+    Ok(Step::new(origin, pair_of(alloc, &s, &t)?))
+}
+
+/// g(x) = h(x), h(x) = k(x), and g(x) = k(x) by the first of them in the direction, on the side of the second.
+fn rewritten(alloc: Global, side: u8, dir: u8) -> Result<Trace, Memory> {
+    let origin = Origin::Rewrite {
+        node: 2,
+        side,
+        position: Position::root(alloc),
+        rule: RuleRef { node: 1, dir },
+    };
+    let mut steps = Vec::new(alloc);
+    steps.push(step_alike(alloc, Origin::Input(2), 2, 3)?)?;
+    steps.push(step_alike(alloc, Origin::Input(3), 3, 4)?)?;
+    steps.push(step_alike(alloc, origin, 2, 4)?)?;
     Ok(Trace::new(steps))
 }
 
@@ -105,6 +137,15 @@ fn a_step_that_cites_itself_and_one_at_no_position_are_bad(rt: HostRuntime) {
     assert!(rt; matches!(&replayed(alloc, &own), Err(TraceFault::BadStep(2))));
     let nowhere = trace(alloc, 1, 2).expect(&rt, "memory");
     assert!(rt; matches!(&replayed(alloc, &nowhere), Err(TraceFault::BadStep(2))));
+}
+
+#[test]
+fn a_direction_above_1_is_bad(rt: HostRuntime) {
+    let alloc = rt.alloc();
+    let right = rewritten(alloc, 0, 1).expect(&rt, "memory");
+    assert!(rt; matches!(&replayed(alloc, &right), Ok(3)));
+    let above = rewritten(alloc, 0, 2).expect(&rt, "memory");
+    assert!(rt; matches!(&replayed(alloc, &above), Err(TraceFault::BadStep(3))));
 }
 
 #[test]

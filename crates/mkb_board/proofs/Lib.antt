@@ -21,3 +21,4 @@ pub mod Weighing
 pub mod Irreducible
 pub mod AtRest
 pub mod Open
+pub mod Having

@@ -124,8 +124,8 @@ module _ (P : Problem) (n : Settings) (ms : List Moment) (b : Plain) (within : I
       let q = rule_from b f.0 r f.2 in
       subst {A = Rule} (λ (z : Rule). IsMeasurable z.left × IsMeasurable z.right) q.2 (measured_rule P.signature q.0 f.0.dir (limited f.0.node q.0 q.1)))
 
-  closing_rules : (s : CloseSnapshot) → IsTakenClose b s → length s.rules.names.items ≡ length s.rules.rules.items → s.rules.rules.items ≡ rules_at b (rules_of b s.process)
-  closing_rules s h w = sym (as_listed s.rules.names.items s.rules.rules.items w) ∙ ap as_rules h.rules ∙ as_named b (rules_of b s.process)
+  closing_rules : (s : CloseSnapshot) → IsTakenClose b s → length s.rules.names.items ≡ length s.rules.rules → s.rules.rules ≡ rules_at b (rules_of b s.process)
+  closing_rules s h w = sym (as_listed s.rules.names.items s.rules.rules w) ∙ ap as_rules h.rules ∙ as_named b (rules_of b s.process)
 
   -- the order in force is the first for the constraints
   first_taken : (s : OrientSnapshot) → IsTakenOrient b s → has b.living s.process ≡ true → IsFirstOrder s.family s.signature (rules_at b (constraints_of b s.process)) (Some s.in_force)

@@ -1,12 +1,15 @@
 -- Nodes that are known to be reduced by none of some rules.
-use Rattle.std.specs.Prelude.{ℕ, zero, suc, List, [], ◌∷◌, Bool, true, false, ◌&&◌, ◌||◌, ◌==◌, ◌≡◌, ◌<◌, ◌≤◌, All, length, not, slice_get, Option, Some, None}
+use Rattle.std.specs.Prelude.{ℕ, zero, suc, List, [], ◌∷◌, ◌++◌, if◌then◌else◌, Bool, true, false, ◌&&◌, ◌||◌, ◌==◌, ◌≡◌, ◌<◌, ◌≤◌, All, length, not, slice_get, Option, Some, None, ⊤}
 use Rattle.std.specs.List.{list_any}
 use Rattle.kb_term.specs.declared.origin.RuleRef.{RuleRef}
 use Rattle.kb_term.specs.declared.origin.Found.{Found}
 use Rattle.kb_term.specs.declared.origin.Found.TheVariants.{No, Variant, Strict}
 use Rattle.kb_label.specs.Names.{Name}
-use Rattle.mkb_model.specs.Plain.{Plain, is_equation, is_rule, rules_of, known, other}
-use Rattle.mkb_board.specs.declared.normal.Roles.{Roles}
+use Rattle.mkb_model.specs.Plain.{Plain, is_equation, is_rule, rules_of, rules_at, known, other}
+use Rattle.mkb_rules.specs.Named.{IsRuleThere}
+use Rattle.kb_jobs.specs.declared.rules.NamedRules.{NamedRules}
+use Rattle.mkb_rules.specs.Roles.{AreRolesOf}
+use Rattle.mkb_rules.specs.declared.roles.Roles.{Roles}
 use Rattle.mkb_board.specs.declared.normal.Normal.{Normal}
 
 -- the roles in which p has the node
@@ -17,6 +20,10 @@ roles_of b p n = record { equation = is_equation b p n; first = is_rule b p (rec
 abbrev pub has_rule : Roles → ℕ → Bool
 has_rule r zero = r.first
 has_rule r (suc d) = r.second
+
+-- the rules of whoever has the node in these roles
+abbrev pub rules_in : ℕ → Roles → List RuleRef
+rules_in n r = (if r.first then record { node = n; dir = 0 } ∷ [] else []) ++ (if r.second then record { node = n; dir = 1 } ∷ [] else [])
 
 -- the node has one of the roles
 abbrev pub is_in_use : Roles → Bool
@@ -41,14 +48,21 @@ is_open_to b r n a = not (a.node == n) && list_any (λ w. is_open_in r w (known 
 abbrev pub NoneOpens : Plain → List (Option Roles) → List RuleRef → Type 0
 NoneOpens b nodes rules = (n : ℕ) (r : Roles) → slice_get nodes n ≡ Some (Some r) → list_any (is_open_to b r n) rules ≡ false
 
--- none of the rules reduces a node that is noted
+-- the rules that are kept, if any are, are those that their names name, which are there
+abbrev pub HoldsRules : Plain → Option NamedRules → Type 0
+HoldsRules b None = ⊤
+HoldsRules b (Some rs) = All (IsRuleThere b) rs.names.items × (rs.rules ≡ rules_at b rs.names.items)
+
+-- none of the rules reduces a node that is noted, and the rules that are shared are those of their names
 pub record AreNormal (b : Plain) (k : Normal) : Type 0 where
   pub few : length k.nodes.items ≤ 4096
   pub none : NoneOpens b k.nodes.items k.rules.items
+  pub shared : HoldsRules b k.shared
 
--- the rules are those of the process
+-- the rules and the roles are those of the process
 pub record Serves (b : Plain) (p : Name) (k : Normal) : Type 0 where
   pub rules : k.rules.items ≡ rules_of b p
+  pub roles : AreRolesOf b.nodes p k.roles.items
   pub known : AreNormal b k
 
 -- there is a place at least, and what is noted at each holds

@@ -47,12 +47,12 @@ AreWithin k us = All (λ (u : ℕ × ℕ). (u.0 ≤ 1) × (u.1 < k)) us
 -- the rules have their names in order, and are fewer than 2^32; what is unknown names sides and rules that are there
 pub record IsWholeReduce (s : ReduceSnapshot) : Type 0 where
   pub rules : AreNamed s.rules
-  pub few : length s.rules.rules.items < 2 ^ 32
-  pub unknown : AreWithin (length s.rules.rules.items) s.unknown.items
+  pub few : length s.rules.rules < 2 ^ 32
+  pub unknown : AreWithin (length s.rules.rules) s.unknown.items
 
 -- the parts of the snapshot fit each other
 abbrev pub IsWhole : Snapshot → Type 0
 IsWhole (Reduce s) = IsWholeReduce s
 IsWhole (Orient s) = ⊤
 IsWhole (Overlap s) = ⊤
-IsWhole (Close s) = length s.rules.names.items ≡ length s.rules.rules.items
+IsWhole (Close s) = length s.rules.names.items ≡ length s.rules.rules

@@ -14,7 +14,7 @@ ghost use Rattle.mkb_rules.specs.Parts.{plain_nodes};
 ghost use Rattle.mkb_board.specs.Boards.{IsLegalBoard, takes_in, drops_in, has_halt};
 
 use crate::choosing;
-use crate::cost::cost;
+use crate::cost::{cost, place_of};
 use crate::finishing::process_of;
 use crate::normal::{Normal, nothing_noted};
 use crate::snapshots::named::view_of;
@@ -179,7 +179,8 @@ impl Board {
     pub fn cost_of(&self, job: &Job) -> u32
         ensures { result ≡ cost self.now.plain (process_of job.now) }
     {
-        cost(&self.state, &process_of(job))
+        let process = process_of(job);
+        cost(&self.state, place_of(&self.state, &process), &process)
     }
 
     /// Makes a halt, if none was made: no job is taken from here on. It takes no memory.

@@ -10,13 +10,21 @@ use kb_node::{LabelKind, NodeId};
 use mkb_model::Selection;
 use mkb_rules::State;
 
-/// The cost of a process: the sizes of its equations and its constraints, and of its rules where the selection counts them. It
-/// takes no memory, and goes over the nodes only where the state doesn't keep it.
-pub(crate) fn cost(state: &State, p: &Process) -> u32
+/// Where the process stands among the living, or would stand.
+pub(crate) fn place_of(state: &State, p: &Process) -> usize {
+    match state.log().processes().binary_search(p) {
+        Ok(place) => place,
+        Err(place) => place,
+    }
+}
+
+/// The cost of the process at this place among the living: the sizes of its equations and its constraints, and of its rules where
+/// the selection counts them. It takes no memory, and goes over the nodes only where the state doesn't keep it at the place.
+pub(crate) fn cost(state: &State, place: usize, p: &Process) -> u32
     requires { AreLimited state.now.problem.signature state.now.nodes }
     ensures { result ≡ cost state.now p.now }
 {
-    if let Some(kept) = state.kept_cost(p) {
+    if let Some(kept) = state.kept_cost(place, p) {
         return kept;
     }
     let mut total = 0;

@@ -4,19 +4,19 @@ ghost use Rattle.std.specs.List.{find, flat_map};
 ghost use Rattle.kb_label.specs.Names.{has};
 ghost use Rattle.kb_term.specs.declared.origin.RuleRef.{RuleRef as Reference};
 ghost use Rattle.kb_node.specs.declared.job.Job.TheVariants as jobs;
-ghost use Rattle.mkb_model.specs.Jobs.{clashes, is_free, process_of, ref_eq, ref_le};
+ghost use Rattle.mkb_model.specs.Jobs.{clashes, is_free, process_of, ref_eq};
 ghost use Rattle.mkb_model.specs.Plain.{node_numbers, rules_of};
 ghost use Rattle.mkb_model.specs.DueJobs.{is_work_due, work_of};
 ghost use Rattle.mkb_board.specs.Choosing.{jobs_of, is_choice, HasNodes};
 ghost use Rattle.mkb_board.specs.Normal.{Serves};
 
-use crate::choosing::{is_equation, is_rule, node_count};
+use crate::choosing::{is_rule, node_count};
 use crate::normal::Normal;
 use kb_label::Process;
 use kb_node::{Job, NodeId};
 use kb_term::RuleRef;
 use mkb_model::Ticket;
-use mkb_rules::State;
+use mkb_rules::{State, is_ordered};
 
 /// The first job of the process, in their order, that is due by what it sees and clashes with none in flight; closing is
 /// none of them. It takes no memory.
@@ -35,7 +35,7 @@ pub(crate) fn first_work(
     if let Some(job) = first_reduce(state, flight, normal, p) {
         return Some(job);
     }
-    if let Some(job) = first_orient(state, flight, p) {
+    if let Some(job) = first_orient(state, flight, normal, p) {
         return Some(job);
     }
     first_overlap(state, flight, p, rules)
@@ -48,21 +48,22 @@ fn first_reduce(state: &State, flight: &[Ticket], normal: &mut Normal, p: &Proce
     ensures serves { Serves state.now p.now normal.new }
 {
     for n in 0..node_count(state) {
-        let job = Job::Reduce(*p, NodeId(n as u16));
-        if is_choice(state, flight, normal, &job) {
-            return Some(job);
+        let n = NodeId(n as u16);
+        if is_reduce_choice(state, flight, normal, p, n) {
+            return Some(Job::Reduce(*p, n));
         }
     }
     None
 }
 
 // The first node that may be oriented.
-fn first_orient(state: &State, flight: &[Ticket], p: &Process) -> Option<Job>
+fn first_orient(state: &State, flight: &[Ticket], normal: &Normal, p: &Process) -> Option<Job>
+    requires { Serves state.now p.now normal.now }
     ensures { result ≡ find (is_choice state.now (jobs_of flight.now)) (map (λ n. jobs.Orient p.now (record { 0 = n })) (node_numbers state.now)) }
 {
     for n in 0..node_count(state) {
         let n = NodeId(n as u16);
-        if is_orient_choice(state, flight, p, n) {
+        if is_orient_choice(state, flight, normal, p, n) {
             return Some(Job::Orient(*p, n));
         }
     }
@@ -102,12 +103,35 @@ fn first_second(
     None
 }
 
+// Whether the node may be reduced, and that clashes with nothing in flight.
+fn is_reduce_choice(
+    state: &State,
+    flight: &[Ticket],
+    normal: &mut Normal,
+    p: &Process,
+    n: NodeId,
+) -> bool
+    requires there { n.0 < length state.now.nodes }
+    requires serves { Serves state.now p.now normal.old }
+    ensures choice { result ≡ is_choice state.now (jobs_of flight.now) (jobs.Reduce p.now n) }
+    ensures serves { Serves state.now p.now normal.new }
+{
+    normal.is_reduce_due(state, p, n) && is_free(flight, &Job::Reduce(*p, n))
+}
+
 // Whether the node may be oriented, and that clashes with nothing in flight.
-fn is_orient_choice(state: &State, flight: &[Ticket], p: &Process, n: NodeId) -> bool
-    requires { n.0 < length state.now.nodes }
+fn is_orient_choice(
+    state: &State,
+    flight: &[Ticket],
+    normal: &Normal,
+    p: &Process,
+    n: NodeId,
+) -> bool
+    requires there { n.0 < length state.now.nodes }
+    requires serves { Serves state.now p.now normal.now }
     ensures { result ≡ is_choice state.now (jobs_of flight.now) (jobs.Orient p.now n) }
 {
-    is_orient_due(state, p, n) && is_free(flight, &Job::Orient(*p, n))
+    is_orient_due(state, normal, p, n) && is_free(flight, &Job::Orient(*p, n))
 }
 
 // Whether these two rules may be overlapped, and that clashes with nothing in flight.
@@ -138,18 +162,19 @@ fn is_work_due(state: &State, normal: &mut Normal, job: &Job) -> bool
 {
     match job {
         Job::Reduce(p, n) => normal.is_reduce_due(state, p, *n),
-        Job::Orient(p, n) => is_orient_due(state, p, *n),
+        Job::Orient(p, n) => is_orient_due(state, normal, p, *n),
         Job::Overlap(p, a, c) => is_overlap_due(state, p, *a, *c),
         Job::Close(_) => false,
     }
 }
 
 // Whether the process has the node as an equation that it has not refused.
-fn is_orient_due(state: &State, p: &Process, n: NodeId) -> bool
-    requires { n.0 < length state.now.nodes }
+fn is_orient_due(state: &State, normal: &Normal, p: &Process, n: NodeId) -> bool
+    requires there { n.0 < length state.now.nodes }
+    requires serves { Serves state.now p.now normal.now }
     ensures { result ≡ is_work_due state.now (jobs.Orient p.now n) }
 {
-    !state.is_dead(n) && (is_equation(state, p, n) && !state.is_refused(p, n))
+    normal.roles_of(state, p, n).equation && !state.is_refused(p, n)
 }
 
 // Whether the process has both rules, in this order, and has not overlapped them.
@@ -159,13 +184,6 @@ fn is_overlap_due(state: &State, p: &Process, a: RuleRef, c: RuleRef) -> bool
     ensures { result ≡ is_work_due state.now (jobs.Overlap p.now a c) }
 {
     (is_rule(state, p, a) && is_rule(state, p, c)) && (is_ordered(a, c) && !state.is_done(p, a, c))
-}
-
-// Whether the first rule does not come after the second.
-fn is_ordered(a: RuleRef, c: RuleRef) -> bool
-    ensures { result ≡ ref_le a c }
-{
-    a.node < c.node || (a.node == c.node && a.dir <= c.dir)
 }
 
 // Whether the job clashes with none in flight.

@@ -7,15 +7,15 @@ ghost use Rattle.kb_node.specs.declared.job.Job.TheVariants.{Close};
 ghost use Rattle.mkb_model.specs.Jobs.{process_of, job_cmp, is_free};
 ghost use Rattle.mkb_model.specs.Plain.{cost, weight, rules_of};
 ghost use Rattle.mkb_model.specs.DueJobs.{first_job, work_of};
-ghost use Rattle.mkb_board.specs.Choosing.{jobs_of, first_choice, least_choice, merged, IsCosted, StandsBefore};
+ghost use Rattle.mkb_board.specs.Choosing.{jobs_of, first_choice, least_choice, merged, IsCosted};
 ghost use Rattle.mkb_board.specs.Normal.{AreAllNormal, AreNormal, Serves};
 ghost use Rattle.mkb_board.specs.declared.first.Choice.{Choice};
 
 use crate::choosing::is_over;
-use crate::cost::cost;
 use crate::due::{first_work, is_free};
 use crate::lightest::lightest_work;
 use crate::normal::Normal;
+use crate::settling::{Costed, with_cost};
 use crate::snapshots::named::rules_of;
 use kb_label::Process;
 use kb_node::Job;
@@ -50,12 +50,15 @@ pub(crate) fn first_job(
     let living = state.log().processes();
     let mut best = None;
     for i in 0..living.len() {
-        let process = &living[i];
-        if state.is_asleep(process) {
+        let next = with_cost(state, i, &living[i]);
+        if !is_below(next.cost, &best) {
+            continue;
+        }
+        if state.is_asleep(&next.process) {
             continue;
         }
         let place = i % normals.len();
-        best = lesser_choice(state, flight, &mut normals[place], best, process)?;
+        best = lesser_choice(state, flight, &mut normals[place], best, &next)?;
     }
     match best {
         Some(choice) => Ok(Some(choice.job)),
@@ -63,31 +66,30 @@ pub(crate) fn first_job(
     }
 }
 
-// The best so far, or what the process would take first where that is less. Names come in their order, so of equal costs
-// the best so far is less.
+// The best so far, or what the process would take first, which costs less, where it would take any job.
 fn lesser_choice(
     state: &State,
     flight: &[Ticket],
     normal: &mut Normal,
     best: Option<Choice>,
-    p: &Process,
+    next: &Costed,
 ) -> Result<Option<Choice>, Memory>
     requires limited { AreLimited state.now.problem.signature state.now.nodes }
     requires normal { AreNormal state.now normal.old }
-    requires lives { IsTrue (has state.now.living p.now) }
+    requires lives { IsTrue (has state.now.living next.now.process) }
+    requires cost { next.now.cost ≡ cost state.now next.now.process }
     requires costed { IfSome best (IsCosted state.now) }
-    requires earlier { IfSome best (StandsBefore p.now) }
-    ensures least { IfOk result (λ o. option_map (λ (c : Choice). c.job) o ≡ merged (job_cmp (cost state.now) (weight state.now)) (option_map (λ (c : Choice). c.job) best) (first_choice state.now (jobs_of flight.now) p.now)) }
+    requires below { IsTrue (option_map_or (λ (c : Choice). nat_lt next.now.cost c.cost) best true) }
+    ensures least { IfOk result (λ o. option_map (λ (c : Choice). c.job) o ≡ merged (job_cmp (cost state.now) (weight state.now)) (option_map (λ (c : Choice). c.job) best) (first_choice state.now (jobs_of flight.now) next.now.process)) }
     ensures costed { IfOk result (λ o. IfSome o (IsCosted state.now)) }
-    ensures of_either { IfOk result (λ o. (o ≡ best) ⊎ IfSome o (λ c. process_of c.job ≡ p.now)) }
+    ensures of_either { IfOk result (λ o. (o ≡ best) ⊎ IfSome o (λ c. process_of c.job ≡ next.now.process)) }
     ensures normal { AreNormal state.now normal.new }
 {
-    let cost = cost(state, p);
-    if !is_below(cost, &best) {
-        return Ok(best);
-    }
-    match first_choice(state, flight, normal, p)? {
-        Some(job) => Ok(Some(Choice { cost, job })),
+    match first_choice(state, flight, normal, &next.process)? {
+        Some(job) => Ok(Some(Choice {
+            cost: next.cost,
+            job,
+        })),
         None => Ok(best),
     }
 }

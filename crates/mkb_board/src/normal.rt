@@ -7,64 +7,72 @@ ghost use Rattle.kb_node.specs.declared.job.Job.TheVariants as jobs;
 ghost use Rattle.mkb_model.specs.Jobs.{ref_eq};
 ghost use Rattle.mkb_model.specs.Plain.{Plain, known, other, rules_of};
 ghost use Rattle.mkb_model.specs.DueJobs.{is_work_due};
+ghost use Rattle.kb_jobs.specs.Working.{IsTaken, job_of};
+ghost use Rattle.mkb_model.specs.Invariants.{FactsHold};
+ghost use Rattle.mkb_board.specs.Snapshots.{HasJobNodes, HasOrder, IsWhole};
+ghost use Rattle.mkb_rules.specs.Roles.{AreRolesOf};
 ghost use Rattle.mkb_board.specs.Normal.{AreAllNormal, AreNormal, NoneOpens, Serves, has_rule, is_in_use, is_open_in, is_open_to, roles_of};
 
 use crate::choosing::{is_equation, is_rule, node_count};
 use crate::due::is_same;
+use crate::snapshots::snapshot;
+use kb_jobs::{NamedRules, Snapshot};
 use kb_label::Process;
-use kb_node::NodeId;
+use kb_node::{Job, NodeId};
 use kb_term::{Found, Memory, RuleRef};
-use mkb_rules::State;
+use mkb_rules::{Roles, State};
 use std::alloc::{AllocError, Global};
 
-/// How a process has a node.
-#[derive(Clone, Copy)]
-pub(crate) struct Roles {
-    equation: bool,
-    first: bool,
-    second: bool,
+/// How the process has the node, by what is kept of it for the first nodes.
+pub(crate) fn roles_by(state: &State, kept: &[Roles], p: &Process, n: NodeId) -> Roles
+    requires there { n.0 < length state.now.nodes }
+    requires kept { AreRolesOf state.now.nodes p.now kept.now }
+    ensures { result ≡ roles_of state.now p.now n.0 }
+{
+    match kept.get(n.0 as usize) {
+        Some(roles) => *roles,
+        None => roles_of(state, p, n),
+    }
 }
 
-impl Roles {
-    /// The roles in which the process has the node.
-    pub(crate) fn of(state: &State, p: &Process, n: NodeId) -> Roles
-        requires { n.0 < length state.now.nodes }
-        ensures { result ≡ roles_of state.now p.now n.0 }
-    {
-        if state.is_dead(n) {
-            return Roles {
-                equation: false,
-                first: false,
-                second: false,
-            };
-        }
-        Roles {
-            equation: is_equation(state, p, n),
-            first: is_rule(state, p, RuleRef { node: n.0, dir: 0 }),
-            second: is_rule(state, p, RuleRef { node: n.0, dir: 1 }),
-        }
+/// How the process has the node, by its labels.
+pub(crate) fn roles_of(state: &State, p: &Process, n: NodeId) -> Roles
+    requires { n.0 < length state.now.nodes }
+    ensures { result ≡ roles_of state.now p.now n.0 }
+{
+    if state.is_dead(n) {
+        return Roles {
+            equation: false,
+            first: false,
+            second: false,
+        };
     }
+    Roles {
+        equation: is_equation(state, p, n),
+        first: is_rule(state, p, RuleRef { node: n.0, dir: 0 }),
+        second: is_rule(state, p, RuleRef { node: n.0, dir: 1 }),
+    }
+}
 
-    // Whether the node has one of the roles.
-    fn is_in_use(self) -> bool
-        ensures { result ≡ is_in_use self }
-    {
-        self.equation || (self.first || self.second)
-    }
+// Whether whoever has the node so has it at all.
+fn is_in_use(roles: Roles) -> bool
+    ensures { result ≡ is_in_use roles }
+{
+    roles.equation || (roles.first || roles.second)
+}
 
-    // Whether the node is the rule with this side on the right.
-    fn leads_to(self, w: u8) -> bool
-        ensures { result ≡ has_rule self (other w) }
-    {
-        if w == 0 { self.second } else { self.first }
-    }
+// Whether whoever has the node so has the rule with this side on the right.
+fn leads_to(roles: Roles, w: u8) -> bool
+    ensures { result ≡ has_rule roles (other w) }
+{
+    if w == 0 { roles.second } else { roles.first }
+}
 
-    // Whether both are the same.
-    fn is_same(self, other: Roles) -> bool
-        ensures { IsTrue result → self ≡ other }
-    {
-        self.equation == other.equation && self.first == other.first && self.second == other.second
-    }
+// Whether both are the same.
+fn are_same_roles(some: Roles, others: Roles) -> bool
+    ensures { IsTrue result → some ≡ others }
+{
+    some.equation == others.equation && some.first == others.first && some.second == others.second
 }
 
 // Whether the side is open to the rule where a process has the node in these roles.
@@ -74,7 +82,7 @@ fn is_open_side(state: &State, roles: Roles, n: NodeId, w: u8, rule: RuleRef) ->
     match state.known(n, w, rule) {
         None => true,
         Some(Found::No) => false,
-        Some(Found::Variant) => roles.equation || roles.leads_to(w),
+        Some(Found::Variant) => roles.equation || leads_to(roles, w),
         Some(Found::Strict) => true,
     }
 }
@@ -111,8 +119,8 @@ fn is_among(rules: &[RuleRef], rule: RuleRef) -> bool
     false
 }
 
-// Whether both lists are the same.
-fn are_same(some: &[RuleRef], others: &[RuleRef]) -> bool
+/// Whether both lists are the same.
+pub(crate) fn are_same(some: &[RuleRef], others: &[RuleRef]) -> bool
     ensures { IsTrue result → some.now ≡ others.now }
 {
     if some.len() != others.len() {
@@ -139,7 +147,8 @@ fn fresh(alloc: Global, old: &[RuleRef], rules: &[RuleRef]) -> Result<Vec<RuleRe
     Ok(fresh)
 }
 
-/// Rules, and for each node the roles in which none of them is known to reduce it any more, where that is noted.
+/// Rules, and for each node the roles in which none of them is known to reduce it any more, where that is noted; and how the process
+/// that it was turned to last has the nodes, and rules that its snapshots share.
 ///
 /// What is known of a side of a node and a rule stays known, so what is noted holds on each later board.
 #[derive(Drop)]
@@ -147,6 +156,8 @@ pub(crate) struct Normal {
     alloc: Global,
     rules: Vec<RuleRef>,
     nodes: Vec<Option<Roles>>,
+    roles: Vec<Roles>,
+    shared: Option<NamedRules>,
 }
 
 // For how many processes something is noted at once: as many as may be active and awake.
@@ -172,6 +183,8 @@ impl Normal {
             alloc,
             rules: Vec::new(alloc),
             nodes: Vec::new(alloc),
+            roles: Vec::new(alloc),
+            shared: None,
         }
     }
 
@@ -197,6 +210,7 @@ impl Normal {
         ensures serves { OnOk result (Serves state.now p.now self.new) }
     {
         self.make_room(node_count(state))?;
+        self.take_roles(state, p)?;
         if are_same(self.rules.as_slice(), rules) {
             return Ok(());
         }
@@ -205,6 +219,25 @@ impl Normal {
         self.forget(state, fresh.as_slice());
         self.rules = rules;
         Ok(())
+    }
+
+    // Takes what is kept of how the process has the nodes.
+    fn take_roles(&mut self, state: &State, p: &Process) -> Result<(), AllocError>
+        ensures rules { self.new.rules.items ≡ self.old.rules.items }
+        ensures known { (b : Plain) → AreNormal b self.old → AreNormal b self.new }
+        ensures roles { OnOk result (AreRolesOf state.now.nodes p.now self.new.roles.items) }
+    {
+        self.roles.clear();
+        self.roles.extend_from_slice(state.roles(p))
+    }
+
+    /// How the process has the node.
+    pub(crate) fn roles_of(&self, state: &State, p: &Process, n: NodeId) -> Roles
+        requires there { n.0 < length state.now.nodes }
+        requires serves { Serves state.now p.now self.now }
+        ensures { result ≡ roles_of state.now p.now n.0 }
+    {
+        roles_by(state, self.roles.as_slice(), p, n)
     }
 
     // Makes room to note so many nodes.
@@ -224,6 +257,7 @@ impl Normal {
         requires { AreNormal state.now self.old }
         ensures known { AreNormal state.now self.new }
         ensures rules { self.new.rules.items ≡ self.old.rules.items }
+        ensures roles { self.new.roles.items ≡ self.old.roles.items }
         ensures fresh { NoneOpens state.now self.new.nodes.items fresh.now }
     {
         for i in 0..self.nodes.len() {
@@ -238,7 +272,7 @@ impl Normal {
         ensures { IsTrue result → slice_get self.now.nodes.items n.0 ≡ Some (Some roles) }
     {
         match self.nodes.get(n.0 as usize) {
-            Some(Some(noted)) => noted.is_same(roles),
+            Some(Some(noted)) => are_same_roles(*noted, roles),
             _ => false,
         }
     }
@@ -246,11 +280,35 @@ impl Normal {
     // Notes the roles for the node, where there is room.
     fn note(&mut self, n: NodeId, roles: Roles)
         ensures rules { self.new.rules.items ≡ self.old.rules.items }
+        ensures roles { self.new.roles.items ≡ self.old.roles.items }
         ensures known { (b : Plain) → AreNormal b self.old → list_any (is_open_to b roles n.0) self.old.rules.items ≡ false → AreNormal b self.new }
     {
         if (n.0 as usize) < self.nodes.len() {
             self.nodes[n.0 as usize] = Some(roles);
         }
+    }
+
+    /// What a job of the process reads of the board.
+    ///
+    /// # Errors
+    ///
+    /// Want of memory.
+    pub(crate) fn snapshot(
+        &mut self,
+        alloc: Global,
+        state: &State,
+        job: &Job,
+    ) -> Result<Snapshot, Memory>
+        requires there { HasJobNodes state.now job.now }
+        requires ordered { HasOrder state.now job.now }
+        requires facts { FactsHold state.now }
+        requires normal { AreNormal state.now self.old }
+        ensures normal { AreNormal state.now self.new }
+        ensures job { IfOk result (λ s. job_of s ≡ job.now) }
+        ensures taken { IfOk result (IsTaken state.now) }
+        ensures whole { IfOk result IsWhole }
+    {
+        snapshot(alloc, state, &mut self.shared, job)
     }
 
     /// Whether the process, whose rules these are, may reduce the node. Where it may not, that is noted.
@@ -260,8 +318,8 @@ impl Normal {
         ensures due { result ≡ is_work_due state.now (jobs.Reduce p.now n) }
         ensures serves { Serves state.now p.now self.new }
     {
-        let roles = Roles::of(state, p, n);
-        if !roles.is_in_use() || self.is_noted(n, roles) {
+        let roles = self.roles_of(state, p, n);
+        if !is_in_use(roles) || self.is_noted(n, roles) {
             return false;
         }
         if is_open_to_any(state, roles, n, self.rules.as_slice()) {

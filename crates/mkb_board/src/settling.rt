@@ -12,18 +12,18 @@ ghost use Rattle.mkb_board.specs.Choosing.{costed_cmp, merged, ClosedRest};
 ghost use Rattle.mkb_board.specs.declared.settling.Costed.{Costed};
 
 use crate::choosing::is_active;
-use crate::cost::cost;
+use crate::cost::{cost, place_of};
 use kb_label::{Living, Process};
 use mkb_rules::State;
 
 // The most processes that are active and awake.
 const MOST_AWAKE: usize = 64;
 
-// A process with its cost.
+/// A process with its cost.
 #[derive(Clone, Copy)]
-struct Costed {
-    cost: u32,
-    process: Process,
+pub(crate) struct Costed {
+    pub(crate) cost: u32,
+    pub(crate) process: Process,
 }
 
 /// While more than 64 processes are active and awake the one that costs most falls asleep; then, while fewer are, the active
@@ -40,19 +40,25 @@ pub(crate) fn settle(state: &mut State)
     if state.log().processes().len() <= MOST_AWAKE && state.sleepers().is_empty() {
         return;
     }
-    rest(state);
-    wake(state);
+    let count = working(state);
+    if count <= MOST_AWAKE {
+        wake(state, count);
+        return;
+    }
+    rest(state, count);
+    let count = working(state);
+    wake(state, count);
 }
 
-// The working process that costs most falls asleep, until at most 64 work.
-fn rest(state: &mut State)
+// The working process that costs most falls asleep, until at most 64 of so many work.
+fn rest(state: &mut State, count: usize)
+    requires count { count ≡ length (working state.old state.old.asleep) }
     requires rest { ClosedRest state.old }
     requires limited { AreLimited state.old.problem.signature state.old.nodes }
     requires in_order { IsInNameOrder state.old.living }
     requires sleepers { IsLabel state.old state.old.asleep }
     ensures { state.new ≡ record state.old { asleep = rested state.old } }
 {
-    let count = working(state);
     for _ in MOST_AWAKE..count {
         rest_one(state);
     }
@@ -72,15 +78,15 @@ fn rest_one(state: &mut State)
     }
 }
 
-// The waiting process that costs least wakes, while fewer than 64 work.
-fn wake(state: &mut State)
+// The waiting process that costs least wakes, while fewer than 64 work, where so many do.
+fn wake(state: &mut State, count: usize)
+    requires count { count ≡ length (working state.old state.old.asleep) }
     requires rest { ClosedRest state.old }
     requires limited { AreLimited state.old.problem.signature state.old.nodes }
     requires in_order { IsInNameOrder state.old.living }
     requires sleepers { IsLabel state.old state.old.asleep }
     ensures { state.new ≡ record state.old { asleep = iterate (with_one_awake state.old) (most_awake - length (working state.old state.old.asleep)) state.old.asleep } }
 {
-    let count = working(state);
     for _ in count..MOST_AWAKE {
         if !wake_one(state) {
             return;
@@ -140,7 +146,7 @@ fn greatest_working(state: &State) -> Option<Process>
     for i in 0..living.len() {
         let process = &living[i];
         if is_working(state, process) {
-            best = Some(greater(best, with_cost(state, process)));
+            best = Some(greater(best, with_cost(state, i, process)));
         }
     }
     process_in(&best)
@@ -158,19 +164,20 @@ fn least_waiting(state: &State) -> Option<Process>
     for i in 0..sleepers.len() {
         let process = &sleepers[i];
         if is_active(state, process) {
-            best = Some(lesser(best, with_cost(state, process)));
+            let place = place_of(state, process);
+            best = Some(lesser(best, with_cost(state, place, process)));
         }
     }
     process_in(&best)
 }
 
-// The process with its cost.
-fn with_cost(state: &State, p: &Process) -> Costed
+/// The process at this place among the living with its cost.
+pub(crate) fn with_cost(state: &State, place: usize, p: &Process) -> Costed
     requires { AreLimited state.now.problem.signature state.now.nodes }
     ensures { result ≡ record { cost = cost state.now p.now; process = p.now } }
 {
     Costed {
-        cost: cost(state, p),
+        cost: cost(state, place, p),
         process: *p,
     }
 }

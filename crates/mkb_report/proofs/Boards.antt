@@ -7,12 +7,13 @@ use Rattle.kb_term.specs.Tree.{Tree}
 use Rattle.kb_term.specs.Pair.{Pair}
 use Rattle.kb_term.specs.declared.origin.RuleRef.{RuleRef}
 use Rattle.kb_term.specs.declared.origin.Origin.{Origin}
-use Rattle.kb_overlap.specs.Trace.{IsRightOrigin}
+use Rattle.kb_overlap.specs.Trace.{FollowsBy, IsOriginOfForm}
 use Rattle.kb_cert.specs.Family.{Orders}
 use Rattle.kb_cert.proofs.Members.{first_contained}
 use Rattle.kb_cert.specs.declared.certificate.Certificate.{Certificate}
 use Rattle.kb_laws.specs.Complete.{IsCompleteSystem}
 use Rattle.kb_laws.specs.Overlaps.{OverlapsClose, HaveOneNormalForm}
+use Rattle.kb_laws.proofs.Closing.{slice_contains}
 use Rattle.kb_label.specs.Names.{Name}
 use Rattle.kb_label.specs.declared.verdict.Verdict.TheVariants.{Complete}
 use Rattle.mkb_model.specs.Plain.{Plain, PlainNode, orders_of, numbers_from, directions, is_rule, is_constraint, rules_of, constraints_of, rules_at, pair_in, certificate_of}
@@ -20,7 +21,6 @@ use Rattle.mkb_model.specs.Verdicts.{verdict}
 use Rattle.mkb_model.specs.Journals.{IsPossibleRun, IsFreeJob, tickets}
 use Rattle.mkb_model.specs.Invariants.{IsSound, PairsFollow}
 use Rattle.mkb_model.specs.Limits.{AreLimited}
-use Rattle.kb_overlap.specs.Trace.{IsOriginOfForm}
 use Rattle.mkb_model.specs.GoodAnswers.{IsGoodAnswer}
 use Rattle.mkb_model.proofs.Changes.{Fits}
 use Rattle.mkb_model.proofs.Fitting.{fits_run}
@@ -32,7 +32,7 @@ use Rattle.mkb_model.proofs.Sizes.{limited_run}
 use Rattle.mkb_model.proofs.Completed.{good_answer}
 use Rattle.mkb_report.specs.Reports.{IsReached, pairs_of}
 use Rattle.mkb_report.proofs.OneWay.{one_way}
-use Rattle.mkb_report.proofs.Traces.{OriginsAreRight, node_pair, right_alike, mapped_is}
+use Rattle.mkb_report.proofs.Traces.{OriginsAreRight, node_pair, follows_alike, mapped_is}
 
 -- the rules of the process are a complete system for the problem by its certificate, which orders its constraints, and what the checker looks at besides
 pub record IsGoodProcess (b : Plain) (p : Name) : Type 0 where
@@ -62,11 +62,13 @@ take-map f (suc n) (x ∷ xs) = ap (f x ∷◌) (take-map f n xs)
 pair_of_first : (xs : List PlainNode) (n m : ℕ) → node_pair (take n (map (λ (x : PlainNode). (x.pair, x.origin)) xs)) m ≡ pair_in (take n xs) m
 pair_of_first xs n m = ap (λ (ys : List (Pair × Origin)). node_pair ys m) (take-map (λ (x : PlainNode). (x.pair, x.origin)) n xs) ∙ pair_of_node (take n xs) m
 
-origins_right : (b : Plain) → PairsFollow b → OriginsAreRight b.problem.equations (pairs_of b)
-origins_right b h n x e =
-    let y = mapped_is (λ (z : PlainNode). (z.pair, z.origin)) (slice_get b.nodes n) x (sym (slice_get-map (λ (z : PlainNode). (z.pair, z.origin)) b.nodes n) ∙ e) in
-    right_alike b.problem.equations (pair_in (take n b.nodes)) (node_pair (take n (pairs_of b))) x.1 x.0 (λ m. sym (pair_of_first b.nodes n m))
-    (subst (λ (z : Pair × Origin). IsRightOrigin b.problem.equations (pair_in (take n b.nodes)) z.1 z.0) y.2 (h n y.0 y.1))
+origins_right : (b : Plain) → PairsFollow b → ((x : PlainNode) → Contains b.nodes x → IsOriginOfForm x.origin) → OriginsAreRight b.problem.equations (pairs_of b)
+origins_right b h formed n x e =
+    let y = mapped_is (λ (z : PlainNode). (z.pair, z.origin)) (slice_get b.nodes n) x (sym (slice_get-map (λ (z : PlainNode). (z.pair, z.origin)) b.nodes n) ∙ e) in (
+      subst (λ (z : Pair × Origin). IsOriginOfForm z.1) y.2 (formed y.0 (slice_contains b.nodes n y.0 y.1)),
+      follows_alike b.problem.equations (pair_in (take n b.nodes)) (node_pair (take n (pairs_of b))) x.1 x.0 (λ m. sym (pair_of_first b.nodes n m))
+          (subst (λ (z : Pair × Origin). FollowsBy b.problem.equations (pair_in (take n b.nodes)) z.1 z.0) y.2 (h n y.0 y.1)),
+    )
 
 -- ---- at most one rule for each node
 
@@ -95,16 +97,13 @@ module _ (b : Plain) (r : IsReached b) where
   sound = boards_sound b.problem b.settings r.after.0 (record b { flight = r.flight }) r.within run
 
   pub right : OriginsAreRight b.problem.equations (pairs_of b)
-  right = origins_right b sound.pairs_follow
+  right = origins_right b sound.pairs_follow (origins_of_form b.problem b.settings r.after.0 (record b { flight = r.flight }) run)
 
   pub limited : AreLimited b.problem.signature b.nodes
   limited = limited_run b.problem b.settings r.after.0 (record b { flight = r.flight }) r.within run
 
   pub fits : Fits b.nodes
   fits = fits_run IsFreeJob b.problem b.settings r.after.0 (record b { flight = r.flight }) run
-
-  pub formed : (x : PlainNode) → Contains b.nodes x → IsOriginOfForm x.origin
-  formed = origins_of_form b.problem b.settings r.after.0 (record b { flight = r.flight }) run
 
   pub good : (p : Name) → verdict b ≡ Some (Complete p) → IsGoodProcess b p
   good p stands =

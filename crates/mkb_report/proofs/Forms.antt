@@ -27,7 +27,6 @@ use Rattle.kb_laws.proofs.Closing.{slice_contains}
 use Rattle.kb_laws.proofs.LoneRule.{rule_same}
 use Rattle.kb_checker.specs.Answers.{IsRuleForm}
 use Rattle.mkb_model.specs.Limits.{IsLimitedPair}
-use Rattle.kb_overlap.specs.Trace.{IsOriginOfForm}
 use Rattle.mkb_model.proofs.Lists.{and_both, none_some, some_is}
 use Rattle.mkb_model.proofs.Sizes.{numbered_within, turned}
 use Rattle.mkb_report.proofs.Traces.{mapped_is}
@@ -131,9 +130,9 @@ cited_form r n d = and_both (is_up_to 4096 r.node) (nat_le r.dir 1) (is_up_to-tr
 
 -- a right origin of nodes within the limits has the form of a step's origin, where what it cites has numbers from 1 to 4,096
 pub origin_form : (es : List (Tree × Tree)) (g : Signature) → length es ≤ 256 → All (λ (f : SymbolEntry). f.arity ≤ 8) g → (e : ℕ → Option Pair) → ((m : ℕ) (q : Pair) → e m ≡ Some q → IsLimitedPair g q) → (f : ℕ → ℕ)
-    → (o : Origin) (q : Pair) → IsRightOrigin es e o q → IsOriginOfForm o → ((m : ℕ) → Contains (cites o) m → IsUpTo 4096 (f m)) → is_origin (with_numbers f o) ≡ true
-origin_form es g few arities e limited f (Input i) q r form cited = let k = item_within es i r.0 r.1 in is_up_to-true 256 i k.0 (omega (arith, k.1, few))
-origin_form es g few arities e limited f (Rewrite a w p b) q r form cited =
+    → (o : Origin) (q : Pair) → IsRightOrigin es e o q → ((m : ℕ) → Contains (cites o) m → IsUpTo 4096 (f m)) → is_origin (with_numbers f o) ≡ true
+origin_form es g few arities e limited f (Input i) q (form, r) cited = let k = item_within es i r.0 r.1 in is_up_to-true 256 i k.0 (omega (arith, k.1, few))
+origin_form es g few arities e limited f (Rewrite a w p b) q (form, r) cited =
     let first = cited a (contains_first a (b.node ∷ [])) in
     let second = cited b.node (contains_behind a (b.node ∷ []) b.node (contains_first b.node [])) in
     let s = side_limited g r.0 w (limited a r.0 r.2) in
@@ -143,7 +142,7 @@ origin_form es g few arities e limited f (Rewrite a w p b) q r form cited =
     (and_both (is_up_to 4096 (f a)) (nat_le w 1) (is_up_to-true 4096 (f a) first.low first.high) (true_le w 1 form.0))
     (position_form g arities p (side r.0 w) _ s.0 s.1 r.4.rewrites.1.redex))
     (cited_form rule second form.1)
-origin_form es g few arities e limited f (Overlap a b p) q r form cited =
+origin_form es g few arities e limited f (Overlap a b p) q (form, r) cited =
     let outer : RuleRef = record { node = f a.node; dir = a.dir } in
     let inner : RuleRef = record { node = f b.node; dir = b.dir } in
     let l = (rule_limited g r.0 a.dir (limited a.node r.0 r.2)).left in

@@ -21,7 +21,6 @@ use Rattle.kb_cert.specs.declared.certificate.Certificate.{Certificate}
 use Rattle.kb_overlap.specs.Trace.{TraceStep, item, IsRightTrace}
 use Rattle.kb_laws.specs.Complete.{IsCompleteSystem}
 use Rattle.kb_laws.specs.Overlaps.{OverlapsClose, HaveOneNormalForm}
-use Rattle.kb_laws.proofs.Closing.{slice_contains}
 use Rattle.kb_laws.proofs.Complete.{all_from}
 use Rattle.kb_text.specs.Terms.{IsPairForm}
 use Rattle.kb_trace.specs.Steps.{pairs_of as step_pairs}
@@ -40,7 +39,6 @@ use Rattle.kb_report.specs.declared.report.Report.TheVariants.{System}
 use Rattle.mkb_model.specs.Plain.{Plain, PlainNode, rules_of, constraints_of, pair_at, rule_at, rules_at, certificate_of}
 use Rattle.mkb_model.specs.Effects.{pair_eq}
 use Rattle.mkb_model.specs.Limits.{IsLimitedPair}
-use Rattle.kb_overlap.specs.Trace.{IsOriginOfForm}
 use Rattle.mkb_model.specs.Verdicts.{verdict}
 use Rattle.mkb_model.proofs.AllFine.{pair_there}
 use Rattle.mkb_model.proofs.Lists.{in_map, map_in, none_in, same_test, some_is}
@@ -53,7 +51,7 @@ use Rattle.mkb_report.specs.Reports.{IsReached, AreCited, IsAnswerOf, IsReportOf
 use Rattle.mkb_report.proofs.Rising.{few_rising, rising_from}
 use Rattle.mkb_report.proofs.Traces.{node_pair, earlier_is, mapped_is, one_kept, one_trace, right_cites, right_trace, traced}
 use Rattle.mkb_report.proofs.Forms.{origin_form, pair_form, rule_form, rule_pair}
-use Rattle.mkb_report.proofs.Boards.{IsGoodProcess, few_rules, few_constraints, fits, formed, good, limited, pair_of_node, right}
+use Rattle.mkb_report.proofs.Boards.{IsGoodProcess, few_rules, few_constraints, fits, good, limited, pair_of_node, right}
 use Rattle.mkb_report.proofs.Viewed.{parts}
 
 -- ---- rules and the numbers that they cite
@@ -210,8 +208,7 @@ module _ (b : Plain) (p : Name) (a : Answer) (r : IsReached b) (stands : verdict
     step_form n s c st = record {
       origin =
           subst {A = Origin} (λ o. is_origin o ≡ true) (sym st.3)
-          (origin_form b.problem.equations g r.within.count r.within.arities (node_pair (take n nodes)) earlier (number_in h.trace.kept) x.1 x.0 (right b r n x st.1)
-          (subst {A = Pair × Origin} (λ z. IsOriginOfForm z.1) y.2 (formed b r y.0 there)) cited);
+          (origin_form b.problem.equations g r.within.count r.within.arities (node_pair (take n nodes)) earlier (number_in h.trace.kept) x.1 x.0 (right b r n x st.1) cited);
       pair =
           subst {A = Pair} (IsPairForm g) (sym st.2)
           (subst {A = Pair × Origin} (λ z. IsPairForm g z.0) y.2 (pair_form g y.0.pair (limited b r n y.0.pair at) ((fits b r).canonical n y.0.pair at) ((fits b r).nontrivial n y.0.pair at)));
@@ -228,9 +225,6 @@ module _ (b : Plain) (p : Name) (a : Answer) (r : IsReached b) (stands : verdict
 
         y : (z : PlainNode) × (slice_get b.nodes n ≡ Some z) × (parts z ≡ st.0)
         y = node_at b n st.0 st.1
-
-        there : Contains b.nodes y.0
-        there = slice_contains b.nodes n y.0 y.1
 
         at : pair_at b n ≡ Some y.0.pair
         at = ap (option_map (λ (z : PlainNode). z.pair)) y.1

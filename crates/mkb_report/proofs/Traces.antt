@@ -8,7 +8,7 @@ use Rattle.kb_term.specs.Pair.{Pair, place_in}
 use Rattle.kb_term.specs.declared.origin.Origin.{Origin}
 use Rattle.kb_term.specs.declared.origin.Origin.TheVariants.{Input, Rewrite, Overlap}
 use Rattle.kb_term.proofs.Steps.{contains_cases, contains_first, contains_behind}
-use Rattle.kb_overlap.specs.Trace.{TraceStep, item, IsRightOrigin, IsRightAfter, IsRightTrace}
+use Rattle.kb_overlap.specs.Trace.{TraceStep, item, FollowsBy, IsOriginOfForm, IsRightOrigin, IsRightAfter, IsRightTrace}
 use Rattle.kb_trace.specs.Steps.{pairs_of}
 use Rattle.kb_trace.specs.Reached.{cites, CitesEarlier, IsStepOf, IsTraceOf, number_in, with_numbers}
 use Rattle.kb_trace.proofs.Reaching.{reached_more}
@@ -22,7 +22,7 @@ use Rattle.mkb_report.proofs.Rising.{Rising, rising_from, rising_behind, one_ris
 abbrev pub node_pair : List (Pair × Origin) → ℕ → Option Pair
 node_pair nodes m = option_map (λ (x : Pair × Origin). x.0) (slice_get nodes m)
 
--- each node's pair follows from the equations and the pairs of earlier nodes as its origin says
+-- each node's origin is of the form, and its pair follows from the equations and the pairs of earlier nodes as it says
 abbrev pub OriginsAreRight : List (Tree × Tree) → List (Pair × Origin) → Type 0
 OriginsAreRight es nodes = (n : ℕ) (x : Pair × Origin) → slice_get nodes n ≡ Some x → IsRightOrigin es (node_pair (take n nodes)) x.1 x.0
 
@@ -46,7 +46,7 @@ earlier_is nodes n m q e =
 -- ---- origins with other numbers
 
 -- what an origin cites it has
-cited_there : (es : List (Tree × Tree)) (e : ℕ → Option Pair) (o : Origin) (q : Pair) → IsRightOrigin es e o q → (m : ℕ) → Contains (cites o) m → (old : Pair) × (e m ≡ Some old)
+cited_there : (es : List (Tree × Tree)) (e : ℕ → Option Pair) (o : Origin) (q : Pair) → FollowsBy es e o q → (m : ℕ) → Contains (cites o) m → (old : Pair) × (e m ≡ Some old)
 cited_there es e (Input i) q r m c = none_in c
 cited_there es e (Rewrite a w p b) q r m c =
     ⊎_elim
@@ -59,23 +59,32 @@ cited_there es e (Overlap a b p) q r m c =
     (λ d. ⊎_elim (λ h. subst (λ z. (old : Pair) × (e z ≡ Some old)) h (r.1, r.3)) (λ z. none_in z) (contains_cases b.node [] m d))
     (contains_cases a.node (b.node ∷ []) m c)
 
--- an origin stays right where what it cites has other numbers
-pub right_renumbered : (es : List (Tree × Tree)) (f : ℕ → ℕ) (e l : ℕ → Option Pair) (o : Origin) (q : Pair) → ((m : ℕ) → Contains (cites o) m → (old : Pair) → e m ≡ Some old → l (f m) ≡ Some old) → IsRightOrigin es e o q → IsRightOrigin es l (with_numbers f o) q
-right_renumbered es f e l (Input i) q h r = r
-right_renumbered es f e l (Rewrite a w p b) q h r =
+-- a pair still follows where what the origin cites has other numbers
+follows_renumbered : (es : List (Tree × Tree)) (f : ℕ → ℕ) (e l : ℕ → Option Pair) (o : Origin) (q : Pair) → ((m : ℕ) → Contains (cites o) m → (old : Pair) → e m ≡ Some old → l (f m) ≡ Some old) → FollowsBy es e o q → FollowsBy es l (with_numbers f o) q
+follows_renumbered es f e l (Input i) q h r = r
+follows_renumbered es f e l (Rewrite a w p b) q h r =
     (r.0, r.1, h a (contains_first a (b.node ∷ [])) r.0 r.2, h b.node (contains_behind a (b.node ∷ []) b.node (contains_first b.node [])) r.1 r.3, r.4)
-right_renumbered es f e l (Overlap a b p) q h r =
+follows_renumbered es f e l (Overlap a b p) q h r =
     (r.0, r.1, h a.node (contains_first a.node (b.node ∷ [])) r.0 r.2, h b.node (contains_behind a.node (b.node ∷ []) b.node (contains_first b.node [])) r.1 r.3, r.4)
 
--- an origin stays right where what it cites is the same
-pub right_alike : (es : List (Tree × Tree)) (e l : ℕ → Option Pair) (o : Origin) (q : Pair) → ((m : ℕ) → e m ≡ l m) → IsRightOrigin es e o q → IsRightOrigin es l o q
-right_alike es e l (Input i) q h r = r
-right_alike es e l (Rewrite a w p b) q h r = (r.0, r.1, sym (h a) ∙ r.2, sym (h b.node) ∙ r.3, r.4)
-right_alike es e l (Overlap a b p) q h r = (r.0, r.1, sym (h a.node) ∙ r.2, sym (h b.node) ∙ r.3, r.4)
+form_renumbered : (f : ℕ → ℕ) (o : Origin) → IsOriginOfForm o → IsOriginOfForm (with_numbers f o)
+form_renumbered f (Input i) h = h
+form_renumbered f (Rewrite a w p b) h = h
+form_renumbered f (Overlap a b p) h = h
+
+-- an origin stays right where what it cites has other numbers
+pub right_renumbered : (es : List (Tree × Tree)) (f : ℕ → ℕ) (e l : ℕ → Option Pair) (o : Origin) (q : Pair) → ((m : ℕ) → Contains (cites o) m → (old : Pair) → e m ≡ Some old → l (f m) ≡ Some old) → IsRightOrigin es e o q → IsRightOrigin es l (with_numbers f o) q
+right_renumbered es f e l o q h (form, follows) = (form_renumbered f o form, follows_renumbered es f e l o q h follows)
+
+-- a pair still follows where what the origin cites is the same
+pub follows_alike : (es : List (Tree × Tree)) (e l : ℕ → Option Pair) (o : Origin) (q : Pair) → ((m : ℕ) → e m ≡ l m) → FollowsBy es e o q → FollowsBy es l o q
+follows_alike es e l (Input i) q h r = r
+follows_alike es e l (Rewrite a w p b) q h r = (r.0, r.1, sym (h a) ∙ r.2, sym (h b.node) ∙ r.3, r.4)
+follows_alike es e l (Overlap a b p) q h r = (r.0, r.1, sym (h a.node) ∙ r.2, sym (h b.node) ∙ r.3, r.4)
 
 -- nodes whose origins are right cite earlier ones alone
 pub right_cites : (es : List (Tree × Tree)) (nodes : List (Pair × Origin)) → OriginsAreRight es nodes → CitesEarlier nodes
-right_cites es nodes right n m (x, at, c) = let old = cited_there es (node_pair (take n nodes)) x.1 x.0 (right n x at) m c in (earlier_is nodes n m old.0 old.1).0
+right_cites es nodes right n m (x, at, c) = let old = cited_there es (node_pair (take n nodes)) x.1 x.0 (right n x at).1 m c in (earlier_is nodes n m old.0 old.1).0
 
 -- ---- numbers
 

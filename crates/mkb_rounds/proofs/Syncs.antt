@@ -1,7 +1,7 @@
 -- The tickets of a round may be read by several threads, and what their jobs propose may be handed over.
 use denote.Enum.Declared as E
 use denote.Struct.Declared as S
-use denote.Param.Send.{IsSend, IsSync, sendable, enum_sync, recorded_sync, struct_sync}
+use denote.Param.Send.{IsSend, IsSync, sendable, enum_sync, recorded_sync, struct_sync, view_sync}
 use Rattle.std.proofs.Crossing.{crosses}
 use Rattle.kb_term.proofs.term.Terms.TheLaws.TheKnot.{crosses as term_crosses}
 use Rattle.kb_term.proofs.origin.RuleRef.TheSendSync as rule_ref
@@ -14,6 +14,8 @@ use Rattle.kb_cert.proofs.family.Family.TheSendSync as family
 use Rattle.kb_node.proofs.node.NodeId.TheSendSync as node_id
 use Rattle.kb_io.proofs.gate.Moment.TheSendSync as moment
 use Rattle.kb_jobs.specs.contracts.rules.NamedRules as NamedRules
+use Rattle.kb_jobs.specs.contracts.rules.SharedRules as SharedRules
+use Rattle.kb_jobs.specs.contracts.rules.SharedRules.TheInside as SharedInside
 use Rattle.kb_jobs.specs.contracts.reducing.ReduceSnapshot as ReduceSnapshot
 use Rattle.kb_jobs.specs.contracts.orienting.OrientSnapshot as OrientSnapshot
 use Rattle.kb_jobs.specs.contracts.overlapping.OverlapSnapshot as OverlapSnapshot
@@ -30,8 +32,14 @@ pair_sync = search (sendable, crosses, term_crosses) depth 20
 rule_sync : IsSync Rule.the_row
 rule_sync = search (sendable, crosses, term_crosses) depth 20
 
+rule_send : IsSend Rule.the_row
+rule_send = search (sendable, crosses, term_crosses) depth 20
+
+shared_rules_sync : IsSync SharedRules.the_row
+shared_rules_sync = view_sync SharedInside.the_row _ _ _ _ (recorded_sync (SharedInside.the_field).row _ _ (SharedInside.the_type).to_one (struct_sync (S.shape SharedInside.the_type) (search (sendable, crosses, rule_send, rule_sync) depth 20 fits 100000, tt)))
+
 named_field : IsSync (NamedRules.the_field).row
-named_field = struct_sync (S.shape NamedRules.the_type) (search (sendable, crosses, rule_ref.the_sync) depth 20, (search (sendable, crosses, rule_sync) depth 20, tt))
+named_field = struct_sync (S.shape NamedRules.the_type) (search (sendable, crosses, rule_ref.the_sync) depth 20, (shared_rules_sync, tt))
 
 reduce_field : IsSync (ReduceSnapshot.the_field).row
 reduce_field =

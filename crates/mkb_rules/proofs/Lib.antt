@@ -15,3 +15,4 @@ pub mod Tabled
 pub mod Viewed
 pub mod Paying
 pub mod Costs
+pub mod RolesKept

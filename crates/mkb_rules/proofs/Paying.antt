@@ -13,6 +13,7 @@ use Rattle.kb_node.specs.declared.node.LabelKind.TheVariants.{R0, R1, E, C0, C1,
 use Rattle.kb_node.specs.Labelled.{Node, is_dead_under}
 use Rattle.mkb_model.specs.Plain.{PlainNode, label_in, label_at, pair_size}
 use Rattle.mkb_model.specs.Effects.{with_label_in, with_label}
+use Rattle.mkb_rules.specs.Accounts.{IsBare}
 use Rattle.mkb_rules.specs.Parts.{plain_nodes}
 use Rattle.mkb_rules.specs.Sizes.{size_if, open_share, rule_share, size_at, open_share_at, rule_share_at, open_sizes, rule_sizes, is_open_kind, is_rule_kind, is_dead_node, is_dead_at, AreMarked, AreSizesOf}
 use Rattle.mkb_rules.specs.declared.sizes.Sizes.{Sizes}
@@ -131,14 +132,6 @@ dead_plain (x ∷ xs) (suc n) t h = dead_plain xs n t h
 
 -- ---- a node comes
 
--- the node has no label
-pub record IsBare (x : PlainNode) : Type 0 where
-  pub rule0 : x.rule0 ≡ []
-  pub rule1 : x.rule1 ≡ []
-  pub equation : x.equation ≡ []
-  pub constraint0 : x.constraint0 ≡ []
-  pub constraint1 : x.constraint1 ≡ []
-
 module _ (xs : List PlainNode) (x : PlainNode) (bare : IsBare x) where
   open_none : (p : Name) → open_share p x ≡ 0
   open_none p =
@@ -158,15 +151,29 @@ module _ (xs : List PlainNode) (x : PlainNode) (bare : IsBare x) where
   bare_dead : is_dead_node x ≡ true
   bare_dead = ap (λ l. is_empty l && (is_empty x.rule1 && is_empty x.equation)) bare.rule0 ∙ ap₂ (λ l m. is_empty l && is_empty m) bare.rule1 bare.equation
 
-  -- it is dead
-  pub marked_more : (used : List Bool) → AreMarked xs used → AreMarked (xs ++ x ∷ []) used
-  marked_more used before m h = go xs m (before m h)
+  dead_before : (ys : List PlainNode) (i : ℕ) → is_dead_at ys i ≡ true → is_dead_at (ys ++ x ∷ []) i ≡ true
+  dead_before [] zero e = bare_dead
+  dead_before [] (suc i) e = refl
+  dead_before (y ∷ ys) zero e = e
+  dead_before (y ∷ ys) (suc i) e = dead_before ys i e
+
+  dead_new : (ys : List PlainNode) → is_dead_at (ys ++ x ∷ []) (length ys) ≡ true
+  dead_new [] = bare_dead
+  dead_new (y ∷ ys) = dead_new ys
+
+  -- it is dead, and the others are marked as before
+  pub marked_new : (used new : List Bool) → ((m : ℕ) → m ≢ length xs → get_or new m true ≡ get_or used m true) → AreMarked xs used → AreMarked (xs ++ x ∷ []) new
+  marked_new used new others before m h = go (m == length xs) refl
     where
-      go : (ys : List PlainNode) (i : ℕ) → is_dead_at ys i ≡ true → is_dead_at (ys ++ x ∷ []) i ≡ true
-      go [] zero e = bare_dead
-      go [] (suc i) e = refl
-      go (y ∷ ys) zero e = e
-      go (y ∷ ys) (suc i) e = go ys i e
+      go : (b : Bool) → (m == length xs) ≡ b → is_dead_at (xs ++ x ∷ []) m ≡ true
+      go true e = let same : m ≡ length xs = grind (arith, nat_tests) in ap (is_dead_at (xs ++ x ∷ [])) same ∙ dead_new xs
+      go false e = dead_before xs m (before m (sym (others m apart) ∙ h))
+        where
+          test : m ≡ length xs → (m == length xs) ≡ true
+          test same = grind (arith, nat_tests)
+
+          apart : m ≢ length xs
+          apart same = absurd (true≢false (sym (test same) ∙ e))
 
 -- ---- numbers
 

@@ -9,3 +9,6 @@ pub mod Named
 pub mod Rewriting
 pub mod Applicable
 pub mod Sizes
+pub mod Roles
+pub mod Accounts
+pub mod Overlapped

@@ -1,10 +1,11 @@
 -- What processes pay for the nodes that they have, as it is kept.
-use Rattle.std.specs.Prelude.{ℕ, ◌+◌, ◌≡◌, Bool, true, false, ◌&&◌, List, sum_by, slice_get, get_or, if◌then◌else◌}
+use Rattle.std.specs.Prelude.{ℕ, ◌+◌, ◌≡◌, Bool, true, false, ◌&&◌, List, filter, length, map, sum_by, slice_get, get_or, if◌then◌else◌}
 use Rattle.std.specs.Option.{option_map_or}
 use Rattle.kb_label.specs.Names.{Name, has, is_empty}
 use Rattle.kb_node.specs.declared.node.LabelKind.{LabelKind}
 use Rattle.kb_node.specs.declared.node.LabelKind.TheVariants.{R0, R1, E, C0, C1}
-use Rattle.mkb_model.specs.Plain.{PlainNode, pair_size}
+use Rattle.kb_node.specs.declared.node.NodeId.{NodeId}
+use Rattle.mkb_model.specs.Plain.{PlainNode, numbers_from, pair_size}
 use Rattle.mkb_model.specs.declared.settings.Selection.{Selection}
 use Rattle.mkb_model.specs.declared.settings.Selection.TheVariants.{Stated, Size}
 use Rattle.mkb_rules.specs.declared.sizes.Sizes.{Sizes}
@@ -75,3 +76,15 @@ is_dead_at xs n = option_map_or is_dead_node (slice_get xs n) true
 -- each node that is marked as out of use is dead
 abbrev pub AreMarked : List PlainNode → List Bool → Type 0
 AreMarked xs used = (n : ℕ) → get_or used n true ≡ false → is_dead_at xs n ≡ true
+
+-- the list has, in their order, nodes of which each other one is marked as out of use
+pub record AreListed (used : List Bool) (count : ℕ) (l : List NodeId) : Type 0 where
+  pub has : ℕ → Bool
+  pub is : map (λ (n : NodeId). n.0) l ≡ filter has (numbers_from 0 count)
+  pub others : (n : ℕ) → has n ≡ false → get_or used n true ≡ false
+
+-- the list has, in their order, nodes of which each other one is dead
+pub record AreAlive (xs : List PlainNode) (l : List NodeId) : Type 0 where
+  pub has : ℕ → Bool
+  pub is : map (λ (n : NodeId). n.0) l ≡ filter has (numbers_from 0 (length xs))
+  pub others : (n : ℕ) → has n ≡ false → is_dead_at xs n ≡ true

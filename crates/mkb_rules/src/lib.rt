@@ -1,12 +1,15 @@
 //! The board without flight and journal, and what commits do to it.
 #![tactic(auto)]
 
+mod account;
 mod applied;
 mod effects;
 mod facts;
 mod labels;
+mod marks;
 mod nodes;
 mod opening;
+mod roles;
 mod row;
 mod sizes;
 mod sleepers;
@@ -14,4 +17,5 @@ mod state;
 mod tracked;
 
 pub use applied::Applied;
-pub use state::State;
+pub use roles::Roles;
+pub use state::{State, is_ordered};

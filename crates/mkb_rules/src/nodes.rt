@@ -5,10 +5,12 @@ ghost use Rattle.mkb_model.specs.Effects.{with_label, with_node, node_of, is_pre
 ghost use Rattle.kb_label.specs.Names.{minus};
 ghost use Rattle.mkb_rules.specs.Parts.{plain_nodes};
 ghost use Rattle.mkb_rules.specs.Nodes.{put_back};
-ghost use Rattle.mkb_rules.specs.Sizes.{is_dead_at, AreSizesOf};
+ghost use Rattle.mkb_rules.specs.Roles.{AreRolesOf};
+ghost use Rattle.mkb_rules.specs.Sizes.{is_dead_at, AreAlive, AreSizesOf};
 
 use crate::effects::label::rule_kind;
 use crate::labels::{copy_of, joined};
+use crate::roles::Roles;
 use crate::sizes::Sizes;
 use crate::tracked::Tracked;
 use kb_label::{Labels, ListLabels, NameLog, Process};
@@ -78,14 +80,22 @@ impl Nodes {
         self.table.is_dead(log, n)
     }
 
-    /// Keeps what each living process pays, where memory allows.
-    pub(crate) fn keep_sizes(&mut self, log: &NameLog)
-        ensures { self.new ≡ self.old }
+    /// The nodes that some process has as an equation or as a rule, in their order, and perhaps some that nobody has; none where
+    /// that isn't kept.
+    pub(crate) fn alive(&self) -> Option<&[NodeId]>
+        ensures { IfSome result (λ l. AreAlive self.now.now l.now) }
     {
-        self.table.keep_sizes(log);
+        self.table.alive()
     }
 
-    /// Nothing is kept of what the process pays from here on.
+    /// Keeps of each living process what it pays and how it has the nodes, where memory allows.
+    pub(crate) fn keep_accounts(&mut self, log: &NameLog)
+        ensures { self.new ≡ self.old }
+    {
+        self.table.keep_accounts(log);
+    }
+
+    /// Nothing of this is kept of the process from here on.
     pub(crate) fn forget(&mut self, p: &Process)
         ensures { self.new ≡ self.old }
     {
@@ -98,6 +108,13 @@ impl Nodes {
         ensures right { IfSome result (AreSizesOf self.now.now) }
     {
         self.table.sizes(place, p)
+    }
+
+    /// How the process has each of the first nodes, where that is kept at this place; else of none.
+    pub(crate) fn roles(&self, place: usize, p: &Process) -> &[Roles]
+        ensures { AreRolesOf self.now.now p.now result.now }
+    {
+        self.table.roles(place, p)
     }
 
     /// Keeps all changes: from here on they can't be taken back.

@@ -103,7 +103,7 @@ fn input_nodes(alloc: Global, log: &NameLog, equations: &[(Term, Term)]) -> Resu
         let number = i as u16 + 1;
         add_input(alloc, &mut nodes, log, &names, number, &equations[i])?;
     }
-    nodes.keep_sizes(log);
+    nodes.keep_accounts(log);
     Ok(nodes)
 }
 

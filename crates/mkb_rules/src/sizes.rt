@@ -30,9 +30,9 @@ impl Sizes {
         }
     }
 
-    // What the process pays after a label of this kind of a node of this size has changed; none where the number is too
-    // great for its type.
-    fn moved(&self, kind: LabelKind, size: u32, had: bool, has: bool) -> Option<Sizes>
+    /// What the process pays after a label of this kind of a node of this size has changed; none where the number is too
+    /// great for its type.
+    pub(crate) fn moved(&self, kind: LabelKind, size: u32, had: bool, has: bool) -> Option<Sizes>
         ensures process { IfSome result (λ s. s.process ≡ self.now.process) }
         ensures open { IfSome result (λ s. s.open_sizes + size_if (is_open_kind kind && had) size ≡ self.now.open_sizes + size_if (is_open_kind kind && has) size) }
         ensures rules { IfSome result (λ s. s.rule_sizes + size_if (is_rule_kind kind && had) size ≡ self.now.rule_sizes + size_if (is_rule_kind kind && has) size) }
@@ -62,33 +62,6 @@ fn moved_sum(sum: u32, size: u32, had: bool, has: bool) -> Option<u32>
         rest.checked_add(size)
     } else {
         Some(rest)
-    }
-}
-
-/// What is kept follows a label that is put into the table; where a number is too great, nothing is kept.
-pub(crate) fn follow(
-    kept: &mut Vec<Sizes>,
-    table: &NodeTable<ListLabels>,
-    log: &NameLog,
-    n: NodeId,
-    kind: LabelKind,
-    label: &ListLabels,
-)
-    requires there { n.0 < length table.now }
-    requires right { All (AreSizesOf (plain_nodes table.now)) kept.old.items }
-    ensures { All (AreSizesOf (plain_nodes (with_label_at table.now n.0 kind label.now))) kept.new.items }
-{
-    let size = table.size(n);
-    let old = table.label(n, kind);
-    for i in 0..kept.len() {
-        let process = kept[i].process;
-        match kept[i].moved(kind, size, old.has(log, &process), label.has(log, &process)) {
-            Some(moved) => kept[i] = moved,
-            None => {
-                kept.clear();
-                return;
-            }
-        }
     }
 }
 

@@ -2,14 +2,17 @@
 ghost use Rattle.std.specs.Prelude.{◌≡◌, ◌<◌, ◌&&◌, [], ◌∷◌, length, Some, IfSome, IsSome, MatchOption};
 ghost use Rattle.kb_label.specs.Names.{add, has, minus, name_eq};
 ghost use Rattle.kb_node.specs.declared.node.LabelKind.TheVariants.{X};
-ghost use Rattle.mkb_model.specs.Jobs.{ref_eq};
+ghost use Rattle.mkb_model.specs.Jobs.{ref_eq, ref_le};
 ghost use Rattle.mkb_model.specs.Plain.{cost, known, done_in, done_of, label, over_reason, certificate_of};
 ghost use Rattle.mkb_rules.specs.Parts.{plain_nodes};
-ghost use Rattle.mkb_rules.specs.Sizes.{is_dead_at};
+ghost use Rattle.mkb_rules.specs.Overlapped.{is_overlapped};
+ghost use Rattle.mkb_rules.specs.Roles.{AreRolesOf};
+ghost use Rattle.mkb_rules.specs.Sizes.{is_dead_at, AreAlive};
 ghost use Rattle.mkb_rules.specs.Kept.{plain_done, plain_certificates, place_in};
 
 use crate::facts::Facts;
 use crate::nodes::Nodes;
+use crate::roles::Roles;
 use crate::sleepers::Sleepers;
 use kb_cert::Certificate;
 use kb_label::{Labels, ListLabels, MAX_LIVING, NameLog, Process, Reason};
@@ -124,8 +127,19 @@ impl State {
         self.facts.known(n, side, rule)
     }
 
-    /// Whether two rules have been overlapped for a process.
+    /// Whether two rules have been overlapped for a process, in whichever order they are named.
     pub fn is_done(&self, p: &Process, a: RuleRef, b: RuleRef) -> bool
+        ensures { result ≡ is_overlapped self.now p.now a b }
+    {
+        if is_ordered(a, b) {
+            self.is_done_in_order(p, a, b)
+        } else {
+            self.is_done_in_order(p, b, a)
+        }
+    }
+
+    // Whether the first rule has been overlapped with the second for a process.
+    fn is_done_in_order(&self, p: &Process, a: RuleRef, b: RuleRef) -> bool
         ensures { result ≡ has (done_of self.now a b) p.now }
     {
         match done_names(&self.done, a, b) {
@@ -150,13 +164,30 @@ impl State {
         self.nodes.is_dead(&self.log, n)
     }
 
-    /// What a process costs, where that is kept. It is for each living process, where memory allows.
-    pub fn kept_cost(&self, p: &Process) -> Option<u32>
+    /// The nodes that some process has as an equation or as a rule, in their order, and perhaps some that nobody has; none where
+    /// that isn't kept. It is kept where memory allows, and takes constant time.
+    pub fn alive(&self) -> Option<&[NodeId]>
+        ensures { IfSome result (λ l. AreAlive self.now.nodes l.now) }
+    {
+        self.nodes.alive()
+    }
+
+    /// What the process at this place among the living costs, where that is kept. It is for each living process, where memory
+    /// allows.
+    pub fn kept_cost(&self, place: usize, p: &Process) -> Option<u32>
         ensures { IfSome result (λ c. c ≡ cost self.now p.now) }
     {
+        self.nodes.sizes(place, p)?.cost(self.settings.selection)
+    }
+
+    /// How a process has each of the first nodes, where that is kept; else of none. It is kept for each living process and for all
+    /// nodes, where memory allows.
+    pub fn roles(&self, p: &Process) -> &[Roles]
+        ensures { AreRolesOf self.now.nodes p.now result.now }
+    {
         match self.log.processes().binary_search(p) {
-            Ok(place) => self.nodes.sizes(place, p)?.cost(self.settings.selection),
-            Err(_) => None,
+            Ok(place) => self.nodes.roles(place, p),
+            Err(_) => &[],
         }
     }
 
@@ -242,6 +273,13 @@ impl GivenUp {
         }
         None
     }
+}
+
+/// Whether the first rule does not come after the second, by node, then direction.
+pub fn is_ordered(a: RuleRef, b: RuleRef) -> bool
+    ensures { result ≡ ref_le a b }
+{
+    a.node < b.node || (a.node == b.node && a.dir <= b.dir)
 }
 
 /// Whether both name one rule.

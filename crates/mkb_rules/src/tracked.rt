@@ -3,9 +3,14 @@ ghost use Rattle.std.specs.Prelude.{◌≡◌, ℕ, List, [], Some, ◌+◌, ◌
 ghost use Rattle.kb_node.specs.Labelled.{label_in, with_label_at, HasPair, LacksPair, AddsNode};
 ghost use Rattle.kb_label.specs.Names.{Name};
 ghost use Rattle.mkb_rules.specs.Parts.{plain_nodes};
-ghost use Rattle.mkb_rules.specs.Sizes.{is_dead_at, AreSizesOf};
+ghost use Rattle.mkb_rules.specs.Accounts.{IsAccountOf};
+ghost use Rattle.mkb_rules.specs.Roles.{AreRolesOf};
+ghost use Rattle.mkb_rules.specs.Sizes.{is_dead_at, AreAlive, AreSizesOf};
 
-use crate::sizes::{Sizes, follow, sizes_of};
+use crate::account::{Account, account_of, follow, follow_new};
+use crate::marks::Marks;
+use crate::roles::Roles;
+use crate::sizes::Sizes;
 use kb_label::{Labels, ListLabels, NameLog, Process};
 use kb_node::{LabelKind, MAX_NODES, NodeFault, NodeId, NodeTable};
 use kb_term::{Origin, Pair};
@@ -14,13 +19,13 @@ use std::marker::Model;
 
 /// The table of nodes. Contracts see the nodes alone.
 ///
-/// Beside it stands which nodes no process has as an equation or as a rule, and what processes pay for theirs; both follow each
-/// label that is put. Where memory is short they say less, and nothing false.
+/// Beside it stands which nodes no process has as an equation or as a rule, with a list of the others, and an account for each process of what it pays for
+/// its nodes and how it has them; both follow each label that is put. Where memory is short they say less, and nothing false.
 #[derive(Drop)]
 pub(crate) struct Tracked {
     table: NodeTable<ListLabels>,
-    used: Vec<bool>,
-    kept: Vec<Sizes>,
+    used: Marks,
+    accounts: Vec<Account>,
 }
 
 impl Model for Tracked {
@@ -30,7 +35,8 @@ impl Model for Tracked {
     ghost use Rattle.kb_label.specs.Names.{Name};
     ghost use Rattle.kb_node.specs.Labelled.{Node};
     ghost use Rattle.mkb_rules.specs.Parts.{plain_nodes};
-    ghost use Rattle.mkb_rules.specs.Sizes.{AreMarked, AreSizesOf};
+    ghost use Rattle.mkb_rules.specs.Accounts.{IsAccountOf};
+    ghost use Rattle.mkb_rules.specs.Sizes.{AreMarked};
 
     ghost Value = { List (Node (List Name)) };
 
@@ -38,7 +44,7 @@ impl Model for Tracked {
 
     ghost view = { λ t. t.table };
 
-    ghost invariant = { λ t. AreMarked (plain_nodes t.table) t.used.items × All (AreSizesOf (plain_nodes t.table)) t.kept.items };
+    ghost invariant = { λ t. AreMarked (plain_nodes t.table) t.used × All (IsAccountOf (plain_nodes t.table)) t.accounts.items };
 }
 
 impl Tracked {
@@ -48,8 +54,8 @@ impl Tracked {
     {
         Tracked {
             table: NodeTable::new(alloc),
-            used: Vec::new(alloc),
-            kept: Vec::new(alloc),
+            used: Marks::new(alloc),
+            accounts: Vec::new(alloc),
         }
     }
 
@@ -73,10 +79,7 @@ impl Tracked {
         requires { n.0 < length self.now }
         ensures { result ≡ is_dead_at (plain_nodes self.now) n.0 }
     {
-        match self.used.get(n.0 as usize) {
-            Some(false) => true,
-            _ => self.table.is_dead(log, n),
-        }
+        !self.used.is_used(n) || self.table.is_dead(log, n)
     }
 
     /// Puts a label in the place of the node's label of this kind, which it gives. It takes no memory.
@@ -91,10 +94,10 @@ impl Tracked {
         ensures old { option_map (λ node. label_in node kind) (slice_get self.old n.0) ≡ Some result }
         ensures new { self.new ≡ with_label_at self.old n.0 kind label }
     {
-        follow(&mut self.kept, &self.table, log, n, kind, &label);
+        follow(&mut self.accounts, &self.table, log, n, kind, &label);
         let replaced = self.table.set_label(n, kind, label);
         let is_dead = self.table.is_dead(log, n);
-        mark(&mut self.used, n, !is_dead);
+        self.used.set(n, !is_dead);
         replaced
     }
 
@@ -103,8 +106,8 @@ impl Tracked {
         requires { n.0 < length self.old }
         ensures new { self.new ≡ with_label_at self.old n.0 kind label }
     {
-        self.kept.clear();
-        mark(&mut self.used, n, true);
+        self.accounts.clear();
+        self.used.set(n, true);
         let _replaced = self.table.set_label(n, kind, label);
     }
 
@@ -113,7 +116,7 @@ impl Tracked {
         requires { len ≤ length self.old }
         ensures { self.new ≡ take len self.old }
     {
-        self.kept.clear();
+        self.accounts.clear();
         self.table.truncate(len);
     }
 
@@ -128,31 +131,58 @@ impl Tracked {
         ensures full { (result ≡ Err NodeFault.Full) ↔ (LacksPair self.old pair × (length self.old ≡ MAX_NODES)) }
         ensures err { OnErr result (self.new ≡ self.old) }
     {
+        let count = self.table.len();
         let n = self.table.find_or_add(pair, origin)?;
-        mark_more(&mut self.used, n);
+        if count < self.table.len() {
+            let new = NodeId(count as u16);
+            self.used.push(new);
+            follow_new(&mut self.accounts, new);
+        }
         Ok(n)
     }
 
-    /// Keeps what each living process pays, where memory allows.
-    pub(crate) fn keep_sizes(&mut self, log: &NameLog)
+    /// The nodes that some process has as an equation or as a rule, in their order, and perhaps some that nobody has; none where
+    /// that isn't kept. It takes constant time.
+    pub(crate) fn alive(&self) -> Option<&[NodeId]>
+        ensures { IfSome result (λ l. AreAlive (plain_nodes self.now) l.now) }
+    {
+        if self.used.len() != self.table.len() as usize {
+            return None;
+        }
+        self.used.list()
+    }
+
+    /// Keeps an account for each living process, where memory allows.
+    pub(crate) fn keep_accounts(&mut self, log: &NameLog)
         ensures { self.new ≡ self.old }
     {
         let living = log.processes();
-        if self.kept.len() == living.len() {
+        if self.accounts.len() == living.len() {
             return;
         }
         for i in 0..living.len() {
-            if !keep_one(&mut self.kept, &self.table, log, i, &living[i]) {
+            if !keep_one(&mut self.accounts, &self.table, log, i, &living[i]) {
                 return;
             }
         }
     }
 
-    /// Nothing is kept of the process from here on.
+    /// No account is kept of the process from here on.
     pub(crate) fn forget(&mut self, p: &Process)
         ensures { self.new ≡ self.old }
     {
-        self.kept.retain(|sizes| sizes.process != *p);
+        self.accounts.retain(|account| account.sizes.process != *p);
+    }
+
+    // The account of the process, where it is kept at this place.
+    fn account(&self, place: usize, p: &Process) -> Option<&Account>
+        ensures process { IfSome result (λ a. a.now.sizes.process ≡ p.now) }
+        ensures right { IfSome result (λ a. IsAccountOf (plain_nodes self.now) a.now) }
+    {
+        match self.accounts.get(place) {
+            Some(account) if account.sizes.process == *p => Some(account),
+            _ => None,
+        }
     }
 
     /// What the process pays, where that is kept at this place.
@@ -160,51 +190,42 @@ impl Tracked {
         ensures process { IfSome result (λ s. s.process ≡ p.now) }
         ensures right { IfSome result (AreSizesOf (plain_nodes self.now)) }
     {
-        match self.kept.get(place) {
-            Some(sizes) if sizes.process == *p => Some(*sizes),
-            _ => None,
+        match self.account(place, p) {
+            Some(account) => Some(account.sizes),
+            None => None,
+        }
+    }
+
+    /// How the process has each of the first nodes, where that is kept at this place; else of none.
+    pub(crate) fn roles(&self, place: usize, p: &Process) -> &[Roles]
+        ensures { AreRolesOf (plain_nodes self.now) p.now result.now }
+    {
+        match self.account(place, p) {
+            Some(account) => account.roles.as_slice(),
+            None => &[],
         }
     }
 }
 
-// Marks whether the node is in use, where there is room for that.
-fn mark(used: &mut Vec<bool>, n: NodeId, is_used: bool)
-    ensures { used.new.items ≡ set used.old.items n.0 is_used }
-{
-    if (n.0 as usize) < used.len() {
-        used[n.0 as usize] = is_used;
-    }
-}
-
-// Makes room for the mark of the node, which counts as used. Where memory is short there is none.
-fn mark_more(used: &mut Vec<bool>, n: NodeId)
-    ensures { (m : ℕ) → get_or used.new.items m true ≡ get_or used.old.items m true }
-{
-    let len = n.0 as usize + 1;
-    if used.len() < len {
-        used.resize(len, true).ok();
-    }
-}
-
-// Keeps what the process pays at this place, unless it stands there; whether it does then.
+// Keeps the account of the process at this place, unless it stands there; whether it does then.
 fn keep_one(
-    kept: &mut Vec<Sizes>,
+    accounts: &mut Vec<Account>,
     table: &NodeTable<ListLabels>,
     log: &NameLog,
     place: usize,
     p: &Process,
 ) -> bool
-    requires within { place ≤ length kept.old.items }
-    requires right { All (AreSizesOf (plain_nodes table.now)) kept.old.items }
-    ensures within { IsTrue result → place + 1 ≤ length kept.new.items }
-    ensures right { All (AreSizesOf (plain_nodes table.now)) kept.new.items }
+    requires within { place ≤ length accounts.old.items }
+    requires right { All (IsAccountOf (plain_nodes table.now)) accounts.old.items }
+    ensures within { IsTrue result → place + 1 ≤ length accounts.new.items }
+    ensures right { All (IsAccountOf (plain_nodes table.now)) accounts.new.items }
 {
-    match kept.get(place) {
-        Some(sizes) if sizes.process == *p => return true,
+    match accounts.get(place) {
+        Some(account) if account.sizes.process == *p => return true,
         _ => {}
     }
-    match sizes_of(table, log, p) {
-        Some(sizes) => kept.insert(place, sizes).is_ok(),
+    match account_of(*accounts.allocator(), table, log, p) {
+        Some(account) => accounts.insert(place, account).is_ok(),
         None => false,
     }
 }

@@ -136,7 +136,8 @@ fn overlap_square(rt: &impl Abort, alloc: Global, state: &mut State) {
     deduce_bare(rt, alloc, state, 1);
     deduce_nothing(rt, alloc, state, 1, 1);
     assert!(rt; state.is_done(&first(), forth(1), forth(1)));
-    assert!(rt; !state.is_done(&first(), forth(1), forth(0)));
+    assert!(rt; state.is_done(&first(), forth(0), forth(1)));
+    assert!(rt; state.is_done(&first(), forth(1), forth(0)));
 }
 
 // The first process has both rules and no equation.

@@ -31,7 +31,7 @@ pub(crate) fn generated_text(alloc: Global, number: u32) -> Result<Reply, Memory
     requires most { number ≤ 64 }
     ensures { IfOk result (λ r. Generates number r.status r.board r.text.items) }
 {
-    let problem = generate(alloc, number as usize)?;
+    let problem = generate(alloc, number)?;
     Ok(Reply {
         text: problem_text(alloc, &problem)?,
         status: Status::Done,
@@ -54,7 +54,7 @@ pub(crate) fn summarise<R: Threads + Wait + Sync, G: Gate>(
     ensures reply { IfOk result (λ r. Summarises settings number r.status r.board r.text.items) }
     ensures left { IfErr result (λ board. IfSome board (IsLeft (generated number) settings (Free 1))) }
 {
-    let Ok(problem) = generate(host.alloc, number as usize) else {
+    let Ok(problem) = generate(host.alloc, number) else {
         return Err(None);
     };
     let (board, _) = finish(host, problem, settings, Workers::Free(1))?;

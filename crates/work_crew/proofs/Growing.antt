@@ -1,11 +1,11 @@
 -- Boards that go on by the entries of one worker.
-use Rattle.std.proofs.Common.{ℕ, zero, suc, ◌≡◌, ◌⊎◌, ◌∙◌, refl, sym, ap, arith, append_assoc, inl, inr, List, [], ◌∷◌, ◌++◌, length, Bool, true, false}
+use Rattle.std.proofs.Common.{ℕ, zero, suc, ◌≡◌, ◌⊎◌, ◌∙◌, refl, sym, ap, arith, append_assoc, inl, inr, List, [], ◌∷◌, ◌++◌, Bool, true, false}
 use Rattle.std.specs.Prelude.{Result, Ok, Err, IfOk, OnErr, if◌then◌else◌}
 use Rattle.std.proofs.lemmas.List.{append-nil}
 use Rattle.std.proofs.lemmas.List.Elements.{All-append}
 use Rattle.turn_lock.specs.Turn.{IsFrom}
 use Rattle.mkb_model.specs.Plain.{Plain}
-use Rattle.mkb_model.specs.Effects.{effect, effect_entry}
+use Rattle.mkb_model.specs.Effects.{effect_entry}
 use Rattle.mkb_model.specs.Journals.{landed, worker_of}
 use Rattle.mkb_model.specs.declared.proposed.Proposed.{Proposed}
 use Rattle.mkb_model.specs.declared.entry.Ticket.{Ticket}
@@ -19,12 +19,12 @@ use Rattle.mkb_board.specs.declared.answers.Taken.TheVariants.{Job as TakenJob, 
 use Rattle.mkb_board.specs.declared.answers.Finished.{Finished}
 use Rattle.mkb_board.specs.declared.answers.Finished.TheVariants.{Ended, Dropped, Committed}
 use Rattle.work_crew.specs.Alone.{IsSameRun}
-use Rattle.work_crew.specs.Together.{Grows, IsGivenBack, IsHalted, halted}
+use Rattle.work_crew.specs.Together.{Grows, IsGivenBack, halted}
 
-none_from : (w : ℕ) → IsFrom worker_of w []
+pub none_from : (w : ℕ) → IsFrom worker_of w []
 none_from w n d l = absurd (omega (arith, l))
 
-one_from : (w : ℕ) (e : Entry) → (worker_of e ≡ w) ⊎ (worker_of e ≡ 0) → IsFrom worker_of w (e ∷ [])
+pub one_from : (w : ℕ) (e : Entry) → (worker_of e ≡ w) ⊎ (worker_of e ≡ 0) → IsFrom worker_of w (e ∷ [])
 one_from w e h zero d l = h
 one_from w e h (suc n) d l = absurd (omega (arith, l))
 

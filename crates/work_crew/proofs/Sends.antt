@@ -28,8 +28,8 @@ use Rattle.mkb_rules.proofs.state.Certified.TheSendSync as certified
 use Rattle.mkb_rules.proofs.state.DonePair.TheSendSync as done
 use Rattle.mkb_rules.proofs.state.GivenUp.TheSendSync as over
 use Rattle.mkb_rules.proofs.sleepers.Sleepers.TheSendSync as sleepers
-use Rattle.mkb_rules.proofs.sizes.Sizes.TheSendSync as sizes
-use Rattle.mkb_board.proofs.normal.Normal.TheSendSync as normal
+use Rattle.mkb_rules.proofs.account.Account.TheSendSync as account
+use Rattle.mkb_rules.proofs.roles.Roles.TheSendSync as roles
 use Rattle.std.specs.contracts.alloc.Global as Global
 use Rattle.std.specs.contracts.impls.GlobalAllocator.TheImpl as heap
 use Rattle.std.proofs.vec.Vec.TheSendSync as vec
@@ -58,7 +58,11 @@ use Rattle.mkb_model.specs.contracts.proposed.Proposed as Proposed
 use Rattle.mkb_model.specs.contracts.entry.Effect as Effect
 use Rattle.mkb_model.specs.contracts.entry.Entry as Entry
 use Rattle.mkb_rules.specs.contracts.state.State as State
+use Rattle.kb_jobs.specs.contracts.rules.NamedRules as NamedRules
+use Rattle.kb_jobs.specs.contracts.rules.SharedRules as SharedRules
+use Rattle.kb_jobs.specs.contracts.rules.SharedRules.TheInside as SharedInside
 use Rattle.mkb_board.specs.contracts.board.Board as Board
+use Rattle.mkb_board.specs.contracts.normal.Normal as Normal
 use Rattle.turn_lock.proofs.lock.Turns.TheSendSync as turns
 use Rattle.work_crew.specs.contracts.shared.Shared as Shared
 use Rattle.work_crew.specs.contracts.together.Workplace as Workplace
@@ -114,7 +118,7 @@ table_send T L g h s = view_send (TableInside.the_row T L g h) _ _ _ _ (recorded
 tracked_send : IsSend Tracked.the_row
 tracked_send = view_send TrackedInside.the_row _ _ _ _ (recorded_send (TrackedInside.the_field).row _ _ (TrackedInside.the_type).to_one (struct_send (S.shape TrackedInside.the_type) (
   table_send LabelList.the_row NameLog.the_row label_ghosts.ghosts log_ghosts.ghosts labels.the_send,
-  (search (sendable, crosses), (search (sendable, crosses, sizes.the_send), tt)),
+  (search (sendable, crosses), (search (sendable, crosses, account.the_send), tt)),
 )))
 
 nodes_send : IsSend Nodes.the_row
@@ -135,8 +139,17 @@ state_send = view_send StateInside.the_row _ _ _ _ (recorded_send (StateInside.t
   ),
 )))
 
+pub shared_rules_send : IsSend SharedRules.the_row
+shared_rules_send = view_send SharedInside.the_row _ _ _ _ (recorded_send (SharedInside.the_field).row _ _ (SharedInside.the_type).to_one (struct_send (S.shape SharedInside.the_type) (search (sendable, crosses, term_crosses) depth 20 fits 100000, tt)))
+
+pub named_rules_send : IsSend NamedRules.the_row
+named_rules_send = recorded_send (NamedRules.the_field).row _ _ (NamedRules.the_type).to_one (struct_send (S.shape NamedRules.the_type) (search (sendable, crosses, rule_ref.the_send), (shared_rules_send, tt)))
+
+normal_send : IsSend Normal.the_row
+normal_send = search (sendable, crosses, rule_ref.the_send, roles.the_send, named_rules_send, global.the_send) depth 40 fits 100000
+
 pub board_send : IsSend Board.the_row
-board_send = search (sendable, crosses, state_send, entry_send, ticket.the_send, verdict.the_send, normal.the_send) depth 60
+board_send = search (sendable, crosses, state_send, entry_send, ticket.the_send, verdict.the_send, normal_send) depth 60
 
 pub shared_send : IsSend Shared.the_row
 shared_send = search (sendable, board_send) depth 20

@@ -3,7 +3,6 @@ use Rattle.std.specs.Prelude.{ℕ, ◌≡◌, ◌≤◌, ◌⊎◌, List, [], �
 use Rattle.std.specs.List.{list_any}
 use Rattle.kb_term.specs.Signature.{Problem}
 use Rattle.kb_jobs.specs.Working.{ProposesBy}
-use Rattle.kb_jobs.specs.declared.working.Snapshot.{Snapshot}
 use Rattle.mkb_model.specs.Plain.{Plain}
 use Rattle.mkb_model.specs.Verdicts.{verdict}
 use Rattle.mkb_model.specs.Headline.{TakesAreBy}

@@ -1,7 +1,8 @@
 // The work of one worker.
-ghost use Rattle.std.specs.Prelude.{◌≡◌, [], OnOk, OnErr};
+ghost use Rattle.std.specs.Prelude.{◌≡◌, [], IsSome, IfOk, OnOk, OnErr};
+ghost use Rattle.mkb_model.specs.Verdicts.{verdict};
 ghost use Rattle.mkb_board.specs.Boards.{IsLegalBoard};
-ghost use Rattle.work_crew.specs.Alone.{IsInTurn, IsSameRun, IsAtRest, IsJustTaken, EndsAlone};
+ghost use Rattle.work_crew.specs.Alone.{IsInTurn, IsSameRun, IsStopped, IsJustTaken, CommitsOnce, ComesTo, EndsAlone};
 
 use crate::gates::ask;
 use crate::moments::moment_of;
@@ -25,7 +26,7 @@ pub struct Crew {
 enum Turn {
     /// A verdict stands.
     Over,
-    /// A ticket was taken and ended.
+    /// A ticket was taken, and what its job proposed was committed.
     Went,
 }
 
@@ -39,8 +40,7 @@ pub fn work_alone<G: Gate>(alloc: Global, board: Board, gate: &G) -> Crew
 {
     let mut board = board;
     let _opening = board.journal();
-    let _worked = take_turns(alloc, &mut board, gate);
-    let out_of_memory = board.verdict().is_none();
+    let out_of_memory = take_turns(alloc, &mut board, gate).is_err();
     if out_of_memory {
         board.halt();
     }
@@ -51,27 +51,28 @@ pub fn work_alone<G: Gate>(alloc: Global, board: Board, gate: &G) -> Crew
     }
 }
 
-// Turns are taken until a verdict stands.
+// Turns are taken until a verdict stands. Each commits once, so there are no more of them than commits are left.
 fn take_turns<G: Gate>(alloc: Global, board: &mut Board, gate: &G) -> Result<(), Memory>
     requires { IsInTurn board.old }
     ensures ok { OnOk result (IsInTurn board.new) }
-    ensures err { OnErr result (IsAtRest board.new) }
+    ensures over { OnOk result (IsSome (verdict board.new.plain)) }
+    ensures err { OnErr result (IsStopped board.new) }
     ensures same { IsSameRun board.old board.new }
 {
-    for _ in 0..u64::MAX {
+    'turns: loop {
         match take_turn(alloc, board, gate)? {
             Turn::Went => {}
             Turn::Over => return Ok(()),
         }
     }
-    Ok(())
 }
 
 // One ticket is taken, worked and ended, unless a verdict stands.
 fn take_turn<G: Gate>(alloc: Global, board: &mut Board, gate: &G) -> Result<Turn, Memory>
     requires { IsInTurn board.old }
     ensures ok { OnOk result (IsInTurn board.new) }
-    ensures err { OnErr result (IsAtRest board.new) }
+    ensures turn { IfOk result (ComesTo board.old board.new) }
+    ensures err { OnErr result (IsStopped board.new) }
     ensures same { IsSameRun board.old board.new }
 {
     let _journal = board.journal();
@@ -96,7 +97,8 @@ fn work_ticket(
 ) -> Result<(), Memory>
     requires { IsJustTaken board.old ticket snapshot.now }
     ensures ok { OnOk result (IsInTurn board.new) }
-    ensures err { OnErr result (IsAtRest board.new) }
+    ensures once { OnOk result (CommitsOnce board.old board.new) }
+    ensures err { OnErr result (IsStopped board.new) }
     ensures same { IsSameRun board.old board.new }
 {
     let proposal = match work(alloc, snapshot) {

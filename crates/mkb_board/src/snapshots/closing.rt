@@ -23,7 +23,7 @@ pub(crate) fn close_snapshot(
 ) -> Result<CloseSnapshot, Memory>
     ensures process { IfOk result (λ s. s.process ≡ process) }
     ensures taken { IfOk result (IsTakenClose state.now) }
-    ensures as_many { IfOk result (λ s. length s.rules.names.items ≡ length s.rules.rules.items) }
+    ensures as_many { IfOk result (λ s. length s.rules.names.items ≡ length s.rules.rules) }
 {
     let view = view_of(state, &process)?;
     let names = copied_names(alloc, view.rules.items())?;

@@ -1,17 +1,19 @@
 // Copies of the rules that a process has on the board.
-ghost use Rattle.std.specs.Prelude.{◌≡◌, ◌<◌, ◌≤◌, ◌++◌, Some, All, IfOk, OnOk, filter, length, map};
+ghost use Rattle.std.specs.Prelude.{◌≡◌, ◌<◌, ◌≤◌, ◌++◌, Some, All, IfOk, IfSome, OnOk, length, map};
 ghost use Rattle.kb_node.specs.declared.node.NodeId.{NodeId as Numbered};
-ghost use Rattle.mkb_model.specs.Plain.{directions, is_rule, pair_at, rule_at, rules_at, rules_of, constraints_of, equations_of};
+ghost use Rattle.mkb_model.specs.Plain.{Plain, pair_at, rule_at, rules_at, rules_of, constraints_of, equations_of};
 ghost use Rattle.mkb_model.specs.Proposals.{named_rules};
 ghost use Rattle.kb_jobs.specs.Rules.{listed};
+ghost use Rattle.mkb_board.specs.Normal.{rules_in, HoldsRules};
 ghost use Rattle.mkb_rules.specs.Named.{IsRuleThere};
 
-use crate::choosing::{is_rule, node_count};
-use kb_jobs::NamedRules;
+use crate::choosing::node_count;
+use crate::normal::{are_same, roles_by};
+use kb_jobs::{NamedRules, SharedRules};
 use kb_label::Process;
 use kb_node::{NodeId, View};
 use kb_term::{Memory, Pair, Rule, RuleRef, rule_of};
-use mkb_rules::State;
+use mkb_rules::{Roles, State};
 use std::alloc::{AllocError, Global};
 
 /// The pair of a node.
@@ -54,9 +56,82 @@ pub(crate) fn named_rules(
     requires { All (IsRuleThere state.now) names.items }
     ensures names { IfOk result (λ rules. rules.names.items ≡ names.items) }
     ensures rules { IfOk result (λ rules. listed rules ≡ named_rules state.now names.items) }
-    ensures as_many { IfOk result (λ rules. length rules.names.items ≡ length rules.rules.items) }
+    ensures trees { IfOk result (λ rules. rules.rules ≡ rules_at state.now names.items) }
+    ensures as_many { IfOk result (λ rules. length rules.names.items ≡ length rules.rules) }
 {
     let rules = rules_at(alloc, state, names.as_slice())?;
+    let rules = SharedRules::new(alloc, rules)?;
+    Ok(NamedRules { names, rules })
+}
+
+// From how many rules on they are kept for later snapshots.
+const MANY: usize = 8;
+
+/// The rules with the names, and their names: those that are kept, where they have these names. Many rules are kept in their place,
+/// unless those are more than twice as many.
+#[tactic(auto, using(crate::proofs::Viewed::shared_there, crate::proofs::Viewed::as_many_there))]
+pub(crate) fn shared_rules(
+    alloc: Global,
+    state: &State,
+    kept: &mut Option<NamedRules>,
+    names: Vec<RuleRef>,
+) -> Result<NamedRules, Memory>
+    requires there { All (IsRuleThere state.now) names.items }
+    requires kept { HoldsRules state.now kept.old }
+    ensures kept { HoldsRules state.now kept.new }
+    ensures names { IfOk result (λ rules. rules.names.items ≡ names.items) }
+    ensures rules { IfOk result (λ rules. listed rules ≡ named_rules state.now names.items) }
+    ensures as_many { IfOk result (λ rules. length rules.names.items ≡ length rules.rules) }
+{
+    if let Some(rules) = kept_rules(kept, names.as_slice())? {
+        return Ok(NamedRules { names, rules });
+    }
+    let rules = named_rules(alloc, state, names)?;
+    keep(alloc, kept, &rules);
+    Ok(rules)
+}
+
+// The rules that are kept, where they have these names.
+fn kept_rules(
+    kept: &Option<NamedRules>,
+    names: &[RuleRef],
+) -> Result<Option<SharedRules>, AllocError>
+    ensures { (b : Plain) → HoldsRules b kept.now → IfOk result (λ o. IfSome o (λ rules. rules ≡ rules_at b names.now)) }
+{
+    match kept {
+        Some(old) if are_same(old.names.as_slice(), names) => {
+            let rules = old.rules.clone()?;
+            Ok(Some(rules))
+        }
+        _ => Ok(None),
+    }
+}
+
+// Keeps the rules for later snapshots, where they are many, unless those that are kept are more than twice as many.
+fn keep(alloc: Global, kept: &mut Option<NamedRules>, rules: &NamedRules)
+    ensures { (b : Plain) → HoldsRules b kept.old → HoldsRules b (Some rules.now) → HoldsRules b kept.new }
+{
+    let count = rules.names.len();
+    if count >= MANY && count >= kept_count(kept) / 2 {
+        *kept = copy_of(alloc, rules).ok();
+    }
+}
+
+// How many rules are kept.
+fn kept_count(kept: &Option<NamedRules>) -> usize {
+    match kept {
+        Some(rules) => rules.names.len(),
+        None => 0,
+    }
+}
+
+// The same rules once more, with their names.
+fn copy_of(alloc: Global, rules: &NamedRules) -> Result<NamedRules, AllocError>
+    ensures names { IfOk result (λ copy. copy.names.items ≡ rules.now.names.items) }
+    ensures rules { IfOk result (λ copy. copy.rules ≡ rules.now.rules) }
+{
+    let names = Vec::from_slice(alloc, rules.names.as_slice())?;
+    let rules = rules.rules.clone()?;
     Ok(NamedRules { names, rules })
 }
 
@@ -78,33 +153,24 @@ pub(crate) fn rules_of(
 ) -> Result<Vec<RuleRef>, AllocError>
     ensures { IfOk result (λ rules. rules.items ≡ rules_of state.now p.now) }
 {
+    let kept = state.roles(p);
     let mut rules = Vec::new(alloc);
     for n in 0..node_count(state) {
-        push_rules(&mut rules, state, p, n as u16)?;
+        let roles = roles_by(state, kept, p, NodeId(n as u16));
+        push_rules(&mut rules, n as u16, roles)?;
     }
     Ok(rules)
 }
 
-// Adds the rules that the process has in the node.
-fn push_rules(
-    rules: &mut Vec<RuleRef>,
-    state: &State,
-    p: &Process,
-    node: u16,
-) -> Result<(), AllocError>
-    requires { node < length state.now.nodes }
-    ensures { OnOk result (rules.new.items ≡ rules.old.items ++ filter (is_rule state.now p.now) (directions node)) }
+// Adds the rules of whoever has the node so.
+fn push_rules(rules: &mut Vec<RuleRef>, node: u16, roles: Roles) -> Result<(), AllocError>
+    ensures { OnOk result (rules.new.items ≡ rules.old.items ++ rules_in node roles) }
 {
-    if state.is_dead(NodeId(node)) {
-        return Ok(());
+    if roles.first {
+        rules.push(RuleRef { node, dir: 0 })?;
     }
-    let forth = RuleRef { node, dir: 0 };
-    if is_rule(state, p, forth) {
-        rules.push(forth)?;
-    }
-    let back = RuleRef { node, dir: 1 };
-    if is_rule(state, p, back) {
-        rules.push(back)?;
+    if roles.second {
+        rules.push(RuleRef { node, dir: 1 })?;
     }
     Ok(())
 }

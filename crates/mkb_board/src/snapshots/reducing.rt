@@ -4,17 +4,17 @@ ghost use Rattle.std.specs.List.{flat_map};
 ghost use Rattle.kb_jobs.specs.Taken.{IsTakenReduce};
 ghost use Rattle.mkb_model.specs.Plain.{is_equation, is_rule};
 ghost use Rattle.mkb_model.specs.Invariants.{FactsHold};
-ghost use Rattle.mkb_board.specs.Normal.{is_open_to};
+ghost use Rattle.mkb_board.specs.Normal.{is_open_to, HoldsRules};
 ghost use Rattle.mkb_board.specs.Snapshots.{AreWithin, IsWholeReduce, open_rules, unknown_on, with_names};
 
-use super::named::{named_rules, pair_at, rules_of};
+use super::named::{pair_at, rules_of, shared_rules};
 use crate::choosing::{is_equation, is_rule};
-use crate::normal::{Roles, is_open_to};
-use kb_jobs::ReduceSnapshot;
+use crate::normal::{is_open_to, roles_by};
+use kb_jobs::{NamedRules, ReduceSnapshot};
 use kb_label::Process;
 use kb_node::NodeId;
 use kb_term::{Memory, RuleRef};
-use mkb_rules::State;
+use mkb_rules::{Roles, State};
 use std::alloc::{AllocError, Global};
 
 /// The pair of the node, the rules of the process in other nodes to which some side of the node is open, and what is unknown of them.
@@ -22,11 +22,14 @@ use std::alloc::{AllocError, Global};
 pub(crate) fn reduce_snapshot(
     alloc: Global,
     state: &State,
+    kept: &mut Option<NamedRules>,
     process: Process,
     node: NodeId,
 ) -> Result<ReduceSnapshot, Memory>
     requires there { node.0 < length state.now.nodes }
     requires facts { FactsHold state.now }
+    requires kept { HoldsRules state.now kept.old }
+    ensures kept { HoldsRules state.now kept.new }
     ensures process { IfOk result (λ s. s.process ≡ process) }
     ensures node { IfOk result (λ s. s.node ≡ node) }
     ensures taken { IfOk result (IsTakenReduce state.now) }
@@ -35,7 +38,7 @@ pub(crate) fn reduce_snapshot(
     let pair = pair_at(state, node)?;
     let names = open_rules(alloc, state, &process, node)?;
     let unknown = unknown(alloc, state, node, names.as_slice())?;
-    let rules = named_rules(alloc, state, names)?;
+    let rules = shared_rules(alloc, state, kept, names)?;
     Ok(ReduceSnapshot {
         process,
         node,
@@ -76,7 +79,8 @@ fn open_rules(alloc: Global, state: &State, p: &Process, n: NodeId) -> Result<Ve
     let rules = rules_of(alloc, state, p)?;
     // Each node gives at most two rules.
     let count = state.nodes().len();
-    let names = open_to(alloc, state, rules.as_slice(), n, Roles::of(state, p, n))?;
+    let roles = roles_by(state, state.roles(p), p, n);
+    let names = open_to(alloc, state, rules.as_slice(), n, roles)?;
     prove!(count <= 4096);
     Ok(names)
 }

@@ -68,7 +68,7 @@ impl State {
         ensures { self.new ≡ self.old }
     {
         self.nodes.forget(p);
-        self.nodes.keep_sizes(&self.log);
+        self.nodes.keep_accounts(&self.log);
     }
 
     // The process forks, where there is room.

@@ -10,20 +10,20 @@ pub returns-in-Ok : goal.returns-in-Ok
 returns-in-Ok c =
     let s = c.args.s.now in
     let f = c.requires.first.0 in
-    let inside : c.args.redex.rule < length s.rules.names.items = omega (arith, c.requires.reducible.rules.as_many, rule_inside s.rules.rules.items c.args.redex.rule f.redex.rule f.redex.there) in (
+    let inside : c.args.redex.rule < length s.rules.names.items = omega (arith, c.requires.reducible.rules.as_many, rule_inside s.rules.rules c.args.redex.rule f.redex.rule f.redex.there) in (
       refl,
       rewriting s c.requires.reducible c.args.w c.args.redex c.index-rule.result.now (tree_of c.args.t.now) c.step-stepped.result c.in-Ok.result c.requires.side c.requires.term c.requires.first
           (read_at s.rules.names.items c.args.redex.rule c.index-rule.result.now inside c.index-rule.ensures)
-          (λ r e. c.step-stepped.ensures r (ap (λ (rs : List Rule). slice_get rs c.args.redex.rule) c.deref.ensures.value ∙ e)) c.in-Ok.is c.requires.before,
+          (λ r e. c.step-stepped.ensures r (ap (λ (rs : List Rule). slice_get rs c.args.redex.rule) c.as_slice.ensures ∙ e)) c.in-Ok.is c.requires.before,
     )
 
 pub returns : goal.returns
 returns c =
     let s = c.args.s.now in
     let f = c.requires.first.0 in
-    let inside : c.args.redex.rule < length s.rules.names.items = omega (arith, c.requires.reducible.rules.as_many, rule_inside s.rules.rules.items c.args.redex.rule f.redex.rule f.redex.there) in (
+    let inside : c.args.redex.rule < length s.rules.names.items = omega (arith, c.requires.reducible.rules.as_many, rule_inside s.rules.rules c.args.redex.rule f.redex.rule f.redex.there) in (
       refl,
       large s c.requires.reducible c.args.w c.args.redex c.index-rule.result.now (tree_of c.args.t.now) c.step-stepped.result c.in-Large.limit _ c.requires.side c.requires.term c.requires.first
           (read_at s.rules.names.items c.args.redex.rule c.index-rule.result.now inside c.index-rule.ensures)
-          (λ r e. c.step-stepped.ensures r (ap (λ (rs : List Rule). slice_get rs c.args.redex.rule) c.deref.ensures.value ∙ e)) (c.in-Err.is ∙ ap Err c.in-Large.is) c.requires.before refl c.reason_of.ensures,
+          (λ r e. c.step-stepped.ensures r (ap (λ (rs : List Rule). slice_get rs c.args.redex.rule) c.as_slice.ensures ∙ e)) (c.in-Err.is ∙ ap Err c.in-Large.is) c.requires.before refl c.reason_of.ensures,
     )

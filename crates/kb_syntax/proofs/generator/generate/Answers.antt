@@ -1,7 +1,7 @@
-use Rattle.std.proofs.Common.{◌≡◌, ℕ, sym, ◌∙◌, ap, subst, arith, List, [], ◌∷◌, ◌++◌}
+use Rattle.std.proofs.Common.{◌≡◌, ℕ, sym, ◌∙◌, ap, subst, arith, List, [], ◌∷◌, ◌++◌, length}
 use Rattle.std.specs.Prelude.{map}
 use Rattle.std.specs.List.{range_with_len}
-use Rattle.std.proofs.lemmas.List.{map-append}
+use Rattle.std.proofs.lemmas.List.{map-append, length-map}
 use Rattle.std.proofs.lemmas.List.FromFn.{map-range_with_len_more}
 use Rattle.kb_term.specs.Tree.{variable}
 use Rattle.kb_term.specs.Signature.{IsSignature}
@@ -10,8 +10,12 @@ use Rattle.kb_syntax.specs.Generator.{letter_entry, generated_equation, on, oute
 use Rattle.kb_syntax.proofs.GeneratorLaws.{is_signature_of_letters}
 use Rattle.kb_syntax.proofs.generator.generate.Goals as goal
 
-pub new-signature-requires : goal.new-signature-requires
-new-signature-requires c = subst IsSignature (ap (map letter_entry) (sym c.deref.ensures.value) ∙ sym c.in_ok-entries.ensures) (is_signature_of_letters c.in_ok-letters.letters.items c.in_ok-letters.ensures.kept)
+pub new-signature-requires-clause-few : goal.new-signature-requires-clause-few
+new-signature-requires-clause-few c =
+    omega (arith, c.in_ok-letters.ensures.few, ap length c.deref.ensures.value, simp length-map at (ap length c.in_ok-entries.ensures))
+
+pub new-signature-requires-clause-names : goal.new-signature-requires-clause-names
+new-signature-requires-clause-names c = subst IsSignature (ap (map letter_entry) (sym c.deref.ensures.value) ∙ sym c.in_ok-entries.ensures) (is_signature_of_letters c.in_ok-letters.letters.items c.in_ok-letters.ensures.kept)
 
 pub loop-i-preserved : goal.loop-i-preserved
 loop-i-preserved c =

@@ -21,7 +21,7 @@ signature-one = record {
   differ = λ i j d h k. absurd (omega arith);
 }
 
-pub new-requires : goal.new-requires
-new-requires g c =
+pub new-requires-clause-names : goal.new-requires-clause-names
+new-requires-clause-names g c =
     let named : symbols_of_list c.push.new.self.items ≡ one_symbol = search rules in
     subst {A = Signature} IsSignature (sym named) signature-one

@@ -19,5 +19,5 @@ returns-in-None-clause-step c = λ s rest b.
     let text = c.args.text.now in
     let line = c.in-Some.ensures in
     let n = c.in-Some.length in
-    let r = one_line 10 (body names number s) (take n text) rest (drop (n + 1) text) (body_without signature c.requires.names number (omega arith) s b.form) line.without (sym (line_then names number s rest) ∙ sym b.spelling ∙ line.parts) in
+    let r = one_line 10 (body names number s) (take n text) rest (drop (n + 1) text) (body_without signature c.requires number (omega arith) s b.form) line.without (sym (line_then names number s rest) ∙ sym b.spelling ∙ line.parts) in
     (rw c.in-None.is at c.in_ok-read_step.ensures) s (record { form = b.form; spelling = c.split_at.ensures.front ∙ sym r.0 })

@@ -10,13 +10,13 @@ loop-n-init c = record {
   serves = c.requires;
 }
 
-pub returns-then-is_choice-clause-first : goal.returns-then-is_choice-clause-first
-returns-then-is_choice-clause-first c =
+pub returns-then-is_reduce_choice-clause-first : goal.returns-then-is_reduce_choice-clause-first
+returns-then-is_reduce_choice-clause-first c =
     let b = c.args.state.now in
     let q = is_choice b (jobs_of c.args.flight.now) in
     let job = Reduce c.args.p.now (record { 0 = c.loop-n.n }) in
     let there : c.loop-n.n < length b.nodes = omega arith in
-    sym (c.loop-n.invariant.none ∙ find_here q (λ n. Reduce c.args.p.now (record { 0 = n }) ∷ []) c.loop-n.n (length b.nodes) job there (find_one q job (sym c.is_choice.ensures.choice ∙ c.if-is_choice.true)))
+    sym (c.loop-n.invariant.none ∙ find_here q (λ n. Reduce c.args.p.now (record { 0 = n }) ∷ []) c.loop-n.n (length b.nodes) job there (find_one q job (sym c.is_reduce_choice.ensures.choice ∙ c.if-is_reduce_choice.true)))
 
 pub loop-n-preserved : goal.loop-n-preserved
 loop-n-preserved c =
@@ -25,6 +25,6 @@ loop-n-preserved c =
     let job = Reduce c.args.p.now (record { 0 = c.loop-n.n }) in
     let there : c.loop-n.n < length b.nodes = omega arith in
     record {
-      none = c.loop-n.invariant.none ∙ find_on q (λ n. Reduce c.args.p.now (record { 0 = n }) ∷ []) c.loop-n.n (length b.nodes) there (find_not q job (sym c.is_choice.ensures.choice ∙ c.if-is_choice.false));
-      serves = c.is_choice.ensures.serves;
+      none = c.loop-n.invariant.none ∙ find_on q (λ n. Reduce c.args.p.now (record { 0 = n }) ∷ []) c.loop-n.n (length b.nodes) there (find_not q job (sym c.is_reduce_choice.ensures.choice ∙ c.if-is_reduce_choice.false));
+      serves = c.is_reduce_choice.ensures.serves;
     }

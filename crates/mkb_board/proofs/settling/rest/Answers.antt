@@ -21,7 +21,7 @@ loop-preserved c =
     record {
       differs = with_sleepers b s c.rest_one.new.state (with_one_asleep s s.asleep) d c.rest_one.ensures;
       label = subst {A = List Name} (IsLabel b) (sym now) (label_rests b s.asleep c.requires.in_order c.loop.invariant.label);
-      left = ap (iterate (with_one_asleep b) (c.working-count.result - (c.loop.counter + 1))) now ∙ sym (one_less (with_one_asleep b) c.working-count.result c.loop.counter s.asleep c.loop-test.true) ∙ c.loop.invariant.left;
+      left = ap (iterate (with_one_asleep b) (c.args.count - (c.loop.counter + 1))) now ∙ sym (one_less (with_one_asleep b) c.args.count c.loop.counter s.asleep c.loop-test.true) ∙ c.loop.invariant.left;
     }
 
 pub rest_one-requires-clause-rest : goal.rest_one-requires-clause-rest

@@ -1,12 +1,13 @@
-use Rattle.std.proofs.Common.{◌≡◌, ◌∙◌, ap}
+use Rattle.std.proofs.Common.{◌∙◌, ap, [], ◌∷◌, ◌++◌}
 use Rattle.mkb_model.specs.Journals.{landed}
+use Rattle.mkb_model.specs.declared.entry.Entry.TheVariants.{Abandon}
 use Rattle.mkb_board.specs.Boards.{Seen}
-use Rattle.work_crew.proofs.Turns.{worked, given_back, unchanged_by, finished}
+use Rattle.work_crew.proofs.Turns.{worked, given_back, unchanged_by, finished, commits_once}
 use Rattle.work_crew.proofs.alone.work_ticket.Goals.{in-Ok-finish, in-Err-finish}
 use Rattle.work_crew.proofs.alone.work_ticket.Goals as goal
 
 pub returns-in-Err-clause-err : goal.returns-in-Err-clause-err
-returns-in-Err-clause-err c = given_back c.args.board.now c.args.ticket c.args.snapshot.now c.requires c.abandon.new.self c.abandon.ensures.plain
+returns-in-Err-clause-err c = given_back c.args.board.now c.args.ticket c.args.snapshot.now c.requires c.abandon.new.self c.abandon.ensures.plain c.abandon.ensures.journal
 
 pub finish-requires-clause-proposed : goal.finish-requires-clause-proposed
 finish-requires-clause-proposed c = worked c.args.board.now c.args.ticket c.args.snapshot.now c.requires c.in-Ok.proposal c.in-Ok.ensures
@@ -17,10 +18,17 @@ returns-clause-ok c = elim c.match-finish.branch [
   | in-Err-finish w ↦ rw w.result-is tt
 ]
 
+pub returns-clause-once : goal.returns-clause-once
+returns-clause-once c = elim c.match-finish.branch [
+  | in-Ok-finish w ↦ rw (w.result-is, w.board-is) (commits_once c.args.board.now c.args.ticket c.args.snapshot.now c.requires c.finish.new.self c.in-Ok.proposal w.in-Ok-finish.field-0 c.in-Ok.ensures w.in-Ok-finish.ensures.ok)
+  | in-Err-finish w ↦ rw w.result-is tt
+]
+
 pub returns-clause-err : goal.returns-clause-err
 returns-clause-err c = elim c.match-finish.branch [
   | in-Ok-finish w ↦ rw w.result-is tt
-  | in-Err-finish w ↦ rw w.result-is (given_back c.args.board.now c.args.ticket c.args.snapshot.now c.requires c.match-finish.board (ap (λ (z : Seen). z.plain) w.board-is ∙ w.abandon-in-Err-finish.ensures.plain ∙ ap (λ (z : Seen). landed c.args.ticket.number z.plain) w.in-Err-finish.ensures.err))
+  | in-Err-finish w ↦ rw w.result-is (given_back c.args.board.now c.args.ticket c.args.snapshot.now c.requires c.match-finish.board (ap (λ (z : Seen). z.plain) w.board-is ∙ w.abandon-in-Err-finish.ensures.plain ∙ ap (λ (z : Seen). landed c.args.ticket.number z.plain) w.in-Err-finish.ensures.err)
+      (ap (λ (z : Seen). z.journal) w.board-is ∙ w.abandon-in-Err-finish.ensures.journal ∙ ap (λ (z : Seen). z.journal ++ Abandon c.args.ticket.worker c.args.ticket.number ∷ []) w.in-Err-finish.ensures.err))
 ]
 
 pub returns-clause-same : goal.returns-clause-same

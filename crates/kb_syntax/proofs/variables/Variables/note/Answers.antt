@@ -1,4 +1,4 @@
-use Rattle.std.proofs.Common.{ap, sym, ◌∙◌, ◌≡◌, ◌<◌, arith, subst, ℕ, List, [], ◌∷◌, ◌++◌, length}
+use Rattle.std.proofs.Common.{ap, sym, ◌∙◌, ◌≡◌, arith, subst, ℕ, List, [], ◌∷◌, ◌++◌, length}
 use Rattle.std.proofs.Math.ListN.{set}
 use Rattle.kb_term.specs.Pair.{place_in}
 use Rattle.kb_text.specs.Names.{number_of}

@@ -14,4 +14,4 @@ pub returns : goal.returns
 returns c =
     let b = c.self.inside.state in
     let p = process_of c.args.job.now in
-    c.cost.ensures ∙ ap (cost b) c.process_of.ensures ∙ subst {A = Seen} (λ z. cost b p ≡ cost z.plain p) c.self.view_is (ap (λ (f : Name → ℕ). f p) (sym (cost_alike b c.self.inside.flight.items b.asleep)))
+    c.cost.ensures ∙ ap (cost b) c.process_of-process.ensures ∙ subst {A = Seen} (λ z. cost b p ≡ cost z.plain p) c.self.view_is (ap (λ (f : Name → ℕ). f p) (sym (cost_alike b c.self.inside.flight.items b.asleep)))

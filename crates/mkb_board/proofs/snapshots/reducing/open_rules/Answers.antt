@@ -8,4 +8,4 @@ use Rattle.mkb_board.proofs.snapshots.reducing.open_rules.Goals as goal
 pub returns-clause-few : goal.returns-clause-few
 returns-clause-few c =
     let few : length c.args.state.now.nodes ≤ 4096 = omega (arith, c.len-count.ensures.count, c.len-count.ensures.most, ap length c.nodes.ensures, length-map c.nodes.result.now plain_node) in
-    others_few c.args.state.now c.args.p.now (is_open_to c.args.state.now c.of.result c.args.n.0) _ _ c.in_ok-names.ensures (c.as_slice.ensures.value ∙ c.in_ok-rules.ensures) few
+    others_few c.args.state.now c.args.p.now (is_open_to c.args.state.now c.roles_by-roles.result c.args.n.0) _ _ c.in_ok-names.ensures (c.as_slice.ensures.value ∙ c.in_ok-rules.ensures) few

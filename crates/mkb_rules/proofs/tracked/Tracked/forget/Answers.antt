@@ -4,19 +4,19 @@ use Rattle.std.proofs.lemmas.Fn.{filter_same}
 use Rattle.std.proofs.lemmas.List.Elements.{All-filter}
 use Rattle.kb_label.specs.Names.{Name, name_eq}
 use Rattle.mkb_rules.specs.Parts.{plain_nodes}
-use Rattle.mkb_rules.specs.Sizes.{AreSizesOf}
-use Rattle.mkb_rules.specs.declared.sizes.Sizes.{Sizes}
+use Rattle.mkb_rules.specs.Accounts.{IsAccountOf}
+use Rattle.mkb_rules.specs.declared.account.Account.{Account}
 use Rattle.mkb_rules.proofs.tracked.Tracked.forget.Goals as goal
 
-differs : Name → Sizes → Bool
-differs p s = not (name_eq s.process p)
+differs : Name → Account → Bool
+differs p a = not (name_eq a.sizes.process p)
 
-kept : (c : goal.After-retain) → c.retain.new.self.items ≡ filter (differs c.args.p.now) c.self.inside.kept.items
+kept : (c : goal.After-retain) → c.retain.new.self.items ≡ filter (differs c.args.p.now) c.self.inside.accounts.items
 unfolding differs
 kept c = filter_same _ (differs c.args.p.now) _ (λ x b f' k. search rules) _ _ c.retain.ensures.filtered
 
 pub invariant_of-self : goal.invariant_of-self
 invariant_of-self c = (
   c.self.invariant.0,
-  subst {A = List Sizes} (All (AreSizesOf (plain_nodes c.self.inside.table))) (sym (kept c)) (All-filter (differs c.args.p.now) (AreSizesOf (plain_nodes c.self.inside.table)) c.self.inside.kept.items c.self.invariant.1),
+  subst {A = List Account} (All (IsAccountOf (plain_nodes c.self.inside.table))) (sym (kept c)) (All-filter (differs c.args.p.now) (IsAccountOf (plain_nodes c.self.inside.table)) c.self.inside.accounts.items c.self.invariant.1),
 )

@@ -11,9 +11,9 @@ use Rattle.mkb_rules.proofs.tracked.Tracked.put_back.Goals as goal
 pub invariant_of-self : goal.invariant_of-self
 invariant_of-self c =
     let xs = plain_nodes c.self.inside.table in
-    let put = marked xs c.self.inside.used.items c.args.n.0 c.args.kind c.args.label true c.self.invariant.0 (λ e. absurd (true≢false e)) in
+    let put = marked xs c.self.inside.used c.args.n.0 c.args.kind c.args.label true c.self.invariant.0 (λ e. absurd (true≢false e)) in
     let nodes = ap plain_nodes c.set_label-replaced.ensures.new ∙ plain-with_label c.self.inside.table c.args.n.0 c.args.kind c.args.label in (
-      subst {A = List PlainNode} (λ ys. AreMarked ys c.mark.new.used.items) (sym nodes)
-          (subst {A = List Bool} (AreMarked (with_label c.args.n.0 c.args.kind c.args.label xs)) (sym c.mark.ensures) put),
+      subst {A = List PlainNode} (λ ys. AreMarked ys c.set.new.self) (sym nodes)
+          (subst {A = List Bool} (AreMarked (with_label c.args.n.0 c.args.kind c.args.label xs)) (sym c.set.ensures) put),
       λ k d h. absurd (omega (arith, h, ap length c.clear.ensures.items)),
     )

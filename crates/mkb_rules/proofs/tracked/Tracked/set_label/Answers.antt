@@ -6,7 +6,8 @@ use Rattle.kb_node.specs.Labelled.{Node}
 use Rattle.mkb_model.specs.Plain.{PlainNode}
 use Rattle.mkb_model.specs.Effects.{with_label}
 use Rattle.mkb_rules.specs.Parts.{plain_nodes}
-use Rattle.mkb_rules.specs.Sizes.{AreMarked, AreSizesOf, is_dead_at}
+use Rattle.mkb_rules.specs.Accounts.{IsAccountOf}
+use Rattle.mkb_rules.specs.Sizes.{AreMarked, is_dead_at}
 use Rattle.mkb_rules.proofs.PutBack.{plain-with_label}
 use Rattle.mkb_rules.proofs.Paying.{marked, dead_plain}
 use Rattle.mkb_rules.proofs.tracked.Tracked.set_label.Goals as goal
@@ -20,8 +21,8 @@ invariant_of-self c =
     let xs = plain_nodes c.self.inside.table in
     let nodes = ap plain_nodes c.set_label-replaced.ensures.new ∙ plain-with_label c.self.inside.table c.args.n.0 c.args.kind c.args.label in
     let dead : not c.is_dead-is_dead.result ≡ false → is_dead_at (with_label c.args.n.0 c.args.kind c.args.label xs) c.args.n.0 ≡ true = λ e. ap (λ ys. is_dead_at ys c.args.n.0) (sym nodes) ∙ dead_plain c.set_label-replaced.new.self c.args.n.0 c.is_dead-is_dead.result c.is_dead-is_dead.ensures ∙ used-or_dead c.is_dead-is_dead.result e in
-    let put = marked xs c.self.inside.used.items c.args.n.0 c.args.kind c.args.label (not c.is_dead-is_dead.result) c.self.invariant.0 dead in (
-      subst {A = List PlainNode} (λ ys. AreMarked ys c.mark.new.used.items) (sym nodes)
-          (subst {A = List Bool} (AreMarked (with_label c.args.n.0 c.args.kind c.args.label xs)) (sym c.mark.ensures) put),
-      subst {A = List (Node (List Name))} (λ ys. All (AreSizesOf (plain_nodes ys)) c.follow.new.kept.items) (sym c.set_label-replaced.ensures.new) c.follow.ensures,
+    let put = marked xs c.self.inside.used c.args.n.0 c.args.kind c.args.label (not c.is_dead-is_dead.result) c.self.invariant.0 dead in (
+      subst {A = List PlainNode} (λ ys. AreMarked ys c.set.new.self) (sym nodes)
+          (subst {A = List Bool} (AreMarked (with_label c.args.n.0 c.args.kind c.args.label xs)) (sym c.set.ensures) put),
+      subst {A = List (Node (List Name))} (λ ys. All (IsAccountOf (plain_nodes ys)) c.follow.new.accounts.items) (sym c.set_label-replaced.ensures.new) c.follow.ensures,
     )

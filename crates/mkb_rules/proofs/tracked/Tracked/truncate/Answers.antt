@@ -8,8 +8,8 @@ use Rattle.mkb_rules.proofs.tracked.Tracked.truncate.Goals as goal
 
 pub invariant_of-self : goal.invariant_of-self
 invariant_of-self c = (
-  subst {A = List PlainNode} (λ xs. AreMarked xs c.self.inside.used.items)
+  subst {A = List PlainNode} (λ xs. AreMarked xs c.self.inside.used)
       (take-map plain_node c.args.len c.self.inside.table ∙ ap plain_nodes (sym c.truncate.ensures))
-      (marked_first (plain_nodes c.self.inside.table) c.self.inside.used.items c.args.len c.self.invariant.0),
+      (marked_first (plain_nodes c.self.inside.table) c.self.inside.used c.args.len c.self.invariant.0),
   λ k d h. absurd (omega (arith, h, ap length c.clear.ensures.items)),
 )

@@ -1,0 +1,12 @@
+mod FirstJob
+mod FirstOver
+mod Sight
+mod Makes
+mod Others
+mod Turning
+mod Added
+mod Stopped
+mod Sources
+mod Rewriting
+mod Refused
+mod Stuck

@@ -1,0 +1,12 @@
+use Rattle.mkb_moves.proofs.Refused.{refused_unorientable}
+use Rattle.mkb_moves.proofs.Stuck.{failed_stuck, all_stuck}
+use Rattle.mkb_moves.proofs.laws.failed_processes_are_stuck.Goals as goal
+
+pub returns-clause-refused : goal.returns-clause-refused
+returns-clause-refused c = refused_unorientable
+
+pub returns-clause-stuck : goal.returns-clause-stuck
+returns-clause-stuck c = failed_stuck
+
+pub returns-clause-all : goal.returns-clause-all
+returns-clause-all c = all_stuck

@@ -1,0 +1,5 @@
+use Rattle.mkb_moves.proofs.Stopped.{limit_stops}
+use Rattle.mkb_moves.proofs.laws.limits_stop_their_processes.Goals as goal
+
+pub returns : goal.returns
+returns c = limit_stops

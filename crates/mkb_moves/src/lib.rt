@@ -1,0 +1,15 @@
+//! Which processes a commit of the shared board moves, which job comes first, and how processes end.
+//!
+//! Each function has an empty body: its clauses are theorems over the definitions of this crate and of `mkb_model`.
+#![tactic(auto)]
+
+mod laws;
+
+pub use laws::{
+    closings_and_facts_are_noted, deducing_adds_equations, failed_processes_are_stuck,
+    first_job_is_the_least, limits_stop_their_processes, orienting_makes_rules,
+    others_keep_their_state, reasons_are_of_the_first, rewriting_moves_its_label,
+};
+
+#[cfg(test)]
+mod tests;

@@ -1,0 +1,56 @@
+use Rattle.std.proofs.Common.{◌≡◌, ◌∙◌, ◌+◌, ◌<◌, Bool, ap, ap₂, sym, subst, arith, List, length, get_or, set}
+use Rattle.std.specs.Prelude.{◌&&◌}
+use Rattle.std.proofs.lemmas.List.{get_or_default, get_or-set_same, get_or-set_other, length-set, length-map}
+use Rattle.kb_label.specs.Names.{Name, has}
+use Rattle.kb_node.specs.Labelled.{with_label_at}
+use Rattle.mkb_model.specs.Plain.{PlainNode, label_at}
+use Rattle.mkb_model.specs.Effects.{with_label}
+use Rattle.mkb_rules.specs.Parts.{plain_node, plain_nodes}
+use Rattle.mkb_rules.specs.Accounts.{IsAccountOf}
+use Rattle.mkb_rules.specs.Roles.{with_role_at, AreRolesOf}
+use Rattle.mkb_rules.specs.Sizes.{size_if, size_at, is_open_kind, is_rule_kind}
+use Rattle.mkb_rules.specs.declared.account.Account.{Account}
+use Rattle.mkb_rules.specs.declared.roles.Roles.{Roles}
+use Rattle.mkb_rules.proofs.PutBack.{plain-with_label, plain-label}
+use Rattle.mkb_rules.proofs.Paying.{plain-size, sizes_moved, same_or_less}
+use Rattle.mkb_rules.proofs.RolesKept.{roles_moved}
+use Rattle.mkb_rules.proofs.account.follow.Goals as goal
+
+pub loop-i-preserved : goal.loop-i-preserved
+loop-i-preserved c =
+    let xs = plain_nodes c.args.table.now in
+    let n = c.args.n.0 in
+    let k = c.args.kind in
+    let l = c.args.label.now in
+    let i = c.loop-i.i in
+    let now = c.loop-i.accounts.items in
+    let s = c.index_mut.result.now in
+    let t = c.follow.new.self in
+    let there : n < length xs = omega (arith, c.requires.there, length-map c.args.table.now plain_node) in
+    let inside : i < length now = omega (arith, c.loop-i.invariant.count, c.loop-i-test.true) in
+    let right : IsAccountOf xs s = subst {A = Account} (IsAccountOf xs) (sym c.index_mut.ensures.value) (c.loop-i.invariant.todo i s (omega arith) inside) in
+    let size = plain-size c.args.table.now n c.size-size.result c.size-size.ensures.size in
+    let same : c.index.result.now.sizes.process ≡ s.sizes.process = ap (λ (z : Account). z.sizes.process) (c.index.ensures ∙ get_or_default now i c.index.result.now s inside ∙ sym c.index_mut.ensures.value) in
+    let before : c.has-had.result ≡ has (label_at xs n k) s.sizes.process = c.has-had.ensures ∙ ap₂ has (plain-label c.args.table.now n k c.label-old.result.now c.label-old.ensures) same in
+    let after : c.has-has.result ≡ has l s.sizes.process = c.has-has.ensures ∙ ap (has l) same in
+    let done = c.if-not-follow.false in
+    let first : t.sizes.open_sizes + size_if (is_open_kind k && has (label_at xs n k) s.sizes.process) (size_at xs n) ≡ s.sizes.open_sizes + size_if (is_open_kind k && has l s.sizes.process) (size_at xs n) =
+    ap₂ (λ (b : Bool) z. t.sizes.open_sizes + size_if (is_open_kind k && b) z) (sym before) (sym size) ∙ c.follow.ensures.open done ∙ ap₂ (λ (b : Bool) z. s.sizes.open_sizes + size_if (is_open_kind k && b) z) after size in
+    let second : t.sizes.rule_sizes + size_if (is_rule_kind k && has (label_at xs n k) s.sizes.process) (size_at xs n) ≡ s.sizes.rule_sizes + size_if (is_rule_kind k && has l s.sizes.process) (size_at xs n) =
+    ap₂ (λ (b : Bool) z. t.sizes.rule_sizes + size_if (is_rule_kind k && b) z) (sym before) (sym size) ∙ c.follow.ensures.rules done ∙ ap₂ (λ (b : Bool) z. s.sizes.rule_sizes + size_if (is_rule_kind k && b) z) after size in
+    let roles : AreRolesOf (with_label n k l xs) t.sizes.process t.roles.items =
+    subst {A = Name} (λ p. AreRolesOf (with_label n k l xs) p t.roles.items) (sym c.follow.ensures.process)
+    (subst {A = List Roles} (AreRolesOf (with_label n k l xs) s.sizes.process) (sym (c.follow.ensures.roles done ∙ ap (with_role_at s.roles.items n k) after)) (roles_moved xs n k l s.sizes.process s.roles.items there right.roles)) in
+    let new : IsAccountOf (plain_nodes (with_label_at c.args.table.now n k l)) t =
+    subst {A = List PlainNode} (λ ys. IsAccountOf ys t) (sym (plain-with_label c.args.table.now n k l))
+    (record { sizes = sizes_moved xs n k l s.sizes t.sizes there right.sizes c.follow.ensures.process first second; roles = roles }) in
+    record {
+      count = length-set now i t ∙ c.loop-i.invariant.count;
+      done = λ j d u v. same_or_less (λ z. IsAccountOf (plain_nodes (with_label_at c.args.table.now n k l)) (get_or (set now i t) z d)) i j u
+          (subst {A = Account} (IsAccountOf (plain_nodes (with_label_at c.args.table.now n k l))) (sym (get_or-set_same now i t d inside)) new)
+          (λ w. subst {A = Account} (IsAccountOf (plain_nodes (with_label_at c.args.table.now n k l))) (sym (get_or-set_other now i j t d (λ e. absurd (omega (arith, e, w))))) (c.loop-i.invariant.done j d w (omega (arith, v, length-set now i t))));
+      todo = λ j d u v. subst {A = Account} (IsAccountOf xs) (sym (get_or-set_other now i j t d (λ e. absurd (omega (arith, e, u))))) (c.loop-i.invariant.todo j d (omega (arith, u)) (omega (arith, v, length-set now i t)));
+    }
+
+pub returns : goal.returns
+returns c = λ k d h. c.loop-i.invariant.done k d (omega (arith, h, c.loop-i.invariant.count, c.loop-i-test.false)) h

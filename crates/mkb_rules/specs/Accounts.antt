@@ -1,0 +1,19 @@
+-- Accounts of processes, as they are kept.
+use Rattle.std.specs.Prelude.{◌≡◌, List, []}
+use Rattle.mkb_model.specs.Plain.{PlainNode}
+use Rattle.mkb_rules.specs.Roles.{AreRolesOf}
+use Rattle.mkb_rules.specs.Sizes.{AreSizesOf}
+use Rattle.mkb_rules.specs.declared.account.Account.{Account}
+
+-- what the process pays, and how it has the first nodes, is as the account says
+pub record IsAccountOf (xs : List PlainNode) (a : Account) : Type 0 where
+  pub sizes : AreSizesOf xs a.sizes
+  pub roles : AreRolesOf xs a.sizes.process a.roles.items
+
+-- no label of the node names a process for which it would count
+pub record IsBare (x : PlainNode) : Type 0 where
+  pub rule0 : x.rule0 ≡ []
+  pub rule1 : x.rule1 ≡ []
+  pub equation : x.equation ≡ []
+  pub constraint0 : x.constraint0 ≡ []
+  pub constraint1 : x.constraint1 ≡ []

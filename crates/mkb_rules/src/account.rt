@@ -1,0 +1,128 @@
+// Accounts of processes: what is kept of them beside the nodes.
+ghost use Rattle.std.specs.Prelude.{◌≡◌, ◌+◌, ◌<◌, ◌≤◌, ◌&&◌, ◌++◌, ◌∷◌, [], List, length, All, IfOk, IfSome, IsTrue};
+ghost use Rattle.kb_label.specs.Names.{has};
+ghost use Rattle.kb_node.specs.Labelled.{with_label_at};
+ghost use Rattle.mkb_rules.specs.Accounts.{IsAccountOf, IsBare};
+ghost use Rattle.mkb_model.specs.Plain.{PlainNode};
+ghost use Rattle.mkb_rules.specs.Parts.{plain_nodes};
+ghost use Rattle.mkb_rules.specs.Roles.{no_roles, roles_at, with_role_at, AreRolesOf};
+ghost use Rattle.mkb_rules.specs.Sizes.{size_if, is_open_kind, is_rule_kind};
+
+use crate::roles::{Roles, note_role};
+use crate::sizes::{Sizes, sizes_of};
+use kb_label::{Labels, ListLabels, NameLog, Process};
+use kb_node::{LabelKind, NodeId, NodeTable};
+use std::alloc::{AllocError, Global};
+
+/// What a process pays for its nodes, and how it has each of the first ones.
+#[derive(Drop)]
+pub(crate) struct Account {
+    pub(crate) sizes: Sizes,
+    pub(crate) roles: Vec<Roles>,
+}
+
+impl Account {
+    /// The account follows a label of this kind of a node of this size, which named the process or didn't, and now does or
+    /// doesn't. Whether it could: not where a number is too great for its type.
+    fn follow(&mut self, n: NodeId, kind: LabelKind, size: u32, had: bool, has: bool) -> bool
+        ensures process { self.new.sizes.process ≡ self.old.sizes.process }
+        ensures open { IsTrue result → self.new.sizes.open_sizes + size_if (is_open_kind kind && had) size ≡ self.old.sizes.open_sizes + size_if (is_open_kind kind && has) size }
+        ensures rules { IsTrue result → self.new.sizes.rule_sizes + size_if (is_rule_kind kind && had) size ≡ self.old.sizes.rule_sizes + size_if (is_rule_kind kind && has) size }
+        ensures roles { IsTrue result → self.new.roles.items ≡ with_role_at self.old.roles.items n.0 kind has }
+    {
+        match self.sizes.moved(kind, size, had, has) {
+            Some(sizes) => {
+                self.sizes = sizes;
+                note_role(&mut self.roles, n, kind, has);
+                true
+            }
+            None => false,
+        }
+    }
+
+    /// The account notes that nobody has the new node, the last one, where there is room for that.
+    fn follow_new(&mut self, n: NodeId)
+        ensures { (xs : List PlainNode) (x : PlainNode) → IsBare x → n.0 ≡ length xs → IsAccountOf xs self.old → IsAccountOf (xs ++ x ∷ []) self.new }
+    {
+        if self.roles.len() == n.0 as usize {
+            self.roles.push(Roles::none()).ok();
+        }
+    }
+}
+
+/// The accounts follow a label that is put into the table; where a number is too great, none is kept.
+pub(crate) fn follow(
+    accounts: &mut Vec<Account>,
+    table: &NodeTable<ListLabels>,
+    log: &NameLog,
+    n: NodeId,
+    kind: LabelKind,
+    label: &ListLabels,
+)
+    requires there { n.0 < length table.now }
+    requires right { All (IsAccountOf (plain_nodes table.now)) accounts.old.items }
+    ensures { All (IsAccountOf (plain_nodes (with_label_at table.now n.0 kind label.now))) accounts.new.items }
+{
+    let size = table.size(n);
+    let old = table.label(n, kind);
+    for i in 0..accounts.len() {
+        let process = accounts[i].sizes.process;
+        let (had, has) = (old.has(log, &process), label.has(log, &process));
+        if !accounts[i].follow(n, kind, size, had, has) {
+            accounts.clear();
+            return;
+        }
+    }
+}
+
+/// The accounts note that nobody has the new node, the last one.
+pub(crate) fn follow_new(accounts: &mut Vec<Account>, n: NodeId)
+    ensures { (xs : List PlainNode) (x : PlainNode) → IsBare x → n.0 ≡ length xs → All (IsAccountOf xs) accounts.old.items → All (IsAccountOf (xs ++ x ∷ [])) accounts.new.items }
+{
+    for i in 0..accounts.len() {
+        accounts[i].follow_new(n);
+    }
+}
+
+/// The account of a process; none for want of memory, or where a number is too great for its type. It goes over all nodes.
+pub(crate) fn account_of(
+    alloc: Global,
+    table: &NodeTable<ListLabels>,
+    log: &NameLog,
+    p: &Process,
+) -> Option<Account>
+    ensures process { IfSome result (λ a. a.sizes.process ≡ p.now) }
+    ensures right { IfSome result (IsAccountOf (plain_nodes table.now)) }
+{
+    let sizes = sizes_of(table, log, p)?;
+    let roles = roles_of(alloc, table, log, p).ok()?;
+    Some(Account { sizes, roles })
+}
+
+// How the process has each node.
+fn roles_of(
+    alloc: Global,
+    table: &NodeTable<ListLabels>,
+    log: &NameLog,
+    p: &Process,
+) -> Result<Vec<Roles>, AllocError>
+    ensures { IfOk result (λ roles. AreRolesOf (plain_nodes table.now) p.now roles.items) }
+{
+    let mut roles = Vec::new(alloc);
+    for n in 0..table.len() {
+        roles.push(roles_in(table, log, NodeId(n as u16), p))?;
+    }
+    Ok(roles)
+}
+
+// How the process has the node.
+fn roles_in(table: &NodeTable<ListLabels>, log: &NameLog, n: NodeId, p: &Process) -> Roles
+    requires { n.0 < length table.now }
+    ensures { result ≡ roles_at (plain_nodes table.now) n.0 p.now }
+{
+    Roles {
+        equation: table.label(n, LabelKind::E).has(log, p),
+        first: table.label(n, LabelKind::R0).has(log, p),
+        second: table.label(n, LabelKind::R1).has(log, p),
+    }
+}
