@@ -1,5 +1,5 @@
 -- The journal of one worker alone and those of several, and what they make of the board.
-use Rattle.std.proofs.Common.{ℕ, ◌≡◌, ◌≢◌, ◌≤◌, ◌∙◌, sym, refl, subst, arith, List, [], ◌∷◌, Bool, true, false, ◌==◌, ◌&&◌, Some, None, ⊎_elim}
+use Rattle.std.proofs.Common.{ℕ, ◌≡◌, ◌≢◌, ◌≤◌, ◌∙◌, ap, sym, refl, subst, arith, List, [], ◌∷◌, Bool, true, false, ◌==◌, ◌&&◌, ◌||◌, ◌++◌, Some, None, ⊎_elim}
 use mathlib.Core.Logic.{dite}
 use native.Mathlib.Decide.{ℕ_discrete}
 use Rattle.std.specs.Prelude.{IsSome, IsTrue}
@@ -10,7 +10,7 @@ use Rattle.kb_term.proofs.Steps.{contains_cases}
 use Rattle.kb_label.specs.declared.verdict.Verdict.{Verdict}
 use Rattle.kb_node.specs.declared.job.Job.{Job}
 use Rattle.mkb_model.specs.Headline.{TakesAreBy}
-use Rattle.mkb_model.specs.Journals.{After, Alone, Follows, IsFirstJob, IsRun, Moment, journal_of, takes_in_turn, is_end_of}
+use Rattle.mkb_model.specs.Journals.{After, Alone, Follows, IsFirstJob, IsRun, Moment, journal_of, takes_in_turn, is_end_of, is_halt}
 use Rattle.mkb_model.specs.Plain.{Plain}
 use Rattle.mkb_model.specs.Verdicts.{verdict}
 use Rattle.mkb_model.specs.declared.entry.Entry.{Entry}
@@ -19,7 +19,7 @@ use Rattle.mkb_model.proofs.AllFine.{runs_complete}
 use Rattle.mkb_model.proofs.Lists.{none_some}
 use Rattle.mkb_model.proofs.Selections.{legal-possible}
 use Rattle.mkb_board.specs.Boards.{Seen, has_halt, IsLegalBoard}
-use Rattle.work_crew.specs.Alone.{EndsAlone, IsBrokenOff}
+use Rattle.work_crew.specs.Alone.{EndsAlone, IsBrokenOff, IsBrokenOffAlone}
 use Rattle.work_crew.specs.Together.{EndsTogether}
 use Rattle.work_crew.specs.declared.alone.Crew.{Crew}
 use Rattle.mkbtt_top.specs.Completing.{IsBroken, IsFinished}
@@ -137,6 +137,17 @@ GaveUp P n s = (s.plain.problem ≡ P) × (s.plain.settings ≡ n) × (s.plain.f
 gave_up : (P : Problem) (n : Settings) (s : Seen) → IsBrokenOff P n s → GaveUp P n s
 gave_up P n s off = (off.problem, off.settings, off.at_rest.grounded, off.halted)
 
+halt_last : (J : List Entry) → has_halt (J ++ Halt ∷ []) ≡ true
+halt_last [] = refl
+halt_last (e ∷ J) = go (is_halt e) (halt_last J)
+  where
+    go : (b : Bool) → has_halt (J ++ Halt ∷ []) ≡ true → (b || has_halt (J ++ Halt ∷ [])) ≡ true
+    go true h = refl
+    go false h = h
+
+gave_up_alone : (P : Problem) (n : Settings) (s : Seen) → IsBrokenOffAlone P n s → GaveUp P n s
+gave_up_alone P n s off = (off.problem, off.settings, off.at_rest.grounded, ap has_halt off.halted ∙ halt_last off.entries)
+
 -- the work was broken off where it ended without a verdict
 broken_alone : (P : Problem) (n : Settings) (workers : Workers) (crew : Crew) → IsWithinLimits P → (crew.out_of_memory ≡ false → IsSome (verdict crew.board.plain)) → (crew.out_of_memory ≡ true → GaveUp P n crew.board) → IsLegalBoard crew.board → ((k : ℕ) → workers ≡ Free k → k ≢ 1 → TakesAreBy k crew.board.journal) → verdict crew.board.plain ≡ None → IsBroken P n workers crew.board
 broken_alone P n workers crew within ended off legal takes none = go crew.out_of_memory refl
@@ -150,7 +161,7 @@ broken_by P n (InRounds workers) crew within ends none = broken_alone P n (InRou
 broken_by P n (Free workers) crew within ends none = dite (ℕ_discrete workers 1)
     (λ (one : workers ≡ 1).
     let alone = (ends.0 one).0 in
-    broken_alone P n (Free workers) crew within (λ e. (alone.0 e).ended) (λ e. gave_up P n crew.board (alone.1 e)) (ends.0 one).1 (λ k e several. let same : workers ≡ k = cc in absurd (several (sym same ∙ one))) none)
+    broken_alone P n (Free workers) crew within (λ e. (alone.0 e).ended) (λ e. gave_up_alone P n crew.board (alone.1 e)) (ends.0 one).1 (λ k e several. let same : workers ≡ k = cc in absurd (several (sym same ∙ one))) none)
     (λ (many : workers ≢ 1).
     let together = ends.1 many in
     broken P n (Free workers) crew.board within together.problem together.settings together.legal (λ k e several. let same : workers ≡ k = cc in subst {A = ℕ} (λ i. TakesAreBy i crew.board.journal) same together.takes) (λ one. absurd (many (one workers refl))) none (together.halted none))
