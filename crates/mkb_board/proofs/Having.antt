@@ -1,11 +1,25 @@
 -- How a process has a node, by its labels and as it is kept.
-use Rattle.std.proofs.Common.{ℕ, zero, suc, ◌≡◌, ◌++◌, refl, sym, ap, ◌∙◌, List, [], ◌∷◌, filter, Bool, true, false, cond, Option, Some, None}
+use Rattle.std.proofs.Common.{ℕ, zero, suc, ◌+◌, ◌<◌, ◌≡◌, ◌++◌, ◌||◌, ◌&&◌, not, refl, sym, ap, ap₂, ◌∙◌, arith, subst, List, [], ◌∷◌, length, map, filter, flat_map, get_or, Contains, Bool, true, false, cond, Option, Some, None}
 use Rattle.std.specs.Prelude.{slice_get}
+use Rattle.std.specs.List.{find}
+use Rattle.std.proofs.lemmas.List.{map-append}
+use Rattle.std.proofs.lemmas.List.Elements.{filter-append}
 use Rattle.kb_label.specs.Names.{Name, has}
 use Rattle.kb_term.specs.declared.origin.RuleRef.{RuleRef}
-use Rattle.mkb_model.specs.Plain.{Plain, PlainNode, directions, is_rule}
+use Rattle.kb_node.specs.declared.job.Job.{Job}
+use Rattle.kb_node.specs.declared.job.Job.TheVariants.{Reduce, Orient}
+use Rattle.kb_node.specs.declared.node.LabelKind.TheVariants.{X}
+use Rattle.kb_node.specs.declared.node.NodeId.{NodeId}
+use Rattle.mkb_model.specs.Jobs.{is_free}
+use Rattle.mkb_model.specs.Plain.{Plain, PlainNode, directions, is_equation, is_rule, label, node_numbers, numbers_from, rules_of}
+use Rattle.mkb_model.specs.DueJobs.{is_reducible}
+use Rattle.mkb_model.proofs.Lists.{filter_in, numbers_in, or_none}
+use Rattle.kb_term.proofs.Steps.{contains_behind, contains_first}
+use Rattle.mkb_rules.specs.Sizes.{is_dead_at, AreAlive}
+use Rattle.mkb_rules.proofs.Paying.{dead_labels}
 use Rattle.mkb_rules.specs.Roles.{no_roles, roles_in, roles_at}
-use Rattle.mkb_board.specs.Normal.{roles_of, rules_in}
+use Rattle.mkb_board.specs.Choosing.{is_choice}
+use Rattle.mkb_board.specs.Normal.{held_of, is_in_use, roles_of, rules_in}
 
 -- what is kept of a node is how the process has it
 pub roles_kept : (b : Plain) (p : Name) (n : ℕ) → roles_at b.nodes n p ≡ roles_of b p n
@@ -30,3 +44,113 @@ rules_of_roles b p n = go (is_rule b p forth) (is_rule b p back)
     go true false = refl
     go false true = refl
     go false false = refl
+
+-- ---- nodes that nobody has, or not this process
+
+-- nobody has a dead node
+pub dead_unused : (b : Plain) (p : Name) (n : ℕ) → is_dead_at b.nodes n ≡ true → is_in_use (roles_of b p n) ≡ false
+dead_unused b p n e = let d = dead_labels b.nodes n p e in ap₂ (λ (x y : Bool). x || y) d.0 (ap₂ (λ (x y : Bool). x || y) d.1.0 d.1.1)
+
+-- whoever doesn't have a node has no rule in it
+unused_rules : (b : Plain) (p : Name) (n : ℕ) → is_in_use (roles_of b p n) ≡ false → filter (is_rule b p) (directions n) ≡ []
+unused_rules b p n e =
+    let one = or_none (is_equation b p n) (is_rule b p (record { node = n; dir = 0 }) || is_rule b p (record { node = n; dir = 1 })) e in
+    let two = or_none (is_rule b p (record { node = n; dir = 0 })) (is_rule b p (record { node = n; dir = 1 })) one.1 in
+    sym (rules_of_roles b p n) ∙ ap₂ (λ (x y : Bool). cond x (record { node = n; dir = 0 } ∷ []) [] ++ cond y (record { node = n; dir = 1 } ∷ []) []) two.0 two.1
+
+-- nothing is to be reduced there
+pub unused_reduce : (b : Plain) (flight : List Job) (p : Name) (n : ℕ) → is_in_use (roles_of b p n) ≡ false → is_choice b flight (Reduce p (record { 0 = n })) ≡ false
+unused_reduce b flight p n e = ap (λ (x : Bool). (x && is_reducible b p n) && is_free flight (Reduce p (record { 0 = n }))) e
+
+-- nor oriented
+pub unused_orient : (b : Plain) (flight : List Job) (p : Name) (n : ℕ) → is_in_use (roles_of b p n) ≡ false → is_choice b flight (Orient p (record { 0 = n })) ≡ false
+unused_orient b flight p n e =
+    let one = or_none (is_equation b p n) (is_rule b p (record { node = n; dir = 0 }) || is_rule b p (record { node = n; dir = 1 })) e in
+    ap (λ (x : Bool). (x && not (has (label b n X) p)) && is_free flight (Orient p (record { 0 = n }))) one.0
+
+-- ---- lists of nodes
+
+module _ (used : ℕ → Bool) where
+  -- what is kept of those that were kept
+  pub filter_kept : (has : ℕ → Bool) → ((n : ℕ) → has n ≡ false → used n ≡ false) → (xs : List ℕ) → filter used (filter has xs) ≡ filter used xs
+  filter_kept has none [] = refl
+  filter_kept has none (x ∷ xs) = go (has x) refl (filter_kept has none xs)
+    where
+      go : (t : Bool) → has x ≡ t → filter used (filter has xs) ≡ filter used xs → filter used (cond t (x ∷ filter has xs) (filter has xs)) ≡ cond (used x) (x ∷ filter used xs) (filter used xs)
+      go true e ih = ap (λ (l : List ℕ). cond (used x) (x ∷ l) l) ih
+      go false e ih = ih ∙ sym (ap (λ (u : Bool). cond u (x ∷ filter used xs) (filter used xs)) (none x e))
+
+  -- the first that serves is among them
+  pub find_kept : {A : Type 0} (q : A → Bool) (g : ℕ → A) → ((n : ℕ) → used n ≡ false → q (g n) ≡ false) → (xs : List ℕ) → find q (map g xs) ≡ find q (map g (filter used xs))
+  find_kept q g none [] = refl
+  find_kept q g none (x ∷ xs) = go (used x) refl (find_kept q g none xs)
+    where
+      go : (t : Bool) → used x ≡ t → find q (map g xs) ≡ find q (map g (filter used xs)) → cond (q (g x)) (Some (g x)) (find q (map g xs)) ≡ find q (map g (cond t (x ∷ filter used xs) (filter used xs)))
+      go true e ih = ap (λ o. cond (q (g x)) (Some (g x)) o) ih
+      go false e ih = ap (λ (u : Bool). cond u (Some (g x)) (find q (map g xs))) (none x e) ∙ ih
+
+  -- the rules are those in them
+  pub rules_kept : (t : RuleRef → Bool) → ((n : ℕ) → used n ≡ false → filter t (directions n) ≡ []) → (xs : List ℕ) → filter t (flat_map directions (filter used xs)) ≡ filter t (flat_map directions xs)
+  rules_kept t none [] = refl
+  rules_kept t none (x ∷ xs) = go (used x) refl (rules_kept t none xs)
+    where
+      whole : filter t (flat_map directions (x ∷ xs)) ≡ filter t (directions x) ++ filter t (flat_map directions xs)
+      whole = filter-append t (directions x) (flat_map directions xs)
+
+      go : (u : Bool) → used x ≡ u → filter t (flat_map directions (filter used xs)) ≡ filter t (flat_map directions xs) → filter t (flat_map directions (cond u (x ∷ filter used xs) (filter used xs))) ≡ filter t (flat_map directions (x ∷ xs))
+      go true e ih = filter-append t (directions x) (flat_map directions (filter used xs)) ∙ ap (λ (l : List RuleRef). filter t (directions x) ++ l) ih ∙ sym whole
+      go false e ih = ih ∙ sym (ap (λ (l : List RuleRef). l ++ filter t (flat_map directions xs)) (none x e)) ∙ sym whole
+
+-- the rules of a process are those in the nodes that it has
+pub rules_held : (b : Plain) (p : Name) → filter (is_rule b p) (flat_map directions (held_of b p)) ≡ rules_of b p
+rules_held b p = rules_kept (λ n. is_in_use (roles_of b p n)) (is_rule b p) (unused_rules b p) (node_numbers b)
+
+-- the nodes that a process has are those of the nodes that aren't dead
+pub held_alive : (b : Plain) (p : Name) (l : List NodeId) → AreAlive b.nodes l → filter (λ n. is_in_use (roles_of b p n)) (map (λ (n : NodeId). n.0) l) ≡ held_of b p
+held_alive b p l a = ap (filter (λ n. is_in_use (roles_of b p n))) a.is ∙ filter_kept (λ n. is_in_use (roles_of b p n)) a.has (λ n e. dead_unused b p n (a.others n e)) (node_numbers b)
+
+-- one node more
+pub held_next : (b : Plain) (p : Name) (held : List NodeId) (xs : List ℕ) (n : NodeId) → map (λ (k : NodeId). k.0) held ≡ filter (λ m. is_in_use (roles_of b p m)) xs
+    → map (λ (k : NodeId). k.0) (held ++ cond (is_in_use (roles_of b p n.0)) (n ∷ []) []) ≡ filter (λ m. is_in_use (roles_of b p m)) (xs ++ n.0 ∷ [])
+held_next b p held xs n e =
+    map-append (λ (k : NodeId). k.0) held (cond (is_in_use (roles_of b p n.0)) (n ∷ []) [])
+    ∙ ap₂ (λ (l m : List ℕ). l ++ m) e (go (is_in_use (roles_of b p n.0)))
+    ∙ sym (filter-append (λ m. is_in_use (roles_of b p m)) xs (n.0 ∷ []))
+  where
+    go : (t : Bool) → map (λ (k : NodeId). k.0) (cond t (n ∷ []) []) ≡ cond t (n.0 ∷ []) []
+    go true = refl
+    go false = refl
+
+-- ---- a node of a list of numbers
+
+listed_at : (l : List NodeId) (i : ℕ) (d : NodeId) → i < length l → Contains (map (λ (n : NodeId). n.0) l) (get_or l i d).0
+listed_at [] i d h = absurd (omega (arith, h))
+listed_at (x ∷ l) zero d h = contains_first x.0 (map (λ (n : NodeId). n.0) l)
+listed_at (x ∷ l) (suc i) d h = contains_behind x.0 (map (λ (n : NodeId). n.0) l) (get_or l i d).0 (listed_at l i d (omega (arith, h)))
+
+-- each is there
+listed_there : (b : Plain) (t : ℕ → Bool) (l : List NodeId) (i : ℕ) (d : NodeId) → map (λ (n : NodeId). n.0) l ≡ filter t (node_numbers b) → i < length l → (get_or l i d).0 < length b.nodes
+listed_there b t l i d e h =
+    let m = (get_or l i d).0 in
+    let within = numbers_in 0 (length b.nodes) m (filter_in t (node_numbers b) m (subst (λ (z : List ℕ). Contains z m) e (listed_at l i d h))).0 in
+    omega (arith, within.1)
+
+pub alive_there : (b : Plain) (l : List NodeId) (i : ℕ) (d : NodeId) → AreAlive b.nodes l → i < length l → (get_or l i d).0 < length b.nodes
+alive_there b l i d a h = listed_there b a.has l i d a.is h
+
+pub held_there : (b : Plain) (p : Name) (l : List NodeId) (i : ℕ) (d : NodeId) → map (λ (n : NodeId). n.0) l ≡ held_of b p → i < length l → (get_or l i d).0 < length b.nodes
+held_there b p l i d e h = listed_there b (λ n. is_in_use (roles_of b p n)) l i d e h
+
+-- ---- the first job of a list of nodes
+
+-- those of the nodes that the process has are those of all
+pub first_held : (b : Plain) (p : Name) (q : Job → Bool) (g : NodeId → Job) (l : List NodeId) → map (λ (n : NodeId). n.0) l ≡ held_of b p → ((n : ℕ) → is_in_use (roles_of b p n) ≡ false → q (g (record { 0 = n })) ≡ false)
+    → find q (map (λ n. g (record { 0 = n })) (node_numbers b)) ≡ find q (map g l)
+first_held b p q g l e none =
+    find_kept (λ n. is_in_use (roles_of b p n)) q (λ n. g (record { 0 = n })) none (node_numbers b)
+    ∙ ap (λ (ns : List ℕ). find q (map (λ n. g (record { 0 = n })) ns)) (sym e)
+    ∙ ap (find q) (twice l)
+  where
+    twice : (ks : List NodeId) → map (λ (n : ℕ). g (record { 0 = n })) (map (λ (n : NodeId). n.0) ks) ≡ map g ks
+    twice [] = refl
+    twice (k ∷ ks) = ap (λ (js : List Job). g k ∷ js) (twice ks)

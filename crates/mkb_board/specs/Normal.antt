@@ -1,11 +1,12 @@
 -- Nodes that are known to be reduced by none of some rules.
-use Rattle.std.specs.Prelude.{ℕ, zero, suc, List, [], ◌∷◌, ◌++◌, if◌then◌else◌, Bool, true, false, ◌&&◌, ◌||◌, ◌==◌, ◌≡◌, ◌<◌, ◌≤◌, All, length, not, slice_get, Option, Some, None, ⊤}
+use Rattle.std.specs.Prelude.{ℕ, zero, suc, List, [], ◌∷◌, ◌++◌, if◌then◌else◌, filter, map, Bool, true, false, ◌&&◌, ◌||◌, ◌==◌, ◌≡◌, ◌<◌, ◌≤◌, All, length, not, slice_get, Option, Some, None, ⊤}
 use Rattle.std.specs.List.{list_any}
 use Rattle.kb_term.specs.declared.origin.RuleRef.{RuleRef}
 use Rattle.kb_term.specs.declared.origin.Found.{Found}
 use Rattle.kb_term.specs.declared.origin.Found.TheVariants.{No, Variant, Strict}
 use Rattle.kb_label.specs.Names.{Name}
-use Rattle.mkb_model.specs.Plain.{Plain, is_equation, is_rule, rules_of, rules_at, known, other}
+use Rattle.kb_node.specs.declared.node.NodeId.{NodeId}
+use Rattle.mkb_model.specs.Plain.{Plain, node_numbers, is_equation, is_rule, rules_of, rules_at, known, other}
 use Rattle.mkb_rules.specs.Named.{IsRuleThere}
 use Rattle.kb_jobs.specs.declared.rules.NamedRules.{NamedRules}
 use Rattle.mkb_rules.specs.Roles.{AreRolesOf}
@@ -28,6 +29,10 @@ rules_in n r = (if r.first then record { node = n; dir = 0 } ∷ [] else []) ++ 
 -- the node has one of the roles
 abbrev pub is_in_use : Roles → Bool
 is_in_use r = r.equation || (r.first || r.second)
+
+-- the nodes that p has as an equation or as a rule, in their order
+abbrev pub held_of : Plain → Name → List ℕ
+held_of b p = filter (λ n. is_in_use (roles_of b p n)) (node_numbers b)
 
 -- whoever has the node in these roles may rewrite a redex of this kind on side w: any where it is an equation, or the rule with w on the right, and a strict one on the left
 abbrev pub is_usable_in : Roles → ℕ → Found → Bool
@@ -59,9 +64,10 @@ pub record AreNormal (b : Plain) (k : Normal) : Type 0 where
   pub none : NoneOpens b k.nodes.items k.rules.items
   pub shared : HoldsRules b k.shared
 
--- the rules and the roles are those of the process
+-- the rules, the nodes and the roles are those of the process
 pub record Serves (b : Plain) (p : Name) (k : Normal) : Type 0 where
   pub rules : k.rules.items ≡ rules_of b p
+  pub held : map (λ (n : NodeId). n.0) k.held.items ≡ held_of b p
   pub roles : AreRolesOf b.nodes p k.roles.items
   pub known : AreNormal b k
 

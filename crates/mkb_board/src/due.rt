@@ -10,7 +10,7 @@ ghost use Rattle.mkb_model.specs.DueJobs.{is_work_due, work_of};
 ghost use Rattle.mkb_board.specs.Choosing.{jobs_of, is_choice, HasNodes};
 ghost use Rattle.mkb_board.specs.Normal.{Serves};
 
-use crate::choosing::{is_rule, node_count};
+use crate::choosing::is_rule;
 use crate::normal::Normal;
 use kb_label::Process;
 use kb_node::{Job, NodeId};
@@ -47,8 +47,9 @@ fn first_reduce(state: &State, flight: &[Ticket], normal: &mut Normal, p: &Proce
     ensures first { result ≡ find (is_choice state.now (jobs_of flight.now)) (map (λ n. jobs.Reduce p.now (record { 0 = n })) (node_numbers state.now)) }
     ensures serves { Serves state.now p.now normal.new }
 {
-    for n in 0..node_count(state) {
-        let n = NodeId(n as u16);
+    let count = normal.held().len();
+    for i in 0..count {
+        let n = normal.held()[i];
         if is_reduce_choice(state, flight, normal, p, n) {
             return Some(Job::Reduce(*p, n));
         }
@@ -61,8 +62,9 @@ fn first_orient(state: &State, flight: &[Ticket], normal: &Normal, p: &Process) 
     requires { Serves state.now p.now normal.now }
     ensures { result ≡ find (is_choice state.now (jobs_of flight.now)) (map (λ n. jobs.Orient p.now (record { 0 = n })) (node_numbers state.now)) }
 {
-    for n in 0..node_count(state) {
-        let n = NodeId(n as u16);
+    let held = normal.held();
+    for i in 0..held.len() {
+        let n = held[i];
         if is_orient_choice(state, flight, normal, p, n) {
             return Some(Job::Orient(*p, n));
         }
@@ -114,6 +116,7 @@ fn is_reduce_choice(
     requires there { n.0 < length state.now.nodes }
     requires serves { Serves state.now p.now normal.old }
     ensures choice { result ≡ is_choice state.now (jobs_of flight.now) (jobs.Reduce p.now n) }
+    ensures held { normal.new.held.items ≡ normal.old.held.items }
     ensures serves { Serves state.now p.now normal.new }
 {
     normal.is_reduce_due(state, p, n) && is_free(flight, &Job::Reduce(*p, n))

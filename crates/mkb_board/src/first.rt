@@ -13,10 +13,10 @@ ghost use Rattle.mkb_board.specs.declared.first.Choice.{Choice};
 
 use crate::choosing::is_over;
 use crate::due::{first_work, is_free};
+use crate::holding::{held_nodes, rules_among};
 use crate::lightest::lightest_work;
 use crate::normal::Normal;
 use crate::settling::{Costed, with_cost};
-use crate::snapshots::named::rules_of;
 use kb_label::Process;
 use kb_node::Job;
 use kb_term::{Memory, RuleRef};
@@ -120,9 +120,10 @@ fn first_choice(
     if is_over(state, p) {
         return Ok(None);
     }
-    let rules = rules_of(normal.allocator(), state, p)?;
+    let held = held_nodes(normal.allocator(), state, p)?;
+    let rules = rules_among(normal.allocator(), state, p, held.as_slice())?;
     let rules = rules.as_slice();
-    normal.turn_to(state, p, rules)?;
+    normal.turn_to(state, p, held, rules)?;
     if let Some(job) = selected_work(state, flight, normal, p, rules) {
         return Ok(Some(job));
     }

@@ -8,6 +8,7 @@ mod cost;
 mod due;
 mod finishing;
 mod first;
+mod holding;
 mod laws;
 mod lightest;
 mod normal;

@@ -1,9 +1,10 @@
 // Nodes that no rule reduces.
-ghost use Rattle.std.specs.Prelude.{◌≡◌, ◌<◌, ◌≤◌, length, not, false, filter, slice_get, Some, IfOk, IsTrue, OnOk};
+ghost use Rattle.std.specs.Prelude.{◌≡◌, ◌<◌, ◌≤◌, length, map, not, false, filter, slice_get, Some, IfOk, IsTrue, OnOk};
 ghost use Rattle.std.specs.List.{list_any};
 ghost use Rattle.std.specs.Option.{option_map_or};
 ghost use Rattle.kb_term.specs.declared.origin.RuleRef.{RuleRef as Reference};
 ghost use Rattle.kb_node.specs.declared.job.Job.TheVariants as jobs;
+ghost use Rattle.kb_node.specs.declared.node.NodeId.{NodeId as Numbered};
 ghost use Rattle.mkb_model.specs.Jobs.{ref_eq};
 ghost use Rattle.mkb_model.specs.Plain.{Plain, known, other, rules_of};
 ghost use Rattle.mkb_model.specs.DueJobs.{is_work_due};
@@ -11,7 +12,7 @@ ghost use Rattle.kb_jobs.specs.Working.{IsTaken, job_of};
 ghost use Rattle.mkb_model.specs.Invariants.{FactsHold};
 ghost use Rattle.mkb_board.specs.Snapshots.{HasJobNodes, HasOrder, IsWhole};
 ghost use Rattle.mkb_rules.specs.Roles.{AreRolesOf};
-ghost use Rattle.mkb_board.specs.Normal.{AreAllNormal, AreNormal, NoneOpens, Serves, has_rule, is_in_use, is_open_in, is_open_to, roles_of};
+ghost use Rattle.mkb_board.specs.Normal.{AreAllNormal, AreNormal, NoneOpens, Serves, has_rule, held_of, is_in_use, is_open_in, is_open_to, roles_of};
 
 use crate::choosing::{is_equation, is_rule, node_count};
 use crate::due::is_same;
@@ -54,8 +55,8 @@ pub(crate) fn roles_of(state: &State, p: &Process, n: NodeId) -> Roles
     }
 }
 
-// Whether whoever has the node so has it at all.
-fn is_in_use(roles: Roles) -> bool
+/// Whether whoever has the node so has it at all.
+pub(crate) fn is_in_use(roles: Roles) -> bool
     ensures { result ≡ is_in_use roles }
 {
     roles.equation || (roles.first || roles.second)
@@ -157,6 +158,7 @@ pub(crate) struct Normal {
     rules: Vec<RuleRef>,
     nodes: Vec<Option<Roles>>,
     roles: Vec<Roles>,
+    held: Vec<NodeId>,
     shared: Option<NamedRules>,
 }
 
@@ -184,6 +186,7 @@ impl Normal {
             rules: Vec::new(alloc),
             nodes: Vec::new(alloc),
             roles: Vec::new(alloc),
+            held: Vec::new(alloc),
             shared: None,
         }
     }
@@ -193,7 +196,7 @@ impl Normal {
         self.alloc
     }
 
-    /// Takes the rules of the process, and forgets each node to which one of those that are new is open.
+    /// Takes the nodes and the rules of the process, and forgets each node to which one of the rules that are new is open.
     ///
     /// # Errors
     ///
@@ -202,15 +205,17 @@ impl Normal {
         &mut self,
         state: &State,
         p: &Process,
+        held: Vec<NodeId>,
         rules: &[RuleRef],
     ) -> Result<(), Memory>
         requires normal { AreNormal state.now self.old }
+        requires held { map (λ (n : Numbered). n.0) held.items ≡ held_of state.now p.now }
         requires rules { rules.now ≡ rules_of state.now p.now }
         ensures normal { AreNormal state.now self.new }
         ensures serves { OnOk result (Serves state.now p.now self.new) }
     {
         self.make_room(node_count(state))?;
-        self.take_roles(state, p)?;
+        self.take_nodes(state, p, held)?;
         if are_same(self.rules.as_slice(), rules) {
             return Ok(());
         }
@@ -221,14 +226,28 @@ impl Normal {
         Ok(())
     }
 
-    // Takes what is kept of how the process has the nodes.
-    fn take_roles(&mut self, state: &State, p: &Process) -> Result<(), AllocError>
+    // Takes the nodes that the process has, and what is kept of how it has them.
+    fn take_nodes(
+        &mut self,
+        state: &State,
+        p: &Process,
+        held: Vec<NodeId>,
+    ) -> Result<(), AllocError>
         ensures rules { self.new.rules.items ≡ self.old.rules.items }
         ensures known { (b : Plain) → AreNormal b self.old → AreNormal b self.new }
         ensures roles { OnOk result (AreRolesOf state.now.nodes p.now self.new.roles.items) }
+        ensures held { OnOk result (self.new.held.items ≡ held.items) }
     {
+        self.held = held;
         self.roles.clear();
         self.roles.extend_from_slice(state.roles(p))
+    }
+
+    /// The nodes that the process has as an equation or as a rule, in their order.
+    pub(crate) fn held(&self) -> &[NodeId]
+        ensures { result.now ≡ self.now.held.items }
+    {
+        self.held.as_slice()
     }
 
     /// How the process has the node.
@@ -258,6 +277,7 @@ impl Normal {
         ensures known { AreNormal state.now self.new }
         ensures rules { self.new.rules.items ≡ self.old.rules.items }
         ensures roles { self.new.roles.items ≡ self.old.roles.items }
+        ensures held { self.new.held.items ≡ self.old.held.items }
         ensures fresh { NoneOpens state.now self.new.nodes.items fresh.now }
     {
         for i in 0..self.nodes.len() {
@@ -281,6 +301,7 @@ impl Normal {
     fn note(&mut self, n: NodeId, roles: Roles)
         ensures rules { self.new.rules.items ≡ self.old.rules.items }
         ensures roles { self.new.roles.items ≡ self.old.roles.items }
+        ensures held { self.new.held.items ≡ self.old.held.items }
         ensures known { (b : Plain) → AreNormal b self.old → list_any (is_open_to b roles n.0) self.old.rules.items ≡ false → AreNormal b self.new }
     {
         if (n.0 as usize) < self.nodes.len() {
@@ -316,6 +337,7 @@ impl Normal {
         requires there { n.0 < length state.now.nodes }
         requires serves { Serves state.now p.now self.old }
         ensures due { result ≡ is_work_due state.now (jobs.Reduce p.now n) }
+        ensures held { self.new.held.items ≡ self.old.held.items }
         ensures serves { Serves state.now p.now self.new }
     {
         let roles = self.roles_of(state, p, n);

@@ -4,16 +4,16 @@ ghost use Rattle.kb_node.specs.declared.node.NodeId.{NodeId as Numbered};
 ghost use Rattle.mkb_model.specs.Plain.{Plain, pair_at, rule_at, rules_at, rules_of, constraints_of, equations_of};
 ghost use Rattle.mkb_model.specs.Proposals.{named_rules};
 ghost use Rattle.kb_jobs.specs.Rules.{listed};
-ghost use Rattle.mkb_board.specs.Normal.{rules_in, HoldsRules};
+ghost use Rattle.mkb_board.specs.Normal.{HoldsRules};
 ghost use Rattle.mkb_rules.specs.Named.{IsRuleThere};
 
-use crate::choosing::node_count;
-use crate::normal::{are_same, roles_by};
+use crate::holding::{held_nodes, rules_among};
+use crate::normal::are_same;
 use kb_jobs::{NamedRules, SharedRules};
 use kb_label::Process;
 use kb_node::{NodeId, View};
 use kb_term::{Memory, Pair, Rule, RuleRef, rule_of};
-use mkb_rules::{Roles, State};
+use mkb_rules::State;
 use std::alloc::{AllocError, Global};
 
 /// The pair of a node.
@@ -153,24 +153,6 @@ pub(crate) fn rules_of(
 ) -> Result<Vec<RuleRef>, AllocError>
     ensures { IfOk result (λ rules. rules.items ≡ rules_of state.now p.now) }
 {
-    let kept = state.roles(p);
-    let mut rules = Vec::new(alloc);
-    for n in 0..node_count(state) {
-        let roles = roles_by(state, kept, p, NodeId(n as u16));
-        push_rules(&mut rules, n as u16, roles)?;
-    }
-    Ok(rules)
-}
-
-// Adds the rules of whoever has the node so.
-fn push_rules(rules: &mut Vec<RuleRef>, node: u16, roles: Roles) -> Result<(), AllocError>
-    ensures { OnOk result (rules.new.items ≡ rules.old.items ++ rules_in node roles) }
-{
-    if roles.first {
-        rules.push(RuleRef { node, dir: 0 })?;
-    }
-    if roles.second {
-        rules.push(RuleRef { node, dir: 1 })?;
-    }
-    Ok(())
+    let held = held_nodes(alloc, state, p)?;
+    rules_among(alloc, state, p, held.as_slice())
 }

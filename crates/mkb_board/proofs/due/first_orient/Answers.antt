@@ -1,24 +1,37 @@
-use Rattle.std.proofs.Common.{◌<◌, ◌∷◌, [], length, arith, sym, ◌∙◌}
+use Rattle.std.proofs.Common.{ℕ, ◌<◌, ◌≤◌, ◌≡◌, ◌+◌, ◌∙◌, List, Some, cond, length, map, drop, get_or, ap, sym, arith}
+use Rattle.std.specs.List.{find}
+use Rattle.std.proofs.Math.ListN.{drop_of_length-le}
+use Rattle.kb_node.specs.declared.job.Job.{Job}
 use Rattle.kb_node.specs.declared.job.Job.TheVariants.{Orient}
+use Rattle.kb_node.specs.declared.node.NodeId.{NodeId}
 use Rattle.mkb_board.specs.Choosing.{is_choice, jobs_of}
-use Rattle.mkb_board.proofs.Picking.{map_parts, find_here, find_not, find_on, find_one}
+use Rattle.mkb_board.proofs.Having.{first_held, held_there, unused_orient}
+use Rattle.mkb_board.proofs.Picking.{find_mapped}
 use Rattle.mkb_board.proofs.due.first_orient.Goals as goal
 
-pub loop-n-init : goal.loop-n-init
-loop-n-init c = map_parts (is_choice c.args.state.now (jobs_of c.args.flight.now)) (λ n. Orient c.args.p.now (record { 0 = n })) (length c.args.state.now.nodes)
+pub is_orient_choice-requires-clause-there : goal.is_orient_choice-requires-clause-there
+is_orient_choice-requires-clause-there c =
+    held_there c.args.state.now c.args.p.now c.held-held.result.now c.loop-i.i (record { 0 = 0 }) (ap (map (λ (n : NodeId). n.0)) c.held-held.ensures ∙ c.requires.held) (omega (arith, c.loop-i-test.true))
 
 pub returns-then-is_orient_choice : goal.returns-then-is_orient_choice
 returns-then-is_orient_choice c =
     let b = c.args.state.now in
+    let p = c.args.p.now in
     let q = is_choice b (jobs_of c.args.flight.now) in
-    let job = Orient c.args.p.now (record { 0 = c.loop-n.n }) in
-    let there : c.loop-n.n < length b.nodes = omega arith in
-    sym (c.loop-n.invariant ∙ find_here q (λ n. Orient c.args.p.now (record { 0 = n }) ∷ []) c.loop-n.n (length b.nodes) job there (find_one q job (sym c.is_orient_choice.ensures ∙ c.if-is_orient_choice.true)))
+    let l = c.args.normal.now.held.items in
+    let i = c.loop-i.i in
+    let d : NodeId = record { 0 = 0 } in
+    let n : NodeId = get_or c.held-held.result.now i d in
+    let there : i < length l = omega (arith, c.loop-i-test.true, ap length c.held-held.ensures) in
+    sym (first_held b p q (Orient p) l c.requires.held (unused_orient b (jobs_of c.args.flight.now) p) ∙ c.loop-i.invariant
+    ∙ find_mapped q (Orient p) l i n d there (ap (λ (ns : List NodeId). get_or ns i d) c.held-held.ensures)
+    ∙ ap (λ t. cond t (Some (Orient p n)) (find q (map (Orient p) (drop (i + 1) l)))) (sym c.is_orient_choice.ensures ∙ c.if-is_orient_choice.true))
 
-pub loop-n-preserved : goal.loop-n-preserved
-loop-n-preserved c =
+pub returns : goal.returns
+returns c =
     let b = c.args.state.now in
+    let p = c.args.p.now in
     let q = is_choice b (jobs_of c.args.flight.now) in
-    let job = Orient c.args.p.now (record { 0 = c.loop-n.n }) in
-    let there : c.loop-n.n < length b.nodes = omega arith in
-    c.loop-n.invariant ∙ find_on q (λ n. Orient c.args.p.now (record { 0 = n }) ∷ []) c.loop-n.n (length b.nodes) there (find_not q job (sym c.is_orient_choice.ensures ∙ c.if-is_orient_choice.false))
+    let l = c.args.normal.now.held.items in
+    let all : length l ≤ c.loop-i.i = omega (arith, c.loop-i-test.false, ap length c.held-held.ensures) in
+    sym (first_held b p q (Orient p) l c.requires.held (unused_orient b (jobs_of c.args.flight.now) p) ∙ c.loop-i.invariant ∙ ap (λ (ns : List NodeId). find q (map (Orient p) ns)) (drop_of_length-le l all))

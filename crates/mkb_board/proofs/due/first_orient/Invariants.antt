@@ -1,10 +1,9 @@
-use Rattle.std.proofs.Common.{◌≡◌, ◌-◌, [], ◌∷◌, length, map, flat_map}
+use Rattle.std.proofs.Common.{◌≡◌, map, drop}
 use Rattle.std.specs.List.{find}
 use Rattle.kb_node.specs.declared.job.Job.TheVariants.{Orient}
-use Rattle.mkb_model.specs.Plain.{node_numbers, numbers_from}
 use Rattle.mkb_board.specs.Choosing.{jobs_of, is_choice}
 use Rattle.mkb_board.proofs.due.first_orient.Given as goal
 
 -- no node so far may be chosen
-abbrev pub invariant-loop-n : goal.invariant-loop-n
-invariant-loop-n l = find (is_choice l.state (jobs_of l.flight)) (map (λ n. Orient l.p (record { 0 = n })) (node_numbers l.state)) ≡ find (is_choice l.state (jobs_of l.flight)) (flat_map (λ n. Orient l.p (record { 0 = n }) ∷ []) (numbers_from l.n (length l.state.nodes - l.n)))
+abbrev pub invariant-loop-i : goal.invariant-loop-i
+invariant-loop-i l = find (is_choice l.state (jobs_of l.flight)) (map (Orient l.p) l.normal.held.items) ≡ find (is_choice l.state (jobs_of l.flight)) (map (Orient l.p) (drop l.i l.normal.held.items))

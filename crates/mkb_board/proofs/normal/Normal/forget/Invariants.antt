@@ -10,6 +10,7 @@ invariant-loop-i l = record {
   known : AreNormal l.state l.self;
   rules : l.self.rules.items ≡ l.fn.self.rules.items;
   roles : l.self.roles.items ≡ l.fn.self.roles.items;
+  held : l.self.held.items ≡ l.fn.self.held.items;
   as_many : length l.self.nodes.items ≡ length l.fn.self.nodes.items;
   none : (n : ℕ) (r : Roles) → n < l.i → slice_get l.self.nodes.items n ≡ Some (Some r) → list_any (is_open_to l.state r n) l.fresh ≡ false;
 }

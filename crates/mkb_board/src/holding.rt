@@ -1,0 +1,103 @@
+// Which nodes a process has.
+ghost use Rattle.std.specs.Prelude.{◌≡◌, ◌++◌, ◌∷◌, [], map, IfOk, OnOk, if◌then◌else◌};
+ghost use Rattle.kb_node.specs.declared.node.NodeId.{NodeId as Numbered};
+ghost use Rattle.mkb_model.specs.Plain.{rules_of};
+ghost use Rattle.mkb_rules.specs.Sizes.{AreAlive};
+ghost use Rattle.mkb_board.specs.Normal.{held_of, is_in_use, rules_in};
+
+use crate::choosing::node_count;
+use crate::normal::{is_in_use, roles_by};
+use kb_label::Process;
+use kb_node::NodeId;
+use kb_term::RuleRef;
+use mkb_rules::{Roles, State};
+use std::alloc::{AllocError, Global};
+
+/// The nodes that the process has as an equation or as a rule, in their order.
+pub(crate) fn held_nodes(
+    alloc: Global,
+    state: &State,
+    p: &Process,
+) -> Result<Vec<NodeId>, AllocError>
+    ensures { IfOk result (λ held. map (λ (n : Numbered). n.0) held.items ≡ held_of state.now p.now) }
+{
+    match state.alive() {
+        Some(alive) => held_among(alloc, state, p, alive),
+        None => held_of_all(alloc, state, p),
+    }
+}
+
+// Those of these nodes that the process has; each other node is dead.
+fn held_among(
+    alloc: Global,
+    state: &State,
+    p: &Process,
+    alive: &[NodeId],
+) -> Result<Vec<NodeId>, AllocError>
+    requires { AreAlive state.now.nodes alive.now }
+    ensures { IfOk result (λ held. map (λ (n : Numbered). n.0) held.items ≡ held_of state.now p.now) }
+{
+    let kept = state.roles(p);
+    let mut held = Vec::new(alloc);
+    for i in 0..alive.len() {
+        let roles = roles_by(state, kept, p, alive[i]);
+        push_held(&mut held, alive[i], roles)?;
+    }
+    Ok(held)
+}
+
+// Those of all nodes that the process has.
+fn held_of_all(alloc: Global, state: &State, p: &Process) -> Result<Vec<NodeId>, AllocError>
+    ensures { IfOk result (λ held. map (λ (n : Numbered). n.0) held.items ≡ held_of state.now p.now) }
+{
+    let kept = state.roles(p);
+    let mut held = Vec::new(alloc);
+    for n in 0..node_count(state) {
+        let n = NodeId(n as u16);
+        let roles = roles_by(state, kept, p, n);
+        push_held(&mut held, n, roles)?;
+    }
+    Ok(held)
+}
+
+// Adds the node, where whoever has it so has it at all.
+fn push_held(held: &mut Vec<NodeId>, n: NodeId, roles: Roles) -> Result<(), AllocError>
+    ensures { OnOk result (held.new.items ≡ held.old.items ++ (if is_in_use roles then n ∷ [] else [])) }
+{
+    if is_in_use(roles) {
+        held.push(n)?;
+    }
+    Ok(())
+}
+
+/// The rules of the process, by node, then direction: those in the nodes that it has.
+pub(crate) fn rules_among(
+    alloc: Global,
+    state: &State,
+    p: &Process,
+    held: &[NodeId],
+) -> Result<Vec<RuleRef>, AllocError>
+    requires { map (λ (n : Numbered). n.0) held.now ≡ held_of state.now p.now }
+    ensures { IfOk result (λ rules. rules.items ≡ rules_of state.now p.now) }
+{
+    let kept = state.roles(p);
+    let mut rules = Vec::new(alloc);
+    for i in 0..held.len() {
+        let roles = roles_by(state, kept, p, held[i]);
+        push_rules(&mut rules, held[i].0, roles)?;
+    }
+    Ok(rules)
+}
+
+// Adds the rules of whoever has the node so.
+fn push_rules(rules: &mut Vec<RuleRef>, node: u16, roles: Roles) -> Result<(), AllocError>
+    ensures { OnOk result (rules.new.items ≡ rules.old.items ++ rules_in node roles) }
+{
+    if roles.first {
+        rules.push(RuleRef { node, dir: 0 })?;
+    }
+    if roles.second {
+        rules.push(RuleRef { node, dir: 1 })?;
+    }
+    Ok(())
+}
