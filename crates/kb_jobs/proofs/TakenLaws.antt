@@ -1,7 +1,6 @@
 -- What jobs propose by snapshots is what they propose on the board.
 use Rattle.std.proofs.Common.{ℕ, zero, suc, ◌≡◌, ◌∙◌, ◌⊎◌, inl, inr, refl, sym, ap, subst, ⊎_elim, List, [], ◌∷◌, ◌++◌, Bool, Option, Some, None}
 use Rattle.kb_term.specs.Rule.{Rule}
-use Rattle.kb_term.specs.Signature.{Signature}
 use Rattle.kb_term.specs.View.{tree_of}
 use Rattle.kb_term.specs.declared.origin.RuleRef.{RuleRef}
 use Rattle.kb_term.specs.declared.origin.Found.{Found}

@@ -1,6 +1,5 @@
-use Rattle.std.proofs.Common.{◌∙◌, ◌∷◌, [], ap, sym, subst, Some, Option}
+use Rattle.std.proofs.Common.{◌∙◌, ◌∷◌, [], ap, sym, subst, Some}
 use Rattle.std.specs.Option.{option_copied}
-use Rattle.kb_term.specs.Rule.{Rule}
 use Rattle.kb_cert.specs.Family.{Orders, IsFirstOrder, IsLowerBound}
 use Rattle.kb_cert.specs.declared.certificate.Certificate.{Certificate}
 use Rattle.kb_jobs.proofs.InForce.{bound_in_force, first_in_force, last_is}

@@ -1,7 +1,6 @@
-use Rattle.std.proofs.Common.{ℕ, ◌<◌, ◌≤◌, ◌≡◌, ◌+◌, ◌∙◌, List, Some, cond, length, map, drop, get_or, ap, sym, arith}
+use Rattle.std.proofs.Common.{◌<◌, ◌≤◌, ◌+◌, ◌∙◌, List, Some, cond, length, map, drop, get_or, ap, sym, arith}
 use Rattle.std.specs.List.{find}
 use Rattle.std.proofs.Math.ListN.{drop_of_length-le}
-use Rattle.kb_node.specs.declared.job.Job.{Job}
 use Rattle.kb_node.specs.declared.job.Job.TheVariants.{Orient}
 use Rattle.kb_node.specs.declared.node.NodeId.{NodeId}
 use Rattle.mkb_board.specs.Choosing.{is_choice, jobs_of}

@@ -1,4 +1,4 @@
-use Rattle.std.proofs.Common.{ℕ, ◌≡◌, ◌∙◌, ◌+◌, ◌<◌, ◌++◌, ◌∷◌, [], List, length, map, filter, flat_map, take, get_or, append-nil, ap, sym, arith}
+use Rattle.std.proofs.Common.{ℕ, ◌∙◌, ◌<◌, ◌++◌, ◌∷◌, [], List, length, map, filter, flat_map, take, get_or, append-nil, ap, sym, arith}
 use Rattle.std.proofs.lemmas.Grind.{flat_map-append}
 use Rattle.std.proofs.lemmas.List.{map-append, take_all, take_more}
 use Rattle.std.proofs.lemmas.List.Elements.{filter-append}

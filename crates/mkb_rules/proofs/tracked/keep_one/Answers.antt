@@ -1,4 +1,4 @@
-use Rattle.std.proofs.Common.{◌≡◌, ℕ, List, ◌∷◌, take, drop, Bool, true, false, cond, sym, subst, ◌∙◌}
+use Rattle.std.proofs.Common.{◌≡◌, ℕ, List, ◌∷◌, take, drop, Bool, true, false, cond, sym, subst}
 use Rattle.std.specs.Prelude.{All, insert, is_ok}
 use Rattle.std.proofs.lemmas.List.Elements.{All-append, All-cons, All-take, All-drop}
 use Rattle.mkb_rules.specs.Accounts.{IsAccountOf}

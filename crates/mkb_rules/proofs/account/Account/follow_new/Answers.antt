@@ -2,7 +2,7 @@ use Rattle.std.proofs.Common.{◌≡◌, ◌++◌, ◌∷◌, [], List, length, 
 use Rattle.std.specs.Prelude.{is_ok}
 use Rattle.mkb_model.specs.Plain.{PlainNode}
 use Rattle.mkb_rules.specs.Accounts.{IsAccountOf, IsBare}
-use Rattle.mkb_rules.specs.Roles.{no_roles, AreRolesOf}
+use Rattle.mkb_rules.specs.Roles.{AreRolesOf}
 use Rattle.mkb_rules.specs.declared.roles.Roles.{Roles}
 use Rattle.mkb_rules.proofs.RolesKept.{account_longer, account_more}
 use Rattle.mkb_rules.proofs.account.Account.follow_new.Goals as goal
