@@ -12,11 +12,12 @@ ghost use Rattle.mkb_board.specs.Normal.{AreAllNormal, AreNormal, Serves};
 ghost use Rattle.mkb_board.specs.declared.first.Choice.{Choice};
 
 use crate::choosing::is_over;
+use crate::cost::cost;
 use crate::due::{first_work, is_free};
 use crate::holding::{held_nodes, rules_among};
 use crate::lightest::lightest_work;
 use crate::normal::Normal;
-use crate::settling::{Costed, with_cost};
+use crate::settling::Costed;
 use kb_label::Process;
 use kb_node::Job;
 use kb_term::{Memory, RuleRef};
@@ -50,13 +51,18 @@ pub(crate) fn first_job(
     let living = state.log().processes();
     let mut best = None;
     for i in 0..living.len() {
-        let next = with_cost(state, i, &living[i]);
-        if !is_below(next.cost, &best) {
+        let process = &living[i];
+        let cost = cost(state, i, process);
+        if !is_below(cost, &best) {
             continue;
         }
-        if state.is_asleep(&next.process) {
+        if state.is_asleep(process) {
             continue;
         }
+        let next = Costed {
+            cost,
+            process: *process,
+        };
         let place = i % normals.len();
         best = lesser_choice(state, flight, &mut normals[place], best, &next)?;
     }

@@ -171,8 +171,8 @@ fn least_waiting(state: &State) -> Option<Process>
     process_in(&best)
 }
 
-/// The process at this place among the living with its cost.
-pub(crate) fn with_cost(state: &State, place: usize, p: &Process) -> Costed
+// The process at this place among the living with its cost.
+fn with_cost(state: &State, place: usize, p: &Process) -> Costed
     requires { AreLimited state.now.problem.signature state.now.nodes }
     ensures { result ≡ record { cost = cost state.now p.now; process = p.now } }
 {

@@ -66,8 +66,8 @@ pub(crate) fn follow(
     let size = table.size(n);
     let old = table.label(n, kind);
     for i in 0..accounts.len() {
-        let process = accounts[i].sizes.process;
-        let (had, has) = (old.has(log, &process), label.has(log, &process));
+        let had = old.has(log, &accounts[i].sizes.process);
+        let has = label.has(log, &accounts[i].sizes.process);
         if !accounts[i].follow(n, kind, size, had, has) {
             accounts.clear();
             return;

@@ -23,14 +23,9 @@ pub lesser_choice-requires-clause-lives : goal.lesser_choice-requires-clause-liv
 lesser_choice-requires-clause-lives c =
     let living = c.processes-living.result.now in
     let p = c.index-living-i.result in
-    let next = ap (λ (k : Costed). k.process) c.with_cost-next.ensures in
-    subst {A = Name} (λ q. has c.args.state.now.living q ≡ true) (sym next)
-    (has_in c.args.state.now.living p
+    has_in c.args.state.now.living p
     (subst {A = List Name} (λ z. Contains z p) (c.processes-living.ensures ∙ c.log.ensures)
-    (subst {A = Name} (Contains living) (sym c.index-living-i.is) (Contains-get_or living c.loop-i.i p c.loop-i-test.true))))
-
-pub lesser_choice-requires-clause-cost : goal.lesser_choice-requires-clause-cost
-lesser_choice-requires-clause-cost c = ap (λ (k : Costed). k.cost) c.with_cost-next.ensures ∙ ap (cost c.args.state.now) (sym (ap (λ (k : Costed). k.process) c.with_cost-next.ensures))
+    (subst {A = Name} (Contains living) (sym c.index-living-i.is) (Contains-get_or living c.loop-i.i p c.loop-i-test.true)))
 
 pub loop-i-preserved-then-not-is_below : goal.loop-i-preserved-then-not-is_below
 loop-i-preserved-then-not-is_below c = record {
@@ -65,7 +60,7 @@ loop-i-preserved-then-not-is_below c = record {
     best = option_map (λ (k : Choice). k.job) c.loop-i.best
 
     stays : best ≡ merged (job_cmp (cost b) (weight b)) best (first_choice b flight p)
-    stays = best_stays b flight p c.with_cost-next.result.cost (ap (λ (k : Costed). k.cost) c.with_cost-next.ensures) c.loop-i.best c.loop-i.invariant.costed
+    stays = best_stays b flight p c.cost-cost.result c.cost-cost.ensures c.loop-i.best c.loop-i.invariant.costed
         (c.loop-i.invariant.before p (subst {A = List Name} (λ z. Contains z p) (sym from) (contains_first p left))) (sym c.is_below.ensures ∙ c.if-not-is_below.true)
 
     go : (x : Bool) → has b.asleep p ≡ x → merged (job_cmp (cost b) (weight b)) best (least_free b flight (minus left b.asleep)) ≡ least_free b flight (awake b)
@@ -86,7 +81,7 @@ loop-i-preserved-then-is_asleep c =
     let there : c.loop-i.i < length b.living = omega (arith, c.loop-i-test.true, ap length same) in
     let is = c.index-living-i.is ∙ ap (λ (l : List Name). get_or l c.loop-i.i p) same in
     let from = drop_at b.living c.loop-i.i p p there is in
-    let up = filter_at (λ q. not (has b.asleep q)) b.living c.loop-i.i p false there is (ap not (ap (has b.asleep) (sym (ap (λ (k : Costed). k.process) c.with_cost-next.ensures)) ∙ sym c.is_asleep.ensures ∙ c.if-is_asleep.true)) in
+    let up = filter_at (λ q. not (has b.asleep q)) b.living c.loop-i.i p false there is (ap not (sym c.is_asleep.ensures ∙ c.if-is_asleep.true)) in
     record {
       least = sym (ap (λ (ps : List Name). merged (job_cmp (cost b) (weight b)) (option_map (λ (k : Choice). k.job) c.loop-i.best) (least_free b (jobs_of c.args.flight.now) ps)) up) ∙ c.loop-i.invariant.least;
       costed = c.loop-i.invariant.costed;
@@ -104,19 +99,18 @@ loop-i-preserved c =
     let there : c.loop-i.i < length b.living = omega (arith, c.loop-i-test.true, ap length same) in
     let is = c.index-living-i.is ∙ ap (λ (l : List Name). get_or l c.loop-i.i p) same in
     let from = drop_at b.living c.loop-i.i p p there is in
-    let up = filter_at (λ q. not (has b.asleep q)) b.living c.loop-i.i p true there is (ap not (ap (has b.asleep) (sym (ap (λ (k : Costed). k.process) c.with_cost-next.ensures)) ∙ sym c.is_asleep.ensures ∙ c.if-is_asleep.false)) in
-    let next = ap (λ (k : Costed). k.process) c.with_cost-next.ensures in
+    let up = filter_at (λ q. not (has b.asleep q)) b.living c.loop-i.i p true there is (ap not (sym c.is_asleep.ensures ∙ c.if-is_asleep.false)) in
     let job_in = λ (o : Option Choice). option_map (λ (k : Choice). k.job) o in
     record {
       least =
-          sym (best_next b flight p (minus left b.asleep) (job_in c.loop-i.best) (job_in c.in_ok-best.best) (c.in_ok-best.ensures.least ∙ ap (λ (q : Name). merged (job_cmp (cost b) (weight b)) (job_in c.loop-i.best) (first_choice b flight q)) next))
+          sym (best_next b flight p (minus left b.asleep) (job_in c.loop-i.best) (job_in c.in_ok-best.best) c.in_ok-best.ensures.least)
           ∙ sym (ap (λ (ps : List Name). merged (job_cmp (cost b) (weight b)) (job_in c.loop-i.best) (least_free b flight ps)) up)
           ∙ c.loop-i.invariant.least;
       costed = c.in_ok-best.ensures.costed;
       normals = normals_with b c.loop-i.normals.items _ c.lesser_choice.new.normal c.loop-i.invariant.normals c.lesser_choice.ensures.normal;
       before = before_next c.loop-i.best c.in_ok-best.best p left (subst {A = List Name} IsInNameOrder from (ordered_from c.loop-i.i b.living c.requires.in_order))
           (λ q k. c.loop-i.invariant.before q (subst {A = List Name} (λ z. Contains z q) (sym from) (contains_behind p left q k)))
-          (⊎_elim inl (λ k. inr (subst {A = Name} (λ q. IfSome c.in_ok-best.best (λ (j : Choice). process_of j.job ≡ q)) next k)) c.in_ok-best.ensures.of_either);
+          c.in_ok-best.ensures.of_either;
     }
 
 pub returns-in-Some-clause-first : goal.returns-in-Some-clause-first
