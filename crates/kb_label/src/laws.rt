@@ -1,5 +1,5 @@
 // Laws of names and labels.
-ghost use Rattle.std.specs.Prelude.{◌≡◌, ◌<◌, ◌||◌, ◌&&◌, not, List, length, true, false, IsTrue};
+ghost use Rattle.std.specs.Prelude.{◌≡◌, ◌↔◌, ◌<◌, ◌||◌, ◌&&◌, not, List, length, true, false, IsTrue};
 ghost use Rattle.kb_label.specs.Names.{Name, child, name_eq, is_beginning, has, add, join, meet, minus, relabel, IsInNameOrder};
 ghost use Rattle.kb_label.specs.Forks.{IsForked};
 
@@ -24,4 +24,9 @@ pub fn forked_names_are_apart()
     ensures in_order { (l : List Name) → IsForked l → IsInNameOrder l }
     ensures apart { (l : List Name) (p q : Name) → IsForked l → IsTrue (has l p) → IsTrue (has l q) → IsTrue (is_beginning p q) → p ≡ q }
     ensures short { (l : List Name) (p : Name) → IsForked l → IsTrue (has l p) → length p < length l }
+{}
+
+/// Names that `==` calls equal are one.
+pub fn equal_names_are_one()
+    ensures { (p q : Name) → IsTrue (name_eq p q) ↔ (p ≡ q) }
 {}
