@@ -268,12 +268,12 @@ readable_on state flight J legal j first s job h w =
     (subst {A = Job} (λ z. has c.plain.living (process_of z) ≡ true) (sym job) (free_lives c.plain j free))
     (subst {A = Job} (HasJobNodes c.plain) (sym job) (free_there c.plain j free))
 
--- the process of an Orient that is the first job has an order
+-- the process of an Orient that is the first job lives and has an order
 pub first_ordered : (state : Plain) (flight : List Ticket) (J : List Entry) → IsLegalBoard (seen state flight J) → (j : Job) → first_job (record state { flight = flight }) ≡ Some j → HasOrder state j
 first_ordered state flight J legal (jobs.Reduce p n) e = tt
 first_ordered state flight J legal (jobs.Overlap p a c) e = tt
 first_ordered state flight J legal (jobs.Close p) e = tt
 first_ordered state flight J legal (jobs.Orient p n) e =
     let b : Plain = record state { flight = flight } in
-    let k = certified_on state flight J legal p (free_lives b (jobs.Orient p n) (first-free b (jobs.Orient p n) e)) in
-    subst {A = Option Certificate} IsSome (sym k.there) refl
+    let lives = free_lives b (jobs.Orient p n) (first-free b (jobs.Orient p n) e) in
+    (lives, subst {A = Option Certificate} IsSome (sym (certified_on state flight J legal p lives).there) refl)

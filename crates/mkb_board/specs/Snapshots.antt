@@ -6,7 +6,7 @@ use Rattle.kb_node.specs.declared.job.Job.{Job}
 use Rattle.kb_node.specs.declared.job.Job.TheVariants as jobs
 use Rattle.kb_label.specs.Names.{Name}
 use Rattle.mkb_model.specs.Plain.{Plain, certificate_of, known, rules_of}
-use Rattle.mkb_rules.specs.Named.{IsRuleThere}
+use Rattle.mkb_rules.specs.Named.{IsRuleThere, Lives}
 use Rattle.mkb_board.specs.Normal.{is_open_to, roles_of}
 use Rattle.kb_jobs.specs.Rules.{AreNamed}
 use Rattle.kb_jobs.specs.Reducing.{no_name}
@@ -21,10 +21,10 @@ HasJobNodes b (jobs.Orient p n) = n.0 < length b.nodes
 HasJobNodes b (jobs.Overlap p a c) = IsRuleThere b a × IsRuleThere b c
 HasJobNodes b (jobs.Close p) = ⊤
 
--- the process of an Orient has an order
+-- the process of an Orient lives and has an order
 abbrev pub HasOrder : Plain → Job → Type 0
 HasOrder b (jobs.Reduce p n) = ⊤
-HasOrder b (jobs.Orient p n) = IsSome (certificate_of b p)
+HasOrder b (jobs.Orient p n) = Lives b p × IsSome (certificate_of b p)
 HasOrder b (jobs.Overlap p a c) = ⊤
 HasOrder b (jobs.Close p) = ⊤
 

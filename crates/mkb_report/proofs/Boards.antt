@@ -1,6 +1,6 @@
 -- What is known of a board that a legal journal leads to.
 use Rattle.std.proofs.Common.{ℕ, zero, suc, ◌+◌, ◌≤◌, ◌≡◌, ◌∙◌, refl, sym, ap, subst, arith, length-append, List, [], ◌∷◌, map, take, filter, flat_map, length, Contains, Bool, true, false, cond, Option, Some, None, slice_get}
-use Rattle.std.specs.Prelude.{option_map}
+use Rattle.std.specs.Prelude.{option_map, IsTrue}
 use Rattle.std.proofs.lemmas.Option.{slice_get-map}
 use Rattle.std.proofs.lemmas.List.Elements.{filter-append}
 use Rattle.kb_term.specs.Tree.{Tree}
@@ -14,7 +14,7 @@ use Rattle.kb_cert.specs.declared.certificate.Certificate.{Certificate}
 use Rattle.kb_laws.specs.Complete.{IsCompleteSystem}
 use Rattle.kb_laws.specs.Overlaps.{OverlapsClose, HaveOneNormalForm}
 use Rattle.kb_laws.proofs.Closing.{slice_contains}
-use Rattle.kb_label.specs.Names.{Name}
+use Rattle.kb_label.specs.Names.{Name, has}
 use Rattle.kb_label.specs.declared.verdict.Verdict.TheVariants.{Complete}
 use Rattle.mkb_model.specs.Plain.{Plain, PlainNode, orders_of, numbers_from, directions, is_rule, is_constraint, rules_of, constraints_of, rules_at, pair_in, certificate_of}
 use Rattle.mkb_model.specs.Verdicts.{verdict}
@@ -25,6 +25,7 @@ use Rattle.mkb_model.specs.GoodAnswers.{IsGoodAnswer}
 use Rattle.mkb_model.proofs.Changes.{Fits}
 use Rattle.mkb_model.proofs.Fitting.{fits_run}
 use Rattle.mkb_model.proofs.Lists.{clash}
+use Rattle.mkb_model.proofs.Meanings.{verdict_means}
 use Rattle.mkb_model.proofs.Selections.{legal-possible}
 use Rattle.mkb_model.proofs.OriginForms.{origins_of_form}
 use Rattle.mkb_model.proofs.Sound.{boards_sound}
@@ -34,8 +35,9 @@ use Rattle.mkb_report.specs.Reports.{IsReached, pairs_of}
 use Rattle.mkb_report.proofs.OneWay.{one_way}
 use Rattle.mkb_report.proofs.Traces.{OriginsAreRight, node_pair, follows_alike, mapped_is}
 
--- the rules of the process are a complete system for the problem by its certificate, which orders its constraints, and what the checker looks at besides
+-- the process lives, its rules are a complete system for the problem by its certificate, which orders its constraints, and what the checker looks at besides
 pub record IsGoodProcess (b : Plain) (p : Name) : Type 0 where
+  pub lives : IsTrue (has b.living p)
   pub certificate : Certificate
   pub there : certificate_of b p ≡ Some certificate
   pub member : Contains (orders_of b) certificate
@@ -108,7 +110,7 @@ module _ (b : Plain) (r : IsReached b) where
   pub good : (p : Name) → verdict b ≡ Some (Complete p) → IsGoodProcess b p
   good p stands =
       let h : IsGoodAnswer b.problem (record b { flight = r.flight }) p = good_answer b.problem b.settings r.after.0 (record b { flight = r.flight }) p r.within run stands in
-      record { certificate = h.certified.certificate; there = h.certified.there; member = first_contained b.settings.family b.problem.signature (rules_at b (constraints_of b p)) h.certified.certificate h.certified.first; orders = h.certified.first.0; system = h.system; overlaps = h.overlaps; inputs = h.inputs }
+      record { lives = (verdict_means (record b { flight = r.flight }) (Complete p) stands).lives; certificate = h.certified.certificate; there = h.certified.there; member = first_contained b.settings.family b.problem.signature (rules_at b (constraints_of b p)) h.certified.certificate h.certified.first; orders = h.certified.first.0; system = h.system; overlaps = h.overlaps; inputs = h.inputs }
 
   -- a process has at most as many rules as there are nodes, and a good one at most as many constraints
   pub few_rules : (p : Name) → length (rules_of b p) ≤ length b.nodes

@@ -10,14 +10,40 @@ use kb_jobs::work;
 use kb_term::Memory;
 use mkb_model::Proposed;
 use std::alloc::{AllocError, Global};
+use std::ops::Range;
 use std::thread::{Threads, join};
+use std::time::{Clock, Duration, Instant};
 use work_crew::{Assignment, ask};
+
+/// A round whose work takes less than so many microseconds is not worth its threads: to make and join one takes about a hundred.
+const WORTH: u64 = 500;
 
 /// What a thread made of a ticket: its place in the round, and what its job proposes.
 #[derive(Drop)]
 pub(crate) struct Outcome {
     pub(crate) place: usize,
     pub(crate) worked: Result<Proposed, Memory>,
+}
+
+/// Who works the tickets of rounds, and where memory comes from.
+#[derive(Drop)]
+pub(crate) struct Team {
+    pub(crate) alloc: Global,
+    /// How many threads there are at most, the caller's among them.
+    workers: u8,
+    /// Whether the last round that threads could share was worth them. Then they share the next from its first ticket on.
+    is_busy: bool,
+}
+
+impl Team {
+    /// So many workers, which share the first round.
+    pub(crate) fn new(alloc: Global, workers: u8) -> Team {
+        Team {
+            alloc,
+            workers,
+            is_busy: true,
+        }
+    }
 }
 
 // Where threads find work: the places of the round's tickets that none has stolen yet, and where memory comes from.
@@ -40,35 +66,99 @@ pub(crate) fn work_one<G: Gate>(
     work(alloc, &assignment.snapshot)
 }
 
-/// What so many threads, the caller's among them, make of the tickets of a round. A ticket may have no outcome, or more than one.
+/// What the team makes of the tickets of a round. A ticket may have no outcome, or more than one.
 /// One worker makes nothing of a round here, nor do many of a round of one ticket: the caller works what has no outcome.
-pub(crate) fn work_round<G: Gate, R: Threads + Sync>(
+///
+/// Threads share the round from its first ticket on where the last round was worth it. Else the caller works tickets by itself, until
+/// that has taken so long that the round is worth threads for what is left.
+pub(crate) fn work_round<G: Gate, R: Threads + Clock + Sync>(
     rt: &R,
-    alloc: Global,
     gate: &G,
     round: &[Assignment],
-    workers: u8,
+    team: &mut Team,
 ) -> Vec<Outcome>
     requires { AreReadable round.now }
     ensures { AreRight round.now result.items }
 {
-    let threads = round.len().min(workers as usize);
-    if threads <= 1 {
-        return Vec::new(alloc);
+    if round.len().min(team.workers as usize) <= 1 {
+        return Vec::new(team.alloc);
     }
-    let Ok(queue) = queue_of(alloc, round.len()) else {
-        return Vec::new(alloc);
+    let begun = Instant::now(rt).ok();
+    let outcomes = if team.is_busy {
+        Vec::new(team.alloc)
+    } else {
+        work_short(rt, team.alloc, gate, round, &begun)
     };
-    let Ok(places) = queue.stealer() else {
-        return Vec::new(alloc);
-    };
-    steal_together(rt, gate, &Bench { alloc, places }, round, threads)
+    let outcomes = share_rest(rt, gate, round, team, outcomes);
+    team.is_busy = is_worth_threads(rt, &begun);
+    outcomes
 }
 
-// A queue of so many places, in order, or of the first of them where there is no memory for more.
-fn queue_of(alloc: Global, count: usize) -> Result<Worker<usize>, AllocError> {
-    let mut queue = Worker::new_fifo(alloc, count)?;
-    for place in 0..count {
+// Whether work that began then has taken as long as a round that is worth threads; so it has where the clock can't be read.
+fn is_worth_threads<R: Clock>(rt: &R, begun: &Option<Instant>) -> bool {
+    let Some(begun) = begun else {
+        return true;
+    };
+    match begun.elapsed(rt) {
+        Ok(taken) => taken >= Duration::from_micros(WORTH),
+        Err(_) => true,
+    }
+}
+
+// What the caller makes of the first tickets of a round, until they have taken so long that the round is worth threads.
+fn work_short<G: Gate, R: Clock>(
+    rt: &R,
+    alloc: Global,
+    gate: &G,
+    round: &[Assignment],
+    begun: &Option<Instant>,
+) -> Vec<Outcome>
+    requires { AreReadable round.now }
+    ensures { AreRight round.now result.items }
+{
+    let mut outcomes = Vec::new(alloc);
+    for place in 0..round.len() {
+        if is_worth_threads(rt, begun) {
+            break;
+        }
+        work_place(alloc, gate, round, place, &mut outcomes);
+    }
+    outcomes
+}
+
+// These outcomes, of the first tickets, and what threads make of the others. One ticket is left to the caller.
+#[tactic(auto, using(crate::proofs::Playing::right_joined))]
+fn share_rest<G: Gate, R: Threads + Sync>(
+    rt: &R,
+    gate: &G,
+    round: &[Assignment],
+    team: &Team,
+    outcomes: Vec<Outcome>,
+) -> Vec<Outcome>
+    requires readable { AreReadable round.now }
+    requires right { AreRight round.now outcomes.items }
+    ensures { AreRight round.now result.items }
+{
+    let left = outcomes.len()..round.len();
+    let threads = left.len().min(team.workers as usize);
+    if threads <= 1 {
+        return outcomes;
+    }
+    let alloc = team.alloc;
+    let Ok(queue) = queue_of(alloc, left) else {
+        return outcomes;
+    };
+    let Ok(places) = queue.stealer() else {
+        return outcomes;
+    };
+    let others = steal_together(rt, gate, &Bench { alloc, places }, round, threads);
+    joined(outcomes, others)
+}
+
+// A queue of these places, in order, or of the first of them where there is no memory for more.
+fn queue_of(alloc: Global, places: Range<usize>) -> Result<Worker<usize>, AllocError> {
+    let mut queue = Worker::new_fifo(alloc, places.len())?;
+    for place in places {
         if queue.push(place).is_err() {
             break;
         }

@@ -9,6 +9,7 @@ use mkb_rounds::{rounds_have_one_journal, work_rounds};
 use std::alloc::Global;
 use std::process::Abort;
 use std::thread::Threads;
+use std::time::Clock;
 use work_crew::Crew;
 
 const AXIOMS_OF_GROUPS: &str =
@@ -47,7 +48,7 @@ fn started(rt: &impl Abort, alloc: Global, text: &str, budget: u32) -> Board
 }
 
 /// The problem's board on which so many workers have ended their rounds.
-fn played<R: Abort + Threads + Sync>(
+fn played<R: Abort + Threads + Clock + Sync>(
     rt: &R,
     alloc: Global,
     text: &str,
@@ -98,7 +99,7 @@ fn the_last_ticket_of_a_round_stays_in_flight_at_a_verdict(rt: HostRuntime) {
 }
 
 /// Whether so many workers make the journal of the board, of the axioms of groups, anew.
-fn make_it_again<R: Abort + Threads + Sync>(
+fn make_it_again<R: Abort + Threads + Clock + Sync>(
     rt: &R,
     alloc: Global,
     board: &Board,

@@ -8,6 +8,7 @@ ghost use Rattle.mkb_rules.specs.Parts.{plain_nodes};
 ghost use Rattle.mkb_rules.specs.Overlapped.{is_overlapped};
 ghost use Rattle.mkb_rules.specs.Roles.{AreRolesOf};
 ghost use Rattle.mkb_rules.specs.Sizes.{is_dead_at, AreAlive};
+ghost use Rattle.mkb_rules.specs.Named.{Lives};
 ghost use Rattle.mkb_rules.specs.Kept.{plain_done, plain_certificates, place_in};
 
 use crate::facts::Facts;
@@ -234,9 +235,10 @@ impl State {
         self.asleep.remove(p);
     }
 
-    /// The order by which a process orients.
+    /// The order by which a living process orients.
     pub fn certificate(&self, p: &Process) -> &Certificate
-        requires { IsSome (certificate_of self.now p.now) }
+        requires lives { Lives self.now p.now }
+        requires ordered { IsSome (certificate_of self.now p.now) }
         ensures { certificate_of self.now p.now ≡ Some result.now }
     {
         let place = certificate_place(&self.certificates, p);

@@ -57,6 +57,8 @@ fn has_orders(rt: &impl Abort, state: &State)
 {
     let left = Process::root().child(false);
     let right = Process::root().child(true);
+    living(rt, state, &left);
+    living(rt, state, &right);
     assert!(rt; is_above(state.certificate(&left), 0, 1));
     assert!(rt; is_above(state.certificate(&right), 1, 0));
 }

@@ -18,6 +18,7 @@ use std::io::{ErrorKind, IsTerminal, Write};
 use std::process::ExitCode;
 use std::sync::Wait;
 use std::thread::Threads;
+use std::time::Clock;
 
 fn texts(alloc: Global, words: &[String]) -> Result<Vec<&str>, AllocError> {
     let mut texts = Vec::new(alloc);
@@ -62,7 +63,11 @@ fn explain(rt: &HostRuntime, status: &Status, words: &[&str], text: &[u8]) {
 }
 
 // Does what the words ask for, shows how it goes on, and tells how it ended.
-fn perform<R: Threads + Wait + Sync>(threads: &R, rt: &HostRuntime, texts: &[&str]) -> ExitCode {
+fn perform<R: Threads + Wait + Clock + Sync>(
+    threads: &R,
+    rt: &HostRuntime,
+    texts: &[&str],
+) -> ExitCode {
     let manner = manner_of(texts, rt.stderr().is_terminal());
     let words = match other_words(rt.alloc(), texts) {
         Ok(words) => words,

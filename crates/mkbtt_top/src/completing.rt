@@ -22,6 +22,7 @@ use mkb_report::{report_of, reports_are_good};
 use std::alloc::Global;
 use std::sync::Wait;
 use std::thread::Threads;
+use std::time::Clock;
 
 /// The most bytes of a problem.
 const PROBLEM_BYTES: usize = 1_048_576;
@@ -73,7 +74,7 @@ fn told_text(alloc: Global, board: &Board, verdict: &Verdict, told: Told) -> Res
 /// # Errors
 ///
 /// Want of memory before a verdict stands, with the board where one was made.
-pub(crate) fn finish<R: Threads + Wait + Sync, G: Gate>(
+pub(crate) fn finish<R: Threads + Wait + Clock + Sync, G: Gate>(
     host: &Host<R, G>,
     problem: Problem,
     settings: Settings,
@@ -95,7 +96,7 @@ pub(crate) fn finish<R: Threads + Wait + Sync, G: Gate>(
 }
 
 // The reply to the problem.
-fn complete_problem<R: Threads + Wait + Sync, G: Gate>(
+fn complete_problem<R: Threads + Wait + Clock + Sync, G: Gate>(
     host: &Host<R, G>,
     problem: Problem,
     settings: Settings,
@@ -119,7 +120,7 @@ fn complete_problem<R: Threads + Wait + Sync, G: Gate>(
 }
 
 // The reply to the problem that the bytes spell.
-fn complete_bytes<R: Threads + Wait + Sync, G: Gate>(
+fn complete_bytes<R: Threads + Wait + Clock + Sync, G: Gate>(
     host: &Host<R, G>,
     bytes: &[u8],
     settings: Settings,
@@ -141,7 +142,7 @@ fn complete_bytes<R: Threads + Wait + Sync, G: Gate>(
 }
 
 /// Reads a problem from the source and completes it by these workers; the reply is the report of the verdict, or the journal.
-pub(crate) fn complete_source<R: Threads + Wait + Sync, S: Source, G: Gate>(
+pub(crate) fn complete_source<R: Threads + Wait + Clock + Sync, S: Source, G: Gate>(
     host: &Host<R, G>,
     source: &mut S,
     settings: Settings,

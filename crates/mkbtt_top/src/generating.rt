@@ -20,6 +20,7 @@ use mkb_report::summary_of;
 use std::alloc::Global;
 use std::sync::Wait;
 use std::thread::Threads;
+use std::time::Clock;
 
 /// The reply is the text of the generated problem with this number.
 ///
@@ -44,7 +45,7 @@ pub(crate) fn generated_text(alloc: Global, number: u32) -> Result<Reply, Memory
 /// # Errors
 ///
 /// Want of memory, with the board where one was made.
-pub(crate) fn summarise<R: Threads + Wait + Sync, G: Gate>(
+pub(crate) fn summarise<R: Threads + Wait + Clock + Sync, G: Gate>(
     host: &Host<R, G>,
     settings: Settings,
     number: u32,

@@ -21,9 +21,10 @@ use kb_term::Memory;
 use std::alloc::Global;
 use std::sync::Wait;
 use std::thread::Threads;
+use std::time::Clock;
 
 // What the task makes of what it reads.
-fn make<R: Threads + Wait + Sync, S: Source, G: Gate>(
+fn make<R: Threads + Wait + Clock + Sync, S: Source, G: Gate>(
     host: &Host<R, G>,
     task: Task,
     source: &mut S,
@@ -55,7 +56,7 @@ fn make<R: Threads + Wait + Sync, S: Source, G: Gate>(
 }
 
 // Does the task: reads what it reads and writes what it makes.
-fn run_task<R: Threads + Wait + Sync, S: Source, K: Sink, G: Gate>(
+fn run_task<R: Threads + Wait + Clock + Sync, S: Source, K: Sink, G: Gate>(
     host: &Host<R, G>,
     task: Task,
     source: &mut S,
@@ -88,7 +89,7 @@ fn run_task<R: Threads + Wait + Sync, S: Source, K: Sink, G: Gate>(
 /// summary has one worker. Bytes that spell no problem are refused by the first thing that is wrong, with its place; bytes that
 /// are no answer's text, or have no goals or terms behind one, by the first line that isn't of its form. Each text is made
 /// whole before its first byte is written. The outcome has the board of a completion, where one was made.
-pub fn run<R: Threads + Wait + Sync, S: Source, K: Sink, G: Gate>(
+pub fn run<R: Threads + Wait + Clock + Sync, S: Source, K: Sink, G: Gate>(
     rt: &R,
     alloc: Global,
     words: &[&str],

@@ -8,6 +8,7 @@ use mkb_board::Board;
 use mkb_rounds::work_rounds;
 use std::sync::Wait;
 use std::thread::Threads;
+use std::time::Clock;
 use work_crew::{Crew, work_alone, work_together};
 
 /// How many workers there are, and how they go about their work.
@@ -20,7 +21,7 @@ pub enum Workers {
 }
 
 /// The board on which the workers have ended: one without a thread of its own, more in a thread each.
-pub(crate) fn worked_on<R: Threads + Wait + Sync, G: Gate>(
+pub(crate) fn worked_on<R: Threads + Wait + Clock + Sync, G: Gate>(
     host: &Host<R, G>,
     board: Board,
     workers: Workers,

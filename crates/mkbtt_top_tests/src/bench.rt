@@ -5,6 +5,7 @@ use std::alloc::Global;
 use std::process::Abort;
 use std::sync::Wait;
 use std::thread::Threads;
+use std::time::Clock;
 
 /// What runs a test, and where it takes memory.
 #[derive(Drop)]
@@ -21,7 +22,7 @@ pub(crate) struct Want<'a> {
     pub output: &'a str,
 }
 
-impl<'a, R: Threads + Wait + Sync + Abort> Bench<'a, R> {
+impl<'a, R: Threads + Wait + Clock + Sync + Abort> Bench<'a, R> {
     /// The run; what is proved of it isn't asked for in tests.
     pub(crate) fn perform<S: Source, G: Gate>(
         &self,

@@ -5,6 +5,7 @@ use mkbtt_top::{Status, status_code};
 use std::process::Abort;
 use std::sync::Wait;
 use std::thread::Threads;
+use std::time::Clock;
 
 /// A problem whose rule overlaps itself, and its journal by one worker, in parts that can be altered.
 const PROBLEM: &str = "(VAR x)(RULES f(f(x)) == a)";
@@ -76,7 +77,7 @@ fn with_more<'t>(count: &'t str, more: &'t str) -> [&'t str; 13] {
     ]
 }
 
-impl<'a, R: Threads + Wait + Sync + Abort> Bench<'a, R> {
+impl<'a, R: Threads + Wait + Clock + Sync + Abort> Bench<'a, R> {
     /// Whether the replay of the texts writes this summary of a board with so many commits.
     fn sums_up(&self, texts: &[&str], commits: u32, summary: &str) -> bool {
         let want = Want {

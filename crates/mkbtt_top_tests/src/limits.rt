@@ -7,6 +7,7 @@ use std::alloc::Global;
 use std::process::Abort;
 use std::sync::Wait;
 use std::thread::Threads;
+use std::time::Clock;
 
 // How often f stands in a term of the greatest depth whose overlap with itself is too deep.
 const DEEPEST: usize = 63;
@@ -48,7 +49,7 @@ impl Text {
     }
 }
 
-impl<'a, R: Threads + Wait + Sync + Abort> Bench<'a, R> {
+impl<'a, R: Threads + Wait + Clock + Sync + Abort> Bench<'a, R> {
     // The completion of the text by one worker.
     fn complete(&self, text: Text, sink: &mut MemorySink) -> Outcome {
         let mut source = MemorySource::new(text.bytes, Vec::new(self.alloc), 1000);

@@ -7,8 +7,9 @@ use mkbtt_top::{rounds_write_one_text, status_code};
 use std::process::Abort;
 use std::sync::Wait;
 use std::thread::Threads;
+use std::time::Clock;
 
-impl<'a, R: Threads + Wait + Sync + Abort> Bench<'a, R> {
+impl<'a, R: Threads + Wait + Clock + Sync + Abort> Bench<'a, R> {
     /// What a run by rounds writes on the text.
     fn by_rounds(&self, text: &str, select: &str, workers: &str) -> MemorySink {
         let words = &[

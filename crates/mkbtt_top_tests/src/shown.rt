@@ -5,8 +5,9 @@ use mkbtt_top::{hint, status_code};
 use std::process::Abort;
 use std::sync::Wait;
 use std::thread::Threads;
+use std::time::Clock;
 
-impl<'a, R: Threads + Wait + Sync + Abort> Bench<'a, R> {
+impl<'a, R: Threads + Wait + Clock + Sync + Abort> Bench<'a, R> {
     /// Whether a run with these words on the text has this hint, and writes nothing.
     fn explains(&self, words: &[&str], text: &str, want: &str) -> bool {
         let mut source = KeepingSource::new(self.alloc, self.source(&[text]));

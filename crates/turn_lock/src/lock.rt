@@ -2,6 +2,7 @@
 ghost use Rattle.std.specs.Prelude.{◌≡◌, ◌<◌, ◌≤◌, [], true, false, length, MatchResult, ◌+◌, Some, IfSome, IfNone};
 ghost use Rattle.turn_lock.specs.Places.{IsSeatOf, first_seat, sees, draws, drawn_seat, takes_in, IsLater, GoesOn, AllJoined, IsWhole};
 
+use crate::backoff::Backoff;
 use crate::rule::{Draw, Law, Look, Release, Take, Try, View};
 use crate::turned::Turned;
 use atomic_table::{Refused, Table};
@@ -9,7 +10,9 @@ use std::alloc::Global;
 use std::marker::Model;
 use std::snapshot::Snapshot;
 use std::sync::Wait;
-use std::thread::yield_now;
+
+/// How often the sleep of a thread that waits for its turn is doubled: a turn is short, and what the thread holds may be waited for.
+const DOUBLINGS: u32 = 1;
 
 /// A value that up to 16 threads take in turns, and whose history each of them knows as far as it has seen it.
 ///
@@ -106,11 +109,12 @@ impl<T: Turned> Turns<T> {
         ensures later { IsLater T.worker seat.old (T.entries result) }
         ensures seat { seat.new ≡ sees seat.old (T.entries result) true }
     {
+        let mut backoff = Backoff::new(DOUBLINGS);
         for _ in rt.forever() {
             if let Some(value) = self.try_enter(seat) {
                 return value;
             }
-            yield_now();
+            backoff.rest(rt);
         }
         unreachable!()
     }

@@ -18,17 +18,11 @@ use mkb_board::Board;
 use mkb_model::{Entry, Proposed};
 use std::alloc::Global;
 use std::sync::Wait;
-use std::thread::{Parker, Threads, join, yield_now};
-use std::time::Duration;
-use turn_lock::{Seat, Turns};
+use std::thread::{Threads, join};
+use turn_lock::{Backoff, Seat, Turns};
 
-/// How often a worker without a job only yields before it sleeps.
-const YIELDS: u32 = 16;
-
-/// The first sleep of a worker without a job, in microseconds. Each further one is twice as long, up to the longest.
-const FIRST_NAP: u64 = 15;
-
-/// How often a sleep is doubled: the longest is of 480 microseconds, so that with what the system adds it is below a millisecond.
+/// How often the sleep of a worker without a job is doubled: the longest is of 480 microseconds, so that with what the system adds it
+/// is below a millisecond.
 const DOUBLINGS: u32 = 5;
 
 // What the workers share: the lock of the board, and where memory comes from.
@@ -105,30 +99,24 @@ fn work_one<G: Gate, S: Searcher, R: Wait>(
     }
 }
 
-// Lets others run: at first it yields, then it sleeps, each time twice as long, up to the longest sleep.
-fn rest<R: Wait>(rt: &R, parker: &Parker, round: u32) {
-    if round < YIELDS {
-        yield_now();
-        return;
-    }
-    let nap = FIRST_NAP << (round - YIELDS).min(DOUBLINGS);
-    parker.park_timeout(rt, Duration::from_micros(nap));
-}
-
-// Waits, without the turn, until the journal has more entries than these.
-fn wait_for_more<R: Wait>(rt: &R, place: &Workplace, seat: &mut Seat<Shared>, entries: u64)
+// Waits, without the turn, until the journal has more entries than these. It rests at least once, and each time that it finds no job
+// again it goes on as it rested last, so that a worker for which there is seldom a job seldom looks for one.
+fn wait_for_more<R: Wait>(
+    rt: &R,
+    place: &Workplace,
+    seat: &mut Seat<Shared>,
+    entries: u64,
+    idle: &mut Backoff,
+)
     requires { Rests place.now.turns seat.old }
     ensures rests { Rests place.now.turns seat.new }
     ensures same { IsSameSeat seat.old seat.new }
 {
-    let parker = Parker::new();
-    let mut round: u32 = 0;
     for _ in rt.forever() {
+        idle.rest(rt);
         if place.turns.seen(seat) > entries {
             return;
         }
-        rest(rt, &parker, round);
-        round = round.saturating_add(1);
     }
 }
 
@@ -144,15 +132,17 @@ fn serve<G: Gate, S: Searcher, R: Wait>(
     ensures rests { Rests place.now.turns result }
     ensures same { IsSameSeat seat result }
 {
+    let mut idle = Backoff::new(DOUBLINGS);
     let mut next = take_one(rt, place, gate, &mut seat);
     for _ in rt.forever() {
         match next {
             Next::Work(assignment) => {
+                idle.reset();
                 let worked = work_one(rt, place.alloc, gate, by, assignment);
                 next = end_one(rt, place, gate, &mut seat, worked);
             }
             Next::Wait(entries) => {
-                wait_for_more(rt, place, &mut seat, entries);
+                wait_for_more(rt, place, &mut seat, entries, &mut idle);
                 next = take_one(rt, place, gate, &mut seat);
             }
             Next::End => break,

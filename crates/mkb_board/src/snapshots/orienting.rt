@@ -2,7 +2,7 @@
 ghost use Rattle.std.specs.Prelude.{◌≡◌, ◌<◌, ◌++◌, ◌∷◌, [], All, IfOk, IsSome, length};
 ghost use Rattle.mkb_model.specs.Plain.{certificate_of, rules_at};
 ghost use Rattle.kb_jobs.specs.Taken.{IsTakenOrient};
-ghost use Rattle.mkb_rules.specs.Named.{IsRuleThere};
+ghost use Rattle.mkb_rules.specs.Named.{IsRuleThere, Lives};
 
 use super::named::{rule_at, rules_at, view_of};
 use kb_jobs::OrientSnapshot;
@@ -21,6 +21,7 @@ pub(crate) fn orient_snapshot(
     node: NodeId,
 ) -> Result<OrientSnapshot, Memory>
     requires there { node.0 < length state.now.nodes }
+    requires lives { Lives state.now process }
     requires ordered { IsSome (certificate_of state.now process) }
     ensures process { IfOk result (λ s. s.process ≡ process) }
     ensures node { IfOk result (λ s. s.node ≡ node) }

@@ -17,8 +17,11 @@ use Rattle.mkb_rules.proofs.Viewed.{rules_there, constraints_there}
 use Rattle.mkb_report.proofs.Viewed.{parts}
 use Rattle.mkb_report.proofs.report.answer_of.Goals as goal
 
-pub certificate-requires : goal.certificate-requires
-certificate-requires c = subst IsSome (sym (good c.args.state.now c.requires.reached c.args.p.now c.requires.stands).there) refl
+pub certificate-requires-clause-lives : goal.certificate-requires-clause-lives
+certificate-requires-clause-lives c = (good c.args.state.now c.requires.reached c.args.p.now c.requires.stands).lives
+
+pub certificate-requires-clause-ordered : goal.certificate-requires-clause-ordered
+certificate-requires-clause-ordered c = subst IsSome (sym (good c.args.state.now c.requires.reached c.args.p.now c.requires.stands).there) refl
 
 pub trace_of-requires-clause-earlier : goal.trace_of-requires-clause-earlier
 trace_of-requires-clause-earlier c =

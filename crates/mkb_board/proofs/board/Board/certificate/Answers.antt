@@ -11,8 +11,11 @@ use Rattle.mkb_board.specs.Boards.{Seen}
 use Rattle.mkb_board.proofs.Readable.{certified_on}
 use Rattle.mkb_board.proofs.board.Board.certificate.Goals as goal
 
-pub certificate-requires : goal.certificate-requires
-certificate-requires c =
+pub certificate-requires-clause-lives : goal.certificate-requires-clause-lives
+certificate-requires-clause-lives c = subst {A = Seen} (λ z. IsTrue (has z.plain.living c.args.p.now)) (sym c.self.view_is) c.requires
+
+pub certificate-requires-clause-ordered : goal.certificate-requires-clause-ordered
+certificate-requires-clause-ordered c =
     let p = c.args.p.now in
     let lives = subst {A = Seen} (λ z. IsTrue (has z.plain.living p)) (sym c.self.view_is) c.requires in
     let k = certified_on c.self.inside.state c.self.inside.flight.items c.self.inside.journal.items c.self.invariant.0.legal p lives in
