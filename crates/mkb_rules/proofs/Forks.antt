@@ -55,3 +55,7 @@ pub length_front : (p : Name) (i : ℕ) (xs : List PlainNode) → length (fork_f
 length_front p zero xs = refl
 length_front p (suc i) [] = refl
 length_front p (suc i) (x ∷ xs) = ap suc (length_front p i xs)
+
+-- the front of all of them is the list of the forked nodes
+pub front_whole : (p : Name) (i : ℕ) (xs ys : List PlainNode) → ys ≡ fork_front p i xs → i ≡ length xs → ys ≡ map (forked_node p) xs
+front_whole p i xs ys is all = is ∙ ap (λ (m : ℕ). fork_front p m xs) all ∙ front_all p xs

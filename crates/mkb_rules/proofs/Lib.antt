@@ -16,3 +16,4 @@ pub mod Viewed
 pub mod Paying
 pub mod Costs
 pub mod RolesKept
+pub mod Apart

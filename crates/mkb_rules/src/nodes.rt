@@ -4,16 +4,18 @@ ghost use Rattle.mkb_model.specs.Plain.{label_at};
 ghost use Rattle.mkb_model.specs.Effects.{with_label, with_node, node_of, is_present, most_nodes, gains as with_gain, loses as with_loss, gains_equation as with_equation, gains_rule as with_rule};
 ghost use Rattle.kb_label.specs.Names.{minus};
 ghost use Rattle.mkb_rules.specs.Parts.{plain_nodes};
+ghost use Rattle.mkb_rules.specs.Accounts.{IsAccountOf, IsApart};
 ghost use Rattle.mkb_rules.specs.Nodes.{put_back};
 ghost use Rattle.mkb_rules.specs.Roles.{AreRolesOf};
 ghost use Rattle.mkb_rules.specs.Sizes.{is_dead_at, AreAlive, AreSizesOf};
 
+use crate::account::Account;
 use crate::effects::label::rule_kind;
 use crate::labels::{copy_of, joined};
 use crate::roles::Roles;
 use crate::sizes::Sizes;
 use crate::tracked::Tracked;
-use kb_label::{Labels, ListLabels, NameLog, Process};
+use kb_label::{Labels, ListLabels, MAX_BITS, NameLog, Process};
 use kb_node::{LabelKind, NodeFault, NodeId, NodeTable};
 use kb_term::{Origin, Pair, RuleRef};
 use std::alloc::{AllocError, Global};
@@ -95,11 +97,22 @@ impl Nodes {
         self.table.keep_accounts(log);
     }
 
-    /// Nothing of this is kept of the process from here on.
-    pub(crate) fn forget(&mut self, p: &Process)
+    /// Sets aside what is kept of this of all processes but this one and its children, of which nothing is kept from here on.
+    pub(crate) fn set_aside(&mut self, p: &Process) -> Vec<Account>
+        requires { length p.now < MAX_BITS }
+        ensures same { self.new ≡ self.old }
+        ensures right { All (IsAccountOf self.old.now) result.items }
+        ensures apart { All (IsApart p.now) result.items }
+    {
+        self.table.set_aside(p)
+    }
+
+    /// These accounts are kept from here on.
+    pub(crate) fn take_back(&mut self, accounts: Vec<Account>)
+        requires { All (IsAccountOf self.old.now) accounts.items }
         ensures { self.new ≡ self.old }
     {
-        self.table.forget(p);
+        self.table.take_back(accounts);
     }
 
     /// What the process pays, where that is kept at this place.

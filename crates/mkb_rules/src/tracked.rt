@@ -3,7 +3,7 @@ ghost use Rattle.std.specs.Prelude.{◌≡◌, ℕ, List, [], Some, ◌+◌, ◌
 ghost use Rattle.kb_node.specs.Labelled.{label_in, with_label_at, HasPair, LacksPair, AddsNode};
 ghost use Rattle.kb_label.specs.Names.{Name};
 ghost use Rattle.mkb_rules.specs.Parts.{plain_nodes};
-ghost use Rattle.mkb_rules.specs.Accounts.{IsAccountOf};
+ghost use Rattle.mkb_rules.specs.Accounts.{IsAccountOf, IsApart};
 ghost use Rattle.mkb_rules.specs.Roles.{AreRolesOf};
 ghost use Rattle.mkb_rules.specs.Sizes.{is_dead_at, AreAlive, AreSizesOf};
 
@@ -11,11 +11,12 @@ use crate::account::{Account, account_of, follow, follow_new};
 use crate::marks::Marks;
 use crate::roles::Roles;
 use crate::sizes::Sizes;
-use kb_label::{Labels, ListLabels, NameLog, Process};
+use kb_label::{Labels, ListLabels, MAX_BITS, NameLog, Process};
 use kb_node::{LabelKind, MAX_NODES, NodeFault, NodeId, NodeTable};
 use kb_term::{Origin, Pair};
 use std::alloc::Global;
 use std::marker::Model;
+use std::mem::replace;
 
 /// The table of nodes. Contracts see the nodes alone.
 ///
@@ -167,11 +168,29 @@ impl Tracked {
         }
     }
 
-    /// No account is kept of the process from here on.
-    pub(crate) fn forget(&mut self, p: &Process)
+    /// Sets aside the accounts of all processes but this one and its children, of which none is kept from here on.
+    pub(crate) fn set_aside(&mut self, p: &Process) -> Vec<Account>
+        requires { length p.now < MAX_BITS }
+        ensures same { self.new ≡ self.old }
+        ensures right { All (IsAccountOf (plain_nodes self.old)) result.items }
+        ensures apart { All (IsApart p.now) result.items }
+    {
+        let (left, right) = (p.child(false), p.child(true));
+        let alloc = *self.accounts.allocator();
+        let mut accounts = replace(&mut self.accounts, Vec::new(alloc));
+        accounts.retain(|account| {
+            let q = &account.sizes.process;
+            q != p && q != &left && q != &right
+        });
+        accounts
+    }
+
+    /// These accounts are kept from here on.
+    pub(crate) fn take_back(&mut self, accounts: Vec<Account>)
+        requires { All (IsAccountOf (plain_nodes self.old)) accounts.items }
         ensures { self.new ≡ self.old }
     {
-        self.accounts.retain(|account| account.sizes.process != *p);
+        self.accounts = accounts;
     }
 
     // The account of the process, where it is kept at this place.

@@ -59,15 +59,14 @@ impl State {
             return self.give_up(alloc, Reason::Processes, &names);
         }
         let applied = self.fork(alloc, p, n, cert0, cert1)?;
-        self.keep_costs_after_fork(p);
+        self.keep_accounts();
         Ok(applied)
     }
 
-    // What the process costs is kept no more, but what its children cost is.
-    fn keep_costs_after_fork(&mut self, p: &Process)
+    // What the children cost, and how they have nodes, is kept too.
+    fn keep_accounts(&mut self)
         ensures { self.new ≡ self.old }
     {
-        self.nodes.forget(p);
         self.nodes.keep_accounts(&self.log);
     }
 
@@ -333,7 +332,7 @@ fn fork_and_orient(
     orient_nodes(nodes, log, RuleRef { node: n.0, dir: 1 }, right)
 }
 
-// In each label the children of the process stand in its place.
+// In each label the children of the process stand in its place. What is kept of the other processes stays as it is.
 fn fork_nodes(
     alloc: Global,
     nodes: &mut Nodes,
@@ -344,10 +343,12 @@ fn fork_nodes(
     ensures ok { OnOk result (nodes.new.now ≡ map (forked_node p.now) nodes.old.now) }
     ensures before { nodes.new.before ≡ nodes.old.before }
 {
+    let apart = nodes.set_aside(p);
     let count = node_count(nodes);
     for i in 0..count {
         fork_node(alloc, nodes, log, p, NodeId(i as u16))?;
     }
+    nodes.take_back(apart);
     Ok(())
 }
 
