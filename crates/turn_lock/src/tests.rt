@@ -1,7 +1,7 @@
 // A lock over a list of marks.
 ghost use Rattle.std.specs.Prelude.{◌≡◌, ◌≤◌, ◌++◌, ◌∷◌, [], IfOk, OnOk, OnErr};
 
-use crate::{Counted, Turned, Turns};
+use crate::{Backoff, Counted, Turned, Turns};
 use std::alloc::{AllocError, Global};
 use std::marker::Model;
 
@@ -93,4 +93,14 @@ fn each_seat_sees_what_others_entered(rt: HostRuntime) {
     turns.join(&mut first, second);
     let marks = turns.close(first);
     assert!(rt; marks.marks() == [2, 1].as_slice());
+}
+
+#[test]
+fn a_backoff_rests_again_and_again_and_begins_anew(rt: HostRuntime) {
+    let mut backoff = Backoff::new(2);
+    for _ in 0..24u32 {
+        backoff.rest(&rt);
+    }
+    backoff.reset();
+    backoff.rest(&rt);
 }
