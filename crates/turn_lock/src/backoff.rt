@@ -1,5 +1,5 @@
 // Waiting for other threads.
-ghost use Rattle.std.specs.Prelude.{◌≡◌, ◌+◌, ◌-◌, ◌^◌, ℕ, min};
+ghost use Rattle.std.specs.Prelude.{◌≡◌, ◌+◌, ◌-◌, min};
 
 use std::marker::Model;
 use std::sync::Wait;
@@ -16,10 +16,13 @@ const FIRST_NAP: u64 = 15;
 /// millisecond.
 const MAX_DOUBLINGS: u32 = 5;
 
+/// The most rests that are counted: from there on each is as long as the last.
+const MOST: u32 = YIELDS + MAX_DOUBLINGS;
+
 /// How a thread waits for others without using up a processor: it rests again and again between its looks, at first by yielding, then
 /// asleep, each time twice as long, up to a longest sleep of less than half a millisecond.
 ///
-/// Contracts see how often it has rested.
+/// Contracts see how many rests are counted, at most 21: the more there are, the longer is the next.
 #[derive(Drop)]
 pub struct Backoff {
     parker: Parker,
@@ -28,11 +31,13 @@ pub struct Backoff {
 }
 
 impl Model for Backoff {
-    ghost use Rattle.std.specs.Prelude.{ℕ};
+    ghost use Rattle.std.specs.Prelude.{ℕ, ◌≤◌};
 
     ghost Value = { ℕ };
 
     ghost view = { λ b. b.rests };
+
+    ghost invariant = { λ b. b.rests ≤ 21 };
 }
 
 impl Backoff {
@@ -49,7 +54,7 @@ impl Backoff {
 
     /// Rests once.
     pub fn rest<R: Wait>(&mut self, rt: &R)
-        ensures { self.new ≡ min (self.old + 1) (2 ^ 32 - 1) }
+        ensures { self.new ≡ min (self.old + 1) 21 }
     {
         if self.rests < YIELDS {
             yield_now();
@@ -58,7 +63,7 @@ impl Backoff {
             let nap = FIRST_NAP << doublings.min(MAX_DOUBLINGS);
             self.parker.park_timeout(rt, Duration::from_micros(nap));
         }
-        self.rests = self.rests.saturating_add(1);
+        self.rests = (self.rests + 1).min(MOST);
     }
 
     /// Begins anew: the next rest is the first again.
@@ -66,5 +71,12 @@ impl Backoff {
         ensures { self.new ≡ 0 }
     {
         self.rests = 0;
+    }
+
+    /// Counts one rest less: the next is as long as the one before the last.
+    pub fn ease(&mut self)
+        ensures { self.new ≡ self.old - 1 }
+    {
+        self.rests = self.rests.saturating_sub(1);
     }
 }

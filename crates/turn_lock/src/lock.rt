@@ -43,6 +43,8 @@ pub struct Seat<T: Turned> {
     worker: u8,
     seen: u64,
     drawn: u8,
+    // whether it had to rest before its last turn
+    waited: bool,
 }
 
 impl<T: Turned> Model for Seat<T> {
@@ -62,6 +64,11 @@ impl<T: Turned> Seat<T> {
         ensures some { 0 < result }
     {
         self.worker
+    }
+
+    /// Whether it had to rest before its last turn, since another seat had the turn.
+    pub fn has_waited(&self) -> bool {
+        self.waited
     }
 }
 
@@ -90,6 +97,7 @@ impl<T: Turned> Turns<T> {
                     worker: 1,
                     seen: 0,
                     drawn: 1,
+                    waited: false,
                 },
             )),
             Err(Refused { mut slots }) => {
@@ -110,10 +118,12 @@ impl<T: Turned> Turns<T> {
         ensures seat { seat.new ≡ sees seat.old (T.entries result) true }
     {
         let mut backoff = Backoff::new(DOUBLINGS);
+        seat.waited = false;
         for _ in rt.forever() {
             if let Some(value) = self.try_enter(seat) {
                 return value;
             }
+            seat.waited = true;
             backoff.rest(rt);
         }
         unreachable!()
@@ -185,6 +195,7 @@ impl<T: Turned> Turns<T> {
             worker: seat.drawn,
             seen: seat.seen,
             drawn: 0,
+            waited: false,
         }
     }
 

@@ -20,7 +20,7 @@ use Rattle.work_crew.specs.Alone.{IsSameRun}
 use Rattle.work_crew.specs.Together.{purpose, Grows, Holds, HoldsNext, HoldsOn, HoldsTaken, IsHeldSince}
 use Rattle.work_crew.specs.declared.shared.Assignment.{Assignment}
 use Rattle.work_crew.specs.declared.shared.Next.{Next}
-use Rattle.work_crew.specs.declared.shared.Next.TheVariants.{Work, Wait, End}
+use Rattle.work_crew.specs.declared.shared.Next.TheVariants.{Work, Wait, Rest, End}
 
 -- what was taken is held
 pub holds_taken : (old new : Seen) (w : ℕ) (a : Taken) → IsLegalBoard old → IsTakenBy old new w a → HoldsTaken new w a
@@ -58,4 +58,5 @@ module _ (turns : Locked (Problem × Settings)) (seat : Sitting (Problem × Sett
   pub holds_next : (s : Seen) (next : Next) → IsLegalBoard s → HoldsOn s seat.view.worker next → purpose s.plain ≡ turns.problem → (after : Sitting (Problem × Settings) Entry) → after.view.seen ≡ s.journal → after.view.worker ≡ seat.view.worker → HoldsNext turns after next
   holds_next s (Work a) legal h p after seen worker = record { board = s; legal = legal; held = h.0; history = sym seen; purpose = p; worker = h.1 ∙ sym worker }
   holds_next s (Wait n) legal h p after seen worker = tt
+  holds_next s Rest legal h p after seen worker = tt
   holds_next s End legal h p after seen worker = tt

@@ -25,7 +25,9 @@ use Rattle.work_crew.specs.Moments.{moment_at}
 use Rattle.work_crew.specs.declared.alone.Crew.{Crew}
 use Rattle.work_crew.specs.declared.shared.Assignment.{Assignment}
 use Rattle.work_crew.specs.declared.shared.Next.{Next}
-use Rattle.work_crew.specs.declared.shared.Next.TheVariants.{Work, Wait, End}
+use Rattle.work_crew.specs.declared.shared.Next.TheVariants.{Work, Wait, Rest, End}
+use Rattle.work_crew.specs.declared.shared.Then.{Then}
+use Rattle.work_crew.specs.declared.shared.Then.TheVariants as then
 use Rattle.mkb_model.specs.declared.settings.Settings.{Settings}
 
 -- ---- turns
@@ -69,16 +71,28 @@ pub record IsEnded (old new : Seen) (a : Assignment) : Type 0 where
 abbrev pub IsNext : Seen → Seen → ℕ → Next → Type 0
 IsNext old new worker (Work a) = TakesJob old new worker a.ticket a.snapshot
 IsNext old new worker (Wait n) = (new ≡ old) × (verdict old.plain ≡ None) × IsFalse (has_halt old.journal) × (first_job old.plain ≡ None) × (n ≡ length old.journal)
+IsNext old new worker Rest = ⊥
 IsNext old new worker End = (new.plain ≡ old.plain) × (IsSome (verdict new.plain) ⊎ IsTrue (has_halt new.journal))
 
--- the ticket was ended, and this is what its worker does next; or it was given back, the board halted, and its worker ends
-abbrev pub EndsAndGoesOn : Seen → Seen → Assignment → Next → Type 0
-EndsAndGoesOn old new a next = ((mid : Seen) × IsEnded old mid a × IsNext mid new a.ticket.worker next) ⊎ (IsGivenBack old new a.ticket × (next ≡ End))
+-- the worker takes the first job, if there is one, or rests, as said
+abbrev pub IsAfter : Seen → Seen → ℕ → Then → Next → Type 0
+IsAfter old new worker (then.Take c) next = IsNext old new worker next
+IsAfter old new worker then.Rest next = (new ≡ old) × (next ≡ Rest)
+
+-- the worker wants to know what the process of its next ticket costs
+abbrev pub asks_cost : Then → Bool
+asks_cost (then.Take c) = c
+asks_cost then.Rest = false
+
+-- the ticket was ended, and this is what its worker does then; or it was given back, the board halted, and its worker ends
+abbrev pub EndsAndGoesOn : Seen → Seen → Assignment → Then → Next → Type 0
+EndsAndGoesOn old new a t next = ((mid : Seen) × IsEnded old mid a × IsAfter mid new a.ticket.worker t next) ⊎ (IsGivenBack old new a.ticket × (next ≡ End))
 
 -- the moment that is told of a ticket that is worked next is that of the board
 abbrev pub TellsMoment : Bool → Seen → Next → Type 0
 TellsMoment asked s (Work a) = a.moment ≡ moment_at asked s.plain a.ticket
 TellsMoment asked s (Wait n) = ⊤
+TellsMoment asked s Rest = ⊤
 TellsMoment asked s End = ⊤
 
 -- a ticket that was taken is held, and the worker's own
@@ -90,6 +104,7 @@ HoldsTaken s worker a = ⊤
 abbrev pub HoldsOn : Seen → ℕ → Next → Type 0
 HoldsOn s worker (Work a) = IsHeld s a.ticket a.snapshot × (a.ticket.worker ≡ worker)
 HoldsOn s worker (Wait n) = ⊤
+HoldsOn s worker Rest = ⊤
 HoldsOn s worker End = ⊤
 
 -- ---- seats
@@ -123,6 +138,7 @@ pub record Holds (turns : Locked (Problem × Settings)) (seat : Sitting (Problem
 abbrev pub HoldsNext : Locked (Problem × Settings) → Sitting (Problem × Settings) Entry → Next → Type 0
 HoldsNext turns seat (Work a) = Holds turns seat a
 HoldsNext turns seat (Wait n) = ⊤
+HoldsNext turns seat Rest = ⊤
 HoldsNext turns seat End = ⊤
 
 -- ---- the end

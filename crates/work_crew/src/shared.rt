@@ -5,7 +5,7 @@ ghost use Rattle.mkb_board.specs.Boards.{IsLegalBoard};
 ghost use Rattle.mkb_board.specs.Takes.{IsTakenBy};
 ghost use Rattle.work_crew.specs.Alone.{IsSameRun};
 ghost use Rattle.work_crew.specs.Moments.{assigned};
-ghost use Rattle.work_crew.specs.Together.{EndsAndGoesOn, Grows, IsEnded, HoldsOn, HoldsTaken, IsGivenBack, IsHalted, IsHeldSince, IsNext, TellsMoment};
+ghost use Rattle.work_crew.specs.Together.{asks_cost, EndsAndGoesOn, Grows, IsAfter, IsEnded, HoldsOn, HoldsTaken, IsGivenBack, IsHalted, IsHeldSince, IsNext, TellsMoment};
 
 use crate::moments::moment_of;
 use kb_io::Moment;
@@ -49,8 +49,19 @@ pub(crate) enum Next {
     Work(Assignment),
     /// No job may be taken now. It waits until the journal has more entries than these.
     Wait(u64),
+    /// Others want the turn. It rests, and then takes the first job.
+    Rest,
     /// A verdict stands or a halt was made.
     End,
+}
+
+/// What a worker does once it has ended a ticket.
+#[derive(Clone, Copy)]
+pub(crate) enum Then {
+    /// It takes the first job, and is told what its process costs where that is asked for.
+    Take { with_cost: bool },
+    /// It rests.
+    Rest,
 }
 
 /// A board that is shared. Contracts see the board.
@@ -178,29 +189,47 @@ impl Shared {
         }
     }
 
-    /// Ends the ticket with what its job proposed, and tells what its worker does next. Where there is no memory to end it, it is given
-    /// back, the board halted, and the worker ends.
+    /// Ends the ticket with what its job proposed, and tells what its worker does next, which is as said. Where there is no memory to end
+    /// it, it is given back, the board halted, and the worker ends.
     pub(crate) fn end_and_next(
         &mut self,
         alloc: Global,
         assignment: &Assignment,
         worked: Result<Proposed, Memory>,
-        with_cost: bool,
+        then: Then,
     ) -> Next
         requires least { 1 ≤ assignment.now.ticket.worker }
         requires most { assignment.now.ticket.worker ≤ 16 }
         requires held { IsHeldSince self.old assignment.now }
         requires worked { IfOk worked (ProposesBy assignment.now.snapshot) }
-        ensures turn { EndsAndGoesOn self.old self.new assignment.now result }
+        ensures turn { EndsAndGoesOn self.old self.new assignment.now then result }
         ensures held { HoldsOn self.new assignment.now.ticket.worker result }
-        ensures moment { TellsMoment with_cost self.new result }
+        ensures moment { TellsMoment (asks_cost then) self.new result }
         ensures legal { IsLegalBoard self.new }
         ensures grows { Grows assignment.now.ticket.worker self.old self.new }
         ensures same { IsSameRun self.old self.new }
     {
         match self.end(alloc, assignment, worked) {
-            Ok(()) => self.next(alloc, assignment.ticket.worker, with_cost),
+            Ok(()) => self.go_on(alloc, assignment.ticket.worker, then),
             Err(Memory) => Next::End,
+        }
+    }
+
+    // What a worker does next: it takes the first job, or rests, as said.
+    fn go_on(&mut self, alloc: Global, worker: u8, then: Then) -> Next
+        requires least { 1 ≤ worker }
+        requires most { worker ≤ 16 }
+        requires legal { IsLegalBoard self.old }
+        ensures after { IsAfter self.old self.new worker then result }
+        ensures held { HoldsOn self.new worker result }
+        ensures moment { TellsMoment (asks_cost then) self.new result }
+        ensures legal { IsLegalBoard self.new }
+        ensures grows { Grows worker self.old self.new }
+        ensures same { IsSameRun self.old self.new }
+    {
+        match then {
+            Then::Take { with_cost } => self.next(alloc, worker, with_cost),
+            Then::Rest => Next::Rest,
         }
     }
 

@@ -9,7 +9,7 @@ ghost use Rattle.work_crew.specs.Together.{EndsTogether, HasJoined, Holds, Holds
 
 use crate::alone::Crew;
 use crate::gates::ask;
-use crate::shared::{Assignment, Next, Shared};
+use crate::shared::{Assignment, Next, Shared, Then};
 use cert_pool::CertPool;
 use kb_io::Gate;
 use kb_jobs::{FamilySearcher, Searcher, work_by};
@@ -21,8 +21,8 @@ use std::sync::Wait;
 use std::thread::{Threads, join};
 use turn_lock::{Backoff, Seat, Turns};
 
-/// How often the sleep of a worker without a job is doubled: the longest is of 480 microseconds, so that with what the system adds it
-/// is below a millisecond.
+/// How often the sleep of a worker that rests is doubled: the longest is of 480 microseconds, so that with what the system adds it is
+/// below a millisecond.
 const DOUBLINGS: u32 = 5;
 
 // What the workers share: the lock of the board, and where memory comes from.
@@ -53,7 +53,7 @@ fn take_one<G: Gate, R: Wait>(rt: &R, place: &Workplace, gate: &G, seat: &mut Se
     next
 }
 
-// At a turn: ends the ticket with what its job proposed, and takes the next.
+// At a turn: ends the ticket with what its job proposed, and takes the next; but rests first where others wanted the turn too.
 fn end_one<G: Gate, R: Wait>(
     rt: &R,
     place: &Workplace,
@@ -74,7 +74,12 @@ fn end_one<G: Gate, R: Wait>(
         proposal,
     } = worked;
     let mut board = place.turns.enter(rt, seat);
-    let next = board.end_and_next(place.alloc, &assignment, proposal, with_cost);
+    let then = if seat.has_waited() {
+        Then::Rest
+    } else {
+        Then::Take { with_cost }
+    };
+    let next = board.end_and_next(place.alloc, &assignment, proposal, then);
     place.turns.leave(seat, board);
     next
 }
@@ -99,8 +104,8 @@ fn work_one<G: Gate, S: Searcher, R: Wait>(
     }
 }
 
-// Waits, without the turn, until the journal has more entries than these. It rests at least once, and each time that it finds no job
-// again it goes on as it rested last, so that a worker for which there is seldom a job seldom looks for one.
+// Waits, without the turn, until the journal has more entries than these. It rests at least once, and where it finds no job again it
+// goes on as it rested last.
 fn wait_for_more<R: Wait>(
     rt: &R,
     place: &Workplace,
@@ -121,6 +126,8 @@ fn wait_for_more<R: Wait>(
 }
 
 // One worker: it takes tickets, asks the gate, works and ends them, until a verdict stands, a halt was made or it finds no memory.
+// Where it often finds that others want the turn it rests longer and longer between a ticket and the next, so that where jobs are
+// shorter than turns few workers are at work.
 fn serve<G: Gate, S: Searcher, R: Wait>(
     rt: &R,
     place: &Workplace,
@@ -133,6 +140,7 @@ fn serve<G: Gate, S: Searcher, R: Wait>(
     ensures same { IsSameSeat seat result }
 {
     let mut idle = Backoff::new(DOUBLINGS);
+    let mut crowded = Backoff::new(DOUBLINGS);
     let mut next = take_one(rt, place, gate, &mut seat);
     for _ in rt.forever() {
         match next {
@@ -140,9 +148,16 @@ fn serve<G: Gate, S: Searcher, R: Wait>(
                 idle.reset();
                 let worked = work_one(rt, place.alloc, gate, by, assignment);
                 next = end_one(rt, place, gate, &mut seat, worked);
+                if !seat.has_waited() {
+                    crowded.ease();
+                }
             }
             Next::Wait(entries) => {
                 wait_for_more(rt, place, &mut seat, entries, &mut idle);
+                next = take_one(rt, place, gate, &mut seat);
+            }
+            Next::Rest => {
+                crowded.rest(rt);
                 next = take_one(rt, place, gate, &mut seat);
             }
             Next::End => break,
