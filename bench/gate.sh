@@ -3,16 +3,19 @@
 #
 #   bench/gate.sh
 #
-# Start it beside `rt ci`. It looks once a second, ends when no `rt ci` has run for five seconds, and writes a line for each crate, the dearest first: processor
-# seconds of its proof, its tests' proofs and its edits, how many edits were tried, and the sum; behind them the sum of all and
-# the time by the clock. What ran for less than a second may be missing.
+# Start it beside `rt ci`. It looks once a second until no `rt ci` has run for five seconds, or it is told to end (`kill`). Then it
+# writes a line for each crate, the dearest first: processor seconds of its proof, its tests' proofs and its edits (with the check
+# that they begin with), how many such checks there were, and the sum; behind them the sum of all and the time by the clock. What ran
+# for less than a second may be missing.
 set -eu
 exec python3 - <<'PY'
-import os, re, time
+import os, signal, sys, time
 
 TICK = os.sysconf("SC_CLK_TCK")
 spent = {}
 start = last = time.monotonic()
+
+signal.signal(signal.SIGTERM, lambda *_: sys.exit())
 
 def gate_runs(pids):
     for pid in pids:
@@ -30,31 +33,37 @@ def look(pid):
         return
     crate = words[words.index("--crate-name") + 1]
     folder = os.readlink(f"/proc/{pid}/cwd")
-    kind = "edits" if "/rt-edit-" in folder else "tests" if "--test" in words else "proof"
+    kind = "edits" if "/rt-edit" in folder else "tests" if "--test" in words else "proof"
     fields = open(f"/proc/{pid}/stat").read().rpartition(")")[2].split()
     # user and system, its own and of the children that it has waited for
     used = sum(int(it) for it in fields[11:15]) / TICK
     spent[pid, fields[19]] = (crate, kind, used)
 
-while time.monotonic() - last < 5:
-    pids = [it for it in os.listdir("/proc") if it.isdigit()]
-    if gate_runs(pids):
-        last = time.monotonic()
-    for pid in pids:
-        try:
-            look(pid)
-        except OSError:
-            pass
-    time.sleep(1)
+def whole(row):
+    return row["proof"] + row["tests"] + row["edits"]
 
-table = {}
-for crate, kind, used in spent.values():
-    row = table.setdefault(crate, {"proof": 0.0, "tests": 0.0, "edits": 0.0, "tried": 0})
-    row[kind] += used
-    row["tried"] += kind == "edits"
-whole = lambda row: row["proof"] + row["tests"] + row["edits"]
-print("crate proof tests edits tried sum")
-for crate, row in sorted(table.items(), key=lambda it: -whole(it[1])):
-    print(crate, *(f"{row[it]:.0f}" for it in ("proof", "tests", "edits")), row["tried"], f"{whole(row):.0f}")
-print(f"all: {sum(map(whole, table.values())):.0f} processor seconds, {last - start:.0f} by the clock")
+def tell():
+    table = {}
+    for crate, kind, used in spent.values():
+        row = table.setdefault(crate, {"proof": 0.0, "tests": 0.0, "edits": 0.0, "tried": 0})
+        row[kind] += used
+        row["tried"] += kind == "edits"
+    print("crate proof tests edits tried sum")
+    for crate, row in sorted(table.items(), key=lambda it: -whole(it[1])):
+        print(crate, *(f"{row[it]:.0f}" for it in ("proof", "tests", "edits")), row["tried"], f"{whole(row):.0f}")
+    print(f"all: {sum(map(whole, table.values())):.0f} processor seconds, {last - start:.0f} by the clock")
+
+try:
+    while time.monotonic() - last < 5:
+        pids = [it for it in os.listdir("/proc") if it.isdigit()]
+        if gate_runs(pids):
+            last = time.monotonic()
+        for pid in pids:
+            try:
+                look(pid)
+            except OSError:
+                pass
+        time.sleep(1)
+finally:
+    tell()
 PY
