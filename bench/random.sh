@@ -5,7 +5,7 @@
 #
 # ENGINE is a command with its words, as 'fast --kbo 1'; SIZE are the words by which it selects as `--select size` does. Each problem
 # is completed, and its journal written, by both and by both selections, with a budget of 20 to 200; texts and statuses must be the
-# same. It goes on for SECONDS, or until COUNT problems (10,000) were compared. A problem on which they differ is written to standard
+# same, but for the journal's line `SELECTION size`, which the other engine need not write. It goes on for SECONDS, or until COUNT problems (10,000) were compared. A problem on which they differ is written to standard
 # output with the words; so is one that either needs more than 20 seconds for. The last line says how many problems and runs were
 # compared and how many differed; the status is 1 where any did.
 set -eu
@@ -47,7 +47,7 @@ def run(words, text):
         ran = subprocess.run(words, input=text.encode(), stdout=subprocess.PIPE, stderr=subprocess.DEVNULL, timeout=20)
     except subprocess.TimeoutExpired:
         return TOO_LONG
-    return ran.returncode, ran.stdout
+    return ran.returncode, ran.stdout.replace(b"SELECTION size\n", b"", 1)
 
 end = time.monotonic() + seconds
 problems = runs = differ = slow = 0
