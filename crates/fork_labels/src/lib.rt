@@ -5,8 +5,6 @@ mod fork_log;
 mod labels;
 mod laws;
 mod place_set;
-#[cfg(test)]
-mod tests;
 
 pub use fork_log::ForkLog;
 pub use labels::ForkLabels;

@@ -14,6 +14,3 @@ pub use laws::more_rules_are_never_earlier;
 pub use order::{is_greater, orients, search, search_from};
 pub use read::read_cert;
 pub use text::cert_text;
-
-#[cfg(test)]
-mod tests;

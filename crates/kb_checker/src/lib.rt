@@ -15,6 +15,3 @@ pub use answer::Answer;
 pub use checking::check;
 pub use laws::verdicts_are_one;
 pub use verdict::{Checked, Reject};
-
-#[cfg(test)]
-mod tests;

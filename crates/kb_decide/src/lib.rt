@@ -6,8 +6,6 @@ mod decision;
 mod laws;
 mod normalising;
 mod replaying;
-#[cfg(test)]
-mod tests;
 
 pub use deciding::decide;
 pub use decision::{Decision, Line, Reason};

@@ -8,8 +8,6 @@ mod goals;
 mod laws;
 mod simplifying;
 mod terms;
-#[cfg(test)]
-mod tests;
 
 pub use decided::decide_text;
 pub use deciding::{decide_goals, rules_of};

@@ -9,8 +9,6 @@ mod overlapping;
 mod reducing;
 mod rules;
 mod searching;
-#[cfg(test)]
-mod tests;
 mod working;
 
 pub use closing::{CloseSnapshot, close};

@@ -13,6 +13,3 @@ pub use kbo::{Kbo, MAX_WEIGHT, MIN_WEIGHT};
 pub use laws::{kbo_halts, kbo_is_rewrite_order, kbo_is_strict_order};
 pub use order::kbo_greater;
 pub use search::{search_kbo, search_kbo_from};
-
-#[cfg(test)]
-mod tests;

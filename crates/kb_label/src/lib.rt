@@ -7,8 +7,6 @@ mod list_labels;
 mod living;
 mod name_list;
 mod process;
-#[cfg(test)]
-mod tests;
 mod verdict;
 
 pub use labels::Labels;

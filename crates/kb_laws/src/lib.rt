@@ -10,6 +10,3 @@ pub use laws::{
     church_rosser, complete_state, completion_keeps, critical_pair_lemma, lone_rule, newmans_lemma,
     ordered_rules_halt, runs_keep, square_completes,
 };
-
-#[cfg(test)]
-mod tests;

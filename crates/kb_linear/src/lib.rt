@@ -10,6 +10,3 @@ mod search;
 pub use interp::Interp;
 pub use order::linear_greater;
 pub use search::{search_linear, search_linear_from};
-
-#[cfg(test)]
-mod tests;

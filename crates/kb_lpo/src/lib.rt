@@ -16,6 +16,3 @@ pub use laws::{
 pub use order::lpo_greater;
 pub use precedence::Precedence;
 pub use search::{search_lpo, search_lpo_from};
-
-#[cfg(test)]
-mod tests;

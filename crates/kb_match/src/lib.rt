@@ -4,8 +4,6 @@
 mod fitting;
 mod laws;
 mod matcher;
-#[cfg(test)]
-mod tests;
 
 pub use fitting::fits;
 pub use laws::{matches_are_one, matching_terms_fit};

@@ -6,8 +6,6 @@ mod job;
 mod node;
 mod sides;
 mod table;
-#[cfg(test)]
-mod tests;
 mod view;
 
 pub use fault::NodeFault;

@@ -4,8 +4,6 @@
 mod composing;
 mod reducing;
 mod reduction;
-#[cfg(test)]
-mod tests;
 mod thinning;
 
 pub use reducing::reduce;

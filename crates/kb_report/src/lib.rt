@@ -22,6 +22,3 @@ pub use sides::{are_numbered, read_equations};
 pub use summary::{Summary, process_text, summary_text};
 pub use symbols::read_symbols;
 pub use version::Version;
-
-#[cfg(test)]
-mod tests;

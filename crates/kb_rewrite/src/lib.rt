@@ -7,8 +7,6 @@ mod normalising;
 mod redex;
 mod rewriting;
 mod system;
-#[cfg(test)]
-mod tests;
 
 pub use encompassing::found;
 pub use laws::{no_redex_is_normal, normal_forms_are_one, strategy_rewrites};

@@ -10,8 +10,6 @@ mod parse;
 mod problem;
 mod reader;
 mod side;
-#[cfg(test)]
-mod tests;
 mod variables;
 mod written;
 

@@ -18,8 +18,6 @@ mod rule;
 mod signature;
 mod subst;
 mod term;
-#[cfg(test)]
-mod tests;
 mod variables;
 mod variant;
 

@@ -12,8 +12,6 @@ mod number;
 mod printer;
 mod read;
 mod sign;
-#[cfg(test)]
-mod tests;
 mod text;
 mod uses;
 

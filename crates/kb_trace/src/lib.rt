@@ -19,6 +19,3 @@ pub use reading::read_trace;
 pub use replaying::replay_trace;
 pub use text::trace_text;
 pub use trace::{Step, Trace};
-
-#[cfg(test)]
-mod tests;

@@ -6,6 +6,3 @@
 mod laws;
 
 pub use laws::overlaps_wait_their_turn;
-
-#[cfg(test)]
-mod tests;

@@ -20,6 +20,3 @@ pub use laws::{
 };
 pub use proposed::{DeducedList, FactList, Proposed};
 pub use settings::{Selection, Settings};
-
-#[cfg(test)]
-mod tests;

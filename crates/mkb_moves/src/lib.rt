@@ -10,6 +10,3 @@ pub use laws::{
     first_job_is_the_least, limits_stop_their_processes, orienting_makes_rules,
     others_keep_their_state, reasons_are_of_the_first, rewriting_moves_its_label,
 };
-
-#[cfg(test)]
-mod tests;

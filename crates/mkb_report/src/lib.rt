@@ -4,8 +4,6 @@
 mod laws;
 mod report;
 mod summary;
-#[cfg(test)]
-mod tests;
 
 pub use laws::{reports_are_good, reports_are_one};
 pub use report::report_of;

@@ -1,19 +1,15 @@
 // A state of a problem, and each call of it, with ample memory: what the call wants is tested first.
-ghost use Rattle.std.specs.Prelude.{◌≡◌, ◌<◌};
 ghost use Rattle.kb_term.specs.Signature.{IsWithinLimits};
-ghost use Rattle.kb_term.specs.View.{tree_of};
-ghost use Rattle.kb_overlap.specs.Trace.{other_side};
 ghost use Rattle.mkb_model.specs.Plain.{Plain};
 ghost use Rattle.mkb_rules.specs.Applicable.{IsApplicable};
 ghost use Rattle.mkb_rules.specs.Applying.{HasBudget};
 ghost use Rattle.mkb_rules.specs.Named.{IsThere, Lives};
-ghost use Rattle.mkb_rules.specs.Rewriting.{HasFewVariables};
 
 use crate::terms::above;
-use kb_label::{Labels, Living, Process, Reason};
-use kb_node::{Deduced, Fact, Job, LabelKind, LimitCause, NodeId};
+use kb_label::{Labels, Living, Process};
+use kb_node::{Deduced, LabelKind, NodeId};
 use kb_syntax::{parse_problem, spelled_problems_are_within_limits};
-use kb_term::{Found, Pair, Position, Problem, RuleRef, Term, pair_limit};
+use kb_term::{Pair, Problem, RuleRef};
 use mkb_model::{DeducedList, Proposed, Settings};
 use mkb_rules::{Applied, State};
 use std::alloc::Global;
@@ -57,52 +53,6 @@ pub(crate) fn living(rt: &impl Abort, state: &State, p: &Process)
     assert!(rt; state.log().is_living(p));
 }
 
-// The side of the pair that is not this one.
-fn rest_of(pair: &Pair, side: u8) -> &Term
-    ensures { tree_of result.now ≡ other_side pair.now side }
-{
-    if side == 0 {
-        pair.second()
-    } else {
-        pair.first()
-    }
-}
-
-// The term and the other side of the node have few variables together.
-fn few(rt: &impl Abort, state: &State, n: u16, side: u8, outcome: &Term)
-    requires { IsThere state.now n }
-    ensures { HasFewVariables state.now n side (tree_of outcome.now) }
-{
-    let pair = state.nodes().pair(NodeId(n)).expect(rt, "memory");
-    assert!(rt; pair_limit(outcome, rest_of(&pair, side)).is_none());
-}
-
-/// Makes the facts known.
-pub(crate) fn know(rt: &impl Abort, alloc: Global, state: &mut State, facts: &[Fact]) -> Applied {
-    ready(rt, state);
-    state.know(alloc, facts).expect(rt, "memory")
-}
-
-/// The root of a side of the node is rewritten by the rule.
-pub(crate) fn rewrite(
-    rt: &impl Abort,
-    alloc: Global,
-    state: &mut State,
-    n: u16,
-    side: u8,
-    rule: RuleRef,
-    outcome: &Term,
-) -> Applied {
-    let root = Position::root(alloc);
-    ready(rt, state);
-    there(rt, state, n);
-    there(rt, state, rule.node);
-    few(rt, state, n, side, outcome);
-    state
-        .rewrite(alloc, NodeId(n), side, &root, rule, Found::Variant, outcome)
-        .expect(rt, "memory")
-}
-
 /// The process turns the node into the rule from side 0 to side 1, with symbol 0 above symbol 1.
 pub(crate) fn orient(
     rt: &impl Abort,
@@ -138,35 +88,6 @@ pub(crate) fn fork(
         .expect(rt, "memory")
 }
 
-/// The process can't orient the node.
-pub(crate) fn refuse(
-    rt: &impl Abort,
-    alloc: Global,
-    state: &mut State,
-    p: &Process,
-    n: u16,
-) -> Applied {
-    ready(rt, state);
-    there(rt, state, n);
-    living(rt, state, p);
-    state.refuse(alloc, p, NodeId(n)).expect(rt, "memory")
-}
-
-/// The pairs of the overlaps of two rules.
-pub(crate) fn deduce(
-    rt: &impl Abort,
-    alloc: Global,
-    state: &mut State,
-    a: RuleRef,
-    b: RuleRef,
-    pairs: &[Deduced],
-) -> Applied {
-    ready(rt, state);
-    there(rt, state, a.node);
-    there(rt, state, b.node);
-    state.deduce(alloc, a, b, pairs).expect(rt, "memory")
-}
-
 /// The pairs that the process does not join.
 pub(crate) fn unjoined(
     rt: &impl Abort,
@@ -178,32 +99,6 @@ pub(crate) fn unjoined(
     ready(rt, state);
     living(rt, state, p);
     state.unjoined(alloc, p, pairs).expect(rt, "memory")
-}
-
-/// Closes the process.
-pub(crate) fn close(rt: &impl Abort, alloc: Global, state: &mut State, p: &Process) -> Applied {
-    ready(rt, state);
-    living(rt, state, p);
-    state.close(alloc, p).expect(rt, "memory")
-}
-
-/// An overlap of the rule with itself came to a limit.
-pub(crate) fn pass_limit(
-    rt: &impl Abort,
-    alloc: Global,
-    state: &mut State,
-    p: &Process,
-    rule: RuleRef,
-    reason: Reason,
-) -> Applied {
-    let job = Job::Overlap(*p, rule, rule);
-    let cause = LimitCause {
-        redex: None,
-        reason,
-    };
-    ready(rt, state);
-    there(rt, state, rule.node);
-    state.pass_limit(alloc, &job, &cause).expect(rt, "memory")
 }
 
 // The proposal to deduce these pairs of overlaps of the rule with itself.
@@ -261,12 +156,6 @@ pub(crate) fn is_dropped(
 pub(crate) fn has(state: &State, p: &Process, n: u16, kind: LabelKind) -> bool {
     let table = state.nodes();
     u32::from(n) < table.len() && table.label(NodeId(n), kind).has(state.log(), p)
-}
-
-/// Whether the process can't orient the node.
-pub(crate) fn is_refused(rt: &impl Abort, state: &State, p: &Process, n: u16) -> bool {
-    there(rt, state, n);
-    state.is_refused(p, NodeId(n))
 }
 
 /// Whether the node has the pair.

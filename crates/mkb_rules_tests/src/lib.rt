@@ -4,10 +4,6 @@
 #[cfg(test)]
 mod calls;
 #[cfg(test)]
-mod orders;
-#[cfg(test)]
-mod runs;
-#[cfg(test)]
 mod terms;
 #[cfg(test)]
 mod tests;

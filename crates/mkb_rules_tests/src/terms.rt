@@ -2,8 +2,8 @@
 use kb_cert::Certificate;
 use kb_label::Process;
 use kb_lpo::Precedence;
-use kb_node::{Deduced, Fact, NodeId};
-use kb_term::{Found, Pair, Position, RuleRef, Symbol, Term, Terms, canonical, pair_limit};
+use kb_node::Deduced;
+use kb_term::{Pair, Position, RuleRef, Symbol, Term, Terms, canonical, pair_limit};
 use std::alloc::Global;
 use std::process::Abort;
 
@@ -35,13 +35,6 @@ pub(crate) fn applied_and_bare(rt: &impl Abort, alloc: Global) -> Pair {
     let bare = constant(alloc, 1);
     let t = applied(rt, alloc, 0, constant(alloc, 1));
     pair(rt, alloc, &t, &bare)
-}
-
-/// The canonical pair of f(g(x)) and g(f(x)), of the symbols 0 and 1.
-pub(crate) fn exchanged(rt: &impl Abort, alloc: Global) -> Pair {
-    let first = applied(rt, alloc, 0, applied(rt, alloc, 1, Term::Var(1)));
-    let second = applied(rt, alloc, 1, applied(rt, alloc, 0, Term::Var(1)));
-    pair(rt, alloc, &first, &second)
 }
 
 /// The pair as that of an overlap of two rules below the first argument of the outer one.
@@ -77,21 +70,6 @@ pub(crate) fn forth(node: u16) -> RuleRef {
     RuleRef { node, dir: 0 }
 }
 
-/// The rule of the node from side 1 to side 0.
-pub(crate) fn back(node: u16) -> RuleRef {
-    RuleRef { node, dir: 1 }
-}
-
-/// That the rule has no redex in this side of the node.
-pub(crate) fn no_redex(node: u16, side: u8, rule: RuleRef) -> Fact {
-    Fact {
-        node: NodeId(node),
-        side,
-        rule,
-        found: Found::No,
-    }
-}
-
 /// The first process.
 pub(crate) fn first() -> Process {
     Process::root()
@@ -105,9 +83,4 @@ pub(crate) fn left() -> Process {
 /// The right child of the first process.
 pub(crate) fn right() -> Process {
     Process::from_bits(&[true])
-}
-
-/// The left child of the left child of the first process.
-pub(crate) fn left_of_left() -> Process {
-    Process::from_bits(&[false, false])
 }

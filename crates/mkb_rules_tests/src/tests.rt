@@ -1,9 +1,7 @@
 // Each call and each reader on a small state. The steps take the state by reference: to own one makes a proof slow.
-use crate::calls::{
-    acts_on, apply, fork, has, is_dropped, is_pair, opened, orient, pass_limit, unjoined,
-};
+use crate::calls::{acts_on, apply, fork, has, is_dropped, is_pair, opened, orient, unjoined};
 use crate::terms::{applied_and_bare, first, forth, left, overlap, right};
-use kb_label::{Living, Reason};
+use kb_label::Living;
 use kb_node::{Deduced, LabelKind};
 use mkb_model::Settings;
 use mkb_rules::{Applied, State};
@@ -34,23 +32,6 @@ fn a_state_begins_with_the_equations(rt: HostRuntime) {
     let state = opened(&rt, alloc, b"(RULES f(a) == b f(a) == c)");
     is_new(&rt, &state);
     has_equations(&rt, &state);
-}
-
-// There are so many nodes.
-fn has_nodes(rt: &impl Abort, state: &State, nodes: u32) {
-    assert_eq!(rt; state.nodes().len(), nodes);
-}
-
-#[test]
-fn a_trivial_equation_is_left_out(rt: HostRuntime) {
-    let state = opened(&rt, rt.alloc(), b"(RULES a == a)");
-    has_nodes(&rt, &state, 0);
-}
-
-#[test]
-fn equal_equations_are_one_node(rt: HostRuntime) {
-    let state = opened(&rt, rt.alloc(), b"(VAR x y)(RULES f(x) == x f(y) == y)");
-    has_nodes(&rt, &state, 1);
 }
 
 // The first process turns the node into a rule.
@@ -87,55 +68,6 @@ fn an_overlap_that_does_not_join_becomes_an_equation(rt: HostRuntime) {
     let mut state = opened(&rt, alloc, b"(VAR x)(RULES f(f(x)) == a)");
     orient_first(&rt, alloc, &mut state, 0);
     leave_unjoined(&rt, alloc, &mut state);
-}
-
-// The two children live in the place of the first process.
-fn is_forked(rt: &impl Abort, state: &State) {
-    assert_eq!(rt; state.log().living(), 2);
-    assert!(rt; state.log().is_living(&left()));
-    assert!(rt; state.log().is_living(&right()));
-    assert!(rt; !state.log().is_living(&first()));
-    assert_eq!(rt; state.commits(), 1);
-}
-
-// Each child has its own direction of node 0.
-fn has_children(rt: &impl Abort, state: &State) {
-    assert!(rt; has(state, &left(), 0, LabelKind::R0));
-    assert!(rt; has(state, &left(), 0, LabelKind::C0));
-    assert!(rt; !has(state, &left(), 0, LabelKind::R1));
-    assert!(rt; !has(state, &left(), 0, LabelKind::E));
-    assert!(rt; has(state, &right(), 0, LabelKind::R1));
-    assert!(rt; has(state, &right(), 0, LabelKind::C1));
-    assert!(rt; !has(state, &right(), 0, LabelKind::E));
-}
-
-#[test]
-fn a_process_forks(rt: HostRuntime) {
-    let alloc = rt.alloc();
-    let mut state = opened(&rt, alloc, b"(RULES a == b)");
-    fork_first(&rt, alloc, &mut state, 0);
-    is_forked(&rt, &state);
-    has_children(&rt, &state);
-}
-
-// The overlap of the rule of node 0 with itself is too deep.
-fn pass_depth(rt: &impl Abort, alloc: Global, state: &mut State) {
-    assert!(rt; state.over(&first()).is_none());
-    let answer = pass_limit(rt, alloc, state, &first(), forth(0), Reason::Depth);
-    assert_eq!(rt; answer, Applied::Over(Reason::Depth));
-    assert_eq!(rt; state.over(&first()), Some(Reason::Depth));
-    assert_eq!(rt; state.commits(), 2);
-}
-
-#[test]
-fn a_limit_is_passed(rt: HostRuntime) {
-    let alloc = rt.alloc();
-    // A term with 40 symbols f, and a.
-    let text =
-        b"(VAR x)(RULES f(f(f(f(f(f(f(f(f(f(f(f(f(f(f(f(f(f(f(f(f(f(f(f(f(f(f(f(f(f(f(f(f(f(f(f(f(f(f(f(x)))))))))))))))))))))))))))))))))))))))) == a)";
-    let mut state = opened(&rt, alloc, text);
-    orient_first(&rt, alloc, &mut state, 0);
-    pass_depth(&rt, alloc, &mut state);
 }
 
 // The proposal to overlap the rule of node 0 with itself names both children.

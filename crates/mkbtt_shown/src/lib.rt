@@ -7,8 +7,6 @@ mod hints;
 mod manner;
 mod progress;
 mod sentences;
-#[cfg(test)]
-mod tests;
 
 pub use excerpts::excerpt;
 pub use hints::{line_hint, refusal_hint, spent_hint};

@@ -10,8 +10,6 @@ mod mode;
 mod named;
 mod naming;
 mod selection;
-#[cfg(test)]
-mod tests;
 mod words;
 
 pub use fault::WordsFault;

@@ -6,8 +6,6 @@ mod index;
 mod laws;
 mod mark;
 mod pending;
-#[cfg(test)]
-mod tests;
 
 pub use index::RuleIndex;
 pub use laws::{marks_lead_loosely_where_left_sides_agree, marks_lead_where_left_sides_fit};

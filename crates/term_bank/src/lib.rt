@@ -7,8 +7,6 @@ mod chains;
 mod hashing;
 mod interning;
 mod looking;
-#[cfg(test)]
-mod tests;
 
 pub use bank::{Bank, MAX_CELLS};
 pub use cell::{Cell, TermId};

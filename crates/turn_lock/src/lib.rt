@@ -10,6 +10,3 @@ pub use backoff::Backoff;
 pub use lock::{Seat, Turns};
 pub use rule::{Joined, View};
 pub use turned::{Counted, Turned};
-
-#[cfg(test)]
-mod tests;

@@ -1,0 +1,30 @@
+// The smallest answer: no equations and no rules.
+use kb_cert::Certificate;
+use kb_checker::Answer;
+use kb_lpo::Precedence;
+use kb_reduce::{Reduction, reduce};
+use kb_term::{Problem, Signature};
+use kb_trace::Trace;
+use std::alloc::Global;
+
+fn empty_answer(alloc: Global) -> Answer {
+    let problem = Problem::new(Signature::new(Vec::new(alloc)), Vec::new(alloc));
+    let cert = Certificate::Lpo(Precedence::new(Vec::new(alloc)));
+    Answer::new(
+        problem,
+        Vec::new(alloc),
+        Vec::new(alloc),
+        cert,
+        Trace::new(Vec::new(alloc)),
+    )
+}
+
+#[test]
+fn an_answer_without_rules_is_reduced(rt: HostRuntime) {
+    let alloc = rt.alloc();
+    let answer = empty_answer(alloc);
+    match reduce(alloc, &answer).expect(&rt, "memory") {
+        Reduction::Reduced(made) => assert!(rt; made.rules().is_empty()),
+        _ => assert!(rt; false),
+    }
+}

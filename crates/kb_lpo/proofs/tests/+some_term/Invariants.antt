@@ -1,4 +1,0 @@
-use Rattle.kb_lpo.proofs.tests.+some_term.Given as goal
-
-abbrev pub decreases-some_term : goal.decreases-some_term
-decreases-some_term l = l.depth

@@ -1,6 +1,0 @@
-use Rattle.std.proofs.Common.{take}
-use Rattle.kb_trace.specs.Steps.{ArePairsWithin}
-use Rattle.kb_trace.proofs.tests.are_within.Given as goal
-
-abbrev pub invariant-loop-k : goal.invariant-loop-k
-invariant-loop-k l = ArePairsWithin (take l.k l.t)
