@@ -3,236 +3,584 @@ use crate::bench::Bench;
 
 /// An answer to f(f(x)) = a.
 const SQUARE: &str =
-    "MKBTT 2\nSYMBOLS f/1 a/0\nEQUATIONS 1\nf(f(x1)) = a\nRULES 2\nf(f(x1)) -> a : 1\nf(a) -> a : 2\nCONSTRAINTS 2\nf(f(x1)) -> a : 1\nf(a) -> a : 2\nORDER LPO f a\nTRACE 2\n1 input 1 : f(f(x1)) = a\n2 overlap 1 dir 0 with 1 dir 0 at 1 : f(a) = a\nEND\n";
+    "MKBTT 2;SYMBOLS f/1 a/0;EQUATIONS 1;f(f(x1)) = a;RULES 2;f(f(x1)) -> a : 1;f(a) -> a : 2;CONSTRAINTS 2;f(f(x1)) -> a : 1;f(a) -> a : 2;ORDER LPO f a;TRACE 2;1 input 1 : f(f(x1)) = a;2 overlap 1 dir 0 with 1 dir 0 at 1 : f(a) = a;END;";
 
 /// The same in version 1, which has no constraints.
 const OLD_SQUARE: &str =
-    "MKBTT 1\nSYMBOLS f/1 a/0\nEQUATIONS 1\nf(f(x1)) = a\nRULES 2\nf(f(x1)) -> a : 1\nf(a) -> a : 2\nORDER LPO f a\nTRACE 2\n1 input 1 : f(f(x1)) = a\n2 overlap 1 dir 0 with 1 dir 0 at 1 : f(a) = a\nEND\n";
+    "MKBTT 1;SYMBOLS f/1 a/0;EQUATIONS 1;f(f(x1)) = a;RULES 2;f(f(x1)) -> a : 1;f(a) -> a : 2;ORDER LPO f a;TRACE 2;1 input 1 : f(f(x1)) = a;2 overlap 1 dir 0 with 1 dir 0 at 1 : f(a) = a;END;";
 
-/// The same without constraints, in version 2.
-const LONE_SQUARE: &str =
-    "MKBTT 2\nSYMBOLS f/1 a/0\nEQUATIONS 1\nf(f(x1)) = a\nRULES 2\nf(f(x1)) -> a : 1\nf(a) -> a : 2\nCONSTRAINTS 0\nORDER LPO f a\nTRACE 2\n1 input 1 : f(f(x1)) = a\n2 overlap 1 dir 0 with 1 dir 0 at 1 : f(a) = a\nEND\n";
+/// What the checker says of the first with other text in it.
+const ALTERED: &str =
+    "CONSTRAINTS 2;f(f(x1)) -> a : 1; | CONSTRAINTS 2;f(f(x1)) -> a : 2; | REJECTED untracedconstraint 1
+CONSTRAINTS 2;f(f(x1)) -> a : 1; | CONSTRAINTS 2;f(a) -> a : 1; | REJECTED untracedconstraint 1
+ORDER LPO f a | ORDER LPO a f | REJECTED constraintnotoriented 1
+END; | END;GOALS 1; | mkbtt: refused line 16
+MKBTT 2;SYMBOLS f/1 a/0;EQUATIONS 1;f(f(x1)) = a;RULES 2;f(f(x1)) -> a : 1;f(a) -> a : 2;CONSTRAINTS 2;f(f(x1)) -> a : 1;f(a) -> a : 2;ORDER LPO f a;TRACE 2;1 input 1 : f(f(x1)) = a;2 overlap 1 dir 0 with 1 dir 0 at 1 : f(a) = a;END; | MKBTT 1; | mkbtt: refused line 2
+MKBTT 2;SYMBOLS f/1 a/0;EQUATIONS 1;f(f(x1)) = a;RULES 2;f(f(x1)) -> a : 1;f(a) -> a : 2;CONSTRAINTS 2;f(f(x1)) -> a : 1;f(a) -> a : 2;ORDER LPO f a;TRACE 2;1 input 1 : f(f(x1)) = a;2 overlap 1 dir 0 with 1 dir 0 at 1 : f(a) = a;END; | (VAR x)(RULES f(x) == x) | mkbtt: refused line 1
+";
 
-/// Its first constraint cites step 2.
-const OTHER_CONSTRAINT_STEP: &str =
-    "MKBTT 2\nSYMBOLS f/1 a/0\nEQUATIONS 1\nf(f(x1)) = a\nRULES 2\nf(f(x1)) -> a : 1\nf(a) -> a : 2\nCONSTRAINTS 2\nf(f(x1)) -> a : 2\nf(a) -> a : 2\nORDER LPO f a\nTRACE 2\n1 input 1 : f(f(x1)) = a\n2 overlap 1 dir 0 with 1 dir 0 at 1 : f(a) = a\nEND\n";
+/// What it says of the second.
+const OLD_ALTERED: &str = "ORDER LPO f a | ORDER LPO f a | ACCEPTED
+RULES 2;f(f(x1)) -> a : 1;f(a) -> a : 2; | RULES 1;f(f(x1)) -> a : 1; | REJECTED notjoined 1
+at 1 | at e | REJECTED badstep 2
+ORDER LPO f a | ORDER LPO a f | REJECTED notoriented 1
+f(a) -> a : 2 | f(a) -> a : 1 | REJECTED untraced 2
+EQUATIONS 1;f(f(x1)) = a; | EQUATIONS 2;f(f(x1)) = a;f(x1) = a; | REJECTED notproved 2
+1 input 1 | 1 input 2 | REJECTED badstep 1
+ORDER LPO f a | ORDER LINEAR 0,2 0 | REJECTED notoriented 1
+";
 
-/// Its first constraint is another rule.
-const OTHER_CONSTRAINT: &str =
-    "MKBTT 2\nSYMBOLS f/1 a/0\nEQUATIONS 1\nf(f(x1)) = a\nRULES 2\nf(f(x1)) -> a : 1\nf(a) -> a : 2\nCONSTRAINTS 2\nf(a) -> a : 1\nf(a) -> a : 2\nORDER LPO f a\nTRACE 2\n1 input 1 : f(f(x1)) = a\n2 overlap 1 dir 0 with 1 dir 0 at 1 : f(a) = a\nEND\n";
+/// What the modes that read more than an answer say where there is no more, or too little.
+const NOTHING_ASKED: &str = "END; | END;GOALS 1; | mkbtt: refused line 16
+MKBTT 2;SYMBOLS f/1 a/0;EQUATIONS 1;f(f(x1)) = a;RULES 2;f(f(x1)) -> a : 1;f(a) -> a : 2;CONSTRAINTS 2;f(f(x1)) -> a : 1;f(a) -> a : 2;ORDER LPO f a;TRACE 2;1 input 1 : f(f(x1)) = a;2 overlap 1 dir 0 with 1 dir 0 at 1 : f(a) = a;END; | MKBTT 1; | mkbtt: refused line 2
+MKBTT 2;SYMBOLS f/1 a/0;EQUATIONS 1;f(f(x1)) = a;RULES 2;f(f(x1)) -> a : 1;f(a) -> a : 2;CONSTRAINTS 2;f(f(x1)) -> a : 1;f(a) -> a : 2;ORDER LPO f a;TRACE 2;1 input 1 : f(f(x1)) = a;2 overlap 1 dir 0 with 1 dir 0 at 1 : f(a) = a;END; | (VAR x)(RULES f(x) == x) | mkbtt: refused line 1
+";
 
-/// It has constraints and the other order.
-const TURNED_CONSTRAINTS: &str =
-    "MKBTT 2\nSYMBOLS f/1 a/0\nEQUATIONS 1\nf(f(x1)) = a\nRULES 2\nf(f(x1)) -> a : 1\nf(a) -> a : 2\nCONSTRAINTS 2\nf(f(x1)) -> a : 1\nf(a) -> a : 2\nORDER LPO a f\nTRACE 2\n1 input 1 : f(f(x1)) = a\n2 overlap 1 dir 0 with 1 dir 0 at 1 : f(a) = a\nEND\n";
+/// Answers that are right.
+const CHECKS: &str = "$ check
+MKBTT 2
+SYMBOLS f/1 a/0
+EQUATIONS 1
+f(f(x1)) = a
+RULES 2
+f(f(x1)) -> a : 1
+f(a) -> a : 2
+CONSTRAINTS 2
+f(f(x1)) -> a : 1
+f(a) -> a : 2
+ORDER LPO f a
+TRACE 2
+1 input 1 : f(f(x1)) = a
+2 overlap 1 dir 0 with 1 dir 0 at 1 : f(a) = a
+END
+> 0
+ACCEPTED
+$ check
+MKBTT 2
+SYMBOLS a/0 b/0 c/0
+EQUATIONS 2
+a = b
+b = c
+RULES 2
+a -> b : 1
+b -> c : 2
+CONSTRAINTS 0
+ORDER LPO a b c
+TRACE 2
+1 input 1 : a = b
+2 input 2 : b = c
+END
+> 0
+ACCEPTED
+$ check
+MKBTT 2
+SYMBOLS a/0 b/0 c/0
+EQUATIONS 2
+a = b
+b = c
+RULES 2
+a -> c : 3
+b -> c : 2
+CONSTRAINTS 0
+ORDER LPO a b c
+TRACE 3
+1 input 1 : a = b
+2 input 2 : b = c
+3 rewrite 1 side 1 at e by 2 dir 0 : a = c
+END
+> 0
+ACCEPTED
+$ check
+MKBTT 2
+SYMBOLS f/1 a/0 b/0
+EQUATIONS 2
+f(x1) = a
+f(b) = a
+RULES 2
+f(x1) -> a : 1
+f(b) -> a : 2
+CONSTRAINTS 0
+ORDER LPO f a b
+TRACE 2
+1 input 1 : f(x1) = a
+2 input 2 : f(b) = a
+END
+> 0
+ACCEPTED
+$ check
+MKBTT 2
+SYMBOLS f/1 a/0 b/0
+EQUATIONS 2
+f(x1) = a
+f(b) = a
+RULES 1
+f(x1) -> a : 1
+CONSTRAINTS 0
+ORDER LPO f a b
+TRACE 2
+1 input 1 : f(x1) = a
+2 input 2 : f(b) = a
+END
+> 0
+ACCEPTED
+$ check
+MKBTT 2
+SYMBOLS d/1 p/2
+EQUATIONS 1
+d(x1) = p(x1,x1)
+RULES 1
+d(x1) -> p(x1,x1) : 1
+CONSTRAINTS 0
+ORDER LPO d p
+TRACE 1
+1 input 1 : d(x1) = p(x1,x1)
+END
+> 0
+ACCEPTED
+";
 
-/// Its rule 2 is left out.
-const ONE_RULE: &str =
-    "MKBTT 1\nSYMBOLS f/1 a/0\nEQUATIONS 1\nf(f(x1)) = a\nRULES 1\nf(f(x1)) -> a : 1\nORDER LPO f a\nTRACE 2\n1 input 1 : f(f(x1)) = a\n2 overlap 1 dir 0 with 1 dir 0 at 1 : f(a) = a\nEND\n";
+/// Answers in another version or format, and reduced.
+const CONVERSIONS: &str = "$ convert
+MKBTT 1
+SYMBOLS f/1 a/0
+EQUATIONS 1
+f(f(x1)) = a
+RULES 2
+f(f(x1)) -> a : 1
+f(a) -> a : 2
+ORDER LPO f a
+TRACE 2
+1 input 1 : f(f(x1)) = a
+2 overlap 1 dir 0 with 1 dir 0 at 1 : f(a) = a
+END
+> 0
+MKBTT 2
+SYMBOLS f/1 a/0
+EQUATIONS 1
+f(f(x1)) = a
+RULES 2
+f(f(x1)) -> a : 1
+f(a) -> a : 2
+CONSTRAINTS 0
+ORDER LPO f a
+TRACE 2
+1 input 1 : f(f(x1)) = a
+2 overlap 1 dir 0 with 1 dir 0 at 1 : f(a) = a
+END
+$ convert
+MKBTT 2
+SYMBOLS f/1 a/0
+EQUATIONS 1
+f(f(x1)) = a
+RULES 2
+f(f(x1)) -> a : 1
+f(a) -> a : 2
+CONSTRAINTS 0
+ORDER LPO f a
+TRACE 2
+1 input 1 : f(f(x1)) = a
+2 overlap 1 dir 0 with 1 dir 0 at 1 : f(a) = a
+END
+> 0
+MKBTT 2
+SYMBOLS f/1 a/0
+EQUATIONS 1
+f(f(x1)) = a
+RULES 2
+f(f(x1)) -> a : 1
+f(a) -> a : 2
+CONSTRAINTS 0
+ORDER LPO f a
+TRACE 2
+1 input 1 : f(f(x1)) = a
+2 overlap 1 dir 0 with 1 dir 0 at 1 : f(a) = a
+END
+$ convert
+MKBTT 2
+SYMBOLS f/1 a/0
+EQUATIONS 1
+f(f(x1)) = a
+RULES 2
+f(f(x1)) -> a : 1
+f(a) -> a : 2
+CONSTRAINTS 2
+f(f(x1)) -> a : 1
+f(a) -> a : 2
+ORDER LPO f a
+TRACE 2
+1 input 1 : f(f(x1)) = a
+2 overlap 1 dir 0 with 1 dir 0 at 1 : f(a) = a
+END
+> 0
+MKBTT 2
+SYMBOLS f/1 a/0
+EQUATIONS 1
+f(f(x1)) = a
+RULES 2
+f(f(x1)) -> a : 1
+f(a) -> a : 2
+CONSTRAINTS 2
+f(f(x1)) -> a : 1
+f(a) -> a : 2
+ORDER LPO f a
+TRACE 2
+1 input 1 : f(f(x1)) = a
+2 overlap 1 dir 0 with 1 dir 0 at 1 : f(a) = a
+END
+$ convert
+MKBTT 1
+SYMBOLS f/1 a/0
+EQUATIONS 1
+f(f(x1)) = a
+RULES 1
+f(f(x1)) -> a : 1
+ORDER LPO f a
+TRACE 2
+1 input 1 : f(f(x1)) = a
+2 overlap 1 dir 0 with 1 dir 0 at 1 : f(a) = a
+END
+> 0
+MKBTT 2
+SYMBOLS f/1 a/0
+EQUATIONS 1
+f(f(x1)) = a
+RULES 1
+f(f(x1)) -> a : 1
+CONSTRAINTS 0
+ORDER LPO f a
+TRACE 2
+1 input 1 : f(f(x1)) = a
+2 overlap 1 dir 0 with 1 dir 0 at 1 : f(a) = a
+END
+$ convert --to trs
+MKBTT 2
+SYMBOLS f/1 a/0
+EQUATIONS 1
+f(f(x1)) = a
+RULES 2
+f(f(x1)) -> a : 1
+f(a) -> a : 2
+CONSTRAINTS 2
+f(f(x1)) -> a : 1
+f(a) -> a : 2
+ORDER LPO f a
+TRACE 2
+1 input 1 : f(f(x1)) = a
+2 overlap 1 dir 0 with 1 dir 0 at 1 : f(a) = a
+END
+> 0
+(VAR x1)
+(RULES
+f(f(x1)) -> a
+f(a) -> a
+)
+$ reduce
+MKBTT 2
+SYMBOLS a/0 b/0 c/0
+EQUATIONS 2
+a = b
+b = c
+RULES 2
+a -> b : 1
+b -> c : 2
+CONSTRAINTS 0
+ORDER LPO a b c
+TRACE 2
+1 input 1 : a = b
+2 input 2 : b = c
+END
+> 0
+MKBTT 2
+SYMBOLS a/0 b/0 c/0
+EQUATIONS 2
+a = b
+b = c
+RULES 2
+a -> c : 3
+b -> c : 2
+CONSTRAINTS 0
+ORDER LPO a b c
+TRACE 3
+1 input 1 : a = b
+2 input 2 : b = c
+3 rewrite 1 side 1 at e by 2 dir 0 : a = c
+END
+$ reduce
+MKBTT 2
+SYMBOLS a/0 b/0 c/0
+EQUATIONS 2
+a = b
+b = c
+RULES 2
+a -> c : 3
+b -> c : 2
+CONSTRAINTS 0
+ORDER LPO a b c
+TRACE 3
+1 input 1 : a = b
+2 input 2 : b = c
+3 rewrite 1 side 1 at e by 2 dir 0 : a = c
+END
+> 0
+MKBTT 2
+SYMBOLS a/0 b/0 c/0
+EQUATIONS 2
+a = b
+b = c
+RULES 2
+a -> c : 3
+b -> c : 2
+CONSTRAINTS 0
+ORDER LPO a b c
+TRACE 3
+1 input 1 : a = b
+2 input 2 : b = c
+3 rewrite 1 side 1 at e by 2 dir 0 : a = c
+END
+$ reduce
+MKBTT 2
+SYMBOLS f/1 a/0 b/0
+EQUATIONS 2
+f(x1) = a
+f(b) = a
+RULES 2
+f(x1) -> a : 1
+f(b) -> a : 2
+CONSTRAINTS 0
+ORDER LPO f a b
+TRACE 2
+1 input 1 : f(x1) = a
+2 input 2 : f(b) = a
+END
+> 0
+MKBTT 2
+SYMBOLS f/1 a/0 b/0
+EQUATIONS 2
+f(x1) = a
+f(b) = a
+RULES 1
+f(x1) -> a : 1
+CONSTRAINTS 0
+ORDER LPO f a b
+TRACE 2
+1 input 1 : f(x1) = a
+2 input 2 : f(b) = a
+END
+$ reduce
+MKBTT 2
+SYMBOLS f/1 a/0
+EQUATIONS 1
+f(f(x1)) = a
+RULES 2
+f(f(x1)) -> a : 1
+f(a) -> a : 2
+CONSTRAINTS 2
+f(f(x1)) -> a : 1
+f(a) -> a : 2
+ORDER LPO f a
+TRACE 2
+1 input 1 : f(f(x1)) = a
+2 overlap 1 dir 0 with 1 dir 0 at 1 : f(a) = a
+END
+> 0
+MKBTT 2
+SYMBOLS f/1 a/0
+EQUATIONS 1
+f(f(x1)) = a
+RULES 2
+f(f(x1)) -> a : 1
+f(a) -> a : 2
+CONSTRAINTS 2
+f(f(x1)) -> a : 1
+f(a) -> a : 2
+ORDER LPO f a
+TRACE 2
+1 input 1 : f(f(x1)) = a
+2 overlap 1 dir 0 with 1 dir 0 at 1 : f(a) = a
+END
+$ reduce
+MKBTT 1
+SYMBOLS f/1 a/0
+EQUATIONS 1
+f(f(x1)) = a
+RULES 1
+f(f(x1)) -> a : 1
+ORDER LPO f a
+TRACE 2
+1 input 1 : f(f(x1)) = a
+2 overlap 1 dir 0 with 1 dir 0 at 1 : f(a) = a
+END
+> 1
+REJECTED notjoined 1
+";
 
-/// The same in version 2.
-const LONE_RULE: &str =
-    "MKBTT 2\nSYMBOLS f/1 a/0\nEQUATIONS 1\nf(f(x1)) = a\nRULES 1\nf(f(x1)) -> a : 1\nCONSTRAINTS 0\nORDER LPO f a\nTRACE 2\n1 input 1 : f(f(x1)) = a\n2 overlap 1 dir 0 with 1 dir 0 at 1 : f(a) = a\nEND\n";
-
-/// Its step 2 overlaps at the root.
-const AT_ROOT: &str =
-    "MKBTT 1\nSYMBOLS f/1 a/0\nEQUATIONS 1\nf(f(x1)) = a\nRULES 2\nf(f(x1)) -> a : 1\nf(a) -> a : 2\nORDER LPO f a\nTRACE 2\n1 input 1 : f(f(x1)) = a\n2 overlap 1 dir 0 with 1 dir 0 at e : f(a) = a\nEND\n";
-
-/// It has the other order.
-const OTHER_ORDER: &str =
-    "MKBTT 1\nSYMBOLS f/1 a/0\nEQUATIONS 1\nf(f(x1)) = a\nRULES 2\nf(f(x1)) -> a : 1\nf(a) -> a : 2\nORDER LPO a f\nTRACE 2\n1 input 1 : f(f(x1)) = a\n2 overlap 1 dir 0 with 1 dir 0 at 1 : f(a) = a\nEND\n";
-
-/// Its rule 2 cites step 1.
-const OTHER_STEP: &str =
-    "MKBTT 1\nSYMBOLS f/1 a/0\nEQUATIONS 1\nf(f(x1)) = a\nRULES 2\nf(f(x1)) -> a : 1\nf(a) -> a : 1\nORDER LPO f a\nTRACE 2\n1 input 1 : f(f(x1)) = a\n2 overlap 1 dir 0 with 1 dir 0 at 1 : f(a) = a\nEND\n";
-
-/// It has an equation more, which its rules don't prove.
-const MORE_EQUATIONS: &str =
-    "MKBTT 1\nSYMBOLS f/1 a/0\nEQUATIONS 2\nf(f(x1)) = a\nf(x1) = a\nRULES 2\nf(f(x1)) -> a : 1\nf(a) -> a : 2\nORDER LPO f a\nTRACE 2\n1 input 1 : f(f(x1)) = a\n2 overlap 1 dir 0 with 1 dir 0 at 1 : f(a) = a\nEND\n";
-
-/// Its step 1 cites an equation that isn't there.
-const OTHER_EQUATION: &str =
-    "MKBTT 1\nSYMBOLS f/1 a/0\nEQUATIONS 1\nf(f(x1)) = a\nRULES 2\nf(f(x1)) -> a : 1\nf(a) -> a : 2\nORDER LPO f a\nTRACE 2\n1 input 2 : f(f(x1)) = a\n2 overlap 1 dir 0 with 1 dir 0 at 1 : f(a) = a\nEND\n";
-
-/// Its order has constants that aren't great enough.
-const SMALL_CONSTANTS: &str =
-    "MKBTT 1\nSYMBOLS f/1 a/0\nEQUATIONS 1\nf(f(x1)) = a\nRULES 2\nf(f(x1)) -> a : 1\nf(a) -> a : 2\nORDER LINEAR 0,2 0\nTRACE 2\n1 input 1 : f(f(x1)) = a\n2 overlap 1 dir 0 with 1 dir 0 at 1 : f(a) = a\nEND\n";
-
-/// Two rules, of which the first has a right side that the second rewrites.
-const CHAIN: &str =
-    "MKBTT 2\nSYMBOLS a/0 b/0 c/0\nEQUATIONS 2\na = b\nb = c\nRULES 2\na -> b : 1\nb -> c : 2\nCONSTRAINTS 0\nORDER LPO a b c\nTRACE 2\n1 input 1 : a = b\n2 input 2 : b = c\nEND\n";
-
-/// The same, reduced.
-const SHORT_CHAIN: &str =
-    "MKBTT 2\nSYMBOLS a/0 b/0 c/0\nEQUATIONS 2\na = b\nb = c\nRULES 2\na -> c : 3\nb -> c : 2\nCONSTRAINTS 0\nORDER LPO a b c\nTRACE 3\n1 input 1 : a = b\n2 input 2 : b = c\n3 rewrite 1 side 1 at e by 2 dir 0 : a = c\nEND\n";
-
-/// Two rules, of which the second is an instance of the first.
-const INSTANCE: &str =
-    "MKBTT 2\nSYMBOLS f/1 a/0 b/0\nEQUATIONS 2\nf(x1) = a\nf(b) = a\nRULES 2\nf(x1) -> a : 1\nf(b) -> a : 2\nCONSTRAINTS 0\nORDER LPO f a b\nTRACE 2\n1 input 1 : f(x1) = a\n2 input 2 : f(b) = a\nEND\n";
-
-/// The same, reduced.
-const NO_INSTANCE: &str =
-    "MKBTT 2\nSYMBOLS f/1 a/0 b/0\nEQUATIONS 2\nf(x1) = a\nf(b) = a\nRULES 1\nf(x1) -> a : 1\nCONSTRAINTS 0\nORDER LPO f a b\nTRACE 2\n1 input 1 : f(x1) = a\n2 input 2 : f(b) = a\nEND\n";
-
-/// One rule that doubles its argument.
-const DOUBLE: &str =
-    "MKBTT 2\nSYMBOLS d/1 p/2\nEQUATIONS 1\nd(x1) = p(x1,x1)\nRULES 1\nd(x1) -> p(x1,x1) : 1\nCONSTRAINTS 0\nORDER LPO d p\nTRACE 1\n1 input 1 : d(x1) = p(x1,x1)\nEND\n";
+/// Goals that are decided, and terms that are simplified.
+const DECISIONS: &str = "$ decide
+MKBTT 1
+SYMBOLS f/1 a/0
+EQUATIONS 1
+f(f(x1)) = a
+RULES 2
+f(f(x1)) -> a : 1
+f(a) -> a : 2
+ORDER LPO f a
+TRACE 2
+1 input 1 : f(f(x1)) = a
+2 overlap 1 dir 0 with 1 dir 0 at 1 : f(a) = a
+END
+GOALS 2
+f(f(f(x1))) = a
+f(x1) = a
+END
+> 0
+MKBTT DECIDE 1
+1 YES 1 0
+left e 1
+2 NO
+f(x1)
+a
+END
+$ decide
+MKBTT 2
+SYMBOLS d/1 p/2
+EQUATIONS 1
+d(x1) = p(x1,x1)
+RULES 1
+d(x1) -> p(x1,x1) : 1
+CONSTRAINTS 0
+ORDER LPO d p
+TRACE 1
+1 input 1 : d(x1) = p(x1,x1)
+END
+GOALS 1
+d(d(d(d(d(d(d(d(d(d(x1)))))))))) = x1
+END
+> 0
+MKBTT DECIDE 1
+1 UNKNOWN size
+END
+$ decide
+MKBTT 1
+SYMBOLS f/1 a/0
+EQUATIONS 1
+f(f(x1)) = a
+RULES 1
+f(f(x1)) -> a : 1
+ORDER LPO f a
+TRACE 2
+1 input 1 : f(f(x1)) = a
+2 overlap 1 dir 0 with 1 dir 0 at 1 : f(a) = a
+END
+GOALS 1
+a = a
+END
+> 1
+REJECTED notjoined 1
+$ decide
+MKBTT 2
+SYMBOLS f/1 a/0
+EQUATIONS 1
+f(f(x1)) = a
+RULES 2
+f(f(x1)) -> a : 1
+f(a) -> a : 2
+CONSTRAINTS 2
+f(f(x1)) -> a : 1
+f(a) -> a : 2
+ORDER LPO f a
+TRACE 2
+1 input 1 : f(f(x1)) = a
+2 overlap 1 dir 0 with 1 dir 0 at 1 : f(a) = a
+END
+GOALS 0
+END
+> 0
+MKBTT DECIDE 1
+END
+$ simplify
+MKBTT 2
+SYMBOLS f/1 a/0
+EQUATIONS 1
+f(f(x1)) = a
+RULES 2
+f(f(x1)) -> a : 1
+f(a) -> a : 2
+CONSTRAINTS 2
+f(f(x1)) -> a : 1
+f(a) -> a : 2
+ORDER LPO f a
+TRACE 2
+1 input 1 : f(f(x1)) = a
+2 overlap 1 dir 0 with 1 dir 0 at 1 : f(a) = a
+END
+TERMS 3
+f(f(f(x1)))
+f(x1)
+f(f(a))
+END
+> 0
+MKBTT SIMPLIFY 1
+1 1 a
+2 0 f(x1)
+3 1 a
+END
+$ simplify
+MKBTT 2
+SYMBOLS d/1 p/2
+EQUATIONS 1
+d(x1) = p(x1,x1)
+RULES 1
+d(x1) -> p(x1,x1) : 1
+CONSTRAINTS 0
+ORDER LPO d p
+TRACE 1
+1 input 1 : d(x1) = p(x1,x1)
+END
+TERMS 1
+d(d(d(d(d(d(d(d(d(d(x1))))))))))
+END
+> 0
+MKBTT SIMPLIFY 1
+1 UNKNOWN size
+END
+$ simplify
+MKBTT 1
+SYMBOLS f/1 a/0
+EQUATIONS 1
+f(f(x1)) = a
+RULES 1
+f(f(x1)) -> a : 1
+ORDER LPO f a
+TRACE 2
+1 input 1 : f(f(x1)) = a
+2 overlap 1 dir 0 with 1 dir 0 at 1 : f(a) = a
+END
+TERMS 0
+END
+> 1
+REJECTED notjoined 1
+";
 
 #[test]
-fn an_answer_is_accepted(rt: HostRuntime) {
+fn answers_are_checked(rt: HostRuntime) {
     let bench = Bench {
         rt: &rt,
         alloc: rt.alloc(),
     };
-    for text in [
-        SQUARE,
-        OLD_SQUARE,
-        CHAIN,
-        SHORT_CHAIN,
-        INSTANCE,
-        NO_INSTANCE,
-        DOUBLE,
-    ] {
-        assert!(rt;
-            bench.writes(&["check"], &[text], 0, "ACCEPTED\n"),
-            "{text}"
-        );
-    }
+    bench.assert_cases(CHECKS);
+    bench.assert_altered(&["check"], SQUARE, ALTERED);
+    bench.assert_altered(&["check"], OLD_SQUARE, OLD_ALTERED);
 }
 
 #[test]
-fn altered_answers_are_rejected(rt: HostRuntime) {
+fn answers_are_worked_with(rt: HostRuntime) {
     let bench = Bench {
         rt: &rt,
         alloc: rt.alloc(),
     };
-    for (text, line) in [
-        (OTHER_CONSTRAINT_STEP, "REJECTED untracedconstraint 1\n"),
-        (OTHER_CONSTRAINT, "REJECTED untracedconstraint 1\n"),
-        (TURNED_CONSTRAINTS, "REJECTED constraintnotoriented 1\n"),
-        (ONE_RULE, "REJECTED notjoined 1\n"),
-        (AT_ROOT, "REJECTED badstep 2\n"),
-        (OTHER_ORDER, "REJECTED notoriented 1\n"),
-        (OTHER_STEP, "REJECTED untraced 2\n"),
-        (MORE_EQUATIONS, "REJECTED notproved 2\n"),
-        (OTHER_EQUATION, "REJECTED badstep 1\n"),
-        (SMALL_CONSTANTS, "REJECTED notoriented 1\n"),
-    ] {
-        assert!(rt; bench.writes(&["check"], &[text], 1, line), "{text}");
-    }
-}
-
-#[test]
-fn a_text_that_is_no_answer_is_bad(rt: HostRuntime) {
-    let bench = Bench {
-        rt: &rt,
-        alloc: rt.alloc(),
-    };
-    for mode in ["check", "convert", "reduce", "decide", "simplify"] {
-        assert!(rt;
-            bench.writes(&[mode], &["(VAR x)(RULES f(x) == x)"], 3, ""),
-            "{mode}"
-        );
-        assert!(rt; bench.writes(&[mode], &["MKBTT 1\n"], 3, ""), "{mode}");
-        assert!(rt;
-            bench.writes(&[mode], &[SQUARE, "GOALS 1\n"], 3, ""),
-            "{mode}"
-        );
-    }
-}
-
-#[test]
-fn an_answer_is_converted(rt: HostRuntime) {
-    let bench = Bench {
-        rt: &rt,
-        alloc: rt.alloc(),
-    };
-    for (text, converted) in [
-        (OLD_SQUARE, LONE_SQUARE),
-        (LONE_SQUARE, LONE_SQUARE),
-        (SQUARE, SQUARE),
-        (ONE_RULE, LONE_RULE),
-    ] {
-        assert!(rt; bench.writes(&["convert"], &[text], 0, converted), "{text}");
-    }
-    let rules = "(VAR x1)\n(RULES\nf(f(x1)) -> a\nf(a) -> a\n)\n";
-    assert!(rt; bench.writes(&["convert", "--to", "trs"], &[SQUARE], 0, rules));
-}
-
-#[test]
-fn an_answer_is_reduced(rt: HostRuntime) {
-    let bench = Bench {
-        rt: &rt,
-        alloc: rt.alloc(),
-    };
-    for (text, code, written) in [
-        (CHAIN, 0, SHORT_CHAIN),
-        (SHORT_CHAIN, 0, SHORT_CHAIN),
-        (INSTANCE, 0, NO_INSTANCE),
-        (SQUARE, 0, SQUARE),
-        (ONE_RULE, 1, "REJECTED notjoined 1\n"),
-    ] {
-        assert!(rt; bench.writes(&["reduce"], &[text], code, written), "{text}");
-    }
-}
-
-#[test]
-fn goals_are_decided(rt: HostRuntime) {
-    let bench = Bench {
-        rt: &rt,
-        alloc: rt.alloc(),
-    };
-    for (text, goals, code, written) in [
-        (
-            OLD_SQUARE,
-            "GOALS 2\nf(f(f(x1))) = a\nf(x1) = a\nEND\n",
-            0,
-            "MKBTT DECIDE 1\n1 YES 1 0\nleft e 1\n2 NO\nf(x1)\na\nEND\n",
-        ),
-        (
-            DOUBLE,
-            "GOALS 1\nd(d(d(d(d(d(d(d(d(d(x1)))))))))) = x1\nEND\n",
-            0,
-            "MKBTT DECIDE 1\n1 UNKNOWN size\nEND\n",
-        ),
-        (
-            ONE_RULE,
-            "GOALS 1\na = a\nEND\n",
-            1,
-            "REJECTED notjoined 1\n",
-        ),
-        (SQUARE, "GOALS 0\nEND\n", 0, "MKBTT DECIDE 1\nEND\n"),
-    ] {
-        assert!(rt;
-            bench.writes(&["decide"], &[text, goals], code, written),
-            "{goals}"
-        );
-    }
-}
-
-#[test]
-fn terms_are_simplified(rt: HostRuntime) {
-    let bench = Bench {
-        rt: &rt,
-        alloc: rt.alloc(),
-    };
-    for (text, terms, code, written) in [
-        (
-            SQUARE,
-            "TERMS 3\nf(f(f(x1)))\nf(x1)\nf(f(a))\nEND\n",
-            0,
-            "MKBTT SIMPLIFY 1\n1 1 a\n2 0 f(x1)\n3 1 a\nEND\n",
-        ),
-        (
-            DOUBLE,
-            "TERMS 1\nd(d(d(d(d(d(d(d(d(d(x1))))))))))\nEND\n",
-            0,
-            "MKBTT SIMPLIFY 1\n1 UNKNOWN size\nEND\n",
-        ),
-        (ONE_RULE, "TERMS 0\nEND\n", 1, "REJECTED notjoined 1\n"),
-    ] {
-        assert!(rt;
-            bench.writes(&["simplify"], &[text, terms], code, written),
-            "{terms}"
-        );
+    bench.assert_cases(CONVERSIONS);
+    bench.assert_cases(DECISIONS);
+    for mode in ["convert", "reduce", "simplify"] {
+        bench.assert_altered(&[mode], SQUARE, NOTHING_ASKED);
     }
 }

@@ -1,8 +1,50 @@
 // What is refused, and faults of the source and the sink.
 use crate::bench::Bench;
 use kb_io::{MemorySink, MemorySource, OpenGate};
-use kb_syntax::{Bound, Kind};
-use mkbtt_top::{Status, status_code, status_line};
+use mkbtt_top::status_code;
+
+/// Problems and words that are refused, with their status lines.
+const REFUSALS: &str = "$ complete
+(VAR x y)(RULES f(x,y) == f(x))
+> 3
+mkbtt: refused arityclash at 26
+$ complete
+(VAR x)(RULES x(a) == a)
+> 3
+mkbtt: refused variableapplied at 14
+$ complete
+(RULES a == b
+> 3
+mkbtt: refused unclosed at 14
+$ complete
+(RULES a ->= b)
+> 3
+mkbtt: refused relative at 9
+$ complete
+(RULES a -> b | c -> d)
+> 3
+mkbtt: refused conditional at 14
+$ complete
+(THEORY (AC f))(RULES )
+> 3
+mkbtt: refused theory at 1
+$ complete
+(STRATEGY INNERMOST)(RULES )
+> 3
+mkbtt: refused strategy at 1
+$ complete --workers 17
+(RULES )
+> 7
+mkbtt: bad words
+$ complete --select sizes
+(RULES )
+> 7
+mkbtt: bad words
+$ journals
+(RULES )
+> 7
+mkbtt: bad words
+";
 
 /// The problem without equations, and what is written of it.
 const EMPTY: &str = "(RULES )";
@@ -16,44 +58,8 @@ fn refusals_have_a_kind_and_a_place(rt: HostRuntime) {
         rt: &rt,
         alloc: rt.alloc(),
     };
-    for (text, kind, at) in [
-        ("(VAR x y)(RULES f(x,y) == f(x))", Kind::ArityClash, 26),
-        ("(VAR x)(RULES x(a) == a)", Kind::VariableApplied, 14),
-        ("(RULES a == b", Kind::Unclosed, 13),
-        ("(RULES a ->= b)", Kind::Relative, 9),
-        ("(RULES a -> b | c -> d)", Kind::Conditional, 14),
-        ("(THEORY (AC f))(RULES )", Kind::Theory, 1),
-        ("(STRATEGY INNERMOST)(RULES )", Kind::Strategy, 1),
-    ] {
-        let mut source = bench.source(&[text]);
-        let mut sink = bench.sink(1000);
-        let outcome = bench.perform(&["complete"], &mut source, &mut sink, &OpenGate);
-        assert!(rt; outcome.status == Status::Refused(kind, at), "{text}");
-        assert!(rt; sink.bytes().is_empty());
-    }
-}
-
-#[test]
-fn a_refusal_is_one_line(rt: HostRuntime) {
-    let alloc = rt.alloc();
-    let status = Status::Refused(Kind::Limit(Bound::Size), 20);
-    let line = status_line(alloc, &status).expect(&rt, "memory");
-    assert!(rt; line.as_slice() == b"mkbtt: refused limit-size at 20\n".as_slice());
-    let line = status_line(alloc, &Status::BadText(12)).expect(&rt, "memory");
-    assert!(rt; line.as_slice() == b"mkbtt: refused line 12\n".as_slice());
-}
-
-#[test]
-fn other_words_are_refused(rt: HostRuntime) {
-    let bench = Bench {
-        rt: &rt,
-        alloc: rt.alloc(),
-    };
-    let many: &[&str] = &["complete", "--workers", "17"];
-    let unknown: &[&str] = &["complete", "--select", "sizes"];
-    for words in [&[], many, unknown, &["journals"]] {
-        assert!(rt; bench.writes(words, &[EMPTY], 7, ""));
-    }
+    bench.assert_cases(REFUSALS);
+    assert!(rt; bench.ends(&[], &[EMPTY], "7", "mkbtt: bad words\n"));
 }
 
 #[test]

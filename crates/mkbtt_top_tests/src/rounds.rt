@@ -1,5 +1,5 @@
 // Completions by rounds.
-use crate::bench::{Bench, Want};
+use crate::bench::Bench;
 use crate::completions::GROUP;
 use crate::crews::DOZEN;
 use kb_io::{HoldGate, MemorySink, OpenGate};
@@ -49,14 +49,11 @@ fn a_ticket_stays_in_flight_at_the_verdict(rt: HostRuntime) {
         rt: &rt,
         alloc: rt.alloc(),
     };
-    let want = Want {
-        code: 0,
-        commits: Some(4),
-        output: "MKBTT 2\nSYMBOLS a/0 b/0\nEQUATIONS 1\na = b\nRULES 1\na -> b : 1\nCONSTRAINTS 1\na -> b : 1\nORDER LPO a b\nTRACE 1\n1 input 1 : a = b\nEND\n",
-    };
+    let answer =
+        "MKBTT 2\nSYMBOLS a/0 b/0\nEQUATIONS 1\na = b\nRULES 1\na -> b : 1\nCONSTRAINTS 1\na -> b : 1\nORDER LPO a b\nTRACE 1\n1 input 1 : a = b\nEND\n";
     for workers in ["1", "2", "16"] {
         let words = &["rounds", "--workers", workers];
-        assert!(rt; bench.ends(words, &["(RULES a == b)"], want));
+        assert!(rt; bench.ends(words, &["(RULES a == b)"], "0 4", answer));
     }
 }
 
