@@ -1,10 +1,9 @@
 // The smallest answer: no equations and no rules.
-ghost use Rattle.std.specs.Prelude.{IfOk};
-
 use kb_cert::Certificate;
 use kb_checker::{Answer, Checked, check, verdicts_are_one};
 use kb_lpo::Precedence;
-use kb_term::{Memory, Problem, Signature};
+use kb_reduce::{Reduction, reduce};
+use kb_term::{Problem, Signature};
 use kb_trace::Trace;
 use std::alloc::Global;
 
@@ -30,4 +29,14 @@ fn an_answer_without_rules_is_good_for_no_equations(rt: HostRuntime) {
 #[test]
 fn an_answer_has_one_verdict(_rt: HostRuntime) {
     verdicts_are_one();
+}
+
+#[test]
+fn an_answer_without_rules_is_reduced(rt: HostRuntime) {
+    let alloc = rt.alloc();
+    let answer = empty_answer(alloc);
+    match reduce(alloc, &answer).expect(&rt, "memory") {
+        Reduction::Reduced(made) => assert!(rt; made.rules().is_empty()),
+        _ => assert!(rt; false),
+    }
 }

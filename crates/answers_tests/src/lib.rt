@@ -11,5 +11,3 @@ mod exporting;
 mod goals;
 #[cfg(test)]
 mod reducing;
-#[cfg(test)]
-mod thinning;

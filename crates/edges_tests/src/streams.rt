@@ -1,8 +1,7 @@
 // Sources, sinks and gates: what they give, and what they do where a reader or a writer fails.
 use kb_io::{
-    Failed, Gate, HoldGate, KeepingSource, MemorySink, MemorySource, Moment, OpenGate,
-    ReadAllFault, Sink, Source, StdSink, StdSource, Tally, TallyGate, WriteFault, read_all,
-    write_all,
+    Gate, HoldGate, KeepingSource, MemorySink, MemorySource, Moment, OpenGate, ReadAllFault, Sink,
+    Source, StdSink, StdSource, Tally, TallyGate, WriteFault, read_all, write_all,
 };
 use std::io::{Error, ErrorKind, Read, Write};
 use std::test::Fail;

@@ -2,12 +2,12 @@
 ghost use Rattle.std.specs.Prelude.{◌≡◌, ◌++◌, flat_map, IfOk, OnOk};
 ghost use Rattle.kb_term.specs.View.{tree_of};
 ghost use Rattle.kb_text.specs.Terms.{names_of};
-ghost use Rattle.kb_trace.specs.TraceText.{position_text as text_of_position};
 ghost use Rattle.kb_goals.specs.Answering.{reason_word as word_of_reason, step_line, term_line, decision_text, decisions_text, decide_text as text_of_decisions};
 
 use kb_decide::{Decision, Line, Reason};
-use kb_term::{Memory, Position, Signature, Term};
+use kb_term::{Memory, Signature, Term};
 use kb_text::{Fields, term_text};
+use kb_trace::position_text;
 use std::alloc::Global;
 
 // The word for the limit that was passed.
@@ -19,24 +19,6 @@ pub(crate) fn reason_word(reason: Reason) -> &'static [u8]
         Reason::Size => b"size",
         Reason::Depth => b"depth",
     }
-}
-
-// The text of a position: e for the root, else argument numbers joined by dots.
-fn position_text(alloc: Global, position: &Position) -> Result<Vec<u8>, Memory>
-    ensures { IfOk result (λ text. text.items ≡ text_of_position position.now) }
-{
-    let steps = position.steps();
-    if steps.is_empty() {
-        let root = Vec::from_slice(alloc, b"e")?;
-        return Ok(root);
-    }
-    let mut numbers = Fields::new(alloc);
-    for k in 0..steps.len() {
-        numbers.number(alloc, steps[k] as u64)?;
-    }
-    let mut text = Vec::new(alloc);
-    numbers.join_to(&mut text, b'.')?;
-    Ok(text)
 }
 
 // The line of a step on one side.

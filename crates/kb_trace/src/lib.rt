@@ -17,5 +17,5 @@ pub use laws::texts_are_of_one_trace;
 pub use reached::trace_of;
 pub use reading::read_trace;
 pub use replaying::replay_trace;
-pub use text::trace_text;
+pub use text::{position_text, trace_text};
 pub use trace::{Step, Trace};

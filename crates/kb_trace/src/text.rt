@@ -88,7 +88,7 @@ fn push_cited(alloc: Global, line: &mut Fields, word: &[u8], cited: RuleRef) -> 
 }
 
 /// The text of a position: e for the root, else argument numbers joined by dots.
-fn position_text(alloc: Global, position: &Position) -> Result<Vec<u8>, Memory>
+pub fn position_text(alloc: Global, position: &Position) -> Result<Vec<u8>, Memory>
     ensures { IfOk result (λ text. text.items ≡ text_of_position position.now) }
 {
     let steps = position.steps();

@@ -1,61 +1,16 @@
 // Worked examples over f and g, which take one argument each, and the search against all members of the family.
-ghost use Rattle.std.specs.Prelude.{[], ◌∷◌, ◌≡◌, ◌+◌, ◌<◌, ◌≤◌, IfOk, length, All};
+ghost use Rattle.std.specs.Prelude.{[], ◌≡◌, ◌+◌, ◌<◌, ◌≤◌, IfOk, length, All};
 ghost use Rattle.kb_term.specs.Tree.{variables_of, tree_size, tree_depth};
 ghost use Rattle.kb_term.specs.View.{tree_of};
 ghost use Rattle.kb_linear.specs.Limits.{IsMeasurable, AreMeasurable};
 
+use crate::building::{interpretation, letter, two_symbols};
 use kb_cert::{Certificate, Family, cert_text, orients, read_cert, search, search_from};
 use kb_kbo::Kbo;
-use kb_linear::Interp;
 use kb_lpo::Precedence;
 use kb_term::{Memory, Rule, Signature, Symbol, Term, Terms};
 use std::alloc::Global;
 use std::test::Fail;
-
-fn letter(alloc: Global, b: u8) -> Result<Vec<u8>, Memory>
-    ensures { IfOk result (λ name. name.items ≡ b ∷ []) }
-{
-    let mut name = Vec::new(alloc);
-    name.push(b)?;
-    Ok(name)
-}
-
-/// The signature of f and g.
-fn two_symbols(alloc: Global) -> Result<Signature, Memory>
-    ensures { IfOk result (λ sig. length sig ≡ 2) }
-{
-    let f = letter(alloc, b'f')?;
-    let g = letter(alloc, b'g')?;
-    let mut symbols = Vec::new(alloc);
-    symbols.push((f, 1))?;
-    symbols.push((g, 1))?;
-    Ok(Signature::new(symbols))
-}
-
-fn row(alloc: Global, constant: u8, coefficient: u8) -> Result<(u8, Vec<u8>), Memory>
-    ensures { IfOk result (λ r. (r.0 ≡ constant) × (r.1.items ≡ coefficient ∷ [])) }
-{
-    let mut coefficients = Vec::new(alloc);
-    coefficients.push(coefficient)?;
-    Ok((constant, coefficients))
-}
-
-/// f(x) = c + a x and g(x) = d + b x.
-fn linear(alloc: Global, c: u8, a: u8, d: u8, b: u8) -> Result<Certificate, Memory>
-    requires f_constant { c ≤ 15 }
-    requires f_least { 1 ≤ a }
-    requires f_most { a ≤ 3 }
-    requires g_constant { d ≤ 15 }
-    requires g_least { 1 ≤ b }
-    requires g_most { b ≤ 3 }
-{
-    let f = row(alloc, c, a)?;
-    let g = row(alloc, d, b)?;
-    let mut rows = Vec::new(alloc);
-    rows.push(f)?;
-    rows.push(g)?;
-    Ok(Certificate::Linear(Interp::new(rows)))
-}
 
 fn precedence(alloc: Global, first: u8, second: u8) -> Result<Certificate, Memory> {
     let mut symbols = Vec::new(alloc);
@@ -87,7 +42,8 @@ fn member(alloc: Global, n: u8) -> Result<Certificate, Memory> {
         1 => precedence(alloc, 1, 0),
         2..66 => {
             let m = (n - 2) % 64;
-            linear(alloc, m / 16, m / 8 % 2 + 1, m / 2 % 4, m % 2 + 1)
+            let rows = interpretation(alloc, m / 16, m / 8 % 2 + 1, m / 2 % 4, m % 2 + 1)?;
+            Ok(Certificate::Linear(rows))
         }
         _ => {
             let m = (n - 66) % 18;
@@ -288,7 +244,7 @@ fn an_interpretation_is_found_where_no_precedence_orders(rt: HostRuntime) -> Res
     let sig = two_symbols(alloc)?;
     let rules = two_rules(alloc, 2, 1, 4, 3)?;
     let found = search(alloc, Family::Stated, &sig, &rules)?;
-    let wanted = Some(linear(alloc, 1, 2, 0, 2)?);
+    let wanted = Some(Certificate::Linear(interpretation(alloc, 1, 2, 0, 2)?));
     assert!(rt; is_same(&found, &wanted));
     assert!(rt; is_same(&wanted.clone()?, &found));
     assert!(rt; is_same(&found_again(alloc, &sig, &rules)?, &wanted));

@@ -1,58 +1,14 @@
 // Worked examples over f and g.
-ghost use Rattle.std.specs.Prelude.{[], ◌∷◌, ◌≡◌, ◌<◌, ◌≤◌, IfOk, length};
-ghost use Rattle.kb_term.specs.Tree.{apply, more_trees, no_trees};
+ghost use Rattle.std.specs.Prelude.{◌<◌, ◌≤◌, IfOk, length};
 ghost use Rattle.kb_term.specs.View.{tree_of};
 ghost use Rattle.kb_linear.specs.Limits.{IsMeasurable, AreMeasurable};
 
+use crate::building::{one, two, two_symbols};
 use kb_kbo::{Kbo, MIN_WEIGHT, kbo_greater, search_kbo, search_kbo_from};
 use kb_lpo::Precedence;
 use kb_term::{Memory, Rule, Signature, Symbol, Term, Terms};
 use std::alloc::Global;
 use std::test::Fail;
-
-fn letter(alloc: Global, b: u8) -> Result<Vec<u8>, Memory>
-    ensures { IfOk result (λ name. name.items ≡ b ∷ []) }
-{
-    let mut name = Vec::new(alloc);
-    name.push(b)?;
-    Ok(name)
-}
-
-/// The signature of f and g.
-fn two_symbols(alloc: Global) -> Result<Signature, Memory>
-    ensures { IfOk result (λ sig. length sig ≡ 2) }
-{
-    let f = letter(alloc, b'f')?;
-    let g = letter(alloc, b'g')?;
-    let mut symbols = Vec::new(alloc);
-    symbols.push((f, 1))?;
-    symbols.push((g, 1))?;
-    Ok(Signature::new(symbols))
-}
-
-/// f or g applied to the term.
-fn unary(alloc: Global, f: u8, t: Term) -> Result<Term, Memory>
-    ensures { IfOk result (λ u. tree_of u ≡ apply f (more_trees (tree_of t) no_trees)) }
-{
-    let mut items = Vec::new(alloc);
-    items.push(t)?;
-    Ok(Term::App(Symbol(f), Terms::new(items)))
-}
-
-/// Two symbols applied in turn to a variable.
-fn two(alloc: Global, f: u8, g: u8) -> Result<Term, Memory>
-    ensures { IfOk result (λ t. IsMeasurable (tree_of t)) }
-{
-    let inner = unary(alloc, g, Term::Var(0))?;
-    unary(alloc, f, inner)
-}
-
-/// One symbol applied to a variable.
-fn one(alloc: Global, f: u8) -> Result<Term, Memory>
-    ensures { IfOk result (λ t. IsMeasurable (tree_of t)) }
-{
-    unary(alloc, f, Term::Var(0))
-}
 
 /// g(x, x).
 fn twice(alloc: Global) -> Result<Term, Memory>

@@ -2,7 +2,7 @@
 ghost use Rattle.std.specs.Prelude.{◌<◌, length, IfOk};
 
 use crate::building::{binary, constant, unary};
-use kb_term::{Memory, Symbol, Term, Terms, term_limit};
+use kb_term::{Memory, Symbol, Term, term_limit};
 use std::alloc::Global;
 use term_bank::{Bank, Cell, TermId};
 

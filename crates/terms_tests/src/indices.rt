@@ -1,6 +1,6 @@
 // Worked examples.
 use crate::building::{binary, constant, unary};
-use kb_term::{Memory, Rule, Symbol, Term, Terms};
+use kb_term::{Memory, Rule, Term};
 use rule_index::{
     RuleIndex, marks_lead_loosely_where_left_sides_agree, marks_lead_where_left_sides_fit,
 };

@@ -4,7 +4,7 @@ use kb_rewrite::{
     Normal, Redex, first_redex, found, no_redex_is_normal, normal_form, normal_forms_are_one, step,
     strategy_rewrites,
 };
-use kb_term::{Found, Limit, Memory, Rule, Symbol, Term, Terms, has_few_arguments};
+use kb_term::{Found, Limit, Memory, Rule, Term, has_few_arguments};
 use std::alloc::Global;
 
 /// The rules x(b) -> a and f(a) -> b, by the symbols a, b, f, x of the numbers 0 to 3.

@@ -1,5 +1,4 @@
 // Worked traces: f(f(x)) = a with its overlap with itself, and g(x) = h(x) that rewrites h(x) = k(x).
-ghost use Rattle.std.specs.Prelude.{◌≡◌, ◌≤◌, length, OnOk, IfOk, IsTrue};
 ghost use Rattle.std.specs.Bool.{OnTrue};
 ghost use Rattle.kb_trace.specs.Steps.{ArePairsWithin};
 

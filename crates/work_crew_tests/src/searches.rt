@@ -7,7 +7,7 @@ use kb_cert::{Certificate, Family, cert_text, search};
 use kb_io::{Gate, HoldGate, Moment, OpenGate};
 use kb_jobs::{Searcher, work_by};
 use kb_syntax::{parse_problem, spelled_problems_are_within_limits};
-use kb_term::{Memory, Problem, Rule, Signature, Symbol, Term, has_variables_below, term_limit};
+use kb_term::{Memory, Problem, Rule, Signature, Term, has_variables_below, term_limit};
 use mkb_board::{Board, Taken};
 use mkb_model::Settings;
 use std::alloc::Global;

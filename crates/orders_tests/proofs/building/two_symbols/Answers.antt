@@ -1,6 +1,6 @@
 use Rattle.std.proofs.Common.{arith}
 use Rattle.kb_linear.proofs.TwoSymbols.{signature_from}
-use Rattle.orders_tests.proofs.weights.two_symbols.Goals as goal
+use Rattle.orders_tests.proofs.building.two_symbols.Goals as goal
 
 pub new-requires-clause-names : goal.new-requires-clause-names
 new-requires-clause-names c =
