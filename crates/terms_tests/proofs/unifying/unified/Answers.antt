@@ -1,5 +1,5 @@
 use Rattle.std.proofs.Common.{refl}
-use Rattle.kb_unify.proofs.unifier.tests.unified.Goals as goal
+use Rattle.terms_tests.proofs.unifying.unified.Goals as goal
 
 pub unify-requires-clause-a_variables : goal.unify-requires-clause-a_variables
 unify-requires-clause-a_variables c = c.if-has_variables_below.ensures.0 refl

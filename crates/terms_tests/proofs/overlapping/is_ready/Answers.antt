@@ -1,6 +1,6 @@
 use Rattle.std.proofs.Common.{refl, subst}
 use Rattle.kb_term.specs.Tree.{HasVariablesBelow}
-use Rattle.kb_overlap.proofs.overlap.tests.is_ready.Goals as goal
+use Rattle.terms_tests.proofs.overlapping.is_ready.Goals as goal
 
 pub returns-then-has_variables_below-2-clause-variables : goal.returns-then-has_variables_below-2-clause-variables
 returns-then-has_variables_below-2-clause-variables c h =

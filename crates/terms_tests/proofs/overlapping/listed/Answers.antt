@@ -1,5 +1,5 @@
 use Rattle.std.proofs.Common.{refl}
-use Rattle.kb_overlap.proofs.overlap.tests.listed.Goals as goal
+use Rattle.terms_tests.proofs.overlapping.listed.Goals as goal
 
 pub overlaps-requires-clause-outer_variables : goal.overlaps-requires-clause-outer_variables
 overlaps-requires-clause-outer_variables c = c.if-is_ready.ensures.variables refl
