@@ -225,76 +225,52 @@ fn unit(alloc: Global) -> Term {
     Term::App(Symbol(2), Terms::new(Vec::new(alloc)))
 }
 
+fn x() -> Term {
+    Term::Var(0)
+}
+
+fn y() -> Term {
+    Term::Var(1)
+}
+
+fn z() -> Term {
+    Term::Var(2)
+}
+
 /// The ten rules of the completed axioms of groups: symbol 0 is the product, 1 the inverse, 2 the unit.
 pub fn group_rules(alloc: Global) -> Result<Vec<Rule>, Memory>
     ensures { IfOk result (λ rules. AreMeasurable rules.items) }
 {
     let mut rules = Vec::new(alloc);
+    push_rule(&mut rules, product(alloc, unit(alloc), x())?, x())?;
     push_rule(
         &mut rules,
-        product(alloc, unit(alloc), Term::Var(0))?,
-        Term::Var(0),
-    )?;
-    push_rule(
-        &mut rules,
-        product(alloc, inverse(alloc, Term::Var(0))?, Term::Var(0))?,
+        product(alloc, inverse(alloc, x())?, x())?,
         unit(alloc),
     )?;
+    let left = product(alloc, product(alloc, x(), y())?, z())?;
     push_rule(
         &mut rules,
-        product(
-            alloc,
-            product(alloc, Term::Var(0), Term::Var(1))?,
-            Term::Var(2),
-        )?,
-        product(
-            alloc,
-            Term::Var(0),
-            product(alloc, Term::Var(1), Term::Var(2))?,
-        )?,
+        left,
+        product(alloc, x(), product(alloc, y(), z())?)?,
     )?;
-    push_rule(
-        &mut rules,
-        product(
-            alloc,
-            inverse(alloc, Term::Var(0))?,
-            product(alloc, Term::Var(0), Term::Var(1))?,
-        )?,
-        Term::Var(1),
-    )?;
+    let left = product(alloc, inverse(alloc, x())?, product(alloc, x(), y())?)?;
+    push_rule(&mut rules, left, y())?;
     push_rule(&mut rules, inverse(alloc, unit(alloc))?, unit(alloc))?;
+    push_rule(&mut rules, product(alloc, x(), unit(alloc))?, x())?;
+    push_rule(&mut rules, inverse(alloc, inverse(alloc, x())?)?, x())?;
     push_rule(
         &mut rules,
-        product(alloc, Term::Var(0), unit(alloc))?,
-        Term::Var(0),
-    )?;
-    push_rule(
-        &mut rules,
-        inverse(alloc, inverse(alloc, Term::Var(0))?)?,
-        Term::Var(0),
-    )?;
-    push_rule(
-        &mut rules,
-        product(alloc, Term::Var(0), inverse(alloc, Term::Var(0))?)?,
+        product(alloc, x(), inverse(alloc, x())?)?,
         unit(alloc),
     )?;
+    let left = product(alloc, x(), product(alloc, inverse(alloc, x())?, y())?)?;
+    push_rule(&mut rules, left, y())?;
+    let left = inverse(alloc, product(alloc, x(), y())?)?;
     push_rule(
         &mut rules,
-        product(
-            alloc,
-            Term::Var(0),
-            product(alloc, inverse(alloc, Term::Var(0))?, Term::Var(1))?,
-        )?,
-        Term::Var(1),
-    )?;
-    push_rule(
-        &mut rules,
-        inverse(alloc, product(alloc, Term::Var(0), Term::Var(1))?)?,
-        product(
-            alloc,
-            inverse(alloc, Term::Var(1))?,
-            inverse(alloc, Term::Var(0))?,
-        )?,
+        left,
+        product(alloc, inverse(alloc, y())?, inverse(alloc, x())?)?,
     )?;
     Ok(rules)
 }
