@@ -34,7 +34,7 @@ fn two_workers_hold_two_tickets_at_once(rt: HostRuntime) {
 }
 
 /// A dozen small problems of several kinds: one process and forks, failures, limits, nothing to do.
-pub(crate) const DOZEN: [&str; 12] = [
+const DOZEN: [&str; 12] = [
     "(RULES )",
     "(RULES a == b)",
     "(RULES f(a) == b f(a) == c)",
