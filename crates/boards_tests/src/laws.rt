@@ -17,6 +17,7 @@ use mkb_moves::{
     first_job_is_the_least, limits_stop_their_processes, orienting_makes_rules,
     others_keep_their_state, reasons_are_of_the_first, rewriting_moves_its_label,
 };
+use mkb_report::{reports_are_good, reports_are_one};
 
 #[test]
 fn laws_of_completion_are_called(_rt: HostRuntime) {
@@ -74,4 +75,10 @@ fn laws_of_moves_are_called(_rt: HostRuntime) {
 #[test]
 fn laws_of_waiting_are_called(_rt: HostRuntime) {
     overlaps_wait_their_turn();
+}
+
+#[test]
+fn laws_of_reports_are_called(_rt: HostRuntime) {
+    reports_are_good();
+    reports_are_one();
 }

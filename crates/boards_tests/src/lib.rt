@@ -1,4 +1,4 @@
-//! Tests of names, labels, nodes, jobs and reports of boards.
+//! Tests of names, labels, nodes, jobs and the agenda of boards, and of their laws.
 #![tactic(auto)]
 
 #[cfg(test)]
@@ -13,5 +13,3 @@ mod labels;
 mod laws;
 #[cfg(test)]
 mod nodes;
-#[cfg(test)]
-mod reports;
