@@ -6,3 +6,4 @@ pub mod Boards
 pub mod Viewed
 pub mod Counted
 pub mod Made
+mod EmptyRun
