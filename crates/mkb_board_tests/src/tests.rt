@@ -1,4 +1,5 @@
-// Tickets that end out of order, and each call once.
+// Tickets that end out of order, and each call once. What is large is dropped by a call: to let it go at the end of a function makes
+// its proof slow.
 ghost use Rattle.std.specs.Prelude.{◌≡◌, ◌≢◌, ◌≤◌, ◌+◌, [], ◌∷◌, length};
 ghost use Rattle.kb_term.specs.Tree.{apply, no_trees, more_trees};
 ghost use Rattle.kb_term.specs.View.{tree_of};
@@ -16,6 +17,7 @@ use mkb_board::{Board, Finished, Taken, held_tickets_stay};
 use mkb_model::{Entry, Settings, Ticket};
 use mkb_rules::Applied;
 use std::alloc::Global;
+use std::mem::drop;
 use std::process::Abort;
 
 fn letter(rt: &impl Abort, alloc: Global, b: u8) -> Vec<u8>
@@ -199,12 +201,14 @@ fn drop_for(rt: &impl Abort, alloc: Global, board: &mut Board, hand: &Hand, proc
 fn turn(rt: &impl Abort, alloc: Global, board: &mut Board, number: u64, job: Job) {
     let hand = take_this(rt, alloc, board, 1, number, job);
     commit(rt, alloc, board, &hand);
+    drop(hand);
 }
 
 // Takes the job under this number and gives it back.
 fn give_back(rt: &impl Abort, alloc: Global, board: &mut Board, number: u64, job: Job) {
     let hand = take_this(rt, alloc, board, 1, number, job);
     board.abandon(&hand.ticket);
+    drop(hand);
 }
 
 // A take that gives no ticket, while so many are in flight.
@@ -342,6 +346,7 @@ fn a_deduced_pair_reaches_both_children(rt: HostRuntime) {
     the_pair_is_there(&rt, alloc, &board);
     both_have_the_pair(&rt, &board);
     counts(&rt, &board, 4, 0, 2);
+    drop(board);
 }
 
 // Node 0 is a rule, by which node 1 is not rewritten.
@@ -359,6 +364,7 @@ fn fork_while_deducing(rt: &impl Abort, alloc: Global, board: &mut Board) {
     idle(rt, alloc, board, 2);
     commit(rt, alloc, board, &hands.first);
     commit(rt, alloc, board, &hands.second);
+    drop(hands);
 }
 
 // Node 2 is f(a) = a.
@@ -388,6 +394,7 @@ fn a_ticket_with_nothing_left_is_dropped(rt: HostRuntime) {
     the_rest_is_there(&rt, alloc, &board);
     one_has_the_rest(&rt, &board);
     counts(&rt, &board, 2, 1, 2);
+    drop(board);
 }
 
 // One child of the first process rewrites node 1 while it orients it.
@@ -397,6 +404,7 @@ fn rewrite_while_orienting(rt: &impl Abort, alloc: Global, board: &mut Board) {
     let hands = take_both(rt, alloc, board, 2, reduce, orient);
     commit(rt, alloc, board, &hands.first);
     drop_for(rt, alloc, board, &hands.second, &process(&[false]));
+    drop(hands);
 }
 
 // Node 2 is b = c.
@@ -426,6 +434,7 @@ fn a_commit_is_for_whom_it_still_concerns(rt: HostRuntime) {
     one_rule_is_composed(&rt, &board);
     one_rule_is_as_it_was(&rt, &board);
     counts(&rt, &board, 6, 1, 3);
+    drop(board);
 }
 
 // Four tickets in turn, of which two fork.
@@ -446,6 +455,8 @@ fn compose_while_overlapping(rt: &impl Abort, alloc: Global, board: &mut Board) 
     let hands = take_both(rt, alloc, board, 6, same, other);
     commit(rt, alloc, board, &reduce);
     end_overlaps(rt, alloc, board, &hands);
+    drop(reduce);
+    drop(hands);
 }
 
 // One overlap is done for another process, and one is dropped.
@@ -490,6 +501,7 @@ fn one_overlap_is_done(rt: &impl Abort, board: &Board) {
 fn a_process_is_looked_at(rt: HostRuntime) {
     let board = values_board(&rt, rt.alloc());
     first_is_seen(&rt, &board);
+    drop(board);
 }
 
 // The first process has both equations.
@@ -509,6 +521,7 @@ fn a_ticket_is_given_back(rt: HostRuntime) {
     end_after_a_halt(&rt, alloc, &mut board);
     assert_eq!(rt; halts(&board), 1);
     assert_eq!(rt; board.journal().len(), 5);
+    drop(board);
 }
 
 // A ticket is taken before a halt, of which there are two, and ends after it.
@@ -518,4 +531,5 @@ fn end_after_a_halt(rt: &impl Abort, alloc: Global, board: &mut Board) {
     halt(board);
     halted(rt, alloc, board);
     commit(rt, alloc, board, &hand);
+    drop(hand);
 }

@@ -7,6 +7,7 @@ use mkb_board::Board;
 use mkb_model::{Entry, Settings};
 use mkb_rounds::{rounds_have_one_journal, work_rounds};
 use std::alloc::Global;
+use std::mem::drop;
 use std::process::Abort;
 use std::thread::Threads;
 use std::time::Clock;
@@ -95,6 +96,7 @@ fn the_last_ticket_of_a_round_stays_in_flight_at_a_verdict(rt: HostRuntime) {
         let first = Process::from_bits(&[false]);
         assert!(rt; crew.board.verdict() == Some(Verdict::Complete(first)));
         assert!(rt; crew.board.commits() == 4);
+        drop(crew);
     }
 }
 
@@ -109,7 +111,9 @@ fn make_it_again<R: Abort + Threads + Clock + Sync>(
     requires most { workers ≤ 16 }
 {
     let crew = played(rt, alloc, AXIOMS_OF_GROUPS, 120, workers);
-    !crew.out_of_memory && are_same(board.journal(), crew.board.journal())
+    let is_same = !crew.out_of_memory && are_same(board.journal(), crew.board.journal());
+    drop(crew);
+    is_same
 }
 
 #[test]
@@ -119,6 +123,7 @@ fn every_number_of_workers_makes_one_journal(rt: HostRuntime) {
     assert!(rt; make_it_again(&rt, rt.alloc(), &alone.board, 2));
     assert!(rt; make_it_again(&rt, rt.alloc(), &alone.board, 4));
     assert!(rt; make_it_again(&rt, rt.alloc(), &alone.board, 16));
+    drop(alone);
     rounds_have_one_journal();
 }
 
@@ -129,6 +134,7 @@ fn two_workers_hold_two_tickets_at_once(rt: HostRuntime) {
     let crew = work_rounds(&rt, rt.alloc(), board, 2, &gate);
     assert!(rt; !crew.out_of_memory);
     assert!(rt; gate.met());
+    drop(crew);
 }
 
 #[test]
@@ -138,4 +144,5 @@ fn one_worker_never_meets_another(rt: HostRuntime) {
     let crew = work_rounds(&rt, rt.alloc(), board, 1, &gate);
     assert!(rt; !crew.out_of_memory);
     assert!(rt; !gate.met());
+    drop(crew);
 }

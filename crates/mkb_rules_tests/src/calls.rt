@@ -13,6 +13,7 @@ use kb_term::{Pair, Problem, RuleRef};
 use mkb_model::{DeducedList, Proposed, Settings};
 use mkb_rules::{Applied, State};
 use std::alloc::Global;
+use std::mem::drop;
 use std::process::Abort;
 
 /// The problem that the text spells.
@@ -123,7 +124,9 @@ pub(crate) fn apply(
     let deduced = proposal(rule, pairs);
     ready(rt, state);
     there(rt, state, rule.node);
-    state.apply(alloc, &deduced).expect(rt, "memory")
+    let applied = state.apply(alloc, &deduced).expect(rt, "memory");
+    drop(deduced);
+    applied
 }
 
 /// The processes on which that proposal acts.
@@ -136,7 +139,9 @@ pub(crate) fn acts_on(
 ) -> Vec<Process> {
     let deduced = proposal(rule, pairs);
     there(rt, state, rule.node);
-    state.effect_label(alloc, &deduced).expect(rt, "memory")
+    let names = state.effect_label(alloc, &deduced).expect(rt, "memory");
+    drop(deduced);
+    names
 }
 
 /// Whether nothing is left for that proposal to act on.
@@ -149,7 +154,9 @@ pub(crate) fn is_dropped(
 ) -> bool {
     let deduced = proposal(rule, pairs);
     there(rt, state, rule.node);
-    state.is_dropped(alloc, &deduced).expect(rt, "memory")
+    let is_dropped = state.is_dropped(alloc, &deduced).expect(rt, "memory");
+    drop(deduced);
+    is_dropped
 }
 
 /// Whether the process has the node so.

@@ -1,4 +1,5 @@
-// Each call and each reader on a small state. The steps take the state by reference: to own one makes a proof slow.
+// Each call and each reader on a small state. The steps take the state by reference, and it is dropped by a call: to let
+// it go at the end of a function makes its proof slow.
 use crate::calls::{acts_on, apply, fork, has, is_dropped, is_pair, opened, orient, unjoined};
 use crate::terms::{applied_and_bare, first, forth, left, overlap, right};
 use kb_label::Living;
@@ -6,6 +7,7 @@ use kb_node::{Deduced, LabelKind};
 use mkb_model::Settings;
 use mkb_rules::{Applied, State};
 use std::alloc::Global;
+use std::mem::drop;
 use std::process::Abort;
 
 // The state has one process, two equations, and no commit of the 100 that there may be.
@@ -32,6 +34,7 @@ fn a_state_begins_with_the_equations(rt: HostRuntime) {
     let state = opened(&rt, alloc, b"(RULES f(a) == b f(a) == c)");
     is_new(&rt, &state);
     has_equations(&rt, &state);
+    drop(state);
 }
 
 // The first process turns the node into a rule.
@@ -68,6 +71,7 @@ fn an_overlap_that_does_not_join_becomes_an_equation(rt: HostRuntime) {
     let mut state = opened(&rt, alloc, b"(VAR x)(RULES f(f(x)) == a)");
     orient_first(&rt, alloc, &mut state, 0);
     leave_unjoined(&rt, alloc, &mut state);
+    drop(state);
 }
 
 // The proposal to overlap the rule of node 0 with itself names both children.
@@ -102,4 +106,5 @@ fn a_proposal_acts_on_both_children_once(rt: HostRuntime) {
     names_both(&rt, alloc, &state);
     apply_to_both(&rt, alloc, &mut state);
     names_none(&rt, alloc, &state);
+    drop(state);
 }

@@ -2,6 +2,7 @@
 use kb_io::{Gate, MemorySink, MemorySource, OpenGate, Source};
 use mkbtt_top::{Outcome, Status, run, status_code, status_line};
 use std::alloc::Global;
+use std::mem::drop;
 use std::process::Abort;
 use std::sync::Wait;
 use std::thread::Threads;
@@ -14,16 +15,46 @@ pub(crate) struct Bench<'a, R> {
     pub alloc: Global,
 }
 
+/// How a run ended: its status, and of its board, where there is one, how many commits it has, how many of its processes live,
+/// and how many of these are asleep.
+#[derive(Clone, Copy)]
+pub(crate) struct Told {
+    pub status: Status,
+    pub commits: Option<u32>,
+    pub processes: Option<(u32, u32)>,
+}
+
+/// What a run came to, in short.
+fn in_short(outcome: &Outcome) -> Told {
+    let status = outcome.status;
+    match &outcome.board {
+        Some(board) => Told {
+            status,
+            commits: Some(board.commits()),
+            processes: Some((board.living(), board.asleep())),
+        },
+        None => Told {
+            status,
+            commits: None,
+            processes: None,
+        },
+    }
+}
+
 impl<'a, R: Threads + Wait + Clock + Sync + Abort> Bench<'a, R> {
-    /// The run; what is proved of it isn't asked for in tests.
+    /// The run; what is proved of it isn't asked for in tests. Its board is dropped by a call: to let it go at the end of a test
+    /// makes the test's proof slow.
     pub(crate) fn perform<S: Source, G: Gate>(
         &self,
         words: &[&str],
         source: &mut S,
         sink: &mut MemorySink,
         gate: &G,
-    ) -> Outcome {
-        run(self.rt, self.alloc, words, source, sink, gate)
+    ) -> Told {
+        let outcome = run(self.rt, self.alloc, words, source, sink, gate);
+        let told = in_short(&outcome);
+        drop(outcome);
+        told
     }
 
     /// A source of the texts, one behind the other, that gives seven bytes at a time.
@@ -111,7 +142,7 @@ impl<'a, R: Threads + Wait + Clock + Sync + Abort> Bench<'a, R> {
     }
 
     /// Whether this was written, or from code 3 on nothing, and it is the status line.
-    fn is_answer(&self, outcome: &Outcome, sink: &MemorySink, answer: &[u8]) -> bool {
+    fn is_answer(&self, outcome: &Told, sink: &MemorySink, answer: &[u8]) -> bool {
         if status_code(&outcome.status) < 3 {
             return sink.bytes() == answer;
         }
@@ -120,9 +151,9 @@ impl<'a, R: Threads + Wait + Clock + Sync + Abort> Bench<'a, R> {
     }
 
     /// Whether these are the code and the board's commits, where there is a board.
-    fn are_numbers(&self, outcome: &Outcome, numbers: &str) -> bool {
+    fn are_numbers(&self, outcome: &Told, numbers: &str) -> bool {
         let code = status_code(&outcome.status);
-        let told = match commits(outcome) {
+        let told = match outcome.commits {
             Some(commits) => format!(in self.alloc; "{code} {commits}"),
             None => format!(in self.alloc; "{code}"),
         };
@@ -149,13 +180,5 @@ impl<'a, R: Threads + Wait + Clock + Sync + Abort> Bench<'a, R> {
         let mut line = self.sink(1000);
         let checked = self.perform(&["check"], &mut answer, &mut line, &OpenGate);
         checked.status == Status::Done
-    }
-}
-
-/// How many commits the board has, if there is one.
-pub(crate) fn commits(outcome: &Outcome) -> Option<u32> {
-    match &outcome.board {
-        Some(board) => Some(board.commits()),
-        None => None,
     }
 }

@@ -2,7 +2,7 @@
 use crate::bench::Bench;
 use kb_io::{MemorySource, OpenGate};
 use kb_syntax::{Bound, Kind};
-use mkbtt_top::{Outcome, Status};
+use mkbtt_top::Status;
 
 /// The axioms of groups.
 pub(crate) const GROUP: &str =
@@ -282,14 +282,6 @@ fn a_text_of_1048576_bytes_is_read_and_one_byte_more_is_refused(rt: HostRuntime)
     }
 }
 
-/// How many processes live on the board of a run, and how many of them are asleep.
-fn processes(outcome: &Outcome) -> Option<(u32, u32)> {
-    match &outcome.board {
-        Some(board) => Some((board.living(), board.asleep())),
-        None => None,
-    }
-}
-
 #[test]
 fn sixty_four_of_128_processes_are_asleep_where_the_first_is_complete(rt: HostRuntime) {
     let bench = Bench {
@@ -306,6 +298,6 @@ fn sixty_four_of_128_processes_are_asleep_where_the_first_is_complete(rt: HostRu
         &OpenGate,
     );
     assert!(rt; outcome.status == Status::Done);
-    assert!(rt; processes(&outcome) == Some((128, 64)));
+    assert!(rt; outcome.processes == Some((128, 64)));
     assert!(rt; bench.is_accepted(&sink));
 }

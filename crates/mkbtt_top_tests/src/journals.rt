@@ -1,5 +1,5 @@
 // Journals of runs, and what comes of making their entries again.
-use crate::bench::{Bench, commits};
+use crate::bench::Bench;
 use kb_io::{MemorySink, MemorySource, OpenGate};
 use mkbtt_top::{Status, status_code};
 use std::process::Abort;
@@ -341,7 +341,7 @@ impl<'a, R: Threads + Wait + Clock + Sync + Abort> Bench<'a, R> {
         let mut sink = self.sink(100_000);
         let words = &["journal", "--budget", "60", "--workers", workers];
         let written = self.perform(words, &mut source, &mut sink, &OpenGate);
-        status_code(&written.status) <= 2 && self.is_replayed(&sink, commits(&written))
+        status_code(&written.status) <= 2 && self.is_replayed(&sink, written.commits)
     }
 
     /// Whether the replay of what the sink was given ends with a board of so many commits.
@@ -350,7 +350,7 @@ impl<'a, R: Threads + Wait + Clock + Sync + Abort> Bench<'a, R> {
         let mut journal = MemorySource::new(bytes, Vec::new(self.alloc), 1000);
         let mut summary = self.sink(1000);
         let made = self.perform(&["replay"], &mut journal, &mut summary, &OpenGate);
-        made.status == Status::Done && commits(&made) == count
+        made.status == Status::Done && made.commits == count
     }
 }
 

@@ -1,8 +1,8 @@
 // Terms at the limits of depth and of size.
-use crate::bench::{Bench, commits};
+use crate::bench::{Bench, Told};
 use kb_io::{MemorySink, MemorySource, OpenGate};
 use kb_syntax::{Bound, Kind};
-use mkbtt_top::{Outcome, Status};
+use mkbtt_top::Status;
 use std::alloc::Global;
 use std::process::Abort;
 use std::sync::Wait;
@@ -51,7 +51,7 @@ impl Text {
 
 impl<'a, R: Threads + Wait + Clock + Sync + Abort> Bench<'a, R> {
     // The completion of the text by one worker.
-    fn complete(&self, text: Text, sink: &mut MemorySink) -> Outcome {
+    fn complete(&self, text: Text, sink: &mut MemorySink) -> Told {
         let mut source = MemorySource::new(text.bytes, Vec::new(self.alloc), 1000);
         let words = &["complete", "--workers", "1"];
         self.perform(words, &mut source, sink, &OpenGate)
@@ -86,7 +86,7 @@ fn the_deepest_term_is_read_and_one_deeper_is_refused(rt: HostRuntime) {
     };
     let mut sink = bench.sink(1000);
     let outcome = bench.complete(deep(&rt, bench.alloc, DEEPEST), &mut sink);
-    assert!(rt; commits(&outcome) == Some(2));
+    assert!(rt; outcome.commits == Some(2));
     assert!(rt; sink.bytes() == b"MKBTT 2\nSPENT OVER depth 1\nEND\n".as_slice());
     let mut sink = bench.sink(1000);
     let outcome = bench.complete(deep(&rt, bench.alloc, DEEPEST + 1), &mut sink);
@@ -103,7 +103,7 @@ fn the_greatest_term_is_read_and_one_greater_is_refused(rt: HostRuntime) {
     let mut sink = bench.sink(10_000);
     let outcome = bench.complete(wide(&rt, bench.alloc, 1), &mut sink);
     assert!(rt; outcome.status == Status::Done);
-    assert!(rt; commits(&outcome) == Some(3));
+    assert!(rt; outcome.commits == Some(3));
     let order = b"\nORDER LPO g f a\n".as_slice();
     assert!(rt;
         sink.bytes()

@@ -5,12 +5,13 @@ ghost use Rattle.kb_term.specs.View.{tree_of};
 
 use kb_cert::{Certificate, Family, cert_text, search};
 use kb_io::{Gate, HoldGate, Moment, OpenGate};
-use kb_jobs::{Searcher, work_by};
+use kb_jobs::{Searcher, Snapshot, work_by};
 use kb_syntax::{parse_problem, spelled_problems_are_within_limits};
 use kb_term::{Memory, Problem, Rule, Signature, Term, has_variables_below, term_limit};
 use mkb_board::{Board, Taken};
 use mkb_model::Settings;
 use std::alloc::Global;
+use std::mem::drop;
 use std::process::Abort;
 use std::sync::Wait;
 use std::sync::atomic::AtomicUsize;
@@ -222,6 +223,14 @@ fn a_first_member_that_orders_one_rule_more_is_not_sought_again(rt: HostRuntime)
     assert!(rt; miss.count() == 1);
 }
 
+/// Whether the job that the snapshot is for is worked.
+fn is_worked<R: Wait>(rt: &R, alloc: Global, snapshot: &Snapshot, by: &Counted) -> bool {
+    let worked = work_by(rt, alloc, snapshot, by);
+    let is_worked = worked.is_ok();
+    drop(worked);
+    is_worked
+}
+
 #[test]
 fn an_orient_asks_for_the_direction_that_the_order_in_force_does_not_order(rt: HostRuntime) {
     let alloc = rt.alloc();
@@ -229,11 +238,13 @@ fn an_orient_asks_for_the_direction_that_the_order_in_force_does_not_order(rt: H
     let by = Counted::new(alloc);
     match board.take(alloc, 1).expect(&rt, "memory") {
         Taken::Job(_, snapshot) => {
-            assert!(rt; work_by(&rt, alloc, &snapshot, &by).is_ok());
+            assert!(rt; is_worked(&rt, alloc, &snapshot, &by));
+            drop(snapshot);
         }
         _ => panic!(&rt; "no job"),
     }
     assert!(rt; by.count() == 1);
+    drop(board);
 }
 
 #[test]
@@ -246,4 +257,5 @@ fn two_workers_search_at_once(rt: HostRuntime) {
     let crew = work_together_by(&rt, rt.alloc(), board, 2, &OpenGate, &by);
     assert!(rt; by.gate.met());
     assert!(rt; crew.board.verdict().is_some());
+    drop(crew);
 }

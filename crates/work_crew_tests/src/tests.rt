@@ -1,3 +1,4 @@
+// Workers of small boards. A board is dropped by a call: to let it go at the end of a test makes the test's proof slow.
 ghost use Rattle.std.specs.Prelude.{◌≡◌, []};
 
 use kb_io::{HoldGate, OpenGate};
@@ -6,6 +7,7 @@ use kb_syntax::{parse_problem, spelled_problems_are_within_limits};
 use mkb_board::Board;
 use mkb_model::Settings;
 use std::alloc::Global;
+use std::mem::drop;
 use std::process::Abort;
 use work_crew::{work_alone, work_together};
 
@@ -36,6 +38,7 @@ fn two_workers_hold_two_tickets_at_once(rt: HostRuntime) {
     assert!(rt; gate.met());
     let verdict = crew.board.verdict();
     assert!(rt; matches!(verdict, Some(Verdict::Complete(_))));
+    drop(crew);
 }
 
 #[test]
@@ -45,6 +48,7 @@ fn one_worker_never_meets_another(rt: HostRuntime) {
     let crew = work_alone(rt.alloc(), board, &gate);
     assert!(rt; !crew.out_of_memory);
     assert!(rt; !gate.met());
+    drop(crew);
 }
 
 #[test]
@@ -55,6 +59,8 @@ fn one_worker_together_makes_the_journal_of_one_alone(rt: HostRuntime) {
     let crew = work_together(&rt, rt.alloc(), board, 1, &OpenGate);
     assert!(rt; !crew.out_of_memory);
     assert!(rt; crew.board.journal().len() == alone.journal().len());
+    drop(alone);
+    drop(crew);
 }
 
 #[test]
@@ -64,6 +70,7 @@ fn no_equation_ends_under_sixteen_workers(rt: HostRuntime) {
     assert!(rt; !crew.out_of_memory);
     let verdict = crew.board.verdict();
     assert!(rt; matches!(verdict, Some(Verdict::Complete(_))));
+    drop(crew);
 }
 
 #[test]
@@ -74,4 +81,5 @@ fn the_budget_is_spent_by_four_workers(rt: HostRuntime) {
     assert!(rt; !crew.out_of_memory);
     assert!(rt; crew.board.commits() <= 40);
     assert!(rt; crew.board.verdict().is_some());
+    drop(crew);
 }
