@@ -5,7 +5,7 @@ ghost use Rattle.kb_term.specs.View.{tree_of};
 
 use kb_cert::{Certificate, Family, cert_text, search};
 use kb_io::{Gate, HoldGate, Moment, OpenGate};
-use kb_jobs::{Searcher, Snapshot, work_by};
+use kb_jobs::{Searcher, work_by};
 use kb_syntax::{parse_problem, spelled_problems_are_within_limits};
 use kb_term::{Memory, Problem, Rule, Signature, Term, has_variables_below, term_limit};
 use mkb_board::{Board, Taken};
@@ -223,14 +223,6 @@ fn a_first_member_that_orders_one_rule_more_is_not_sought_again(rt: HostRuntime)
     assert!(rt; miss.count() == 1);
 }
 
-/// Whether the job that the snapshot is for is worked.
-fn is_worked<R: Wait>(rt: &R, alloc: Global, snapshot: &Snapshot, by: &Counted) -> bool {
-    let worked = work_by(rt, alloc, snapshot, by);
-    let is_worked = worked.is_ok();
-    drop(worked);
-    is_worked
-}
-
 #[test]
 fn an_orient_asks_for_the_direction_that_the_order_in_force_does_not_order(rt: HostRuntime) {
     let alloc = rt.alloc();
@@ -238,7 +230,9 @@ fn an_orient_asks_for_the_direction_that_the_order_in_force_does_not_order(rt: H
     let by = Counted::new(alloc);
     match board.take(alloc, 1).expect(&rt, "memory") {
         Taken::Job(_, snapshot) => {
-            assert!(rt; is_worked(&rt, alloc, &snapshot, &by));
+            let worked = work_by(&rt, alloc, &snapshot, &by);
+            assert!(rt; worked.is_ok());
+            drop(worked);
             drop(snapshot);
         }
         _ => panic!(&rt; "no job"),
