@@ -15,6 +15,7 @@ use showing::{ClearedOutput, ShowingGate};
 use std::alloc::{AllocError, Global};
 use std::env;
 use std::io::{ErrorKind, IsTerminal, Write};
+use std::mem::drop;
 use std::process::ExitCode;
 use std::sync::Wait;
 use std::thread::Threads;
@@ -80,7 +81,9 @@ fn perform<R: Threads + Wait + Clock + Sync>(
         gate: &gate,
         output,
     });
-    let status = run(threads, rt.alloc(), &words, &mut source, &mut sink, &gate).status;
+    let outcome = run(threads, rt.alloc(), &words, &mut source, &mut sink, &gate);
+    let status = outcome.status;
+    drop(outcome);
     gate.clear();
     let code = told(rt, &status);
     if manner.explains {
