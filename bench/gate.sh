@@ -31,10 +31,13 @@ def look(pid):
     words = open(f"/proc/{pid}/cmdline").read().split("\0")
     if not words[0].endswith("/rattle") or "--crate-name" not in words:
         return
+    fields = open(f"/proc/{pid}/stat").read().rpartition(")")[2].split()
+    # a prover that someone else started beside the gate doesn't count, nor one that a prover forked: its time is told with that one's
+    if not gate_runs([fields[1]]):
+        return
     crate = words[words.index("--crate-name") + 1]
     folder = os.readlink(f"/proc/{pid}/cwd")
     kind = "edits" if "/rt-edit" in folder else "tests" if "--test" in words else "proof"
-    fields = open(f"/proc/{pid}/stat").read().rpartition(")")[2].split()
     # user and system, its own and of the children that it has waited for
     used = sum(int(it) for it in fields[11:15]) / TICK
     spent[pid, fields[19]] = (crate, kind, used)
