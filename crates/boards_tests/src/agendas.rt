@@ -1,6 +1,6 @@
 // Worked examples of agendas.
 ghost use Rattle.std.specs.Prelude.{◌≡◌};
-ghost use Rattle.mkb_pick.specs.Jobs.{process_of as process_in};
+ghost use Rattle.mkb_model.specs.Jobs.{process_of as process_in};
 
 use kb_label::{MAX_BITS, Process};
 use kb_node::{Job, NodeId};

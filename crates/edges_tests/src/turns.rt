@@ -96,15 +96,11 @@ fn each_seat_sees_what_others_entered(rt: HostRuntime) {
 }
 
 #[test]
-fn a_backoff_rests_again_and_again_and_is_eased(rt: HostRuntime) {
+fn a_backoff_rests_again_and_again(rt: HostRuntime) {
     let mut backoff = Backoff::new(2);
     for _ in 0..24u32 {
         backoff.rest(&rt);
     }
-    for _ in 0..24u32 {
-        backoff.ease();
-    }
-    backoff.rest(&rt);
     backoff.reset();
     backoff.rest(&rt);
 }

@@ -333,10 +333,6 @@ end_made old new t x (Committed a) h never = record {
   settings_are = ap (λ (z : Plain). z.settings) h.3 ∙ (effect_setting old.plain x).1;
 }
 
--- a verdict stands where nothing was ended
-pub end_decided : (old new : Seen) (t : Ticket) (x : Proposed) (v : Verdict) → IsFinishedBy old new t x (Ended v) → verdict old.plain ≡ Some v
-end_decided old new t x v h = h.1
-
 -- the legal board after one entry more
 pub after_made : (old new : Seen) (e : Entry) → IsLegalBoard new → new.journal ≡ old.journal ++ e ∷ [] → new.plain.problem ≡ old.plain.problem → new.plain.settings ≡ old.plain.settings → After old.plain.problem old.plain.settings (old.journal ++ e ∷ []) new.plain
 after_made old new e legal entered problem settings =

@@ -4,7 +4,7 @@ use Rattle.std.specs.List.{find, list_any}
 use Rattle.std.specs.Option.{is_none}
 use Rattle.std.proofs.lemmas.List.Elements.{Contains-append_cases, filter-append}
 use Rattle.kb_term.specs.declared.origin.RuleRef.{RuleRef}
-use Rattle.mkb_model.proofs.Lists.{and_left, clash, map_in, flat_map_in, filter_in, find_none, some_is, none_some}
+use Rattle.mkb_model.proofs.Lists.{and_left, clash, map_in, flat_map_in, filter_in, find_none}
 use Rattle.kb_term.proofs.Steps.{contains_first, contains_behind}
 use Rattle.kb_label.specs.Names.{Name, has}
 use Rattle.kb_node.specs.declared.job.Job.{Job}
@@ -18,12 +18,6 @@ use Rattle.mkb_board.specs.Choosing.{is_choice, first_choice, least_choice, merg
 use Rattle.mkb_board.proofs.Idle.{due_as, working_so, true_and, and_true, none_found}
 use Rattle.mkb_board.proofs.Least.{least_append, least_found, least_in, merged_none, job_cmp-total}
 use Rattle.mkb_board.proofs.Rising.{work_process, work_rises}
-
-find_alike : {A : Type 0} (q e : A → Bool) (xs : List A) → ((x : A) → Contains xs x → q x ≡ e x) → find q xs ≡ find e xs
-find_alike q e [] same = refl
-find_alike q e (x ∷ xs) same =
-    ap (λ b. cond b (Some x) (find q xs)) (same x (contains_first x xs))
-    ∙ ap (λ o. cond (e x) (Some x) o) (find_alike q e xs (λ y i. same y (contains_behind x xs y i)))
 
 pub and_not : (x : Bool) → (x && false) ≡ false
 and_not true = refl
@@ -87,21 +81,6 @@ choice_over b flight p over =
     ∙ ap (λ z. least R (cond (z && is_free flight (Close p)) (Close p ∷ []) [])) (ap (λ z. z && is_close_due b p) idle)
 
 -- ---- the first that is due, and the first of these that is free
-
-find_free : {A : Type 0} (d r : A → Bool) (xs : List A) (x : A) → find d xs ≡ Some x → r x ≡ true → find (λ y. d y && r y) xs ≡ Some x
-find_free d r [] x e h = none_some e
-find_free {A = A} d r (y ∷ ys) x e h = go (d y) refl e (λ k. find_free d r ys x k h)
-  where
-    go : (t : Bool) → d y ≡ t → cond t (Some y) (find d ys) ≡ Some x → (find d ys ≡ Some x → find (λ z. d z && r z) ys ≡ Some x) → cond (d y && r y) (Some y) (find (λ z. d z && r z) ys) ≡ Some x
-    go true k e ih = ap (λ z. cond (z && r y) (Some y) (find (λ z. d z && r z) ys)) k ∙ ap (λ z. cond z (Some y) (find (λ z. d z && r z) ys)) (ap r (some_is e) ∙ h) ∙ e
-    go false k e ih = ap (λ z. cond (z && r y) (Some y) (find (λ z. d z && r z) ys)) k ∙ ih e
-
-due_alone : (b : Plain) (js : List Job) → find (is_work_due b) js ≡ find (is_choice b []) js
-due_alone b js = find_alike (is_work_due b) (is_choice b []) js (λ j i. sym (and_true (is_work_due b j)))
-
--- the first that is due is taken where it is free
-pub work_free : (b : Plain) (flight js : List Job) (j : Job) → find (is_choice b []) js ≡ Some j → is_free flight j ≡ true → find (is_choice b flight) js ≡ Some j
-work_free b flight js j e h = find_free (is_work_due b) (is_free flight) js j (due_alone b js ∙ e) h
 
 any_due : (b : Plain) (js : List Job) → not (list_any (is_work_due b) js) ≡ is_none (find (is_choice b []) js)
 any_due b js = sym (none_found (is_choice b []) (is_work_due b) js (λ j. and_true (is_work_due b j)))

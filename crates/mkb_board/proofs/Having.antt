@@ -1,6 +1,5 @@
 -- How a process has a node, by its labels and as it is kept.
-use Rattle.std.proofs.Common.{ℕ, zero, suc, ◌<◌, ◌≡◌, ◌++◌, ◌||◌, ◌&&◌, not, refl, sym, ap, ap₂, ◌∙◌, arith, subst, List, [], ◌∷◌, length, map, filter, flat_map, get_or, Contains, Bool, true, false, cond, Option, Some, None}
-use Rattle.std.specs.Prelude.{slice_get}
+use Rattle.std.proofs.Common.{ℕ, zero, suc, ◌<◌, ◌≡◌, ◌++◌, ◌||◌, ◌&&◌, not, refl, sym, ap, ap₂, ◌∙◌, arith, subst, List, [], ◌∷◌, length, map, filter, flat_map, get_or, Contains, Bool, true, false, cond, Some}
 use Rattle.std.specs.List.{find}
 use Rattle.std.proofs.lemmas.List.{map-append}
 use Rattle.std.proofs.lemmas.List.Elements.{filter-append}
@@ -11,23 +10,14 @@ use Rattle.kb_node.specs.declared.job.Job.TheVariants.{Reduce, Orient}
 use Rattle.kb_node.specs.declared.node.LabelKind.TheVariants.{X}
 use Rattle.kb_node.specs.declared.node.NodeId.{NodeId}
 use Rattle.mkb_model.specs.Jobs.{is_free}
-use Rattle.mkb_model.specs.Plain.{Plain, PlainNode, directions, is_equation, is_rule, label, node_numbers, rules_of}
+use Rattle.mkb_model.specs.Plain.{Plain, directions, is_equation, is_rule, label, node_numbers, rules_of}
 use Rattle.mkb_model.specs.DueJobs.{is_reducible}
 use Rattle.mkb_model.proofs.Lists.{filter_in, numbers_in, or_none}
 use Rattle.kb_term.proofs.Steps.{contains_behind, contains_first}
 use Rattle.mkb_rules.specs.Sizes.{is_dead_at, AreAlive}
 use Rattle.mkb_rules.proofs.Paying.{dead_labels}
-use Rattle.mkb_rules.specs.Roles.{roles_at}
 use Rattle.mkb_board.specs.Choosing.{is_choice}
 use Rattle.mkb_board.specs.Normal.{held_of, is_in_use, roles_of, rules_in}
-
--- what is kept of a node is how the process has it
-pub roles_kept : (b : Plain) (p : Name) (n : ℕ) → roles_at b.nodes n p ≡ roles_of b p n
-roles_kept b p n = go (slice_get b.nodes n) refl
-  where
-    go : (o : Option PlainNode) → slice_get b.nodes n ≡ o → roles_at b.nodes n p ≡ roles_of b p n
-    go None e = simp e
-    go (Some x) e = simp e
 
 -- the rules of whoever has the node so are those that the process has in it
 pub rules_of_roles : (b : Plain) (p : Name) (n : ℕ) → rules_in n (roles_of b p n) ≡ filter (is_rule b p) (directions n)

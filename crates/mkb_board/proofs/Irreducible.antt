@@ -1,5 +1,5 @@
 -- Nodes that none of some rules reduces.
-use Rattle.std.proofs.Common.{ℕ, suc, length, ◌<◌, ◌≡◌, zero, replicate, take, set, get_or, refl, sym, ap, ap₂, ◌∙◌, subst, arith, List, [], ◌∷◌, ◌++◌, filter, slice_get, Bool, true, false, cond, not, ◌&&◌, ◌||◌, ◌==◌, Option, Some, None}
+use Rattle.std.proofs.Common.{ℕ, suc, length, ◌<◌, ◌≡◌, zero, set, get_or, refl, sym, ap, ap₂, ◌∙◌, subst, arith, List, [], ◌∷◌, ◌++◌, filter, slice_get, Bool, true, false, cond, not, ◌&&◌, ◌||◌, ◌==◌, Option, Some, None}
 use Rattle.std.specs.Prelude.{option_map}
 use Rattle.std.specs.List.{find, list_any}
 use Rattle.std.specs.Option.{option_or}
@@ -29,7 +29,7 @@ use Rattle.kb_label.specs.declared.verdict.Reason.{Reason}
 use Rattle.std.specs.Option.{option_map_or}
 use Rattle.mkb_model.specs.declared.proposed.Proposed.{Proposed}
 use Rattle.mkb_model.specs.declared.proposed.Proposed.TheVariants.{Facts, Rewrite, One, Both, Refuse, Deduce, Unjoined, Closed, Limit}
-use Rattle.mkb_model.proofs.Lists.{and_left, and_right, any_in, any_none, clash, none_some, or_none, or_off, some_is}
+use Rattle.mkb_model.proofs.Lists.{and_left, and_right, any_in, any_none, clash, none_some, or_none, or_off}
 use Rattle.mkb_board.specs.Normal.{AreAllNormal, AreNormal, HoldsRules, NoneOpens, Serves, is_open_in, is_open_to, roles_of}
 use Rattle.mkb_rules.specs.declared.roles.Roles.{Roles}
 use Rattle.mkb_board.specs.declared.normal.Normal.{Normal}
@@ -187,22 +187,6 @@ pub turned : (b : Plain) (nodes : List (Option Roles)) (old fresh rules : List R
 turned b nodes old fresh rules h k e n r i = fresh_none (is_open_to b r n) old rules (h n r i) (subst {A = List RuleRef} (λ z. list_any (is_open_to b r n) z ≡ false) e (k n r i))
 
 -- ---- room for more nodes
-
-none_noted : (k i : ℕ) (r : Roles) {Q : Type 0} → slice_get {X = Option Roles} (replicate k None) i ≡ Some (Some r) → Q
-none_noted zero i r e = none_some e
-none_noted (suc k) zero r e = none_some (some_is e)
-none_noted (suc k) (suc i) r e = none_noted k i r e
-
--- what is noted where room was made was noted before
-pub noted_before : (xs : List (Option Roles)) (n k i : ℕ) (r : Roles) → slice_get (take n xs ++ replicate k None) i ≡ Some (Some r) → slice_get xs i ≡ Some (Some r)
-noted_before [] zero k i r e = none_noted k i r e
-noted_before [] (suc n) k i r e = none_noted k i r e
-noted_before (x ∷ xs) zero k i r e = none_noted k i r e
-noted_before (x ∷ xs) (suc n) k zero r e = e
-noted_before (x ∷ xs) (suc n) k (suc i) r e = noted_before xs n k i r e
-
-pub normal_with_room : (b : Plain) (old : Normal) (nodes : List (Option Roles)) (n k : ℕ) → nodes ≡ take n old.nodes.items ++ replicate k None → NoneOpens b old.nodes.items old.rules.items → NoneOpens b nodes old.rules.items
-normal_with_room b old nodes n k e h m r i = h m r (noted_before old.nodes.items n k m r (ap (λ z. slice_get z m) (sym e) ∙ i))
 
 -- ---- what is noted of several processes
 

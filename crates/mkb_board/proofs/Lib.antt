@@ -22,3 +22,4 @@ pub mod Irreducible
 pub mod AtRest
 pub mod Open
 pub mod Having
+pub mod NodeJobs

@@ -3,9 +3,7 @@ use Rattle.std.proofs.Common.{ℕ, suc, ◌+◌, ◌-◌, ◌≤◌, ◌<◌, �
 use Rattle.std.specs.List.{find, list_any}
 use Rattle.std.specs.Option.{option_or}
 use Rattle.std.proofs.lemmas.List.Folds.{find-append}
-use Rattle.std.proofs.lemmas.List.Concat.{flat_map_single}
 use Rattle.mkb_model.specs.Plain.{numbers_from}
-use Rattle.mkb_model.specs.Sleeping.{no_members}
 use Rattle.mkb_board.proofs.Better.{drop_at}
 
 -- ---- numbers
@@ -21,37 +19,12 @@ numbers_end n len h = let e : len - n ≡ 0 = omega arith in ap (numbers_from n)
 
 -- ---- the first that passes
 
-pub find_on : {A : Type 0} (q : A → Bool) (G : ℕ → List A) (n len : ℕ) → n < len → find q (G n) ≡ None → find q (flat_map G (numbers_from n (len - n))) ≡ find q (flat_map G (numbers_from (n + 1) (len - (n + 1))))
-find_on q G n len h e =
-    ap (λ ns. find q (flat_map G ns)) (numbers_step n len h)
-    ∙ find-append q (G n) (flat_map G (numbers_from (n + 1) (len - (n + 1))))
-    ∙ ap (λ o. option_or o (find q (flat_map G (numbers_from (n + 1) (len - (n + 1)))))) e
-
-pub find_here : {A : Type 0} (q : A → Bool) (G : ℕ → List A) (n len : ℕ) (x : A) → n < len → find q (G n) ≡ Some x → find q (flat_map G (numbers_from n (len - n))) ≡ Some x
-find_here q G n len x h e =
-    ap (λ ns. find q (flat_map G ns)) (numbers_step n len h)
-    ∙ find-append q (G n) (flat_map G (numbers_from (n + 1) (len - (n + 1))))
-    ∙ ap (λ o. option_or o (find q (flat_map G (numbers_from (n + 1) (len - (n + 1)))))) e
-
-pub find_end : {A : Type 0} (q : A → Bool) (G : ℕ → List A) (n len : ℕ) → len ≤ n → find q (flat_map G (numbers_from n (len - n))) ≡ None
-find_end q G n len h = ap (λ ns. find q (flat_map G ns)) (numbers_end n len h)
-
--- a map as parts
-pub map_parts : {A : Type 0} (q : A → Bool) (f : ℕ → A) (len : ℕ) → find q (map f (numbers_from 0 len)) ≡ find q (flat_map (λ n. f n ∷ []) (numbers_from 0 (len - 0)))
-map_parts q f len = ap (find q) (sym (flat_map_single f (numbers_from 0 len))) ∙ ap (λ ns. find q (flat_map (λ n. f n ∷ []) ns)) (numbers_all len)
-
 -- the first of a rule's, or of the rules that are left
 pub find_part : {A B : Type 0} (q : B → Bool) (G : A → List B) (xs : List A) (i : ℕ) (x d : A) → i < length xs → x ≡ get_or xs i d → find q (flat_map G (drop i xs)) ≡ option_or (find q (G x)) (find q (flat_map G (drop (i + 1) xs)))
 find_part q G xs i x d there is = ap (λ ys. find q (flat_map G ys)) (drop_at xs i x d there is) ∙ find-append q (G x) (flat_map G (drop (i + 1) xs))
 
 pub find_mapped : {A B : Type 0} (q : B → Bool) (f : A → B) (xs : List A) (i : ℕ) (x d : A) → i < length xs → x ≡ get_or xs i d → find q (map f (drop i xs)) ≡ cond (q (f x)) (Some (f x)) (find q (map f (drop (i + 1) xs)))
 find_mapped q f xs i x d there is = ap (λ ys. find q (map f ys)) (drop_at xs i x d there is)
-
-pub find_one : {A : Type 0} (q : A → Bool) (x : A) → q x ≡ true → find q (x ∷ []) ≡ Some x
-find_one q x e = ap (λ z. cond z (Some x) None) e
-
-pub find_not : {A : Type 0} (q : A → Bool) (x : A) → q x ≡ false → find q (x ∷ []) ≡ None
-find_not q x e = ap (λ z. cond z (Some x) None) e
 
 -- ---- whether any passes
 
@@ -67,12 +40,6 @@ any_filter t s (x ∷ xs) = go (s x) (any_filter t s xs)
 
 pub filter_on : (e : ℕ → Bool) (n len : ℕ) → n < len → e n ≡ false → filter e (numbers_from n (len - n)) ≡ filter e (numbers_from (n + 1) (len - (n + 1)))
 filter_on e n len h k = ap (filter e) (numbers_step n len h) ∙ ap (λ z. cond z (n ∷ filter e (numbers_from (n + 1) (len - (n + 1)))) (filter e (numbers_from (n + 1) (len - (n + 1))))) k
-
-pub filter_here : (e : ℕ → Bool) (n len : ℕ) → n < len → e n ≡ true → no_members (filter e (numbers_from n (len - n))) ≡ false
-filter_here e n len h k = ap (λ ns. no_members (filter e ns)) (numbers_step n len h) ∙ ap (λ z. no_members (cond z (n ∷ filter e (numbers_from (n + 1) (len - (n + 1)))) (filter e (numbers_from (n + 1) (len - (n + 1)))))) k
-
-pub filter_end : (e : ℕ → Bool) (n len : ℕ) → len ≤ n → filter e (numbers_from n (len - n)) ≡ []
-filter_end e n len h = ap (filter e) (numbers_end n len h)
 
 -- ---- in turn
 

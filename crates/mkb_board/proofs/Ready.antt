@@ -10,7 +10,6 @@ use Rattle.mkb_model.specs.Limits.{AreLimited}
 use Rattle.std.proofs.Common.{◌≡◌, List, Contains, None, subst, refl, filter, not, ◌==◌, ◌++◌, ◌∷◌, []}
 use Rattle.std.specs.Prelude.{IsFalse}
 use Rattle.kb_node.specs.declared.job.Job.TheVariants.{Reduce, Orient, Overlap, Close}
-use Rattle.kb_node.specs.declared.job.LimitCause.{LimitCause}
 use Rattle.mkb_model.specs.Plain.{Plain}
 use Rattle.mkb_model.specs.Effects.{is_dropped, acted, effect, effect_entry}
 use Rattle.mkb_model.specs.Verdicts.{verdict}
@@ -19,16 +18,13 @@ use Rattle.mkb_model.specs.declared.proposed.Proposed.TheVariants.{Facts, Rewrit
 use Rattle.mkb_model.specs.declared.entry.Ticket.{Ticket}
 use Rattle.mkb_model.specs.declared.entry.Entry.{Entry}
 use Rattle.mkb_model.proofs.Selections.{legal-possible}
-use Rattle.mkb_rules.specs.Named.{HasNamed, HasRedexRule}
+use Rattle.mkb_rules.specs.Named.{HasNamed}
 use Rattle.mkb_rules.specs.Applying.{HasBudget}
 use Rattle.mkb_rules.specs.Applicable.{HasFewVariablesAfter, IsApplicable}
 use Rattle.mkb_board.specs.Boards.{seen, IsLegalBoard, IsBoard, takes_in, drops_in, has_halt}
 use Rattle.mkb_board.specs.Takes.{IsProposalOf}
 use Rattle.mkb_board.proofs.Ends.{finishing, acted_flying, commit_board, lands}
 use Rattle.mkb_board.proofs.There.{has_named, has_budget, applicable}
-
-redex_grounded : (b : Plain) (f : List Ticket) (cause : LimitCause) → HasRedexRule (record b { flight = f }) cause.redex → HasRedexRule b cause.redex
-redex_grounded b f cause h = h
 
 named_grounded : (b : Plain) (f : List Ticket) (x : Proposed) → HasNamed (record b { flight = f }) x → HasNamed b x
 named_grounded b f (Facts fs) h = h

@@ -63,12 +63,6 @@ DiffersInSleepers b s = s ≡ record b { asleep = s.asleep }
 pub same_limits : (b s : Plain) → DiffersInSleepers b s → AreLimited b.problem.signature b.nodes → AreLimited s.problem.signature s.nodes
 same_limits b s e h = subst {A = Plain} (λ z. AreLimited z.problem.signature z.nodes) (sym e) h
 
-pub same_order : (b s : Plain) → DiffersInSleepers b s → IsInNameOrder b.living → IsInNameOrder s.living
-same_order b s e h = subst {A = Plain} (λ z. IsInNameOrder z.living) (sym e) h
-
-pub same_label : (b s : Plain) → DiffersInSleepers b s → IsLabel b s.asleep → IsLabel s s.asleep
-same_label b s e h = subst {A = Plain} (λ z. IsLabel z s.asleep) (sym e) (record { ordered = h.ordered; living = h.living })
-
 pub with_sleepers : (b s t : Plain) (a : List Name) → DiffersInSleepers b s → t ≡ record s { asleep = a } → DiffersInSleepers b t
 with_sleepers b s t a e f = f ∙ ap (λ (z : Plain). record z { asleep = a }) e ∙ sym (ap (λ l. record b { asleep = l }) (ap (λ (z : Plain). z.asleep) f))
 
@@ -88,9 +82,6 @@ label_wakes b l alive h = let k = label_awake b alive l (record { ordered = h.or
 
 pub one_less : (f : List Name → List Name) (n i : ℕ) (l : List Name) → i < n → iterate f (n - i) l ≡ iterate f (n - (i + 1)) (f l)
 one_less f n i l h = let e : n - i ≡ suc (n - (i + 1)) = omega (arith, h) in ap (λ k. iterate f k l) e
-
-pub none_left : (f : List Name → List Name) (n i : ℕ) (l : List Name) → n ≤ i → iterate f (n - i) l ≡ l
-none_left f n i l h = let e : n - i ≡ 0 = omega (arith, h) in ap (λ k. iterate f k l) e
 
 pub iterate_fixed : (f : List Name → List Name) (n : ℕ) (l : List Name) → f l ≡ l → iterate f n l ≡ l
 iterate_fixed f zero l e = refl

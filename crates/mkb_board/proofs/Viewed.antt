@@ -22,7 +22,6 @@ use Rattle.kb_jobs.specs.Rules.{named, ComesBefore, AreInOrder}
 use Rattle.kb_jobs.proofs.Preorder.{nat_less, nat_same}
 use Rattle.kb_jobs.specs.Reducing.{no_name}
 use Rattle.mkb_rules.specs.Named.{IsRuleThere}
-use Rattle.mkb_rules.proofs.Costs.{numbers_next}
 use Rattle.mkb_board.specs.Snapshots.{AreWithin, with_names, unknown_on}
 pub use Rattle.mkb_rules.proofs.Viewed.{rules_viewed, constraints_viewed, equations_viewed, in_directions, passing_there, rules_there, constraints_there, others_there, equations_there, rules_behind, rules_next}
 
@@ -193,14 +192,3 @@ pub others_few : (b : Plain) (p : Name) (F : RuleRef → Bool) (rules names : Li
 others_few b p F rules names e f l = omega (arith, ap length e, ap length f, fewer F rules, rules_few b p, l)
 
 -- ---- rules, node by node
-
--- the rules in one node more
-pub rules_more : (t : RuleRef → Bool) (n : ℕ) → filter t (flat_map directions (numbers_from 0 (n + 1))) ≡ filter t (flat_map directions (numbers_from 0 n)) ++ filter t (directions n)
-rules_more t n =
-    ap (λ ns. filter t (flat_map directions ns)) (numbers_next n)
-    ∙ ap (filter t) (pushed (numbers_from 0 n))
-    ∙ filter-append t (flat_map directions (numbers_from 0 n)) (directions n)
-  where
-    pushed : (ns : List ℕ) → flat_map directions (ns ++ n ∷ []) ≡ flat_map directions ns ++ directions n
-    pushed [] = refl
-    pushed (m ∷ ns) = ap (λ (xs : List RuleRef). record { node = m; dir = 0 } ∷ record { node = m; dir = 1 } ∷ xs) (pushed ns)

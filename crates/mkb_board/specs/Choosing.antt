@@ -17,6 +17,8 @@ use Rattle.mkb_model.specs.declared.settings.Selection.{Selection}
 use Rattle.mkb_model.specs.declared.settings.Selection.TheVariants.{Stated, Size}
 use Rattle.mkb_board.specs.declared.first.Choice.{Choice}
 use Rattle.mkb_board.specs.declared.lightest.Weighed.{Weighed}
+use Rattle.mkb_board.specs.declared.lightest.NodeJob.{NodeJob}
+use Rattle.mkb_board.specs.declared.lightest.NodeJob.TheVariants as nodes
 use Rattle.mkb_board.specs.declared.settling.Costed.{Costed}
 use Rattle.std.specs.Ordering.{ordering_then, nat_cmp}
 
@@ -44,6 +46,11 @@ abbrev pub least_choice : Selection → Plain → List Job → List Job → Opti
 least_choice by b flight js = least (job_cmp (cost b) (weight_by by b)) (filter (is_choice b flight) js)
 
 -- ---- the lightest job
+
+-- the job of this kind for the node
+abbrev pub node_job : NodeJob → Name → ℕ → Job
+node_job nodes.Reduce p n = Reduce p (record { 0 = n })
+node_job nodes.Orient p n = Orient p (record { 0 = n })
 
 -- the weight that is kept beside the job is that by the sizes of nodes
 abbrev pub IsWeighed : Plain → Weighed → Type 0

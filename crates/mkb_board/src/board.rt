@@ -71,11 +71,10 @@ impl Board {
         ensures plain { IfOk result (λ b. b.plain ≡ opening problem settings) }
         ensures journal { IfOk result (λ b. b.journal ≡ []) }
     {
+        let normals = nothing_noted(alloc)?;
+        let journal = Vec::with_capacity(alloc, 1)?;
         let state = State::start(alloc, problem, settings)?;
         let verdict = choosing::verdict(&state);
-        let mut journal = Vec::new(alloc);
-        journal.reserve(1)?;
-        let normals = nothing_noted(alloc)?;
         Ok(Board {
             state,
             verdict,

@@ -41,11 +41,16 @@ impl Board {
         ensures undecided { OnErr result (verdict self.old.plain ≡ None) }
     {
         if let Some(verdict) = self.verdict {
+            drop(proposal);
             return Ok(Finished::Ended(verdict));
         }
         match self.state.is_dropped(alloc, &proposal) {
             Err(_) => Err((ticket, proposal)),
-            Ok(true) => Ok(self.drop_ticket(&ticket, &proposal)),
+            Ok(true) => {
+                let finished = self.drop_ticket(&ticket, &proposal);
+                drop(proposal);
+                Ok(finished)
+            }
             Ok(false) => self.commit(alloc, ticket, proposal),
         }
     }

@@ -9,7 +9,7 @@ ghost use Rattle.mkb_model.specs.Limits.{AreLimited};
 ghost use Rattle.mkb_model.specs.Plain.{cost, node_numbers, rules_of, weight_by};
 ghost use Rattle.mkb_model.specs.DueJobs.{work_of};
 ghost use Rattle.mkb_model.specs.declared.settings.Selection.TheVariants as selections;
-ghost use Rattle.mkb_board.specs.Choosing.{jobs_of, is_choice, least_choice, merged, HasNodes, IsWeighed, StandsEarlier};
+ghost use Rattle.mkb_board.specs.Choosing.{jobs_of, is_choice, least_choice, merged, node_job, HasNodes, IsWeighed, StandsEarlier};
 ghost use Rattle.mkb_board.specs.Normal.{Serves};
 ghost use Rattle.mkb_board.specs.declared.lightest.Weighed.{Weighed};
 
@@ -22,6 +22,13 @@ use kb_node::{Job, NodeId};
 use kb_term::RuleRef;
 use mkb_model::Ticket;
 use mkb_rules::State;
+
+/// The kinds of job that name one node.
+#[derive(Clone, Copy)]
+enum NodeJob {
+    Reduce,
+    Orient,
+}
 
 // A job with its weight.
 #[derive(Clone, Copy)]
@@ -45,53 +52,42 @@ pub(crate) fn lightest_work(
     ensures lightest { result ≡ least_choice selections.Size state.now (jobs_of flight.now) (work_of state.now p.now) }
     ensures serves { Serves state.now p.now normal.new }
 {
-    if let Some(job) = lightest_reduce(state, flight, normal, p) {
+    if let Some(job) = lightest_at_node(state, flight, normal, p, NodeJob::Reduce) {
         return Some(job);
     }
-    if let Some(job) = lightest_orient(state, flight, normal, p) {
+    if let Some(job) = lightest_at_node(state, flight, normal, p, NodeJob::Orient) {
         return Some(job);
     }
     lightest_overlap(state, flight, normal, p, rules)
 }
 
-// The lightest node that may be reduced.
-fn lightest_reduce(
-    state: &State,
-    flight: &[Ticket],
-    normal: &mut Normal,
-    p: &Process,
-) -> Option<Job>
-    requires { Serves state.now p.now normal.old }
-    ensures lightest { result ≡ least_choice selections.Size state.now (jobs_of flight.now) (map (λ n. jobs.Reduce p.now (record { 0 = n })) (node_numbers state.now)) }
-    ensures serves { Serves state.now p.now normal.new }
+// The job of this kind for the node.
+fn job_at(kind: NodeJob, p: &Process, n: u16) -> Job
+    ensures { result ≡ node_job kind p.now n }
 {
-    let mut best = None;
-    for n in 0..node_count(state) {
-        let next = Weighed {
-            weight: node_size(state, n as u16),
-            job: Job::Reduce(*p, NodeId(n as u16)),
-        };
-        best = lighter(state, flight, normal, best, next);
+    match kind {
+        NodeJob::Reduce => Job::Reduce(*p, NodeId(n)),
+        NodeJob::Orient => Job::Orient(*p, NodeId(n)),
     }
-    job_of(best)
 }
 
-// The lightest node that may be oriented.
-fn lightest_orient(
+// The lightest job of this kind that may be chosen.
+fn lightest_at_node(
     state: &State,
     flight: &[Ticket],
     normal: &mut Normal,
     p: &Process,
+    kind: NodeJob,
 ) -> Option<Job>
     requires { Serves state.now p.now normal.old }
-    ensures lightest { result ≡ least_choice selections.Size state.now (jobs_of flight.now) (map (λ n. jobs.Orient p.now (record { 0 = n })) (node_numbers state.now)) }
+    ensures lightest { result ≡ least_choice selections.Size state.now (jobs_of flight.now) (map (node_job kind p.now) (node_numbers state.now)) }
     ensures serves { Serves state.now p.now normal.new }
 {
     let mut best = None;
     for n in 0..node_count(state) {
         let next = Weighed {
             weight: node_size(state, n as u16),
-            job: Job::Orient(*p, NodeId(n as u16)),
+            job: job_at(kind, p, n as u16),
         };
         best = lighter(state, flight, normal, best, next);
     }

@@ -1,5 +1,5 @@
 -- What comes first in an ordered tree.
-use Rattle.std.proofs.Common.{ℕ, ◌≡◌, refl, sym, ap, ◌∙◌, subst, ◌⊎◌, inl, inr, List}
+use Rattle.std.proofs.Common.{ℕ, ◌≡◌, sym, ◌∙◌, subst, ◌⊎◌, inl, inr, List}
 use Rattle.std.specs.Prelude.{Some, None, Option, true, false, ◌≤◌}
 use Rattle.std.proofs.Common.{arith}
 use Rattle.std.specs.Cmp.{IsTotalOrder}
@@ -8,13 +8,13 @@ use Rattle.std.specs.declared.cmp.Ordering.TheVariants.{Less}
 use Rattle.kb_node.specs.declared.job.Job.{Job}
 use Rattle.mkb_pick.specs.declared.queue.Entry.{Entry}
 use Rattle.mkb_pick.specs.declared.queue.Turn.{Turn}
-use Rattle.mkb_pick.specs.declared.tree.Tree.{Tree, Leaf, Fork'}
+use Rattle.mkb_pick.specs.declared.tree.Tree.{Tree, Fork'}
 use Rattle.mkb_pick.specs.Trees.{Has, IsOrdered}
 use Rattle.kb_node.specs.declared.job.Job.TheVariants.{Close}
 use Rattle.kb_label.specs.Names.{Name}
 use Rattle.mkb_pick.specs.declared.task.Task.{Task}
-use Rattle.mkb_pick.specs.Jobs.{is_free}
-use Rattle.mkb_pick.specs.Tasks.{task_cmp, job_of, is_open, work_kind, IsWithin}
+use Rattle.mkb_model.specs.Jobs.{is_free}
+use Rattle.mkb_pick.specs.Tasks.{task_cmp, is_open, work_kind, IsWithin}
 use Rattle.mkb_pick.specs.Queues.{entry_cmp, turn_cmp}
 use Rattle.mkb_pick.specs.Firsts.{IsFirst, IsFirstOf, IsNext, IsReady}
 use Rattle.mkb_pick.proofs.Turns.{turns_total, one_entry}

@@ -1,5 +1,5 @@
 -- The first task of the first ready turn is the least job that is offered.
-use Rattle.std.proofs.Common.{ℕ, ◌≡◌, refl, sym, ap, ap₂, ◌∙◌, subst, ◌⊎◌, inl, inr, Bool, true, false, List}
+use Rattle.std.proofs.Common.{ℕ, ◌≡◌, refl, sym, ap, ap₂, ◌∙◌, subst, inl, inr, Bool, true, false, List}
 use Rattle.std.specs.Prelude.{Option, Some, None}
 use Rattle.std.specs.Ordering.{ordering_then, nat_cmp}
 use Rattle.std.specs.Cmp.{nat_cmp_total, tied_itself}
@@ -16,9 +16,10 @@ use Rattle.mkb_pick.specs.declared.queue.Entry.{Entry}
 use Rattle.mkb_pick.specs.declared.queue.Turn.{Turn}
 use Rattle.mkb_pick.specs.declared.queue.Queue.{Queue}
 use Rattle.mkb_pick.specs.Trees.{Has}
-use Rattle.mkb_pick.specs.Jobs.{Weighed, weighed_cmp, process_of, kind_number, job_numbers, is_free}
+use Rattle.mkb_pick.specs.Jobs.{Weighed}
+use Rattle.mkb_model.specs.Jobs.{process_of, kind_number, job_numbers, is_free}
 use Rattle.mkb_pick.specs.Tasks.{task_cmp, job_of, work_of, is_open}
-use Rattle.mkb_pick.specs.Queues.{IsQueue, turn_cmp, turn_of}
+use Rattle.mkb_pick.specs.Queues.{IsQueue, turn_cmp}
 use Rattle.mkb_pick.specs.Firsts.{IsNext, IsReady}
 use Rattle.mkb_pick.specs.Listings.{Listed, IsOffered, IsLeastOffered}
 use Rattle.mkb_pick.specs.Views.{processes_of}

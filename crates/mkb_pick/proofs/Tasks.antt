@@ -1,5 +1,5 @@
 -- The order of tasks, and which clash.
-use Rattle.std.proofs.Common.{ℕ, ◌≡◌, refl, sym, ap, ap₂, ◌∙◌, subst, ◌⊎◌, inl, inr, Bool, true, false, List, [], ◌∷◌}
+use Rattle.std.proofs.Common.{ℕ, ◌≡◌, refl, sym, ap, ap₂, ◌∙◌, subst, ◌⊎◌, inl, inr, true, false, List, [], ◌∷◌}
 use Rattle.std.specs.Prelude.{not, ◌||◌, ◌↔◌, MatchOption, Option, Some, None}
 use Rattle.mkb_pick.specs.declared.tree.Tree.{Tree}
 use Rattle.mkb_pick.specs.Trees.{Has}
@@ -9,7 +9,6 @@ use Rattle.std.specs.Cmp.Lexicographic.{lists_total}
 use Rattle.std.proofs.lemmas.Map.Lookups.{exact_bytes}
 use Rattle.kb_term.specs.declared.origin.RuleRef.{RuleRef}
 use Rattle.kb_node.specs.declared.node.NodeId.{NodeId}
-use Rattle.std.specs.declared.cmp.Ordering.{Ordering}
 use Rattle.std.specs.declared.cmp.Ordering.TheVariants.{Less, Equal}
 use Rattle.kb_label.specs.Names.{Name}
 use Rattle.kb_node.specs.declared.job.Job.{Job}
@@ -17,7 +16,7 @@ use Rattle.kb_node.specs.declared.job.Job.TheVariants.{Reduce, Orient, Overlap, 
 use Rattle.mkb_pick.specs.declared.task.Work.{Work}
 use Rattle.mkb_pick.specs.declared.task.Work.TheVariants.{Reducing, Orienting, Overlapping, Closing}
 use Rattle.mkb_pick.specs.declared.task.Task.{Task}
-use Rattle.mkb_pick.specs.Jobs.{clashes, is_free}
+use Rattle.mkb_model.specs.Jobs.{clashes, is_free}
 use Rattle.mkb_pick.specs.Tasks.{task_cmp, work_key, work_kind, job_of, is_open}
 
 pub tasks_total : IsTotalOrder task_cmp
@@ -25,7 +24,6 @@ tasks_total = on_total (λ t. work_key t.work t.weight) (lists_total nat_cmp_tot
 
 -- an Orient clashes with what a Close of its process clashes with
 orient_as_close : (p : Name) (n : _) (j : Job) → clashes (Orient p n) j ≡ clashes (Close p) j
-unfolding clashes
 orient_as_close p n (Reduce q m) = refl
 orient_as_close p n (Orient q m) = refl
 orient_as_close p n (Overlap q a b) = refl

@@ -1,9 +1,9 @@
 -- What contracts see of the trees.
-use Rattle.std.proofs.Common.{ℕ, ◌≡◌, ◌+◌, suc, refl, sym, ap, ap₂, ◌∙◌, subst, ◌⊎◌, inl, inr, Bool, true, false, List, [], ◌∷◌, ◌++◌, length, length-append, arith, ◌↔◌}
+use Rattle.std.proofs.Common.{ℕ, ◌≡◌, refl, sym, ap, ap₂, ◌∙◌, subst, ◌⊎◌, inl, inr, Bool, false, List, ◌∷◌, length, length-append, arith, ◌↔◌}
 use Rattle.std.specs.Prelude.{Contains}
 use Rattle.std.proofs.lemmas.List.Elements.{Contains-append_left, Contains-append_right, Contains-append_cases}
 use Rattle.kb_term.proofs.Steps.{contains_cases, contains_behind, contains_first}
-use Rattle.kb_label.specs.Names.{Name, child}
+use Rattle.kb_label.specs.Names.{Name}
 use Rattle.kb_node.specs.declared.job.Job.{Job}
 use Rattle.kb_node.specs.declared.job.Job.TheVariants.{Reduce, Orient, Overlap, Close}
 use Rattle.mkb_pick.specs.declared.task.Work.{Work}
@@ -13,7 +13,7 @@ use Rattle.mkb_pick.specs.declared.queue.Entry.{Entry}
 use Rattle.mkb_pick.specs.declared.queue.Queue.{Queue}
 use Rattle.mkb_pick.specs.declared.tree.Tree.{Tree, Leaf, Fork'}
 use Rattle.mkb_pick.specs.Trees.{Has, count, seen}
-use Rattle.mkb_pick.specs.Jobs.{process_of}
+use Rattle.mkb_model.specs.Jobs.{process_of}
 use Rattle.mkb_pick.specs.Tasks.{job_of, work_of}
 use Rattle.mkb_pick.specs.Queues.{Sits, HasTask, IsSeated}
 use Rattle.mkb_pick.specs.Listings.{Listed, IsListed, IsProcess, HasJob}

@@ -5,7 +5,8 @@ use Rattle.std.specs.declared.option.Option.{Option}
 use Rattle.std.specs.declared.option.Option.TheVariants.{Some, None}
 use Rattle.kb_label.specs.Names.{Name}
 use Rattle.kb_node.specs.declared.job.Job.{Job}
-use Rattle.mkb_pick.specs.Jobs.{Weighed, process_of, is_free, weighed_cmp}
+use Rattle.mkb_pick.specs.Jobs.{Weighed, weighed_cmp}
+use Rattle.mkb_model.specs.Jobs.{process_of, is_free}
 
 -- a listed process, and its jobs with their weights
 pub record Listed : Type 0 where

@@ -1,5 +1,5 @@
 -- Tasks: jobs without their processes, with their weights.
-use Rattle.std.specs.Prelude.{ℕ, List, [], ◌∷◌, Bool, ◌||◌, ◌≡◌, ◌≤◌, false, true}
+use Rattle.std.specs.Prelude.{ℕ, List, [], ◌∷◌, Bool, ◌≡◌, ◌≤◌, false}
 use Rattle.std.specs.Ordering.{nat_cmp}
 use Rattle.std.specs.Cmp.Lexicographic.{slice_cmp}
 use Rattle.std.specs.declared.cmp.Ordering.{Ordering}
@@ -9,7 +9,7 @@ use Rattle.kb_node.specs.declared.job.Job.TheVariants.{Reduce, Orient, Overlap, 
 use Rattle.mkb_pick.specs.declared.task.Work.{Work}
 use Rattle.mkb_pick.specs.declared.task.Work.TheVariants.{Reducing, Orienting, Overlapping, Closing}
 use Rattle.mkb_pick.specs.declared.task.Task.{Task}
-use Rattle.mkb_pick.specs.Jobs.{is_free}
+use Rattle.mkb_model.specs.Jobs.{is_free}
 
 -- the job of the process
 abbrev pub job_of : Name → Work → Job

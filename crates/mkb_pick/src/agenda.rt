@@ -2,7 +2,7 @@
 ghost use Rattle.std.specs.Prelude.{ℕ, Bool, ◌≡◌, ◌⊎◌, ◌↔◌, ◌+◌, ◌-◌, ◌<◌, ◌≤◌, max, List, [], length, Contains, true, false, IsTrue, OnOk, OnErr, IsOk};
 ghost use Rattle.kb_label.specs.Names.{Name, child};
 ghost use Rattle.kb_node.specs.declared.job.Job.{Job};
-ghost use Rattle.mkb_pick.specs.Jobs.{process_of};
+ghost use Rattle.mkb_model.specs.Jobs.{process_of};
 ghost use Rattle.mkb_pick.specs.Tasks.{job_of, work_of};
 ghost use Rattle.mkb_pick.specs.Listings.{Listed, IsListed, IsProcess, HasJob, IsLeastOffered};
 

@@ -1,6 +1,6 @@
 // Tasks: jobs without their processes.
 ghost use Rattle.std.specs.Prelude.{◌≡◌, ◌∷◌, []};
-ghost use Rattle.mkb_pick.specs.Jobs.{clashes, is_free, process_of, ref_eq};
+ghost use Rattle.mkb_model.specs.Jobs.{clashes, is_free, process_of, ref_eq};
 ghost use Rattle.mkb_pick.specs.Tasks.{job_of, work_of, work_key, work_kind};
 
 use crate::tree::Placed;
@@ -124,7 +124,6 @@ fn is_same_rule(a: RuleRef, b: RuleRef) -> bool
 }
 
 // Whether two jobs may not be in flight together.
-#[tactic(auto, unfolding(crate::specs::Jobs::clashes))]
 fn is_clash(job: &Job, other: &Job) -> bool
     ensures { result ≡ clashes job.now other.now }
 {

@@ -6,4 +6,3 @@ pub mod Boards
 pub mod Viewed
 pub mod Counted
 pub mod Made
-mod EmptyRun

@@ -54,9 +54,6 @@ all_map {A} P Q xs f h i d l = f _ (h i d l)
 abbrev pub Differ : List Ticket → Type 0
 Differ ts = AllPairs (λ (t u : Ticket). t.number ≢ u.number) ts
 
-pub differ_rest : (t : Ticket) (ts : List Ticket) → Differ (t ∷ ts) → Differ ts
-differ_rest t ts h i j d l k = h (suc i) (suc j) d (omega (arith, l)) (omega (arith, k))
-
 -- the others have other numbers
 pub differ_first : (t : Ticket) (ts : List Ticket) → Differ (t ∷ ts) → All (λ (u : Ticket). t.number ≢ u.number) ts
 differ_first t ts h i d l = h zero (suc i) d (omega arith) (omega (arith, l))

@@ -193,14 +193,6 @@ module _ (old new : Seen) (a : Assignment) (rest : List Assignment) (h : IsEndin
 pub ends_one : (old new : Seen) (a : Assignment) (rest : List Assignment) → IsEndingRound old (a ∷ rest) → verdict old.plain ≡ None → IsEnded old new a → IsEndingRound new rest × IsSameRun old new
 ends_one old new a rest h undecided e = ended_as old new a rest h undecided e.proposal e.answer e.proposed e.finished
 
--- all tickets of a round are ended
-pub ends_all : (s : Seen) → IsEndingRound s [] → IsBetweenRounds s
-ends_all s h = record { so_far = h.so_far; grounded = λ v. h.in_hand.flight }
-
--- a verdict stands
-pub ends_early : (s : Seen) (rest : List Assignment) → IsEndingRound s rest → verdict s.plain ≢ None → IsBetweenRounds s
-ends_early s rest h v = record { so_far = h.so_far; grounded = λ none. absurd (v none) }
-
 -- ---- by places
 
 -- the tickets from one place on: this one, and those from the next place on
@@ -244,18 +236,11 @@ ends_at start old new round i a room is h same undecided e =
 pub held_at : (s : Seen) (round : List Assignment) (i : ℕ) (a : Assignment) → i < length round → a ≡ get_or round i a → IsEndingRound s (drop i round) → IsHeld s a.ticket a.snapshot
 held_at s round i a room is h = all_first (λ (u : Assignment). IsHeld s u.ticket u.snapshot) a (drop (i + 1) round) (subst {A = List Assignment} (IsEndingRound s) (drop_next round i a room is) h).in_hand.held
 
--- no place is left
-pub ends_past : (s : Seen) (round : List Assignment) (i : ℕ) → length round ≤ i → IsEndingRound s (drop i round) → IsBetweenRounds s
-ends_past s round i l h = ends_all s (subst {A = List Assignment} (IsEndingRound s) (drop_past round i l) h)
-
 -- nothing is left in flight
 pub gives_past : (s : Seen) (round : List Assignment) (i : ℕ) → length round ≤ i → IsLeftWith s (drop i round) → IsLeftWith s []
 gives_past s round i l h = subst {A = List Assignment} (IsLeftWith s) (drop_past round i l) h
 
 -- ---- broken off
-
-pub left_taking : (s : Seen) (round : List Assignment) → IsTakingRound s round → IsLeftWith s round
-left_taking s round h = record { legal = legal_by s h.so_far; undecided = h.undecided; flight = h.in_hand.flight }
 
 pub left_ending : (s : Seen) (rest : List Assignment) → IsEndingRound s rest → verdict s.plain ≡ None → IsLeftWith s rest
 left_ending s rest h v = record { legal = legal_by s h.so_far; undecided = v; flight = h.in_hand.flight }

@@ -5,7 +5,7 @@
 #![tactic(auto)]
 
 ghost use Rattle.std.specs.Prelude.{◌≡◌};
-ghost use Rattle.mkb_pick.specs.Jobs.{process_of as process_in};
+ghost use Rattle.mkb_model.specs.Jobs.{process_of as process_in};
 
 use kb_label::Process;
 use kb_match::fits;

@@ -1,5 +1,5 @@
 // Waiting for other threads.
-ghost use Rattle.std.specs.Prelude.{◌≡◌, ◌+◌, ◌-◌, min};
+ghost use Rattle.std.specs.Prelude.{◌≡◌, ◌+◌, min};
 
 use std::marker::Model;
 use std::sync::Wait;
@@ -71,12 +71,5 @@ impl Backoff {
         ensures { self.new ≡ 0 }
     {
         self.rests = 0;
-    }
-
-    /// Counts one rest less: the next is as long as the one before the last.
-    pub fn ease(&mut self)
-        ensures { self.new ≡ self.old - 1 }
-    {
-        self.rests = self.rests.saturating_sub(1);
     }
 }

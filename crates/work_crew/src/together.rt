@@ -25,6 +25,9 @@ use turn_lock::{Backoff, Seat, Turns};
 /// below a millisecond.
 const DOUBLINGS: u32 = 5;
 
+/// The number of the first worker.
+const FIRST: u8 = 1;
+
 // What the workers share: the lock of the board, and where memory comes from.
 struct Workplace {
     alloc: Global,
@@ -53,7 +56,8 @@ fn take_one<G: Gate, R: Wait>(rt: &R, place: &Workplace, gate: &G, seat: &mut Se
     next
 }
 
-// At a turn: ends the ticket with what its job proposed, and takes the next; but rests first where others wanted the turn too.
+// At a turn: ends the ticket with what its job proposed, and takes the next; but rests first where others wanted the turn too. The
+// first worker never rests so, that one is always at work.
 fn end_one<G: Gate, R: Wait>(
     rt: &R,
     place: &Workplace,
@@ -73,8 +77,9 @@ fn end_one<G: Gate, R: Wait>(
         assignment,
         proposal,
     } = worked;
+    let is_first = seat.worker() == FIRST;
     let mut board = place.turns.enter(rt, seat);
-    let then = if seat.has_waited() {
+    let then = if seat.has_waited() && !is_first {
         Then::Rest
     } else {
         Then::Take { with_cost }
@@ -126,8 +131,8 @@ fn wait_for_more<R: Wait>(
 }
 
 // One worker: it takes tickets, asks the gate, works and ends them, until a verdict stands, a halt was made or it finds no memory.
-// Where it often finds that others want the turn it rests longer and longer between a ticket and the next, so that where jobs are
-// shorter than turns few workers are at work.
+// Where others want the turn it rests between a ticket and the next, longer each time, so that where jobs are shorter than turns few
+// workers are at work.
 fn serve<G: Gate, S: Searcher, R: Wait>(
     rt: &R,
     place: &Workplace,
@@ -148,9 +153,6 @@ fn serve<G: Gate, S: Searcher, R: Wait>(
                 idle.reset();
                 let worked = work_one(rt, place.alloc, gate, by, assignment);
                 next = end_one(rt, place, gate, &mut seat, worked);
-                if !seat.has_waited() {
-                    crowded.ease();
-                }
             }
             Next::Wait(entries) => {
                 wait_for_more(rt, place, &mut seat, entries, &mut idle);

@@ -1,5 +1,5 @@
-use Rattle.std.proofs.Common.{true, false, not, ◌≡◌, ◌∷◌, refl, Bool, inl, inr, ⊎_elim, ◌+◌, ◌<◌, ◌≤◌, List, Option, Contains, length, drop, get_or, subst, ap, sym, ◌∙◌, arith}
-use Rattle.std.specs.Prelude.{IfSome, option_map}
+use Rattle.std.proofs.Common.{true, false, not, ◌≡◌, ◌∷◌, refl, Bool, ◌+◌, ◌<◌, ◌≤◌, List, Option, Contains, length, drop, get_or, subst, ap, sym, ◌∙◌, arith}
+use Rattle.std.specs.Prelude.{option_map}
 use Rattle.std.proofs.lemmas.List.Elements.{Contains-get_or}
 use Rattle.kb_term.proofs.Steps.{contains_first, contains_behind}
 use Rattle.kb_label.specs.Names.{Name, has, minus, IsInNameOrder}
@@ -8,10 +8,8 @@ use Rattle.mkb_model.specs.Plain.{cost, weight}
 use Rattle.mkb_model.proofs.Endings.{has_in}
 use Rattle.mkb_model.specs.Plain.{Plain}
 use Rattle.mkb_model.specs.DueJobs.{awake}
-use Rattle.mkb_model.specs.Jobs.{process_of}
 use Rattle.kb_node.specs.declared.job.Job.{Job}
 use Rattle.mkb_board.specs.Choosing.{first_choice, jobs_of, merged}
-use Rattle.mkb_board.specs.declared.settling.Costed.{Costed}
 use Rattle.mkb_board.specs.declared.first.Choice.{Choice}
 use Rattle.mkb_board.proofs.Better.{best_next, best_of_all, best_stays, before_next, ordered_from, drop_at}
 use Rattle.mkb_board.proofs.Firsts.{least_free}

@@ -1,5 +1,4 @@
 use Rattle.std.proofs.Common.{◌≡◌, true, ap}
-use Rattle.std.specs.Cmp.{IsTotalOrder}
 use Rattle.mkb_pick.specs.Tasks.{IsWithin, is_open}
 use Rattle.mkb_pick.proofs.Tasks.{tasks_total}
 use Rattle.mkb_pick.proofs.Firsts.{first_on_left}

@@ -1,4 +1,4 @@
-use Rattle.std.proofs.Common.{◌≡◌, ap}
+use Rattle.std.proofs.Common.{ap}
 use Rattle.mkb_pick.proofs.Firsts.{next_on_left}
 use Rattle.mkb_pick.proofs.search.+next_job.Goals as goal
 

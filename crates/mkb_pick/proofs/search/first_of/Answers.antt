@@ -1,5 +1,4 @@
-use Rattle.std.proofs.Common.{◌≡◌, refl, sym, ap, ◌∙◌, subst}
-use Rattle.mkb_pick.specs.Firsts.{IsFirstOf}
+use Rattle.std.proofs.Common.{◌≡◌, sym, ◌∙◌}
 use Rattle.mkb_pick.proofs.Turns.{same_name, none_by_name}
 use Rattle.mkb_pick.proofs.Firsts.{no_task}
 use Rattle.mkb_pick.proofs.search.first_of.Goals as goal

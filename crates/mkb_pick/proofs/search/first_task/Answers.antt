@@ -1,4 +1,4 @@
-use Rattle.std.proofs.Common.{◌≡◌, ap, ◌∙◌, sym}
+use Rattle.std.proofs.Common.{◌∙◌, sym}
 use Rattle.mkb_pick.proofs.Firsts.{held_reduction, held_overlap}
 use Rattle.mkb_pick.proofs.search.first_task.Goals as goal
 

@@ -1,6 +1,6 @@
 use Rattle.std.proofs.Common.{◌≡◌, false, take}
 use Rattle.std.specs.List.{list_any}
-use Rattle.mkb_pick.specs.Jobs.{clashes}
+use Rattle.mkb_model.specs.Jobs.{clashes}
 use Rattle.mkb_pick.proofs.task.is_free.Given as goal
 
 -- none so far clashes

@@ -15,8 +15,8 @@ pub is_dropped-requires : goal.is_dropped-requires
 is_dropped-requires c = state_named c.self.inside.state c.self.inside.flight.items c.self.inside.journal.items c.args.ticket c.args.proposal c.self.invariant.0.legal (sym c.self.invariant.2 ∙ c.in_default.is)
     (subst {A = Seen} (λ z. Contains z.plain.flight c.args.ticket) (sym c.self.view_is) c.requires.flying) (subst {A = Seen} (λ z. IsProposalOf z c.args.ticket c.args.proposal) (sym c.self.view_is) c.requires.proposed)
 
-pub drop_ticket-requires-clause-no_verdict : goal.drop_ticket-requires-clause-no_verdict
-drop_ticket-requires-clause-no_verdict c = subst {A = Seen} (λ z. verdict z.plain ≡ None) c.self.view_is (sym c.self.invariant.2 ∙ c.in_default.is)
+pub drop_ticket-finished-requires-clause-no_verdict : goal.drop_ticket-finished-requires-clause-no_verdict
+drop_ticket-finished-requires-clause-no_verdict c = subst {A = Seen} (λ z. verdict z.plain ≡ None) c.self.view_is (sym c.self.invariant.2 ∙ c.in_default.is)
 
 pub commit-requires-clause-no_verdict : goal.commit-requires-clause-no_verdict
 commit-requires-clause-no_verdict c = subst {A = Seen} (λ z. verdict z.plain ≡ None) c.self.view_is (sym c.self.invariant.2 ∙ c.in_default.is)
@@ -24,8 +24,8 @@ commit-requires-clause-no_verdict c = subst {A = Seen} (λ z. verdict z.plain �
 pub returns-in-Err-clause-undecided : goal.returns-in-Err-clause-undecided
 returns-in-Err-clause-undecided c = subst {A = Seen} (λ z. verdict z.plain ≡ None) c.self.view_is (sym c.self.invariant.2 ∙ c.in_default.is)
 
-pub drop_ticket-requires-clause-idle : goal.drop_ticket-requires-clause-idle
-drop_ticket-requires-clause-idle c =
+pub drop_ticket-finished-requires-clause-idle : goal.drop_ticket-finished-requires-clause-idle
+drop_ticket-finished-requires-clause-idle c =
     subst {A = Seen} (λ z. IsTrue (is_dropped z.plain c.args.proposal)) c.self.view_is
     (dropped_flying c.self.inside.state c.self.inside.flight.items c.args.proposal ∙ sym c.in-Ok-true.ensures ∙ c.in-Ok-true.field-0-test)
 

@@ -1,4 +1,4 @@
-use Rattle.std.proofs.Common.{◌≡◌, ◌∙◌, List, [], refl, sym, subst, arith, false}
+use Rattle.std.proofs.Common.{◌≡◌, List, [], refl, sym, subst, arith, false}
 use Rattle.kb_term.specs.Signature.{Problem, IsWithinLimits}
 use Rattle.mkb_model.specs.Plain.{Plain}
 use Rattle.mkb_model.specs.Journals.{opening}
@@ -19,8 +19,8 @@ opening_board P n b ts es w e f g =
 
 pub invariant_of-result : goal.invariant_of-result
 invariant_of-result c = (
-  opening_board c.args.problem c.args.settings c.in_ok-state.state c.new.result.items c.reserve.new.self.items c.requires c.in_ok-state.ensures c.new.ensures.items (c.in_ok-reserve.ensures.items ∙ c.new-journal.ensures.items),
-  omega (arith, c.in_ok-reserve.ensures.ok, c.in_ok-reserve.ensures.len, c.new-journal.ensures.len, c.new.ensures.len),
+  opening_board c.args.problem c.args.settings c.in_ok-state.state c.new.result.items c.in_ok-journal.journal.items c.requires c.in_ok-state.ensures c.new.ensures.items c.in_ok-journal.ensures.items,
+  omega (arith, c.in_ok-journal.ensures.capacity, c.in_ok-journal.ensures.len, c.new.ensures.len),
   c.verdict-verdict.ensures,
   c.in_ok-normals.ensures c.in_ok-state.state,
 )

@@ -1,5 +1,5 @@
-use Rattle.std.proofs.Common.{◌≡◌, refl, sym, ap, ap₂, ◌∙◌, subst, true, false}
-use Rattle.mkb_pick.proofs.Viewed.{seats_as_before, jobs_as_before, job_more, job_less, job_seen, task_in, cost_seen, rest_seen, gone_seen, jobs_gone_seen, come_seen, jobs_come_seen, seated, listed_again}
+use Rattle.std.proofs.Common.{ap, ◌∙◌}
+use Rattle.mkb_pick.proofs.Viewed.{come_seen, jobs_come_seen, listed_again}
 use Rattle.mkb_pick.proofs.Replaced.{seats_come, tasks_come, bare_entry}
 use Rattle.mkb_pick.proofs.agenda.Agenda.list.Goals as goal
 

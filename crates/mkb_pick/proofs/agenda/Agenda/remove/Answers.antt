@@ -1,8 +1,8 @@
-use Rattle.std.proofs.Common.{◌≡◌, refl, sym, ap, ap₂, ◌∙◌, subst, true, false}
-use Rattle.mkb_pick.proofs.Viewed.{seats_as_before, jobs_as_before, job_more, job_less, job_seen, task_in, cost_seen, rest_seen, gone_seen, jobs_gone_seen, come_seen, jobs_come_seen, seated, listed_again}
-use Rattle.std.proofs.Common.{◌⊎◌, ◌↔◌}
+use Rattle.std.proofs.Common.{◌≡◌, sym, ap, subst}
+use Rattle.mkb_pick.proofs.Viewed.{seats_as_before, job_less, job_seen, task_in}
+use Rattle.std.proofs.Common.{◌↔◌}
 use Rattle.kb_label.specs.Names.{Name}
-use Rattle.mkb_pick.specs.Jobs.{process_of}
+use Rattle.mkb_model.specs.Jobs.{process_of}
 use Rattle.mkb_pick.specs.Queues.{HasTask}
 use Rattle.mkb_pick.specs.declared.task.Work.{Work}
 use Rattle.mkb_pick.specs.declared.task.Task.{Task}

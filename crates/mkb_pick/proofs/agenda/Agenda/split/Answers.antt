@@ -1,10 +1,7 @@
-use Rattle.std.proofs.Common.{ℕ, ◌≡◌, ◌≤◌, ◌<◌, ◌+◌, vec_len, refl, sym, ap, ◌∙◌, subst, true, false, arith, length}
-use Rattle.std.specs.Prelude.{Contains, min, max, ◌-◌, ◌^◌}
+use Rattle.std.proofs.Common.{ℕ, ◌≡◌, ◌≤◌, ◌<◌, ◌+◌, vec_len, ap, ◌∙◌, true, false, arith, length}
+use Rattle.std.specs.Prelude.{min, max, ◌-◌, ◌^◌}
 use Rattle.kb_label.specs.Names.{child}
 use Rattle.mkb_pick.specs.Trees.{count}
-use Rattle.mkb_pick.specs.Views.{listed_in, job_in}
-use Rattle.mkb_pick.specs.declared.queue.Entry.{Entry}
-use Rattle.mkb_pick.specs.Listings.{Listed}
 use Rattle.mkb_pick.proofs.Viewed.{seated, listed_again, parted_seen, jobs_parted_seen, count_seen}
 use Rattle.mkb_pick.proofs.agenda.Agenda.split.Goals as goal
 

@@ -1,4 +1,4 @@
-use Rattle.std.proofs.Common.{◌≡◌, refl, sym, ap, ◌∙◌, false, true}
+use Rattle.std.proofs.Common.{ap, ◌∙◌, false, true}
 use Rattle.kb_label.specs.Names.{child}
 use Rattle.mkb_pick.specs.declared.queue.Entry.{Entry}
 use Rattle.mkb_pick.proofs.Replaced.{IsParted, parted, seats_parted, tasks_parted, second_free, same_items}

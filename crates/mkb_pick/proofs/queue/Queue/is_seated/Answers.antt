@@ -1,4 +1,4 @@
-use Rattle.std.proofs.Common.{◌≡◌, refl, sym, ap, ◌∙◌}
+use Rattle.std.proofs.Common.{refl, sym, ◌∙◌}
 use Rattle.mkb_pick.proofs.Turns.{same_name, none_by_name}
 use Rattle.mkb_pick.proofs.queue.Queue.is_seated.Goals as goal
 

@@ -1,7 +1,7 @@
-use Rattle.std.proofs.Common.{◌≡◌, refl, sym, ap, ◌∙◌, subst}
+use Rattle.std.proofs.Common.{sym, ap, ◌∙◌, subst}
 use Rattle.mkb_pick.specs.Trees.{Has}
 use Rattle.mkb_pick.specs.declared.queue.Entry.{Entry}
-use Rattle.mkb_pick.proofs.Replaced.{IsReplaced, replaced, seats_stay, tasks_stay, task_added, task_removed, cost_set, rest_set, onto, off, same_items, found_task}
+use Rattle.mkb_pick.proofs.Replaced.{replaced, seats_stay, task_removed, off, found_task}
 use Rattle.mkb_pick.proofs.queue.Queue.remove_task.Goals as goal
 
 pub returns-clause-seats : goal.returns-clause-seats

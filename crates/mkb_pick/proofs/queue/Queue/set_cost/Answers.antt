@@ -1,6 +1,6 @@
-use Rattle.std.proofs.Common.{◌≡◌, refl, sym, ap, ◌∙◌}
+use Rattle.std.proofs.Common.{refl, ap, ◌∙◌}
 use Rattle.mkb_pick.specs.declared.queue.Entry.{Entry}
-use Rattle.mkb_pick.proofs.Replaced.{IsReplaced, replaced, seats_stay, tasks_stay, task_added, task_removed, cost_set, rest_set, onto, off, same_items}
+use Rattle.mkb_pick.proofs.Replaced.{replaced, tasks_stay, cost_set, same_items}
 use Rattle.mkb_pick.proofs.queue.Queue.set_cost.Goals as goal
 
 pub returns-clause-seats : goal.returns-clause-seats

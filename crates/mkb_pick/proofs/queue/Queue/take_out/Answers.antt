@@ -1,11 +1,9 @@
-use Rattle.std.proofs.Common.{◌≡◌, refl, sym, ap, ◌∙◌, subst, Some, None}
-use Rattle.std.specs.Prelude.{MatchOption}
+use Rattle.std.proofs.Common.{◌≡◌, refl, sym, ap, ◌∙◌, subst}
 use Rattle.std.specs.declared.cmp.Ordering.TheVariants.{Equal}
-use Rattle.mkb_pick.specs.Trees.{Has, IsOrdered}
-use Rattle.mkb_pick.specs.Queues.{IsQueue, turn_of, turn_cmp}
-use Rattle.mkb_pick.specs.declared.queue.Entry.{Entry}
+use Rattle.mkb_pick.specs.Trees.{Has}
+use Rattle.mkb_pick.specs.Queues.{turn_of, turn_cmp}
 use Rattle.mkb_pick.specs.declared.queue.Turn.{Turn}
-use Rattle.mkb_pick.proofs.Turns.{same_name, same_place, one_entry, turn_name, turn_itself, kept_by_name, none_by_name, without_entry}
+use Rattle.mkb_pick.proofs.Turns.{same_name, turn_itself, kept_by_name, none_by_name, without_entry}
 use Rattle.mkb_pick.proofs.queue.Queue.take_out.Goals as goal
 
 pub returns-in_err-entry-clause-seat : goal.returns-in_err-entry-clause-seat
