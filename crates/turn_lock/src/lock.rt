@@ -10,13 +10,9 @@ use std::alloc::Global;
 use std::marker::Model;
 use std::snapshot::Snapshot;
 use std::sync::Wait;
-use std::thread::yield_now;
 
 /// How often the sleep of a thread that waits for its turn is doubled: a turn is short, and what the thread holds may be waited for.
 const DOUBLINGS: u32 = 1;
-
-/// How often a thread tries for its turn, and yields, before it rests.
-const TRIES: u32 = 64;
 
 /// A value that up to 16 threads take in turns, and whose history each of them knows as far as it has seen it.
 ///
@@ -124,29 +120,13 @@ impl<T: Turned> Turns<T> {
         let mut backoff = Backoff::new(DOUBLINGS);
         seat.waited = false;
         for _ in rt.forever() {
-            if let Some(value) = self.try_often(seat) {
+            if let Some(value) = self.try_enter(seat) {
                 return value;
             }
+            seat.waited = true;
             backoff.rest(rt);
         }
         unreachable!()
-    }
-
-    /// Tries for the turn, and yields behind each try that fails, until one succeeds or so many were made: most turns are over by then.
-    fn try_often(&self, seat: &mut Seat<T>) -> Option<T>
-        requires lock { IsSeatOf self.now seat.old }
-        requires rests { seat.old.view.holds ≡ false }
-        ensures some { IfSome result (λ x. (T.problem x ≡ self.now.problem) × (T.budget x ≡ self.now.budget) × IsLater T.worker seat.old (T.entries x) × (seat.new ≡ sees seat.old (T.entries x) true)) }
-        ensures none { IfNone result (seat.new ≡ seat.old) }
-    {
-        for _ in 0..TRIES {
-            if let Some(value) = self.try_enter(seat) {
-                return Some(value);
-            }
-            seat.waited = true;
-            yield_now();
-        }
-        None
     }
 
     /// One try for the turn.
