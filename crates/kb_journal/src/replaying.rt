@@ -231,8 +231,15 @@ pub fn replay(alloc: Global, j: &JournalText) -> Result<Board, ReplayFault>
     ensures legal { IfOk result (λ b. After j.now.problem j.now.settings b.journal b.plain) }
     ensures bad { IfErr result (IsReplayFault j.now) }
 {
-    let mut board = Board::start(alloc, j.problem().clone()?, j.settings())?;
     let mut hands = Vec::new(alloc);
-    make_all(alloc, &mut board, &mut hands, j)?;
-    Ok(board)
+    let mut board = Board::start(alloc, j.problem().clone()?, j.settings())?;
+    let made = make_all(alloc, &mut board, &mut hands, j);
+    drop(hands);
+    match made {
+        Ok(()) => Ok(board),
+        Err(fault) => {
+            drop(board);
+            Err(fault)
+        }
+    }
 }

@@ -33,11 +33,17 @@ fn replay_journal(alloc: Global, journal: &JournalText) -> Result<Reply, Memory>
     ensures { IfOk result (λ r. IsReplay journal.now r.status r.board r.text.items) }
 {
     match replay(alloc, journal) {
-        Ok(board) => Ok(Reply {
-            text: board_text(alloc, &board)?,
-            status: Status::Done,
-            board: Some(board),
-        }),
+        Ok(board) => match board_text(alloc, &board) {
+            Ok(text) => Ok(Reply {
+                text,
+                status: Status::Done,
+                board: Some(board),
+            }),
+            Err(Memory) => {
+                drop(board);
+                Err(Memory)
+            }
+        },
         Err(ReplayFault::BadEntry(n)) => Ok(Reply {
             text: bad_entry_text(alloc, n)?,
             status: Status::BadEntry(n),
