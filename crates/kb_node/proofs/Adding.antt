@@ -1,13 +1,11 @@
 -- A node of a pair is there once, or not at all.
-use Rattle.std.proofs.Common.{◌≡◌, false, true, Bool, ◌≤◌, ℕ, ◌<◌, List, [], ◌∷◌, ◌++◌, length, get_or, Some, None, Option, Result, Ok, Err, refl, sym, ap, subst, ◌∙◌, arith, ⊎_elim}
+use Rattle.std.proofs.Common.{◌≡◌, ℕ, ◌<◌, List, [], ◌∷◌, ◌++◌, length, get_or, Some, None, Option, Result, Ok, Err, refl, sym, ap, subst, ◌∙◌, arith, ⊎_elim}
 use Rattle.std.specs.Prelude.{slice_get, option_map, OnErr}
 use Rattle.std.proofs.lemmas.List.{map_push}
-use mathlib.Core.Bool.{true≢false}
 use Rattle.indexmap.specs.IndexSet.{insert_key}
 use Rattle.kb_term.specs.Tree.{Tree}
 use Rattle.std.proofs.lemmas.Option.{slice_get_within, get_or_from_slice_get}
 use Rattle.kb_term.specs.Pair.{Pair}
-use Rattle.term_bank.proofs.Places.{below_or_at}
 use Rattle.term_bank.proofs.Missing.{IsFront}
 use Rattle.kb_node.specs.Banked.{AreSides, IsPairWithin, IsBanked, with_sides, sides_eq}
 use Rattle.kb_node.specs.Labelled.{Node, pairs_of, HasPair, LacksPair, AreDistinct}
@@ -19,9 +17,6 @@ use Rattle.kb_node.proofs.Finding.{compared, new_key}
 pub on_err : {T E P : Type 0} (r : Result T E) → P → OnErr r P
 on_err (Ok x) h = tt
 on_err (Err e) h = h
-
-pub below_full : (n : ℕ) (b : Bool) → n ≤ 4096 → (n ≡ 4096 → b ≡ true) → b ≡ false → n < 4096
-below_full n b h e f = ⊎_elim (λ l. l) (λ i. absurd (true≢false (sym (e i) ∙ f))) (below_or_at n 4096 (omega arith))
 
 module _ {L : Type 0} (nodes : List (Node L)) (pair : Pair) where
   -- the node that has the pair

@@ -1,7 +1,8 @@
 // The table of nodes.
-ghost use Rattle.std.specs.Prelude.{◌≡◌, ℕ, ◌+◌, ◌*◌, [], Some, ◌<◌, ◌≤◌, ◌↔◌, length, take, slice_get, option_map, MatchOption, ◌++◌, IsTrue, IfOk, OnOk, OnErr};
+ghost use Rattle.std.specs.Prelude.{◌≡◌, ℕ, ◌+◌, ◌*◌, [], Some, ◌<◌, ◌≤◌, ◌↔◌, length, take, slice_get, option_map, MatchOption, ◌++◌, IsTrue, IfOk, IfSome, IfNone, OnOk, OnErr};
 ghost use Rattle.kb_label.specs.Names.{has};
 ghost use Rattle.kb_term.specs.Tree.{tree_size};
+ghost use Rattle.kb_term.specs.Pair.{IsCanonicalPair};
 ghost use Rattle.kb_node.specs.Banked.{IsPairWithin};
 ghost use Rattle.kb_node.specs.Labelled.{label_in, with_label_at, pairs_of, is_dead_under, HasPair, LacksPair, AreDistinct, AddsNode};
 ghost use Rattle.kb_node.specs.Views.{when, equations_of, rules_of, constraints_of};
@@ -165,33 +166,55 @@ impl<L: Labels> NodeTable<L> {
         ensures limit { LacksPair self.old pair → length self.old < MAX_NODES → (IsPairWithin pair → ⊥) → result ≡ Err NodeFault.Memory }
         ensures err { OnErr result (self.new ≡ self.old) }
     {
-        if let Some(n) = self.find(&pair) {
-            return Ok(n);
+        let answer = match self.settled(&pair) {
+            Some(settled) => {
+                drop(origin);
+                settled
+            }
+            None => self.add(&pair, origin),
+        };
+        drop(pair);
+        answer
+    }
+
+    // What is answered without one more node: where some node has the pair, the table is full or the pair passes a limit of terms.
+    fn settled(&self, pair: &Pair) -> Option<Result<NodeId, NodeFault>>
+        ensures present { (n : ℕ) → HasPair self.now n pair.now → result ≡ Some (Ok (record { 0 = n })) }
+        ensures found { IfSome result (λ r. IfOk r (λ n. HasPair self.now n.0 pair.now)) }
+        ensures full { (result ≡ Some (Err NodeFault.Full)) ↔ (LacksPair self.now pair.now × (length self.now ≡ MAX_NODES)) }
+        ensures limit { LacksPair self.now pair.now → length self.now < MAX_NODES → (IsPairWithin pair.now → ⊥) → result ≡ Some (Err NodeFault.Memory) }
+        ensures none { IfNone result (LacksPair self.now pair.now × (length self.now < MAX_NODES) × IsPairWithin pair.now) }
+    {
+        let is_full = self.entries.len() == MAX_NODES;
+        match self.find(pair) {
+            Some(n) => Some(Ok(n)),
+            None if is_full => Some(Err(NodeFault::Full)),
+            None if !is_within(pair) => Some(Err(NodeFault::Memory)),
+            None => None,
         }
-        if self.is_full() {
-            return Err(NodeFault::Full);
-        }
-        if !is_within(&pair) {
-            return Err(NodeFault::Memory);
-        }
+    }
+
+    // One more node, without labels, where there is memory for it.
+    fn add(&mut self, pair: &Pair, origin: Origin) -> Result<NodeId, NodeFault>
+        requires new { LacksPair self.old pair.now }
+        requires room { length self.old < MAX_NODES }
+        requires within { IsPairWithin pair.now }
+        requires canonical { IsCanonicalPair pair.now }
+        ensures added { IfOk result (λ n. (n.0 ≡ length self.old) × AddsNode L.names_under self.old self.new pair.now origin) }
+        ensures memory { OnErr result (result ≡ Err NodeFault.Memory) }
+        ensures err { OnErr result (self.new ≡ self.old) }
+    {
         self.entries.reserve(1)?;
         self.sides.reserve(1)?;
         self.starts.reserve(1)?;
         let start = self.bank.used();
-        let sides = intern(&mut self.bank, &pair)?;
+        let sides = intern(&mut self.bank, pair)?;
         self.starts.push(start).unwrap();
         self.sides.insert(sides).unwrap();
         let number = self.entries.len();
         let entry = Entry::unlabelled(*self.entries.allocator(), origin);
         self.entries.push(entry).unwrap();
         Ok(NodeId(number as u16))
-    }
-
-    // Whether there are as many nodes as a table may have.
-    fn is_full(&self) -> bool
-        ensures { IsTrue result ↔ (length self.now ≡ MAX_NODES) }
-    {
-        self.entries.len() == MAX_NODES
     }
 
     /// What a process sees of the nodes.
