@@ -1,6 +1,6 @@
 // The command that reads the words.
-ghost use Rattle.std.specs.Prelude.{◌≡◌, ◌∷◌, [], IfOk, Some, false};
-ghost use Rattle.clap.specs.Words.{app_of, new_rule, rule_of};
+ghost use Rattle.std.specs.Prelude.{◌≡◌, ◌∷◌, [], IfOk, Some, codes, false};
+ghost use Rattle.clap.specs.Words.{app_of, new_rule, rule_of, with_rule};
 ghost use Rattle.clap.specs.declared.builder.action.ArgAction.TheVariants.{Set};
 ghost use Rattle.mkbtt_words.specs.Command.{budget, command as the_command, mode_rule, name_rule, number, option_rule, workers};
 
@@ -78,6 +78,25 @@ fn name_option<'a>(alloc: Global, name: &'a str, standard: &'a str) -> Arg<'a>
         .default_value(standard)
 }
 
+// The command with the options that take a number.
+fn with_numbers<'a>(alloc: Global, command: Command<'a>) -> Result<Command<'a>, AllocError>
+    ensures { IfOk result (λ c. app_of c ≡ with_rule (with_rule (with_rule (app_of command.entry) (option_rule workers)) (option_rule budget)) (option_rule number)) }
+{
+    command
+        .arg(workers_argument(alloc))?
+        .arg(budget_argument(alloc))?
+        .arg(number_argument(alloc))
+}
+
+// The command with the options that take a name.
+fn with_names<'a>(alloc: Global, command: Command<'a>) -> Result<Command<'a>, AllocError>
+    ensures { IfOk result (λ c. app_of c ≡ with_rule (with_rule (app_of command.entry) (name_rule (codes "to") (codes "answer"))) (name_rule (codes "select") (codes "stated"))) }
+{
+    command
+        .arg(name_option(alloc, "to", "answer"))?
+        .arg(name_option(alloc, "select", "stated"))
+}
+
 /// The command with the mode and the options. Which texts name a mode, a format or a selection, it doesn't say: these are
 /// looked up in what it found.
 ///
@@ -87,12 +106,9 @@ fn name_option<'a>(alloc: Global, name: &'a str, standard: &'a str) -> Arg<'a>
 pub(crate) fn command<'a>(alloc: Global) -> Result<Command<'a>, AllocError>
     ensures { IfOk result (λ c. app_of c ≡ the_command) }
 {
-    Command::new(alloc, "mkbtt")
+    let words = Command::new(alloc, "mkbtt")
         .no_binary_name(true)
-        .arg(mode_argument(alloc))?
-        .arg(workers_argument(alloc))?
-        .arg(budget_argument(alloc))?
-        .arg(number_argument(alloc))?
-        .arg(name_option(alloc, "to", "answer"))?
-        .arg(name_option(alloc, "select", "stated"))
+        .arg(mode_argument(alloc))?;
+    let numbers = with_numbers(alloc, words)?;
+    with_names(alloc, numbers)
 }
