@@ -1,6 +1,8 @@
 // The problem that a text spells.
 ghost use Rattle.std.specs.Prelude.{◌≡◌, ◌+◌, ◌-◌, ◌<◌, ◌≤◌, IfErr, IfOk, IsUtf8, get_or, length, map};
 ghost use Rattle.kb_text.specs.Problems.{Spells};
+ghost use Rattle.kb_syntax.specs.Looks.{outside};
+ghost use Rattle.kb_syntax.specs.Reader.{AreEmpty, place_look};
 ghost use Rattle.kb_syntax.specs.Refused.{IsFault, IsRefusal};
 ghost use Rattle.kb_text.specs.Refusals.{place_of};
 ghost use Rattle.kb_text.specs.Tokens.{placed_tokens};
@@ -42,14 +44,20 @@ fn refusal(bytes: &[u8], kind: Kind, number: usize) -> SyntaxFault
     })
 }
 
-// The problem of a text, token by token from the left. A refusal's place may be some tokens before the one that shows it.
-fn parse_text(alloc: Global, text: &[u8]) -> Result<Problem, SyntaxFault>
+// The problem of a text, token by token from the left, by a reader that has read nothing yet. A refusal's place may be some
+// tokens before the one that shows it.
+fn read_tokens<'a>(
+    alloc: Global,
+    text: &'a [u8],
+    reader: &mut Reader<'a>,
+) -> Result<Problem, SyntaxFault>
     requires short { length text.now ≤ 1048576 }
     requires utf8 { IsUtf8 text.now }
+    requires notes { AreEmpty reader.old.notes }
+    requires place { place_look reader.old.place ≡ outside }
     ensures spelled { IfOk result (λ p. Spells text.now p) }
     ensures refused { IfErr result (λ e. IsFault text.now e) }
 {
-    let mut reader = Reader::new(alloc);
     let mut number: usize = 0;
     let mut at = 0;
     let mut last_is_variable = false;
@@ -72,6 +80,17 @@ fn parse_text(alloc: Global, text: &[u8]) -> Result<Problem, SyntaxFault>
         at = found.end;
         last_is_variable = variable.is_some();
     }
+}
+
+// The problem of a text of so many bytes that is UTF-8.
+fn parse_text(alloc: Global, text: &[u8]) -> Result<Problem, SyntaxFault>
+    requires short { length text.now ≤ 1048576 }
+    requires utf8 { IsUtf8 text.now }
+    ensures spelled { IfOk result (λ p. Spells text.now p) }
+    ensures refused { IfErr result (λ e. IsFault text.now e) }
+{
+    let mut reader = Reader::new(alloc);
+    read_tokens(alloc, text, &mut reader)
 }
 
 /// The problem that the bytes spell: sections of variables and of rules, with any others passed over.

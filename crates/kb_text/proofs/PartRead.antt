@@ -8,7 +8,7 @@ use Rattle.kb_term.specs.Tree.{Tree, variable, apply, Trees, no_trees, more_tree
 use Rattle.kb_term.specs.View.{tree_of}
 use Rattle.kb_term.specs.declared.term.Term.{Term}
 use Rattle.kb_text.specs.Terms.{names_of, prefix_length, separator, variable_text, symbol_text, term_text, arguments_text, later_text}
-use Rattle.kb_text.specs.TermReading.{IsInName, IsNameEnd, IsBounded, AreBounded, BeginsWithTerm, BeginsWithNone, IsClosed, closing_text}
+use Rattle.kb_text.specs.TermReading.{IsInName, IsNameEnd, IsBounded, AreBounded, BeginsWithArguments, BeginsWithNoArguments, BeginsWithTerm, BeginsWithNone, IsClosed, closing_text}
 use Rattle.kb_text.proofs.TextLaws.{opened_text}
 use Rattle.kb_text.proofs.TermTexts.{one_cut, one_term, same_tail, arguments_end, arguments_more, later_more, name_in_name, one_symbol, arity_within, one_arity}
 use Rattle.kb_text.proofs.VariableTexts.{variable_in_name}
@@ -57,10 +57,6 @@ length-push (x ∷ xs) y = omega (arith, length-push xs y)
 abbrev pub IsLeft : Signature → ℕ → ℕ → List ℕ → ℕ → List ℕ → Type 0
 IsLeft signature d arity tail i rest = (vs : Trees) × AreBounded signature d vs × (length (list_of vs) + i ≡ arity) × (tail ≡ rest_text (names_of signature) i vs ++ rest)
 
--- no arguments, so many, are spelled
-abbrev pub AreUnread : Signature → ℕ → ℕ → List ℕ → Type 0
-AreUnread signature d arity behind = (us : Trees) (rest : List ℕ) → AreBounded signature d us → length (list_of us) ≡ arity → IsNameEnd rest → ¬ (behind ≡ arguments_text (names_of signature) us ++ rest)
-
 -- the first i arguments of a list that is spelled behind a symbol
 pub record IsPartRead (signature : Signature) (d arity : ℕ) (behind : List ℕ) (items : List Tree) (i at : ℕ) : Type 0 where
   pub count : length items ≡ i
@@ -69,6 +65,16 @@ pub record IsPartRead (signature : Signature) (d arity : ℕ) (behind : List ℕ
   pub spelling : behind ≡ opened_text (names_of signature) (trees_of items) ++ drop at behind
   pub ends : IsNameEnd (drop at behind)
   pub left : (us : Trees) (rest : List ℕ) → AreBounded signature d us → length (list_of us) ≡ arity → IsNameEnd rest → behind ≡ arguments_text (names_of signature) us ++ rest → IsLeft signature d arity (drop at behind) i rest
+
+pub none_read : (signature : Signature) (d arity : ℕ) (behind : List ℕ) → IsNameEnd behind → IsPartRead signature d arity behind [] 0 0
+none_read signature d arity behind h = record {
+  count = refl;
+  within = omega arith;
+  bounded = tt;
+  spelling = refl;
+  ends = h;
+  left = λ us rest b n e k. (us, b, omega (arith, n), k);
+}
 
 pub part_more : (signature : Signature) → IsSignature signature → (d arity : ℕ) (behind : List ℕ) (items : List Tree) (i at : ℕ) (rest : List ℕ) (t : Tree) (size : ℕ) → IsPartRead signature d arity behind items i at → i < arity → drop at behind ≡ separator i ∷ rest → BeginsWithTerm signature rest d t size
     → IsPartRead signature d arity behind (items ++ t ∷ []) (suc i) (at + (1 + size))
@@ -119,14 +125,14 @@ bounded_some signature d (variable n) h = h.0
 bounded_some signature d (apply f ts) h = h.0
 
 -- an argument that is missing
-pub no_separator : (signature : Signature) (d arity : ℕ) (behind : List ℕ) (items : List Tree) (i at : ℕ) → IsPartRead signature d arity behind items i at → i < arity → ((rest : List ℕ) → ¬ (drop at behind ≡ separator i ∷ rest)) → AreUnread signature d arity behind
+pub no_separator : (signature : Signature) (d arity : ℕ) (behind : List ℕ) (items : List Tree) (i at : ℕ) → IsPartRead signature d arity behind items i at → i < arity → ((rest : List ℕ) → ¬ (drop at behind ≡ separator i ∷ rest)) → BeginsWithNoArguments signature behind d arity
 no_separator signature d arity behind items i at p l none = λ us rest b n e k. go rest (p.left us rest b n e k)
   where
     go : (rest : List ℕ) → IsLeft signature d arity (drop at behind) i rest → ⊥
     go rest (no_trees, c, n, k) = absurd (omega arith)
     go rest (more_trees v vs, c, n, k) = none (term_text (names_of signature) v ++ (rest_text (names_of signature) (suc i) vs ++ rest)) (k ∙ rest_more (names_of signature) i v vs rest)
 
-pub no_argument : (signature : Signature) (d arity : ℕ) (behind : List ℕ) (items : List Tree) (i at : ℕ) (tail : List ℕ) → IsPartRead signature d arity behind items i at → i < arity → drop at behind ≡ separator i ∷ tail → BeginsWithNone signature tail d → AreUnread signature d arity behind
+pub no_argument : (signature : Signature) (d arity : ℕ) (behind : List ℕ) (items : List Tree) (i at : ℕ) (tail : List ℕ) → IsPartRead signature d arity behind items i at → i < arity → drop at behind ≡ separator i ∷ tail → BeginsWithNone signature tail d → BeginsWithNoArguments signature behind d arity
 no_argument signature d arity behind items i at tail p l cut none = λ us rest b n e k. go rest (p.left us rest b n e k)
   where
     go : (rest : List ℕ) → IsLeft signature d arity (drop at behind) i rest → ⊥
@@ -139,7 +145,7 @@ rest_none : (names : List (List ℕ)) (i : ℕ) → rest_text names i no_trees �
 rest_none names zero = refl
 rest_none names (suc i) = refl
 
-pub no_closing : (signature : Signature) (d arity : ℕ) (behind : List ℕ) (items : List Tree) (at : ℕ) → IsPartRead signature d arity behind items arity at → ((rest : List ℕ) → IsNameEnd rest → ¬ (drop at behind ≡ closing_text arity ++ rest)) → AreUnread signature d arity behind
+pub no_closing : (signature : Signature) (d arity : ℕ) (behind : List ℕ) (items : List Tree) (at : ℕ) → IsPartRead signature d arity behind items arity at → ((rest : List ℕ) → IsNameEnd rest → ¬ (drop at behind ≡ closing_text arity ++ rest)) → BeginsWithNoArguments signature behind d arity
 no_closing signature d arity behind items at p none = λ us rest b n e k. go rest e (p.left us rest b n e k)
   where
     go : (rest : List ℕ) → IsNameEnd rest → IsLeft signature d arity (drop at behind) arity rest → ⊥
@@ -177,7 +183,7 @@ no_head signature s text name behind size d c v f = go
         let inside = arity_within signature g (length (list_of us)) b.1 in
         f g inside (sym (one_cut name (symbol_text (names_of signature) g) behind (arguments_text (names_of signature) us ++ rest) c.in_name (name_in_name signature s g inside) c.ends (arguments_end (names_of signature) us rest e) (sym c.whole ∙ k ∙ append_assoc (symbol_text (names_of signature) g) (arguments_text (names_of signature) us) rest)).0)
 
-pub no_arguments : (signature : Signature) → IsSignature signature → (text name behind : List ℕ) (size d f arity : ℕ) → IsCut text name behind size → NoVariable signature name → f < length signature → symbol_text (names_of signature) f ≡ name → HasArity signature f arity → AreUnread signature (d - 1) arity behind → BeginsWithNone signature text d
+pub no_arguments : (signature : Signature) → IsSignature signature → (text name behind : List ℕ) (size d f arity : ℕ) → IsCut text name behind size → NoVariable signature name → f < length signature → symbol_text (names_of signature) f ≡ name → HasArity signature f arity → BeginsWithNoArguments signature behind (d - 1) arity → BeginsWithNone signature text d
 no_arguments signature s text name behind size d f arity c v l e a none = go
   where
     go : BeginsWithNone signature text d
@@ -188,26 +194,38 @@ no_arguments signature s text name behind size d f arity c v l e a none = go
         let same : g ≡ f = one_symbol signature s g f inside l (sym j.0 ∙ sym e) in
         none us rest b.2 (one_arity signature f (length (list_of us)) arity (subst (λ (x : ℕ). HasArity signature x (length (list_of us))) same b.1) a) q j.1
 
-pub application_read : (signature : Signature) (text name behind : List ℕ) (cut d f arity : ℕ) (items : List Tree) (at size : ℕ) → IsCut text name behind cut → 1 ≤ d → symbol_text (names_of signature) f ≡ name → HasArity signature f arity → IsPartRead signature (d - 1) arity behind items arity at → IsClosed (drop at behind) arity size
-    → BeginsWithTerm signature text d (apply f (trees_of items)) (length name + at + size)
-application_read signature text name behind cut d f arity items at size c h e a p k = record {
-  bounded = (h, subst (HasArity signature f) (sym (length-list_of items ∙ p.count)) a, p.bounded);
-  within = omega (arith, k.within, length-drop at behind, ap length c.whole, length-append name behind, p.within);
-  spelling = c.whole ∙ ap₂ ◌++◌ (sym e) whole ∙ sym (append_assoc (symbol_text names f) (arguments_text names (trees_of items)) (drop (length name + at + size) text));
+pub arguments_read : (signature : Signature) (behind : List ℕ) (d arity : ℕ) (items : List Tree) (at size : ℕ) → IsPartRead signature d arity behind items arity at → IsClosed (drop at behind) arity size → BeginsWithArguments signature behind d arity items (at + size)
+arguments_read signature behind d arity items at size p k = record {
+  bounded = p.bounded;
+  count = p.count;
+  within = omega (arith, k.within, length-drop at behind, p.within);
+  spelling =
+      p.spelling
+      ∙ ap (opened_text names (trees_of items) ++◌) (k.spelling ∙ ap₂ ◌++◌ (ap closing_text (sym p.count)) (sym moved))
+      ∙ sym (append_assoc (opened_text names (trees_of items)) (closing_text (length items)) (drop (at + size) behind))
+      ∙ ap (λ xs. xs ++ drop (at + size) behind) (opened_closed names items);
   ends = subst IsNameEnd (sym moved) k.ends;
 }
   where
     names : List (List ℕ)
     names = names_of signature
 
-    moved : drop (length name + at + size) text ≡ drop size (drop at behind)
-    moved =
-        let sum : length name + at + size ≡ cut + (at + size) = omega (arith, c.size_is) in
-        ap (λ k. drop k text) sum ∙ sym (drop-drop (at + size) cut text) ∙ ap (drop (at + size)) (sym c.behind_is) ∙ sym (drop-drop size at behind)
+    moved : drop (at + size) behind ≡ drop size (drop at behind)
+    moved = sym (drop-drop size at behind)
 
-    whole : behind ≡ arguments_text names (trees_of items) ++ drop (length name + at + size) text
-    whole =
-        p.spelling
-        ∙ ap (opened_text names (trees_of items) ++◌) (k.spelling ∙ ap₂ ◌++◌ (ap closing_text (sym p.count)) (sym moved))
-        ∙ sym (append_assoc (opened_text names (trees_of items)) (closing_text (length items)) (drop (length name + at + size) text))
-        ∙ ap (λ xs. xs ++ drop (length name + at + size) text) (opened_closed names items)
+pub application_read : (signature : Signature) (text name behind : List ℕ) (cut d f arity : ℕ) (items : List Tree) (size : ℕ) → IsCut text name behind cut → 1 ≤ d → symbol_text (names_of signature) f ≡ name → HasArity signature f arity → BeginsWithArguments signature behind (d - 1) arity items size
+    → BeginsWithTerm signature text d (apply f (trees_of items)) (length name + size)
+application_read signature text name behind cut d f arity items size c h e a p = record {
+  bounded = (h, subst (HasArity signature f) (sym (length-list_of items ∙ p.count)) a, p.bounded);
+  within = omega (arith, ap length c.whole, length-append name behind, p.within);
+  spelling = c.whole ∙ ap₂ ◌++◌ (sym e) (p.spelling ∙ ap (arguments_text names (trees_of items) ++◌) (sym moved)) ∙ sym (append_assoc (symbol_text names f) (arguments_text names (trees_of items)) (drop (length name + size) text));
+  ends = subst IsNameEnd (sym moved) p.ends;
+}
+  where
+    names : List (List ℕ)
+    names = names_of signature
+
+    moved : drop (length name + size) text ≡ drop size behind
+    moved =
+        let sum : length name + size ≡ cut + size = omega (arith, c.size_is) in
+        ap (λ k. drop k text) sum ∙ sym (drop-drop size cut text) ∙ ap (drop size) (sym c.behind_is)

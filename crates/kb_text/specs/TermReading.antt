@@ -1,8 +1,8 @@
 -- What a text begins with: a name, or the text of a term over a signature.
 use Rattle.std.specs.Prelude.{◌≡◌, ℕ, zero, suc, ◌-◌, ◌<◌, ◌≤◌, ◌==◌, List, [], ◌∷◌, ◌++◌, Bool, true, false, ◌||◌, length, drop, ⊤}
-use Rattle.kb_term.specs.Tree.{Tree, variable, apply, Trees, no_trees, more_trees, list_of}
+use Rattle.kb_term.specs.Tree.{Tree, variable, apply, Trees, no_trees, more_trees, list_of, trees_of}
 use Rattle.kb_term.specs.Signature.{Signature, HasArity}
-use Rattle.kb_text.specs.Terms.{names_of, term_text}
+use Rattle.kb_text.specs.Terms.{names_of, term_text, arguments_text}
 
 -- parentheses and the comma end a name in the text of a term
 abbrev pub ends_name : ℕ → Bool
@@ -38,6 +38,18 @@ pub record BeginsWithTerm (signature : Signature) (text : List ℕ) (depth : ℕ
 -- it begins with that of no term
 abbrev pub BeginsWithNone : Signature → List ℕ → ℕ → Type 0
 BeginsWithNone signature text depth = (t : Tree) (rest : List ℕ) → IsBounded signature depth t → IsNameEnd rest → ¬ (text ≡ term_text (names_of signature) t ++ rest)
+
+-- it begins with what stands behind a symbol that has these arguments, so many, each of at most this depth; it takes so many bytes
+pub record BeginsWithArguments (signature : Signature) (text : List ℕ) (depth arity : ℕ) (ts : List Tree) (size : ℕ) : Type 0 where
+  pub bounded : AreBounded signature depth (trees_of ts)
+  pub count : length ts ≡ arity
+  pub within : size ≤ length text
+  pub spelling : text ≡ arguments_text (names_of signature) (trees_of ts) ++ drop size text
+  pub ends : IsNameEnd (drop size text)
+
+-- it begins with no such arguments
+abbrev pub BeginsWithNoArguments : Signature → List ℕ → ℕ → ℕ → Type 0
+BeginsWithNoArguments signature text depth arity = (ts : Trees) (rest : List ℕ) → AreBounded signature depth ts → length (list_of ts) ≡ arity → IsNameEnd rest → ¬ (text ≡ arguments_text (names_of signature) ts ++ rest)
 
 -- the closing parenthesis behind so many arguments, where there are any
 abbrev pub closing_text : ℕ → List ℕ

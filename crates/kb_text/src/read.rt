@@ -1,10 +1,10 @@
 // Reading the text of a term.
-ghost use Rattle.std.specs.Prelude.{◌≡◌, ◌≤◌, ◌<◌, ◌+◌, ◌++◌, ◌∷◌, ◌↔◌, ℕ, List, Some, IfOk, IsTrue, MatchOption, decimal, drop, length, option_map, replicate, take};
+ghost use Rattle.std.specs.Prelude.{◌≡◌, ◌≤◌, ◌<◌, ◌+◌, ◌++◌, ◌∷◌, ◌↔◌, ℕ, List, Some, IfOk, IsTrue, MatchOption, [], decimal, drop, length, map, option_map, replicate, take};
 ghost use Rattle.kb_term.specs.Signature.{IsSignature};
 ghost use Rattle.kb_term.specs.Tree.{Tree};
 ghost use Rattle.kb_term.specs.View.{tree_of};
 ghost use Rattle.kb_text.specs.Terms.{TermSpelled, names_of, prefix_length, symbol_text};
-ghost use Rattle.kb_text.specs.TermReading.{BeginsWithNone, BeginsWithTerm, IsInName, IsClosed, IsNameEnd, closing_text, ends_name};
+ghost use Rattle.kb_text.specs.TermReading.{BeginsWithArguments, BeginsWithNoArguments, BeginsWithNone, BeginsWithTerm, IsInName, IsClosed, IsNameEnd, closing_text, ends_name};
 
 use crate::text::{are_letters, first_free, separator_before};
 use kb_term::{Memory, Signature, Symbol, Term, Terms, term_limit};
@@ -116,7 +116,46 @@ fn closing_length(text: &[u8], arguments: usize) -> Option<usize>
     if is_at_name_end(rest) { Some(1) } else { None }
 }
 
+// Reads so many arguments of at most this depth, with the signs between them, and adds them to the list. How many bytes
+// they take; none where the text begins with no such arguments.
+#[cycle(read)]
+fn read_arguments(
+    alloc: Global,
+    signature: &Signature,
+    prefix: usize,
+    text: &[u8],
+    depth: usize,
+    arity: usize,
+    arguments: &mut Vec<Term>,
+) -> Result<Option<usize>, Memory>
+    requires names { IsSignature signature.now }
+    requires prefix { prefix ≡ prefix_length (names_of signature.now) }
+    requires end { IsNameEnd text.now }
+    requires empty { arguments.old.items ≡ [] }
+    ensures { IfOk result (λ found. MatchOption found (BeginsWithNoArguments signature.now text.now depth arity) (BeginsWithArguments signature.now text.now depth arity (map tree_of arguments.new.items))) }
+{
+    let mut at = 0;
+    for i in 0..arity {
+        let (_, tail) = text.split_at(at);
+        if !begins_with(tail, separator_before(i)) {
+            return Ok(None);
+        }
+        let (_, rest) = tail.split_at(1);
+        let Some((argument, size)) = read_from(alloc, signature, prefix, rest, depth)? else {
+            return Ok(None);
+        };
+        arguments.push(argument)?;
+        at += 1 + size;
+    }
+    let (_, tail) = text.split_at(at);
+    match closing_length(tail, arity) {
+        Some(size) => Ok(Some(at + size)),
+        None => Ok(None),
+    }
+}
+
 // The term of at most this depth that the text begins with, and how many bytes it takes.
+#[cycle(read)]
 fn read_from(
     alloc: Global,
     signature: &Signature,
@@ -131,7 +170,7 @@ fn read_from(
     if depth == 0 {
         return Ok(None);
     }
-    let (name, behind) = text.split_at(name_length(text));
+    let (name, rest) = text.split_at(name_length(text));
     if let Some(n) = variable_named(prefix, name) {
         return Ok(Some((Term::Var(n), name.len())));
     }
@@ -140,24 +179,18 @@ fn read_from(
     };
     let arity = signature.arity(symbol) as usize;
     let mut arguments = Vec::new(alloc);
-    let mut at = 0;
-    for i in 0..arity {
-        let (_, tail) = behind.split_at(at);
-        if !begins_with(tail, separator_before(i)) {
-            return Ok(None);
-        }
-        let (_, rest) = tail.split_at(1);
-        let Some((argument, size)) = read_from(alloc, signature, prefix, rest, depth - 1)? else {
-            return Ok(None);
-        };
-        arguments.push(argument)?;
-        at += 1 + size;
-    }
-    let (_, tail) = behind.split_at(at);
-    match closing_length(tail, arity) {
+    match read_arguments(
+        alloc,
+        signature,
+        prefix,
+        rest,
+        depth - 1,
+        arity,
+        &mut arguments,
+    )? {
         Some(size) => {
             let t = Term::App(symbol, Terms::new(arguments));
-            Ok(Some((t, name.len() + at + size)))
+            Ok(Some((t, name.len() + size)))
         }
         None => Ok(None),
     }

@@ -9,12 +9,12 @@ use Rattle.kb_text.specs.declared.lexer.Form.TheVariants.{End}
 use Rattle.kb_syntax.proofs.Reached.{start_reached, short_side, small_depth, name_of, shown_fault, bad_fault, stepped, finished, is_ahead}
 use Rattle.kb_syntax.proofs.ShownLaws.{shown-known}
 use Rattle.kb_syntax.proofs.LastLaws.{told_start, told_next}
-use Rattle.kb_syntax.proofs.parse.parse_text.Goals as goal
+use Rattle.kb_syntax.proofs.parse.read_tokens.Goals as goal
 
 pub loop-kind-init : goal.loop-kind-init
 loop-kind-init c = record {
-  reached = start_reached c.args.text.now c.new-reader.result c.requires.utf8 c.new-reader.ensures.notes c.new-reader.ensures.place;
-  told = told_start c.new-reader.result.notes.variables.declared (place_look c.new-reader.result.place) c.new-reader.ensures.place;
+  reached = start_reached c.args.text.now c.args.reader.now c.requires.utf8 c.requires.notes c.requires.place;
+  told = told_start c.args.reader.now.notes.variables.declared (place_look c.args.reader.now.place) c.requires.place;
 }
 
 pub shown-requires-clause-side : goal.shown-requires-clause-side

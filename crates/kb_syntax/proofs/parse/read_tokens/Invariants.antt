@@ -2,7 +2,7 @@ use Rattle.std.proofs.Common.{◌-◌, length}
 use Rattle.kb_syntax.specs.Looks.{look_side}
 use Rattle.kb_syntax.specs.Reader.{TellsLast, place_look}
 use Rattle.kb_syntax.proofs.Reached.{Reached}
-use Rattle.kb_syntax.proofs.parse.parse_text.Given as goal
+use Rattle.kb_syntax.proofs.parse.read_tokens.Given as goal
 
 -- the reader stands behind the tokens so far, which show nothing
 abbrev pub invariant-loop-kind : goal.invariant-loop-kind
