@@ -17,6 +17,7 @@ use std::env;
 use std::process::ExitCode;
 use std::sync::Wait;
 use std::thread::Threads;
+use std::time::Clock;
 use work_crew::{work_together, work_together_by};
 
 /// The most bytes of a problem.
@@ -93,7 +94,7 @@ fn started(alloc: Global, bytes: &[u8], budget: u32) -> Result<Board, Memory>
 }
 
 // How many commits the workers make on the board.
-fn commits<R: Threads + Wait + Sync>(rt: &R, alloc: Global, board: Board, request: Request) -> u32
+fn commits<R: Threads + Wait + Clock + Sync>(rt: &R, alloc: Global, board: Board, request: Request) -> u32
     requires least { 1 ≤ request.workers }
     requires most { request.workers ≤ 16 }
     requires opening { board.journal ≡ [] }
@@ -109,7 +110,7 @@ fn commits<R: Threads + Wait + Sync>(rt: &R, alloc: Global, board: Board, reques
 }
 
 // How many commits are made on the problem that is read.
-fn answer<R: Threads + Wait + Sync>(
+fn answer<R: Threads + Wait + Clock + Sync>(
     threads: &R,
     rt: &HostRuntime,
     request: Request,

@@ -18,7 +18,8 @@ use mkb_board::Board;
 use mkb_model::{Entry, Proposed};
 use std::alloc::Global;
 use std::sync::Wait;
-use std::thread::{Threads, join};
+use std::thread::{Threads, join, sleep};
+use std::time::{Clock, Duration};
 use turn_lock::{Backoff, Seat, Turns};
 
 /// How often the sleep of a worker that rests is doubled: the longest is of 480 microseconds, so that with what the system adds it is
@@ -27,6 +28,16 @@ const DOUBLINGS: u32 = 5;
 
 /// The number of the first worker.
 const FIRST: u8 = 1;
+
+/// How long a worker that leaves the board to others sleeps before it looks again, in microseconds; with what the system adds it is
+/// below a millisecond.
+const NAP: u64 = 400;
+
+/// The fewest entries made within a nap that show that jobs take no longer than turns, so that one more worker would be of no use.
+const CROWD: u64 = 16;
+
+/// The most naps of a worker between two of its tickets.
+const NAPS: u32 = 64;
 
 // What the workers share: the lock of the board, and where memory comes from.
 struct Workplace {
@@ -130,10 +141,27 @@ fn wait_for_more<R: Wait>(
     }
 }
 
+// Leaves the board to others, without the turn: for a nap, and for more of them as long as the others make entries fast.
+fn leave_to_others<R: Clock>(rt: &R, place: &Workplace, seat: &mut Seat<Shared>)
+    requires { Rests place.now.turns seat.old }
+    ensures rests { Rests place.now.turns seat.new }
+    ensures same { IsSameSeat seat.old seat.new }
+{
+    let mut entries = place.turns.seen(seat);
+    for _ in 0..NAPS {
+        sleep(rt, Duration::from_micros(NAP));
+        let before = entries;
+        entries = place.turns.seen(seat);
+        if entries.saturating_sub(before) < CROWD {
+            return;
+        }
+    }
+}
+
 // One worker: it takes tickets, asks the gate, works and ends them, until a verdict stands, a halt was made or it finds no memory.
-// Where others want the turn it rests between a ticket and the next, longer each time, so that where jobs are shorter than turns few
-// workers are at work.
-fn serve<G: Gate, S: Searcher, R: Wait>(
+// Where others want the turn it rests between a ticket and the next for as long as they make entries fast, so that where jobs are
+// shorter than turns few workers are at work.
+fn serve<G: Gate, S: Searcher, R: Wait + Clock>(
     rt: &R,
     place: &Workplace,
     gate: &G,
@@ -145,7 +173,6 @@ fn serve<G: Gate, S: Searcher, R: Wait>(
     ensures same { IsSameSeat seat result }
 {
     let mut idle = Backoff::new(DOUBLINGS);
-    let mut crowded = Backoff::new(DOUBLINGS);
     let mut next = take_one(rt, place, gate, &mut seat);
     for _ in rt.forever() {
         match next {
@@ -159,7 +186,7 @@ fn serve<G: Gate, S: Searcher, R: Wait>(
                 next = take_one(rt, place, gate, &mut seat);
             }
             Next::Rest => {
-                crowded.rest(rt);
+                leave_to_others(rt, place, &mut seat);
                 next = take_one(rt, place, gate, &mut seat);
             }
             Next::End => break,
@@ -169,7 +196,7 @@ fn serve<G: Gate, S: Searcher, R: Wait>(
 }
 
 // The first seat's worker and so many more, each in a thread of its own.
-fn serve_all<G: Gate, S: Searcher, R: Threads + Wait + Sync>(
+fn serve_all<G: Gate, S: Searcher, R: Threads + Wait + Clock + Sync>(
     rt: &R,
     place: &Workplace,
     gate: &G,
@@ -211,7 +238,7 @@ fn serve_all<G: Gate, S: Searcher, R: Threads + Wait + Sync>(
 }
 
 // The board on which so many workers have ended; untouched where there is no memory for the lock.
-fn worked_on<G: Gate, S: Searcher, R: Threads + Wait + Sync>(
+fn worked_on<G: Gate, S: Searcher, R: Threads + Wait + Clock + Sync>(
     rt: &R,
     alloc: Global,
     board: Board,
@@ -249,7 +276,7 @@ fn is_left(journal: &[Entry]) -> bool
 /// journal has another entry. The workers share what they find of the family of orders.
 ///
 /// Where there is no memory for the lock the board comes back with a halt alone.
-pub fn work_together<G: Gate, R: Threads + Wait + Sync>(
+pub fn work_together<G: Gate, R: Threads + Wait + Clock + Sync>(
     rt: &R,
     alloc: Global,
     board: Board,
@@ -271,7 +298,7 @@ pub fn work_together<G: Gate, R: Threads + Wait + Sync>(
 }
 
 /// The same, where the searcher is asked for the orders of the tickets that orient.
-pub fn work_together_by<G: Gate, S: Searcher, R: Threads + Wait + Sync>(
+pub fn work_together_by<G: Gate, S: Searcher, R: Threads + Wait + Clock + Sync>(
     rt: &R,
     alloc: Global,
     board: Board,
