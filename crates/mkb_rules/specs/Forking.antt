@@ -7,6 +7,7 @@ use Rattle.mkb_model.specs.Effects.{certify_in, forked_node, forked_certificates
 use Rattle.mkb_rules.specs.Kept.{plain_done, plain_certificates}
 use Rattle.mkb_rules.specs.Over.{lists_of}
 use Rattle.mkb_rules.specs.declared.effects.forking.Forked.{Forked}
+use Rattle.mkb_rules.specs.declared.state.GivenUp.{GivenUp}
 
 -- the pairs of overlapped rules after a fork of p
 abbrev pub forked_done : Name → List Done → List Done
@@ -15,6 +16,17 @@ forked_done p ds = map (λ (d : Done). record d { names = relabel p d.names }) d
 -- those that gave up, after a fork of p
 abbrev pub forked_over : Name → List OverFor → List OverFor
 forked_over p gs = map (λ (g : OverFor). record g { names = relabel p g.names }) gs
+
+-- the lists of those that gave up, after a fork of p
+abbrev pub relabelled_lists : Name → GivenUp → GivenUp
+relabelled_lists p g = record {
+  nodes = relabel p g.nodes;
+  processes = relabel p g.processes;
+  size = relabel p g.size;
+  depth = relabel p g.depth;
+  variables = relabel p g.variables;
+  steps = relabel p g.steps;
+}
 
 -- the node at a number after a fork of p
 abbrev pub fork_at : Name → ℕ → List PlainNode → List PlainNode

@@ -124,10 +124,20 @@ fn make_room(alloc: Global, rows: &mut Vec<Row>, fact: &Fact) -> Result<(), Allo
         return Ok(());
     }
     let row = place(fact.rule.node, fact.rule.dir);
-    for _ in rows.len()..row + 1 {
+    add_rows(alloc, rows, row + 1)?;
+    rows[row].make_room(place(fact.node.0, fact.side) + 1)
+}
+
+// Adds rows without room behind the others until there are so many. What is known stays, after want of memory too.
+fn add_rows(alloc: Global, rows: &mut Vec<Row>, count: usize) -> Result<(), AllocError>
+    ensures count { OnOk result (count ≤ length rows.new.items) }
+    ensures rooms { (f : Told) → HasRoom rows.old.items f → HasRoom rows.new.items f }
+    ensures kept { (i j : ℕ) → known_at rows.new.items i j ≡ known_at rows.old.items i j }
+{
+    for _ in rows.len()..count {
         rows.push(Row::new(alloc))?;
     }
-    rows[row].make_room(place(fact.node.0, fact.side) + 1)
+    Ok(())
 }
 
 // The fact is found by what it is about, unless an earlier one is about the same.

@@ -6,10 +6,8 @@ ghost use Rattle.kb_term.specs.View.{equations_of_list, tree_of};
 ghost use Rattle.kb_label.specs.Names.{root};
 ghost use Rattle.kb_cert.specs.Family.{family as orders_of_family};
 ghost use Rattle.kb_cert.specs.declared.certificate.Certificate.{Certificate as OrderOf};
-ghost use Rattle.mkb_model.specs.Plain.{nobody_over};
 ghost use Rattle.mkb_model.specs.Journals.{opening, with_input, with_inputs};
 ghost use Rattle.mkb_rules.specs.Kept.{plain_certificates};
-ghost use Rattle.mkb_rules.specs.Over.{lists_of};
 
 use crate::facts::Facts;
 use crate::labels::only;
@@ -23,6 +21,15 @@ use kb_term::{Memory, Origin, Problem, Signature, Term, canonical};
 use mkb_model::Settings;
 use std::alloc::Global;
 
+/// Those parts of the first state that take memory.
+#[derive(Drop)]
+struct FirstParts {
+    log: NameLog,
+    nodes: Nodes,
+    asleep: Sleepers,
+    certificates: Vec<Certified>,
+}
+
 impl State {
     /// The state before any commit: the first process has the problem's equations that are not trivial, and orients by the
     /// first order of the run's family.
@@ -34,38 +41,46 @@ impl State {
         requires { IsWithinLimits problem }
         ensures { IfOk result (λ state. state ≡ opening problem settings) }
     {
-        let log = NameLog::start(alloc)?;
-        let nodes = input_nodes(alloc, &log, problem.equations())?;
-        let certificates = first_certificates(alloc, settings.family, problem.signature())?;
-        let asleep = Sleepers::new(alloc)?;
-        Ok(State {
-            problem,
-            settings,
-            log,
-            nodes,
-            done: Vec::new(alloc),
-            facts: Facts::new(alloc),
-            closed: ListLabels::new(alloc),
-            over: nobody(alloc),
-            asleep,
-            commits: 0,
-            certificates,
-        })
+        match start_parts(alloc, &problem, settings.family) {
+            Ok(parts) => Ok(State {
+                problem,
+                settings,
+                log: parts.log,
+                nodes: parts.nodes,
+                done: Vec::new(alloc),
+                facts: Facts::new(alloc),
+                closed: ListLabels::new(alloc),
+                over: GivenUp::nobody(alloc),
+                asleep: parts.asleep,
+                commits: 0,
+                certificates: parts.certificates,
+            }),
+            Err(fault) => {
+                drop(problem);
+                Err(fault)
+            }
+        }
     }
 }
 
-// Nobody gave up.
-fn nobody(alloc: Global) -> GivenUp
-    ensures { lists_of result ≡ nobody_over }
+// The parts that take memory, with the problem's equations and the family's first order.
+fn start_parts(alloc: Global, problem: &Problem, family: Family) -> Result<FirstParts, Memory>
+    requires { IsWithinLimits problem.now }
+    ensures log { IfOk result (λ parts. parts.log ≡ root ∷ []) }
+    ensures nodes { IfOk result (λ parts. parts.nodes.now ≡ with_inputs 1 problem.now.equations []) }
+    ensures asleep { IfOk result (λ parts. parts.asleep ≡ []) }
+    ensures certificates { IfOk result (λ parts. plain_certificates parts.certificates.items ≡ map (λ (c : OrderOf). record { name = root; certificate = c }) (take 1 (orders_of_family family problem.now.signature))) }
 {
-    GivenUp {
-        nodes: ListLabels::new(alloc),
-        processes: ListLabels::new(alloc),
-        size: ListLabels::new(alloc),
-        depth: ListLabels::new(alloc),
-        variables: ListLabels::new(alloc),
-        steps: ListLabels::new(alloc),
-    }
+    let asleep = Sleepers::new(alloc)?;
+    let log = NameLog::start(alloc)?;
+    let certificates = first_certificates(alloc, family, problem.signature())?;
+    let nodes = input_nodes(alloc, &log, problem.equations())?;
+    Ok(FirstParts {
+        log,
+        nodes,
+        asleep,
+        certificates,
+    })
 }
 
 // The order of the first process: the first one of the family, if there is one.
@@ -98,13 +113,37 @@ fn input_nodes(alloc: Global, log: &NameLog, equations: &[(Term, Term)]) -> Resu
     ensures { IfOk result (λ nodes. nodes.now ≡ with_inputs 1 (equations_of_list equations.now) []) }
 {
     let mut nodes = Nodes::new(alloc);
+    match add_inputs(alloc, &mut nodes, log, equations) {
+        Ok(()) => {
+            nodes.keep_accounts(log);
+            Ok(nodes)
+        }
+        Err(fault) => {
+            drop(nodes);
+            Err(fault)
+        }
+    }
+}
+
+// Adds the nodes of the input equations that are not trivial, where there are no nodes yet.
+fn add_inputs(
+    alloc: Global,
+    nodes: &mut Nodes,
+    log: &NameLog,
+    equations: &[(Term, Term)],
+) -> Result<(), Memory>
+    requires first { log.now ≡ root ∷ [] }
+    requires none { nodes.old.now ≡ [] }
+    requires few { length equations.now ≤ 256 }
+    requires variables { All (λ e. length (variables_of_pair e.0 e.1) ≤ 64) (equations_of_list equations.now) }
+    ensures { OnOk result (nodes.new.now ≡ with_inputs 1 (equations_of_list equations.now) []) }
+{
     let names = only(alloc, log, &Process::root())?;
     for i in 0..equations.len() {
         let number = i as u16 + 1;
-        add_input(alloc, &mut nodes, log, &names, number, &equations[i])?;
+        add_input(alloc, nodes, log, &names, number, &equations[i])?;
     }
-    nodes.keep_accounts(log);
-    Ok(nodes)
+    Ok(())
 }
 
 // Adds the node of an input equation, unless it is trivial.

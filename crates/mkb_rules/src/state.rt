@@ -20,6 +20,7 @@ use kb_label::{Labels, ListLabels, MAX_LIVING, NameLog, Process, Reason};
 use kb_node::{LabelKind, NodeId, NodeTable};
 use kb_term::{Found, Problem, RuleRef};
 use mkb_model::Settings;
+use std::alloc::Global;
 use std::marker::Model;
 
 /// The processes for which two rules have been overlapped.
@@ -248,8 +249,22 @@ impl State {
 
 impl GivenUp {
     ghost use Rattle.std.specs.Prelude.{◌≡◌};
-    ghost use Rattle.mkb_model.specs.Plain.{over_in};
+    ghost use Rattle.mkb_model.specs.Plain.{nobody_over, over_in};
     ghost use Rattle.mkb_rules.specs.Over.{lists_of};
+
+    /// Nobody gave up. It takes no memory.
+    pub(crate) fn nobody(alloc: Global) -> GivenUp
+        ensures { lists_of result ≡ nobody_over }
+    {
+        GivenUp {
+            nodes: ListLabels::new(alloc),
+            processes: ListLabels::new(alloc),
+            size: ListLabels::new(alloc),
+            depth: ListLabels::new(alloc),
+            variables: ListLabels::new(alloc),
+            steps: ListLabels::new(alloc),
+        }
+    }
 
     /// The reason for which a process gave up, the first of the six.
     pub(crate) fn reason_of(&self, log: &NameLog, p: &Process) -> Option<Reason>

@@ -5,8 +5,9 @@ ghost use Rattle.mkb_model.specs.Plain.{label_at};
 ghost use Rattle.mkb_model.specs.Effects.{certify_in, counted, forked_certificates, forked_node, oriented, with_label};
 ghost use Rattle.mkb_model.specs.declared.proposed.Proposed.TheVariants.{Both};
 ghost use Rattle.mkb_rules.specs.Applying.{Commits, HasBudget};
-ghost use Rattle.mkb_rules.specs.Forking.{forked_done, fork_at, with_parts, IsForkOf};
+ghost use Rattle.mkb_rules.specs.Forking.{forked_done, forked_over, fork_at, relabelled_lists, with_parts, IsForkOf};
 ghost use Rattle.mkb_rules.specs.Kept.{plain_certificates, plain_done};
+ghost use Rattle.mkb_rules.specs.Over.{lists_of};
 ghost use Rattle.mkb_rules.specs.Parts.{oriented_by};
 
 use crate::applied::Applied;
@@ -21,6 +22,7 @@ use kb_label::{Labels, ListLabels, Living, MAX_BITS, MAX_LIVING, NameLog, Proces
 use kb_node::{LabelKind, NodeId};
 use kb_term::{Memory, RuleRef};
 use std::alloc::{AllocError, Global};
+use std::mem;
 
 /// Parts of a state after a fork.
 #[derive(Drop)]
@@ -87,31 +89,31 @@ impl State {
         ensures err { OnErr result (self.new ≡ self.old) }
     {
         let _count = node_count(&self.nodes);
-        let parts = self.forked(alloc, p, cert0, cert1)?;
-        try_fork(alloc, &mut self.nodes, &parts.log, p, n)?;
-        self.take_over(parts);
-        Ok(Applied::Done)
+        let mut parts = self.forked(alloc, p, cert0, cert1)?;
+        match try_fork(alloc, &mut self.nodes, &parts.log, p, n) {
+            Ok(()) => {
+                self.take_over(&mut parts);
+                drop(parts);
+                Ok(Applied::Done)
+            }
+            Err(_) => {
+                drop(parts);
+                Err(Memory)
+            }
+        }
     }
 
-    // The parts after a fork take the place of those before; the commit is counted.
-    fn take_over(&mut self, parts: Forked)
+    // The parts after a fork take the place of those before, which take theirs; the commit is counted.
+    fn take_over(&mut self, parts: &mut Forked)
         requires { HasBudget self.old }
-        ensures { self.new ≡ counted (with_parts parts self.old) }
+        ensures { self.new ≡ counted (with_parts parts.old self.old) }
     {
-        let Forked {
-            log,
-            done,
-            closed,
-            over,
-            asleep,
-            certificates,
-        } = parts;
-        self.log = log;
-        self.done = done;
-        self.closed = closed;
-        self.over = over;
-        self.asleep = asleep;
-        self.certificates = certificates;
+        mem::swap(&mut self.log, &mut parts.log);
+        mem::swap(&mut self.done, &mut parts.done);
+        mem::swap(&mut self.closed, &mut parts.closed);
+        mem::swap(&mut self.over, &mut parts.over);
+        mem::swap(&mut self.asleep, &mut parts.asleep);
+        mem::swap(&mut self.certificates, &mut parts.certificates);
         self.commits = counted_up(self.commits, self.settings.budget);
     }
 
@@ -129,20 +131,46 @@ impl State {
         ensures short { length p.now < MAX_BITS }
     {
         learn_short(&self.log, p);
-        let log = forked_log(&self.log, p)?;
-        let done = relabelled_done(alloc, &self.log, &self.done, p)?;
-        let closed = relabelled(alloc, &self.log, &self.closed, p)?;
-        let over = relabelled_over(alloc, &self.log, &self.over, p)?;
         let asleep = self.asleep.forked(p)?;
-        let certificates = certified_children(alloc, &self.certificates, p, cert0, cert1)?;
-        Ok(Forked {
-            log,
-            done,
-            closed,
-            over,
+        let mut parts = Forked {
+            log: forked_log(&self.log, p)?,
+            done: Vec::new(alloc),
+            closed: ListLabels::new(alloc),
+            over: GivenUp::nobody(alloc),
             asleep,
-            certificates,
-        })
+            certificates: Vec::new(alloc),
+        };
+        match self.fork_lists(alloc, p, cert0, cert1, &mut parts) {
+            Ok(()) => Ok(parts),
+            Err(fault) => {
+                drop(parts);
+                Err(fault)
+            }
+        }
+    }
+
+    // The lists and the orders among the parts become those after a fork.
+    fn fork_lists(
+        &self,
+        alloc: Global,
+        p: &Process,
+        cert0: &Certificate,
+        cert1: &Certificate,
+        parts: &mut Forked,
+    ) -> Result<(), Memory>
+        requires { length p.now < MAX_BITS }
+        ensures log { parts.new.log ≡ parts.old.log }
+        ensures asleep { parts.new.asleep ≡ parts.old.asleep }
+        ensures done { OnOk result (plain_done parts.new.done.items ≡ forked_done p.now self.now.done) }
+        ensures closed { OnOk result (parts.new.closed ≡ relabel p.now self.now.closed) }
+        ensures over { OnOk result (lists_of parts.new.over ≡ forked_over p.now self.now.over) }
+        ensures certificates { OnOk result (plain_certificates parts.new.certificates.items ≡ certify_in (child p.now true) cert1.now (certify_in (child p.now false) cert0.now (forked_certificates p.now self.now.certificates))) }
+    {
+        parts.done = relabelled_done(alloc, &self.log, &self.done, p)?;
+        relabel_into(alloc, &self.log, &self.closed, p, &mut parts.closed)?;
+        relabel_over(alloc, &self.log, &self.over, p, &mut parts.over)?;
+        parts.certificates = certified_children(alloc, &self.certificates, p, cert0, cert1)?;
+        Ok(())
     }
 }
 
@@ -199,29 +227,38 @@ fn relabelled(
     Ok(copy)
 }
 
-fn relabelled_over(
+// Makes the lists those of the processes that gave up, in which the children of the process stand in its place.
+fn relabel_over(
     alloc: Global,
     log: &NameLog,
     over: &GivenUp,
     p: &Process,
-) -> Result<GivenUp, AllocError>
+    lists: &mut GivenUp,
+) -> Result<(), AllocError>
     requires { length p.now < MAX_BITS }
-    ensures { IfOk result (λ g. g ≡ record { nodes = relabel p.now over.now.nodes; processes = relabel p.now over.now.processes; size = relabel p.now over.now.size; depth = relabel p.now over.now.depth; variables = relabel p.now over.now.variables; steps = relabel p.now over.now.steps }) }
+    ensures { OnOk result (lists.new ≡ relabelled_lists p.now over.now) }
 {
-    let nodes = relabelled(alloc, log, &over.nodes, p)?;
-    let processes = relabelled(alloc, log, &over.processes, p)?;
-    let size = relabelled(alloc, log, &over.size, p)?;
-    let depth = relabelled(alloc, log, &over.depth, p)?;
-    let variables = relabelled(alloc, log, &over.variables, p)?;
-    let steps = relabelled(alloc, log, &over.steps, p)?;
-    Ok(GivenUp {
-        nodes,
-        processes,
-        size,
-        depth,
-        variables,
-        steps,
-    })
+    relabel_into(alloc, log, &over.nodes, p, &mut lists.nodes)?;
+    relabel_into(alloc, log, &over.processes, p, &mut lists.processes)?;
+    relabel_into(alloc, log, &over.size, p, &mut lists.size)?;
+    relabel_into(alloc, log, &over.depth, p, &mut lists.depth)?;
+    relabel_into(alloc, log, &over.variables, p, &mut lists.variables)?;
+    relabel_into(alloc, log, &over.steps, p, &mut lists.steps)
+}
+
+// Puts the label, in which the children of the process stand in its place, where another one was.
+fn relabel_into(
+    alloc: Global,
+    log: &NameLog,
+    label: &ListLabels,
+    p: &Process,
+    place: &mut ListLabels,
+) -> Result<(), AllocError>
+    requires { length p.now < MAX_BITS }
+    ensures { OnOk result (place.new ≡ relabel p.now label.now) }
+{
+    *place = relabelled(alloc, log, label, p)?;
+    Ok(())
 }
 
 // The lists of overlapped rules, in which the children of the process stand in its place.

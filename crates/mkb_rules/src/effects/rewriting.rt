@@ -68,16 +68,30 @@ impl State {
         ensures ok { IfOk result (Commits self.old (Rewrite n side position.now rule kind outcome.now) self.new) }
         ensures err { OnErr result (self.new ≡ self.old) }
     {
-        let target = self.target_of(alloc, n, side, position, rule, outcome)?;
         let names = self.rewrite_names(alloc, n, side, rule, kind)?;
         let sources = self.sources_of(alloc, n, side, kind, names)?;
+        let target = match self.target_of(alloc, n, side, position, rule, outcome) {
+            Ok(target) => target,
+            Err(fault) => {
+                drop(sources);
+                return Err(fault);
+            }
+        };
         match try_moving(&mut self.nodes, &self.log, n, side, &sources, target) {
             Ok(()) => {
+                drop(sources);
                 self.commits = counted_up(self.commits, self.settings.budget);
                 Ok(Applied::Done)
             }
-            Err(NodeFault::Full) => self.give_up(alloc, Reason::Nodes, &sources.names),
-            Err(NodeFault::Memory) => Err(Memory),
+            Err(NodeFault::Full) => {
+                let applied = self.give_up(alloc, Reason::Nodes, &sources.names);
+                drop(sources);
+                applied
+            }
+            Err(NodeFault::Memory) => {
+                drop(sources);
+                Err(Memory)
+            }
         }
     }
 
@@ -121,20 +135,48 @@ impl State {
         ensures right { IfOk result (λ s. s.right ≡ meet names (label self.now n.0 (kind_of_rules (side_not side)))) }
         ensures left { IfOk result (λ s. s.left ≡ if_strict kind (meet names (label self.now n.0 (kind_of_rules side)))) }
     {
-        let strict = strict_only(alloc, kind, copy_of(alloc, &self.log, &names)?);
-        let from_equation = node_label(&self.nodes, n, LabelKind::E);
-        let equation = met(alloc, &self.log, &names, from_equation)?;
-        let from_right = node_label(&self.nodes, n, rule_kind(other(side)));
-        let right = met(alloc, &self.log, &names, from_right)?;
-        let from_left = node_label(&self.nodes, n, rule_kind(side));
-        let left = strict_only(alloc, kind, met(alloc, &self.log, &names, from_left)?);
-        Ok(Sources {
+        let mut sources = Sources {
             names,
-            strict,
-            equation,
-            right,
-            left,
-        })
+            strict: ListLabels::new(alloc),
+            equation: ListLabels::new(alloc),
+            right: ListLabels::new(alloc),
+            left: ListLabels::new(alloc),
+        };
+        match self.find_losses(alloc, n, side, kind, &mut sources) {
+            Ok(()) => Ok(sources),
+            Err(fault) => {
+                drop(sources);
+                Err(fault)
+            }
+        }
+    }
+
+    // Finds what of the names each source loses.
+    fn find_losses(
+        &self,
+        alloc: Global,
+        n: NodeId,
+        side: u8,
+        kind: Found,
+        sources: &mut Sources,
+    ) -> Result<(), AllocError>
+        requires { IsThere self.now n.0 }
+        ensures names { sources.new.names ≡ sources.old.names }
+        ensures strict { OnOk result (sources.new.strict ≡ if_strict kind sources.old.names) }
+        ensures equation { OnOk result (sources.new.equation ≡ meet sources.old.names (label self.now n.0 E)) }
+        ensures right { OnOk result (sources.new.right ≡ meet sources.old.names (label self.now n.0 (kind_of_rules (side_not side)))) }
+        ensures left { OnOk result (sources.new.left ≡ if_strict kind (meet sources.old.names (label self.now n.0 (kind_of_rules side)))) }
+    {
+        let names = copy_of(alloc, &self.log, &sources.names)?;
+        sources.strict = strict_only(alloc, kind, names);
+        let from_equation = node_label(&self.nodes, n, LabelKind::E);
+        sources.equation = met(alloc, &self.log, &sources.names, from_equation)?;
+        let from_right = node_label(&self.nodes, n, rule_kind(other(side)));
+        sources.right = met(alloc, &self.log, &sources.names, from_right)?;
+        let from_left = node_label(&self.nodes, n, rule_kind(side));
+        let left = met(alloc, &self.log, &sources.names, from_left)?;
+        sources.left = strict_only(alloc, kind, left);
+        Ok(())
     }
 }
 

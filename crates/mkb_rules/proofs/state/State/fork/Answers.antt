@@ -16,8 +16,8 @@ pub try_fork-requires-clause-second : goal.try_fork-requires-clause-second
 try_fork-requires-clause-second c =
     ap (λ (l : List Name). has l (child c.args.p.now true)) c.in_ok-parts.ensures.parts.living ∙ child_lives c.args.p.now true c.args.self.now.living c.requires.lives
 
-pub returns-clause-ok : goal.returns-clause-ok
-returns-clause-ok c =
+pub returns-in-Ok-clause-ok : goal.returns-in-Ok-clause-ok
+returns-in-Ok-clause-ok c =
     let b = c.args.self.now in
     let p = c.args.p.now in
     let n = c.args.n in
@@ -26,7 +26,7 @@ returns-clause-ok c =
     let parts = c.in_ok-parts.parts in
     let ys = c.try_fork.new.nodes.now in
     let few : length b.nodes ≤ 4096 = subst {A = Plain} (λ v. length v.nodes ≤ 4096) c.self.view_is c.node_count-count.ensures.most in
-    let nodes = c.in_ok-try_fork.ensures.ok ∙ ap (λ (v : Plain). fork_of_nodes p n v.nodes) c.self.view_is in
+    let nodes = c.in-Ok.ensures.ok ∙ ap (λ (v : Plain). fork_of_nodes p n v.nodes) c.self.view_is in
     let made = ap (λ (v : Plain). counted (with_parts parts (record v { nodes = ys }))) c.self.view_is in
     committed b c.take_over.new.self (Both p n first second) (fork_room b p n first second c.requires.room few)
     (c.take_over.ensures ∙ made ∙ fork_made b (record b { nodes = ys }) parts p n first second c.in_ok-parts.ensures.parts (ap (λ (z : List PlainNode). record b { nodes = z }) nodes))

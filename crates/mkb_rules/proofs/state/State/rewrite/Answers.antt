@@ -14,20 +14,20 @@ use Rattle.mkb_rules.specs.Rewriting.{gained, lost}
 use Rattle.mkb_rules.proofs.Moving.{pair_there, sources-all, rewrite-done, rewrite-given_up}
 use Rattle.mkb_rules.proofs.state.State.rewrite.Goals as goal
 
-pub returns-in-Ok-clause-ok : goal.returns-in-Ok-clause-ok
-returns-in-Ok-clause-ok c =
+pub returns-in-Ok-try_moving-clause-ok : goal.returns-in-Ok-try_moving-clause-ok
+returns-in-Ok-try_moving-clause-ok c =
     let b = c.args.self.now in
     let n = c.args.n in
     let w = c.args.side in
     let s = c.in_ok-sources.sources in
-    let o = c.in_ok-target.target in
+    let o = c.in-Ok.target in
     let before = c.self.inside in
     let node = pair_there b.nodes n.0 c.requires.node in
     let all = sources-all b n w c.args.position.now c.args.rule c.args.kind c.args.outcome.now node.0 node.1 c.in_ok-names.names s c.in_ok-names.ensures
     c.in_ok-sources.ensures.names c.in_ok-sources.ensures.strict c.in_ok-sources.ensures.equation c.in_ok-sources.ensures.right c.in_ok-sources.ensures.left in
-    let done = rewrite-done b n w c.args.position.now c.args.rule c.args.kind c.args.outcome.now node.0 node.1 o s (c.in_ok-target.ensures node.0 node.1) all
-    (rw (← c.self.view_is) c.in-Ok.ensures.room) in (
-      ap₂ (λ (xs : List PlainNode) (m : ℕ). board_of before.problem before.settings before.log xs (plain_done before.done.items) before.facts before.closed (lists_of before.over) before.asleep m (plain_certificates before.certificates.items)) c.in-Ok.ensures.ok c.counted_up-self-inside.ensures
+    let done = rewrite-done b n w c.args.position.now c.args.rule c.args.kind c.args.outcome.now node.0 node.1 o s (c.in-Ok.ensures node.0 node.1) all
+    (rw (← c.self.view_is) c.in-Ok-try_moving.ensures.room) in (
+      ap₂ (λ (xs : List PlainNode) (m : ℕ). board_of before.problem before.settings before.log xs (plain_done before.done.items) before.facts before.closed (lists_of before.over) before.asleep m (plain_certificates before.certificates.items)) c.in-Ok-try_moving.ensures.ok c.counted_up-self-inside.ensures
           ∙ ap (λ (z : Plain). counted (on_nodes (λ xs. gained o s (lost n.0 w s xs)) z)) c.self.view_is
           ∙ done.0,
       ap applied_as (sym done.1),
@@ -39,15 +39,15 @@ returns-in-Err-Full-clause-ok c =
     let n = c.args.n in
     let w = c.args.side in
     let s = c.in_ok-sources.sources in
-    let o = c.in_ok-target.target in
+    let o = c.in-Ok.target in
     let before = c.self.inside in
     let with_nodes_now = λ (xs : List PlainNode). board_of before.problem before.settings before.log xs (plain_done before.done.items) before.facts before.closed (lists_of before.over) before.asleep before.commits (plain_certificates before.certificates.items) in
     let node = pair_there b.nodes n.0 c.requires.node in
     let all = sources-all b n w c.args.position.now c.args.rule c.args.kind c.args.outcome.now node.0 node.1 c.in_ok-names.names s c.in_ok-names.ensures
     c.in_ok-sources.ensures.names c.in_ok-sources.ensures.strict c.in_ok-sources.ensures.equation c.in_ok-sources.ensures.right c.in_ok-sources.ensures.left in
-    let over = rewrite-given_up b n w c.args.position.now c.args.rule c.args.kind c.args.outcome.now node.0 node.1 o s (c.in_ok-target.ensures node.0 node.1) all
+    let over = rewrite-given_up b n w c.args.position.now c.args.rule c.args.kind c.args.outcome.now node.0 node.1 o s (c.in-Ok.ensures node.0 node.1) all
     (rw (← c.self.view_is) (c.in-Err-Full.ensures.full (ap Err c.in-Err-Full.field-0-is))) in
-    ok_so c.give_up.result (λ (answer : Applied). (c.give_up.new.self ≡ counted (give_up Nodes s.names (with_nodes_now c.try_moving.new.nodes.now))) × (answer ≡ Over Nodes))
-    (Commits b (Rewrite n w c.args.position.now c.args.rule c.args.kind c.args.outcome.now) c.give_up.new.self)
+    ok_so c.give_up-applied.result (λ (answer : Applied). (c.give_up-applied.new.self ≡ counted (give_up Nodes s.names (with_nodes_now c.try_moving.new.nodes.now))) × (answer ≡ Over Nodes))
+    (Commits b (Rewrite n w c.args.position.now c.args.rule c.args.kind c.args.outcome.now) c.give_up-applied.new.self)
     (λ answer h. (h.0 ∙ ap (λ (xs : List PlainNode). counted (give_up Nodes s.names (with_nodes_now xs))) c.in-Err-Full.ensures.err ∙ ap (λ (z : Plain). counted (give_up Nodes s.names z)) c.self.view_is ∙ over.0, h.1 ∙ ap applied_as (sym over.1)))
-    c.give_up.ensures.ok
+    c.give_up-applied.ensures.ok

@@ -5,7 +5,7 @@ use Rattle.kb_term.specs.Pair.{variables_of_pair}
 use Rattle.kb_term.specs.View.{tree_of}
 use Rattle.kb_term.specs.declared.term.Term.{Term}
 use Rattle.mkb_rules.proofs.Rows.{read_map}
-use Rattle.mkb_rules.proofs.opening.input_nodes.Goals as goal
+use Rattle.mkb_rules.proofs.opening.add_inputs.Goals as goal
 
 pub add_input-requires-clause-variables : goal.add_input-requires-clause-variables
 add_input-requires-clause-variables c =

@@ -1,7 +1,7 @@
 use Rattle.std.proofs.Common.{◌≡◌, ◌≤◌, ◌+◌, [], drop, length}
 use Rattle.kb_term.specs.View.{equations_of_list}
 use Rattle.mkb_model.specs.Journals.{with_inputs}
-use Rattle.mkb_rules.proofs.opening.input_nodes.Given as goal
+use Rattle.mkb_rules.proofs.opening.add_inputs.Given as goal
 
 -- the first input equations have nodes
 abbrev pub invariant-loop-i : goal.invariant-loop-i

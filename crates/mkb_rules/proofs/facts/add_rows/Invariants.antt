@@ -1,7 +1,7 @@
 use Rattle.std.proofs.Common.{◌≡◌, ℕ, length}
 use Rattle.kb_node.specs.declared.job.Fact.{Fact}
 use Rattle.mkb_rules.specs.Tabled.{known_at, HasRoom}
-use Rattle.mkb_rules.proofs.facts.make_room.Given as goal
+use Rattle.mkb_rules.proofs.facts.add_rows.Given as goal
 
 -- rows without room come behind
 abbrev pub invariant-loop : goal.invariant-loop
