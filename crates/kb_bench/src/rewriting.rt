@@ -31,14 +31,15 @@ fn numeral(alloc: Global, n: u8) -> Result<Term, Memory> {
     Ok(t)
 }
 
-// Sums and products of numerals: the symbols 0 to 3 are zero, the successor, the sum and the product.
-fn numeral_rules(alloc: Global) -> Result<Vec<Rule>, Memory> {
-    let mut rules = Vec::new(alloc);
-    let x = Term::Var(0);
-    rules.push(Rule::new(sum(alloc, zero(alloc), x)?, Term::Var(0)))?;
+fn push_sum_rules(alloc: Global, rules: &mut Vec<Rule>) -> Result<(), Memory> {
+    rules.push(Rule::new(sum(alloc, zero(alloc), Term::Var(0))?, Term::Var(0)))?;
     let more = successor(alloc, Term::Var(0))?;
     let rest = sum(alloc, Term::Var(0), Term::Var(1))?;
     rules.push(Rule::new(sum(alloc, more, Term::Var(1))?, successor(alloc, rest)?))?;
+    Ok(())
+}
+
+fn push_product_rules(alloc: Global, rules: &mut Vec<Rule>) -> Result<(), Memory> {
     rules.push(Rule::new(product(alloc, zero(alloc), Term::Var(0))?, zero(alloc)))?;
     let more = successor(alloc, Term::Var(0))?;
     let rest = product(alloc, Term::Var(0), Term::Var(1))?;
@@ -46,6 +47,14 @@ fn numeral_rules(alloc: Global) -> Result<Vec<Rule>, Memory> {
         product(alloc, more, Term::Var(1))?,
         sum(alloc, Term::Var(1), rest)?,
     ))?;
+    Ok(())
+}
+
+// Sums and products of numerals: the symbols 0 to 3 are zero, the successor, the sum and the product.
+fn numeral_rules(alloc: Global) -> Result<Vec<Rule>, Memory> {
+    let mut rules = Vec::new(alloc);
+    push_sum_rules(alloc, &mut rules)?;
+    push_product_rules(alloc, &mut rules)?;
     Ok(rules)
 }
 

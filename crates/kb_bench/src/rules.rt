@@ -237,40 +237,68 @@ fn z() -> Term {
     Term::Var(2)
 }
 
+// The axioms of groups as rules.
+fn push_axioms(alloc: Global, rules: &mut Vec<Rule>) -> Result<(), Memory>
+    requires { AreMeasurable rules.old.items }
+    ensures { IfOk result (λ _. AreMeasurable rules.new.items) }
+{
+    push_rule(rules, product(alloc, unit(alloc), x())?, x())?;
+    push_rule(
+        rules,
+        product(alloc, inverse(alloc, x())?, x())?,
+        unit(alloc),
+    )?;
+    let left = product(alloc, product(alloc, x(), y())?, z())?;
+    push_rule(rules, left, product(alloc, x(), product(alloc, y(), z())?)?)
+}
+
+// What follows of the unit, and the product of an inverse with a product.
+fn push_unit_laws(alloc: Global, rules: &mut Vec<Rule>) -> Result<(), Memory>
+    requires { AreMeasurable rules.old.items }
+    ensures { IfOk result (λ _. AreMeasurable rules.new.items) }
+{
+    let left = product(alloc, inverse(alloc, x())?, product(alloc, x(), y())?)?;
+    push_rule(rules, left, y())?;
+    push_rule(rules, inverse(alloc, unit(alloc))?, unit(alloc))?;
+    push_rule(rules, product(alloc, x(), unit(alloc))?, x())
+}
+
+// What follows of inverses.
+fn push_inverse_laws(alloc: Global, rules: &mut Vec<Rule>) -> Result<(), Memory>
+    requires { AreMeasurable rules.old.items }
+    ensures { IfOk result (λ _. AreMeasurable rules.new.items) }
+{
+    push_rule(rules, inverse(alloc, inverse(alloc, x())?)?, x())?;
+    push_rule(
+        rules,
+        product(alloc, x(), inverse(alloc, x())?)?,
+        unit(alloc),
+    )
+}
+
+// What follows of an inverse in a product, and of that of a product.
+fn push_product_laws(alloc: Global, rules: &mut Vec<Rule>) -> Result<(), Memory>
+    requires { AreMeasurable rules.old.items }
+    ensures { IfOk result (λ _. AreMeasurable rules.new.items) }
+{
+    let left = product(alloc, x(), product(alloc, inverse(alloc, x())?, y())?)?;
+    push_rule(rules, left, y())?;
+    let left = inverse(alloc, product(alloc, x(), y())?)?;
+    push_rule(
+        rules,
+        left,
+        product(alloc, inverse(alloc, y())?, inverse(alloc, x())?)?,
+    )
+}
+
 /// The ten rules of the completed axioms of groups: symbol 0 is the product, 1 the inverse, 2 the unit.
 pub fn group_rules(alloc: Global) -> Result<Vec<Rule>, Memory>
     ensures { IfOk result (λ rules. AreMeasurable rules.items) }
 {
     let mut rules = Vec::new(alloc);
-    push_rule(&mut rules, product(alloc, unit(alloc), x())?, x())?;
-    push_rule(
-        &mut rules,
-        product(alloc, inverse(alloc, x())?, x())?,
-        unit(alloc),
-    )?;
-    let left = product(alloc, product(alloc, x(), y())?, z())?;
-    push_rule(
-        &mut rules,
-        left,
-        product(alloc, x(), product(alloc, y(), z())?)?,
-    )?;
-    let left = product(alloc, inverse(alloc, x())?, product(alloc, x(), y())?)?;
-    push_rule(&mut rules, left, y())?;
-    push_rule(&mut rules, inverse(alloc, unit(alloc))?, unit(alloc))?;
-    push_rule(&mut rules, product(alloc, x(), unit(alloc))?, x())?;
-    push_rule(&mut rules, inverse(alloc, inverse(alloc, x())?)?, x())?;
-    push_rule(
-        &mut rules,
-        product(alloc, x(), inverse(alloc, x())?)?,
-        unit(alloc),
-    )?;
-    let left = product(alloc, x(), product(alloc, inverse(alloc, x())?, y())?)?;
-    push_rule(&mut rules, left, y())?;
-    let left = inverse(alloc, product(alloc, x(), y())?)?;
-    push_rule(
-        &mut rules,
-        left,
-        product(alloc, inverse(alloc, y())?, inverse(alloc, x())?)?,
-    )?;
+    push_axioms(alloc, &mut rules)?;
+    push_unit_laws(alloc, &mut rules)?;
+    push_inverse_laws(alloc, &mut rules)?;
+    push_product_laws(alloc, &mut rules)?;
     Ok(rules)
 }

@@ -25,7 +25,7 @@ Goes Rest = (more : Lines) × Rest more
 pub then_goes : {X : Type 0} (S : Section X) (Next : X → Lines → Type 0) (x : X) (xs : Lines) → S x xs → Goes (Next x) → Goes (Then S Next)
 then_goes S Next x xs s n = (xs ++ n.0, (x, xs, n.0, s, n.1, refl))
 
-same_back : (xs ys zs : Lines) → xs ++ ys ≡ xs ++ zs → ys ≡ zs
+pub same_back : (xs ys zs : Lines) → xs ++ ys ≡ xs ++ zs → ys ≡ zs
 same_back [] ys zs e = e
 same_back (x ∷ xs) ys zs e = let f : xs ++ ys ≡ xs ++ zs = cc in same_back xs ys zs f
 
@@ -160,7 +160,7 @@ record IsCut (xs ys lines : Lines) (line : List ℕ) (more : Lines) : Type 0 whe
   back : Lines
   front : xs ≡ lines ++ line ∷ back
 
-cut : (xs ys lines : Lines) (line : List ℕ) (more : Lines) → xs ++ ys ≡ lines ++ line ∷ more → ((back : Lines) → xs ≡ lines ++ line ∷ back → ⊥) → ((back : Lines) → lines ≡ xs ++ back → ⊥) → ⊥
+pub cut : (xs ys lines : Lines) (line : List ℕ) (more : Lines) → xs ++ ys ≡ lines ++ line ∷ more → ((back : Lines) → xs ≡ lines ++ line ∷ back → ⊥) → ((back : Lines) → lines ≡ xs ++ back → ⊥) → ⊥
 cut [] ys lines line more e f g = g lines refl
 cut (x ∷ xs) ys [] line more e f g = f xs (let s : x ≡ line = cc in ap (λ (z : List ℕ). z ∷ xs) s)
 cut (x ∷ xs) ys (l ∷ lines) line more e f g =
@@ -171,6 +171,21 @@ cut (x ∷ xs) ys (l ∷ lines) line more e f g =
 nothing_behind : (xs back : Lines) → xs ++ back ≡ xs → back ≡ []
 nothing_behind xs [] e = refl
 nothing_behind xs (b ∷ bs) e = absurd (let n = ap length e in omega (arith, length-append xs (b ∷ bs)))
+
+-- no section ends in the lines before the first bad one
+pub none_ends : {X : Type 0} (S : Section X) (text : List ℕ) (first number : ℕ) → IsSection S → (b : IsBadFrom S text first number) → (x : X) (xs : Lines) → S x xs → (back : Lines) → b.lines ≡ xs ++ back → ⊥
+none_ends S text first number i b x xs s back e =
+    let x0 = b.begin.0 in
+    let s0 = b.begin.2 in
+    let o = i.one x x0 xs (b.lines ++ b.begin.1) (back ++ b.begin.1) [] s s0 (sym (append_assoc xs back b.begin.1) ∙ ap (λ (ls : Lines). ls ++ b.begin.1) (sym e) ∙ sym (append-nil (b.lines ++ b.begin.1))) in
+    let n = ap length o.1 in
+    let m = ap length e in
+    let nil : back ≡ [] = nothing_behind xs back (let z : length back ≡ 0 = omega (arith, length-append xs back, length-append b.lines b.begin.1) in empty back z) in
+    b.not_whole x (subst (S x) (sym (append-nil xs) ∙ ap (xs ++◌) (sym nil) ∙ sym e) s)
+  where
+    empty : (back : Lines) → length back ≡ 0 → xs ++ back ≡ xs
+    empty [] z = append-nil xs
+    empty (y ∷ ys) z = absurd (omega arith)
 
 -- where a section's first bad line is, there is the whole text's
 pub section_bad : {X : Type 0} (Form : Lines → Type 0) (S : Section X) (Next : X → Lines → Type 0) (text rest : List ℕ) (first number : ℕ) → ((lines : Lines) → Form lines → AreWithout 10 lines) → IsSection S
@@ -191,19 +206,8 @@ section_bad {X} Form S Next text rest first number without i goes r b =
         let n = goes x0 (b.lines ++ b.begin.1) s in
         (b.begin.1 ++ n.0, subst Form (ap (r.lines ++◌) (append_assoc b.lines b.begin.1 n.0) ∙ sym (append_assoc r.lines b.lines (b.begin.1 ++ n.0))) (r.right ((b.lines ++ b.begin.1) ++ n.0) (x0, b.lines ++ b.begin.1, n.0, s, n.1, refl)))
 
-    -- no section ends in these lines
     none_in : (x : X) (xs : Lines) → S x xs → (back : Lines) → b.lines ≡ xs ++ back → ⊥
-    none_in x xs s back e =
-        let s0 = b.begin.2 in
-        let o = i.one x x0 xs (b.lines ++ b.begin.1) (back ++ b.begin.1) [] s s0 (sym (append_assoc xs back b.begin.1) ∙ ap (λ (ls : Lines). ls ++ b.begin.1) (sym e) ∙ sym (append-nil (b.lines ++ b.begin.1))) in
-        let n = ap length o.1 in
-        let m = ap length e in
-        let nil : back ≡ [] = nothing_behind xs back (let z : length back ≡ 0 = omega (arith, length-append xs back, length-append b.lines b.begin.1) in empty back z) in
-        b.not_whole x (subst (S x) (sym (append-nil xs) ∙ ap (xs ++◌) (sym nil) ∙ sym e) s)
-      where
-        empty : (back : Lines) → length back ≡ 0 → xs ++ back ≡ xs
-        empty [] z = append-nil xs
-        empty (y ∷ ys) z = absurd (omega arith)
+    none_in = none_ends S rest first number i b
 
     no_more : (line back : List ℕ) → IsWithout 10 line → b.rest ≡ line ++ 10 ∷ back → (more : Lines) → ¬ Form ((r.lines ++ b.lines) ++ line ∷ more)
     no_more line back w p more f =

@@ -1,6 +1,7 @@
 mod AnswerLaws
 pub mod LinesOfTexts
 pub mod Fronts
+pub mod BothSections
 pub mod SectionLaws
 pub mod SystemLines
 mod OrderLines
@@ -10,3 +11,4 @@ mod NamesRead
 pub mod StepsRead
 pub mod SystemForm
 pub mod Reading
+pub mod SystemParts

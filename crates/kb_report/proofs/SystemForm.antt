@@ -161,7 +161,7 @@ FromHead = Then Head FromSymbols
 pub goes_end : Goes FromEnd
 goes_end = then_goes {X = ⊤} (Word end_word) (λ u. AtEnd) tt (end_word ∷ []) (tt, refl) ([], refl)
 
-fill : {X : Type 0} (P : X → Type 0) (f : ℕ → X → List ℕ) (n : ℕ) (x : X) → P x → Items P f n (replicate n x) (item_lines f 1 (replicate n x))
+pub fill : {X : Type 0} (P : X → Type 0) (f : ℕ → X → List ℕ) (n : ℕ) (x : X) → P x → Items P f n (replicate n x) (item_lines f 1 (replicate n x))
 fill P f n x p = (All-replicate P n x p, length-replicate n x, refl)
 
 pub goes_steps : (sig : Signature) (n : ℕ) → Goes (FromSteps sig n)
@@ -173,7 +173,7 @@ goes_trace sig = then_goes (Count trace_word 4096) (FromSteps sig) 0 (counted_li
 pub goes_order : (sig : Signature) → Goes (FromOrder sig)
 goes_order sig = let c = some_cert sig in then_goes (Order sig) (λ c. FromTrace sig) c.0 (order_body (names_of sig) c.0 ∷ []) (c.1, refl) (goes_trace sig)
 
-abbrev plain_rule : Rule × ℕ
+abbrev pub plain_rule : Rule × ℕ
 plain_rule = (record { left = variable 0; right = variable 0 }, 1)
 
 pub goes_constraints : (sig : Signature) (n : ℕ) → Goes (FromEachConstraint sig n)
@@ -189,7 +189,7 @@ goes_rules v sig n = then_goes (Rules sig n) (λ rs. FromConstraints v sig) (rep
 pub goes_rule_count : (v : Version) (sig : Signature) → Goes (FromRules v sig)
 goes_rule_count v sig = then_goes (Count rules_word 4096) (FromEachRule v sig) 0 (counted_line rules_word 0 ∷ []) (omega arith, refl) (goes_rules v sig 0)
 
-abbrev plain_equation : Tree × Tree
+abbrev pub plain_equation : Tree × Tree
 plain_equation = (variable 0, variable 0)
 
 pub goes_equations : (v : Version) (sig : Signature) (n : ℕ) → Goes (FromEachEquation v sig n)

@@ -41,6 +41,10 @@ Count word highest = OneLine (λ n. n ≤ highest) (counted_line word)
 abbrev pub Word : List ℕ → Section ⊤
 Word word = OneLine (λ u. ⊤) (λ u. word)
 
+-- the section of the first value, and behind it that of the second, which the first decides
+abbrev pub Both : {X Y : Type 0} → Section X → (X → Section Y) → Section (X × Y)
+Both S Next p lines = (front back : Lines) × S p.0 front × Next p.0 p.1 back × (lines ≡ front ++ back)
+
 -- the bytes are the line of a value of this form, without its line feed
 pub record IsLineOf {X : Type 0} (IsOfForm : X → Type 0) (line : X → List ℕ) (bytes : List ℕ) (x : X) : Type 0 where
   pub form : IsOfForm x
@@ -78,6 +82,10 @@ pub record IsBadFrom {X : Type 0} (S : Section X) (text : List ℕ) (first numbe
 abbrev pub IsSectionFault : {X : Type 0} → Section X → List ℕ → ℕ → TextFault → Type 0
 IsSectionFault S text first (BadText number) = IsBadFrom S text first number
 IsSectionFault S text first Memory = ⊤
+
+-- why the text isn't the line that is this word: it begins with another one, or something stands behind it
+abbrev pub IsEndFault : List ℕ → List ℕ → ℕ → TextFault → Type 0
+IsEndFault word text first fault = IsSectionFault (Word word) text first fault ⊎ ((rest : List ℕ) × BeginsWith (Word word) text tt 1 rest × (1 ≤ length rest) × (fault ≡ BadText (first + 1)))
 
 -- the first lines of the text, n of them, take so many bytes; they are so many as asked for, or there are no more
 pub record AreFirstLines (text : List ℕ) (most n size : ℕ) : Type 0 where

@@ -14,7 +14,7 @@ use Rattle.kb_checker.specs.Answers.{IsRuleForm}
 use Rattle.kb_report.specs.Answers.{entry_text}
 use Rattle.kb_report.specs.declared.version.Version.{Version}
 use Rattle.kb_report.specs.declared.version.Version.TheVariants.{First, Second}
-use Rattle.kb_report.specs.Sections.{Section, OneLine, Items, Count, IsLineOf}
+use Rattle.kb_report.specs.Sections.{Section, OneLine, Items, Count, Both, IsLineOf}
 
 -- ---- lines without their line feeds
 
@@ -67,6 +67,36 @@ Order sig = OneLine (λ c. IsTrue (is_certificate sig c)) (order_body (names_of 
 
 abbrev pub Steps : Signature → ℕ → Section (List TraceStep)
 Steps sig = Items (IsStepForm sig) (step_body (names_of sig))
+
+-- how many there are, and then the items
+abbrev pub CountedEquations : Signature → Section (ℕ × List (Tree × Tree))
+CountedEquations sig = Both (Count (codes "EQUATIONS ") 256) (Equations sig)
+
+abbrev pub CountedRules : Signature → Section (ℕ × List (Rule × ℕ))
+CountedRules sig = Both (Count (codes "RULES ") 4096) (Rules sig)
+
+abbrev pub CountedConstraints : Version → Signature → Section (ℕ × List (Rule × ℕ))
+CountedConstraints version sig = Both (ConstraintCount version) (Rules sig)
+
+abbrev pub CountedSteps : Signature → Section (ℕ × List TraceStep)
+CountedSteps sig = Both (Count (codes "TRACE ") 4096) (Steps sig)
+
+-- the symbols and the equations
+abbrev pub ProblemPart : Section (Signature × (ℕ × List (Tree × Tree)))
+ProblemPart = Both Symbols CountedEquations
+
+-- what stands behind them, but for the last line
+abbrev pub OrderPart : Signature → Section (Certificate × (ℕ × List TraceStep))
+OrderPart sig = Both (Order sig) (λ cert. CountedSteps sig)
+
+abbrev pub ConstraintPart : Version → Signature → Section ((ℕ × List (Rule × ℕ)) × (Certificate × (ℕ × List TraceStep)))
+ConstraintPart version sig = Both (CountedConstraints version sig) (λ constraints. OrderPart sig)
+
+abbrev pub PartValues : Type 0
+PartValues = (ℕ × List (Rule × ℕ)) × ((ℕ × List (Rule × ℕ)) × (Certificate × (ℕ × List TraceStep)))
+
+abbrev pub RulePart : Version → Signature → Section PartValues
+RulePart version sig = Both (CountedRules sig) (λ rules. ConstraintPart version sig)
 
 -- ---- their fields
 

@@ -5,6 +5,7 @@ mod answer;
 mod header;
 mod laws;
 mod order;
+mod parts;
 mod read;
 mod report;
 mod sides;
