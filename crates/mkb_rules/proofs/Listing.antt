@@ -1,10 +1,10 @@
 -- A list of the nodes that may be in use, when a node comes and when one comes to use.
 use Rattle.std.proofs.Common.{ℕ, zero, suc, ◌+◌, ◌<◌, ◌≤◌, ◌≡◌, refl, sym, ap, ap₂, ◌∙◌, subst, arith, List, [], ◌∷◌, ◌++◌, length, map, filter, set, get_or, cond, Bool, true, false}
-use Rattle.std.specs.Prelude.{◌||◌, ◌&&◌, not, ◌==◌, ◌≢◌, insert, Result, Ok, Err}
+use Rattle.std.specs.Prelude.{◌||◌, ◌&&◌, not, ◌==◌, ◌≢◌, insert, remove, Result, Ok, Err}
 use Rattle.std.specs.Ordering.{nat_cmp}
 use Rattle.std.specs.List.Sorted.{IsBinarySearchResult}
 use Rattle.std.proofs.lemmas.Bool.Decides.{nat_tests}
-use Rattle.std.proofs.lemmas.List.{get_or-set_other}
+use Rattle.std.proofs.lemmas.List.{get_or-set_other, get_or-set_same}
 use Rattle.std.proofs.lemmas.List.Elements.{filter-append, filter_passes}
 use Rattle.std.proofs.lemmas.List.Sorted.{searched}
 use mathlib.Core.Bool.{true≢false}
@@ -34,6 +34,14 @@ unlike m n d = go (m == n) refl
 or_false : (b : Bool) → (b || false) ≡ b
 or_false true = refl
 or_false false = refl
+
+and_true : (b : Bool) → (b && true) ≡ b
+and_true true = refl
+and_true false = refl
+
+and_false : (b : Bool) → (b && false) ≡ false
+and_false true = refl
+and_false false = refl
 
 neither : (a b : Bool) → (a || b) ≡ false → (a ≡ false) × (b ≡ false)
 neither true b h = absurd (true≢false h)
@@ -108,6 +116,30 @@ module _ (t : ℕ → Bool) (n : ℕ) where
   put_in a zero i le lt p = absurd (omega (arith, le, lt))
   put_in a (suc k) i le lt p = put_next a k (t a) (a == n) refl le (λ j w q. put_in (a + 1) k j w (omega (arith, lt)) q) i p
 
+-- ---- a number taken out
+
+module _ (t : ℕ → Bool) (n : ℕ) where
+  abbrev but_n : ℕ → Bool
+  but_n m = t m && not (m == n)
+
+  all_others : (a k : ℕ) → n < a → filter t (numbers_from a k) ≡ filter but_n (numbers_from a k)
+  all_others a k h = agreeing t but_n a k (λ m g w. sym (ap (λ x. t m && not x) (unlike m n (λ e. absurd (omega (arith, g, h, e)))) ∙ and_true (t m)))
+
+  take_next : (a k : ℕ) (b e : Bool) → (a == n) ≡ e
+      → ((j : ℕ) → j < length (filter t (numbers_from (a + 1) k)) → get_or (filter t (numbers_from (a + 1) k)) j 0 ≡ n → remove (filter t (numbers_from (a + 1) k)) j ≡ filter but_n (numbers_from (a + 1) k))
+      → (i : ℕ) → i < length (cond b (a ∷ filter t (numbers_from (a + 1) k)) (filter t (numbers_from (a + 1) k))) → get_or (cond b (a ∷ filter t (numbers_from (a + 1) k)) (filter t (numbers_from (a + 1) k))) i 0 ≡ n
+      → remove (cond b (a ∷ filter t (numbers_from (a + 1) k)) (filter t (numbers_from (a + 1) k))) i ≡ cond (b && not e) (a ∷ filter but_n (numbers_from (a + 1) k)) (filter but_n (numbers_from (a + 1) k))
+  take_next a k true true e ih zero w is = all_others (a + 1) k (omega (arith, is))
+  take_next a k true true e ih (suc i) w is = absurd (omega (arith, no_less t (a + 1) k i 0 (omega (arith, w)), is, alike a n e))
+  take_next a k true false e ih zero w is = absurd (apart a n e is)
+  take_next a k true false e ih (suc i) w is = ap (λ (l : List ℕ). a ∷ l) (ih i (omega (arith, w)) is)
+  take_next a k false e d ih i w is = ih i w is
+
+  -- without n each other one passes
+  take_out : (a k i : ℕ) → i < length (filter t (numbers_from a k)) → get_or (filter t (numbers_from a k)) i 0 ≡ n → remove (filter t (numbers_from a k)) i ≡ filter but_n (numbers_from a k)
+  take_out a zero i w is = absurd (omega (arith, w))
+  take_out a (suc k) i w is = take_next a k (t a) (a == n) refl (λ j v e. take_out (a + 1) k j v e) i w is
+
 -- ---- lists of nodes
 
 abbrev numbers : List NodeId → List ℕ
@@ -127,6 +159,12 @@ numbers_insert [] zero n = refl
 numbers_insert [] (suc i) n = refl
 numbers_insert (m ∷ l) zero n = refl
 numbers_insert (m ∷ l) (suc i) n = ap (λ (k : List ℕ). m.0 ∷ k) (numbers_insert l i n)
+
+numbers_remove : (l : List NodeId) (i : ℕ) → numbers (remove l i) ≡ remove (numbers l) i
+numbers_remove [] zero = refl
+numbers_remove [] (suc i) = refl
+numbers_remove (m ∷ l) zero = refl
+numbers_remove (m ∷ l) (suc i) = ap (λ (k : List ℕ). m.0 ∷ k) (numbers_remove l i)
 
 -- what a search for a node by its number tells of the numbers
 of_numbers : (l : List NodeId) (x : ℕ) (r : Result ℕ ℕ) → IsBinarySearchResult (λ (y : NodeId). nat_cmp y.0 x) l r → IsBinarySearchResult (λ (y : ℕ). nat_cmp y x) (numbers l) r
@@ -161,14 +199,6 @@ listed_new used l a = record {
     one_more : (u : List Bool) → length (u ++ false ∷ []) ≡ length u + 1
     one_more [] = refl
     one_more (x ∷ u) = omega (arith, one_more u)
-
-    and_true : (b : Bool) → (b && true) ≡ b
-    and_true true = refl
-    and_true false = refl
-
-    and_false : (b : Bool) → (b && false) ≡ false
-    and_false true = refl
-    and_false false = refl
 
     below : (m : ℕ) → m < length used → has m ≡ a.has m
     below m w = ap (λ x. a.has m && not x) (unlike m (length used) (λ e. absurd (omega (arith, w, e)))) ∙ and_true (a.has m)
@@ -209,18 +239,45 @@ module _ (used : List Bool) (n : NodeId) (l : List NodeId) (h : n.0 < length use
   up : (i j : ℕ) → i ≤ j → j < length (numbers l) → get_or (numbers l) i 0 ≤ get_or (numbers l) j 0
   up = subst {A = List ℕ} (λ k. (i j : ℕ) → i ≤ j → j < length k → get_or k i 0 ≤ get_or k j 0) (sym a.is) (λ i j le lt. rising a.has 0 (length used) i j 0 le lt)
 
+  found : (i : ℕ) → IsBinarySearchResult (λ (y : NodeId). nat_cmp y.0 n.0) l (Ok i) → (i < length (numbers l)) × (get_or (numbers l) i 0 ≡ n.0)
+  found i search = searched (numbers l) n.0 (Ok i) (of_numbers l n.0 (Ok i) search) up
+
+  same_out : (m : ℕ) → get_or used m true ≡ false → get_or (set used n.0 false) m true ≡ false
+  same_out m e = go (m == n.0) refl
+    where
+      go : (b : Bool) → (m == n.0) ≡ b → get_or (set used n.0 false) m true ≡ false
+      go true d = ap (λ (k : ℕ). get_or (set used n.0 false) k true) (alike m n.0 d) ∙ get_or-set_same used n.0 false true h
+      go false d = get_or-set_other used n.0 m false true (apart m n.0 d) ∙ e
+
   -- a node comes to use that is listed
   pub listed_already : (i : ℕ) → IsBinarySearchResult (λ (y : NodeId). nat_cmp y.0 n.0) l (Ok i) → AreListed (set used n.0 true) (length used) l
   listed_already i search = record { has = a.has; is = a.is; others = others }
     where
-      found : (i < length (numbers l)) × (get_or (numbers l) i 0 ≡ n.0)
-      found = searched (numbers l) n.0 (Ok i) (of_numbers l n.0 (Ok i) search) up
-
       is_listed : a.has n.0 ≡ true
-      is_listed = ap a.has (sym found.1 ∙ ap (λ (k : List ℕ). get_or k i 0) a.is) ∙ filter_passes a.has (numbers_from 0 (length used)) i 0 (omega (arith, found.0, ap length a.is))
+      is_listed = ap a.has (sym (found i search).1 ∙ ap (λ (k : List ℕ). get_or k i 0) a.is) ∙ filter_passes a.has (numbers_from 0 (length used)) i 0 (omega (arith, (found i search).0, ap length a.is))
 
       others : (m : ℕ) → a.has m ≡ false → get_or (set used n.0 true) m true ≡ false
       others m e = get_or-set_other used n.0 m true true (λ same. absurd (true≢false (sym is_listed ∙ ap a.has (sym same) ∙ e))) ∙ a.others m e
+
+  -- a node goes out of use that isn't listed
+  pub listed_not : AreListed (set used n.0 false) (length used) l
+  listed_not = record { has = a.has; is = a.is; others = λ m e. same_out m (a.others m e) }
+
+  -- a node goes out of use and is taken out of the list
+  pub listed_without : (i : ℕ) → IsBinarySearchResult (λ (y : NodeId). nat_cmp y.0 n.0) l (Ok i) → AreListed (set used n.0 false) (length used) (remove l i)
+  listed_without i search = record {
+    has = λ m. a.has m && not (m == n.0);
+    is = numbers_remove l i ∙ ap (λ (k : List ℕ). remove k i) a.is
+        ∙ take_out a.has n.0 0 (length used) i (omega (arith, (found i search).0, ap length a.is)) (sym (ap (λ (k : List ℕ). get_or k i 0) a.is) ∙ (found i search).1);
+    others = others;
+  }
+    where
+      others : (m : ℕ) → (a.has m && not (m == n.0)) ≡ false → get_or (set used n.0 false) m true ≡ false
+      others m e = go (m == n.0) refl
+        where
+          go : (b : Bool) → (m == n.0) ≡ b → get_or (set used n.0 false) m true ≡ false
+          go true d = ap (λ (k : ℕ). get_or (set used n.0 false) k true) (alike m n.0 d) ∙ get_or-set_same used n.0 false true h
+          go false d = same_out m (a.others m (sym (ap (λ x. a.has m && not x) d ∙ and_true (a.has m)) ∙ e))
 
   -- a node comes to use and is put into the list
   pub listed_at : (i : ℕ) → IsBinarySearchResult (λ (y : NodeId). nat_cmp y.0 n.0) l (Err i) → AreListed (set used n.0 true) (length used) (insert l i n)

@@ -5,6 +5,7 @@ ghost use Rattle.mkb_rules.specs.Sizes.{AreListed};
 use kb_node::NodeId;
 use std::alloc::Global;
 use std::marker::Model;
+use std::mem::replace;
 
 /// For each of the first nodes whether it may be in use, and a list of those that may, where that is kept. Contracts see the marks.
 #[derive(Drop)]
@@ -60,11 +61,10 @@ impl Marks {
         if at >= self.used.len() {
             return;
         }
-        let comes = is_used && !self.used[at];
-        self.used[at] = is_used;
-        if comes {
+        let was_used = replace(&mut self.used[at], is_used);
+        if is_used != was_used {
             self.list = match self.list.take() {
-                Some(list) => with_listed(list, n),
+                Some(list) => updated(list, n, is_used),
                 None => None,
             };
         }
@@ -91,15 +91,19 @@ impl Marks {
     }
 }
 
-// The list with the node too, at its place in the order; none where there is no memory for it.
-fn with_listed(mut list: Vec<NodeId>, n: NodeId) -> Option<Vec<NodeId>>
-    ensures { IfSome result (λ l. (used : List Bool) → n.0 < length used → AreListed used (length used) list.items → AreListed (set used n.0 true) (length used) l.items) }
+// The list with the node at its place in the order, or without it, as it is used or not; none where there is no memory for it.
+fn updated(mut list: Vec<NodeId>, n: NodeId, is_used: bool) -> Option<Vec<NodeId>>
+    ensures { IfSome result (λ l. (used : List Bool) → n.0 < length used → AreListed used (length used) list.items → AreListed (set used n.0 is_used) (length used) l.items) }
 {
     match list.binary_search_by_key(&n.0, |m| m.0) {
-        Ok(_) => Some(list),
-        Err(place) => {
+        Ok(place) if !is_used => {
+            list.remove(place);
+            Some(list)
+        }
+        Err(place) if is_used => {
             list.insert(place, n).ok()?;
             Some(list)
         }
+        _ => Some(list),
     }
 }
