@@ -217,6 +217,9 @@ impl Nodes {
         ensures ok { OnOk result (self.new.now ≡ with_loss n.0 kind names.now self.old.now) }
         ensures before { self.new.before ≡ self.old.before }
     {
+        if names.is_empty(log) || self.label(n, kind).is_empty(log) {
+            return Ok(());
+        }
         let label = left(self.allocator(), log, self.label(n, kind), names)?;
         self.set(log, n, kind, label)
     }
