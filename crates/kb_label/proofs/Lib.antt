@@ -5,3 +5,4 @@ pub mod Merged
 pub mod Searched
 pub mod Forked
 pub mod Sets
+pub mod Compared

@@ -1,6 +1,6 @@
 // Labels that are plain lists of names.
-ghost use Rattle.std.specs.Prelude.{◌≡◌, ◌<◌, length, OnOk, OnErr};
-ghost use Rattle.kb_label.specs.Names.{relabel};
+ghost use Rattle.std.specs.Prelude.{◌≡◌, ◌<◌, length, OnOk, OnErr, IsTrue};
+ghost use Rattle.kb_label.specs.Names.{relabel, join, meet, minus, is_empty};
 
 use crate::labels::Labels;
 use crate::living::Living;
@@ -98,6 +98,22 @@ impl ListLabels {
         ensures err { OnErr result (self.new ≡ self.old) }
     {
         self.names.relabel(process)
+    }
+
+    /// Whether each process of another label is in this one, which then gains nothing by it.
+    pub fn includes(&self, other: &ListLabels) -> bool
+        ensures exactly { result ≡ is_empty (minus other.now self.now) }
+        ensures same { IsTrue result → join self.now other.now ≡ self.now }
+    {
+        self.names.includes(&other.names)
+    }
+
+    /// Whether no process is in both labels; the other one then loses nothing by this one.
+    pub fn is_disjoint(&self, other: &ListLabels) -> bool
+        ensures exactly { result ≡ is_empty (meet self.now other.now) }
+        ensures same { IsTrue result → minus other.now self.now ≡ other.now }
+    {
+        self.names.is_disjoint(&other.names)
     }
 }
 

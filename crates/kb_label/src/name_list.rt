@@ -1,5 +1,5 @@
 // Lists of names in their order.
-ghost use Rattle.std.specs.Prelude.{◌≡◌, ◌<◌, ◌≤◌, [], ◌∷◌, length, insert, is_ok, OnOk, OnErr, IfOk, IfErr};
+ghost use Rattle.std.specs.Prelude.{◌≡◌, ◌<◌, ◌≤◌, [], ◌∷◌, length, insert, is_ok, OnOk, OnErr, IfOk, IfErr, IsTrue};
 ghost use Rattle.kb_label.specs.Names.{has, add, join, meet, minus, relabel, is_empty, IsInNameOrder};
 
 use crate::process::{MAX_BITS, Process};
@@ -69,6 +69,34 @@ impl NameList {
         ensures { result ≡ has self.now process.now }
     {
         self.place(process).is_ok()
+    }
+
+    /// Whether each name of another list is named; the names of both are then these.
+    pub(crate) fn includes(&self, other: &NameList) -> bool
+        ensures exactly { result ≡ is_empty (minus other.now self.now) }
+        ensures same { IsTrue result → join self.now other.now ≡ self.now }
+    {
+        let _ = &self.names;
+        for i in 0..other.names.len() {
+            if !self.has(&other.names[i]) {
+                return false;
+            }
+        }
+        true
+    }
+
+    /// Whether another list has none of the names; it then loses nothing by them.
+    pub(crate) fn is_disjoint(&self, other: &NameList) -> bool
+        ensures exactly { result ≡ is_empty (meet self.now other.now) }
+        ensures same { IsTrue result → minus other.now self.now ≡ other.now }
+    {
+        let _ = &other.names;
+        for i in 0..self.names.len() {
+            if other.has(&self.names[i]) {
+                return false;
+            }
+        }
+        true
     }
 
     /// All names, in their order.

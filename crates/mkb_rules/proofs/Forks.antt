@@ -20,7 +20,8 @@ same_in x C0 = refl
 same_in x C1 = refl
 same_in x X = refl
 
-put_itself : (xs : List PlainNode) (n : ℕ) (k : LabelKind) → with_label n k (label_at xs n k) xs ≡ xs
+-- a label put in its own place changes nothing
+pub put_itself : (xs : List PlainNode) (n : ℕ) (k : LabelKind) → with_label n k (label_at xs n k) xs ≡ xs
 put_itself [] n k = refl
 put_itself (x ∷ xs) zero k = ap (λ y. y ∷ xs) (same_in x k)
 put_itself (x ∷ xs) (suc n) k = ap (λ ys. x ∷ ys) (put_itself xs n k)

@@ -14,6 +14,7 @@ pub mod FirstOrder
 pub mod Tabled
 pub mod Viewed
 pub mod Paying
+pub mod Listing
 pub mod Costs
 pub mod RolesKept
 pub mod Apart

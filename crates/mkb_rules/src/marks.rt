@@ -1,10 +1,11 @@
 // Which nodes are in use.
-ghost use Rattle.std.specs.Prelude.{◌≡◌, ◌≢◌, ℕ, [], length, set, get_or, true, IfOk, IfSome};
+ghost use Rattle.std.specs.Prelude.{◌≡◌, ◌≢◌, ◌<◌, ℕ, List, Bool, [], length, set, get_or, true, IfSome};
 ghost use Rattle.mkb_rules.specs.Sizes.{AreListed};
 
-use kb_node::{MAX_NODES, NodeId};
-use std::alloc::{AllocError, Global};
+use kb_node::NodeId;
+use std::alloc::Global;
 use std::marker::Model;
+use std::mem::replace;
 
 /// For each of the first nodes whether it may be in use, and a list of those that may, where that is kept. Contracts see the marks.
 #[derive(Drop)]
@@ -31,7 +32,7 @@ impl Marks {
     {
         Marks {
             used: Vec::new(alloc),
-            list: None,
+            list: Some(Vec::new(alloc)),
         }
     }
 
@@ -60,10 +61,12 @@ impl Marks {
         if at >= self.used.len() {
             return;
         }
-        let comes = is_used && !self.used[at];
-        self.used[at] = is_used;
-        if comes {
-            self.list = listed(*self.used.allocator(), &self.used).ok();
+        let was_used = replace(&mut self.used[at], is_used);
+        if is_used != was_used {
+            self.list = match self.list.take() {
+                Some(list) => updated(list, n, is_used),
+                None => None,
+            };
         }
     }
 
@@ -71,7 +74,6 @@ impl Marks {
     pub(crate) fn push(&mut self, n: NodeId)
         ensures { (m : ℕ) → m ≢ n.0 → get_or self.new m true ≡ get_or self.old m true }
     {
-        self.list = None;
         if self.used.len() == n.0 as usize {
             self.used.push(false).ok();
         }
@@ -89,19 +91,19 @@ impl Marks {
     }
 }
 
-// The nodes that aren't marked as out of use, in their order. A mark whose number is none of a node counts as want of memory.
-fn listed(alloc: Global, used: &[bool]) -> Result<Vec<NodeId>, AllocError>
-    ensures { IfOk result (λ l. AreListed used.now (length used.now) l.items) }
+// The list with the node at its place in the order, or without it, as it is used or not; none where there is no memory for it.
+fn updated(mut list: Vec<NodeId>, n: NodeId, is_used: bool) -> Option<Vec<NodeId>>
+    ensures { IfSome result (λ l. (used : List Bool) → n.0 < length used → AreListed used (length used) list.items → AreListed (set used n.0 is_used) (length used) l.items) }
 {
-    let mut list = Vec::new(alloc);
-    for n in 0..used.len() {
-        if !used[n] {
-            continue;
+    match list.binary_search_by_key(&n.0, |m| m.0) {
+        Ok(place) if !is_used => {
+            list.remove(place);
+            Some(list)
         }
-        if n >= MAX_NODES as usize {
-            return Err(AllocError);
+        Err(place) if is_used => {
+            list.insert(place, n).ok()?;
+            Some(list)
         }
-        list.push(NodeId(n as u16))?;
+        _ => Some(list),
     }
-    Ok(list)
 }

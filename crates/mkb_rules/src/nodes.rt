@@ -201,6 +201,9 @@ impl Nodes {
         ensures ok { OnOk result (self.new.now ≡ with_gain n.0 kind names.now self.old.now) }
         ensures before { self.new.before ≡ self.old.before }
     {
+        if self.label(n, kind).includes(names) {
+            return Ok(());
+        }
         let label = joined(self.allocator(), log, self.label(n, kind), names)?;
         self.set(log, n, kind, label)
     }
@@ -217,6 +220,9 @@ impl Nodes {
         ensures ok { OnOk result (self.new.now ≡ with_loss n.0 kind names.now self.old.now) }
         ensures before { self.new.before ≡ self.old.before }
     {
+        if names.is_disjoint(self.label(n, kind)) {
+            return Ok(());
+        }
         let label = left(self.allocator(), log, self.label(n, kind), names)?;
         self.set(log, n, kind, label)
     }
