@@ -94,7 +94,12 @@ fn started(alloc: Global, bytes: &[u8], budget: u32) -> Result<Board, Memory>
 }
 
 // How many commits the workers make on the board.
-fn commits<R: Threads + Wait + Clock + Sync>(rt: &R, alloc: Global, board: Board, request: Request) -> u32
+fn commits<R: Threads + Wait + Clock + Sync>(
+    rt: &R,
+    alloc: Global,
+    board: Board,
+    request: Request,
+) -> u32
     requires least { 1 ≤ request.workers }
     requires most { request.workers ≤ 16 }
     requires opening { board.journal ≡ [] }
