@@ -34,7 +34,7 @@ const FIRST: u8 = 1;
 const NAP: u64 = 400;
 
 /// The fewest entries made within a nap that show that jobs take no longer than turns, so that one more worker would be of no use.
-const CROWD: u64 = 16;
+const CROWD: u64 = 8;
 
 /// The most naps of a worker between two of its tickets.
 const NAPS: u32 = 64;
