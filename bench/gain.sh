@@ -3,21 +3,23 @@
 #
 #   bench/gain.sh BUDGET WORKERS [FILE..]
 #
-# The files are those of examples/ where none are given. Each run is made three times and the least time counts. A line for each
-# problem has the seconds by the clock and, in brackets, of the processors: of complete by one worker and by WORKERS, of rounds by
-# both, and behind them how many times as fast complete and rounds are by WORKERS.
+# The files are those of examples/ where none are given. Each run is made three times, or so often as the variable RUNS says, by one
+# worker and by WORKERS in turn, since times of a shared machine drift. A line for each problem and mode has the least seconds by the
+# clock and, in brackets, of the processors, by one worker and by WORKERS; behind them how many times as long WORKERS take as one, by the
+# clock and of the processors: of the least times and of the medians.
 set -eu
 top="$(cd "$(dirname "${BASH_SOURCE[0]}")/.." && pwd)"
-gain_program="$top/crates/mkbtt/out/mkbtt"
+gain_program="${MKBTT:-$top/crates/mkbtt/out/mkbtt}"
 gain_budget="${1:?how many commits}"
 gain_workers="${2:?how many workers}"
+gain_runs="${RUNS:-3}"
 shift 2
 [ $# -gt 0 ] || set -- "$top"/examples/*.trs
-export gain_program gain_budget gain_workers
+export gain_program gain_budget gain_workers gain_runs
 echo "processors: $(nproc)"
 for file in "$@"; do
     python3 - "$file" <<'PY'
-import os, resource, subprocess, sys, time
+import os, resource, statistics, subprocess, sys, time
 
 def once(mode, count):
     words = [os.environ["gain_program"], mode, "--workers", count, "--budget", os.environ["gain_budget"]]
@@ -29,13 +31,16 @@ def once(mode, count):
         sys.exit(f"{sys.argv[1]}: {mode} ended with {status}")
     return clock, after.ru_utime + after.ru_stime - before.ru_utime - before.ru_stime
 
-def least(mode, count):
-    return min(once(mode, count) for _ in range(3))
+def ratios(of, one, more):
+    return " ".join(f"{of(it[at] for it in more) / of(it[at] for it in one):.2f}" for at in (0, 1))
 
-several = os.environ["gain_workers"]
-times = {(mode, count): least(mode, count) for mode in ("complete", "rounds") for count in ("1", several)}
-shown = " ".join(f"{clock:.2f} ({spent:.2f})" for clock, spent in times.values())
-gains = " ".join(f"{times[mode, '1'][0] / times[mode, several][0]:.2f}" for mode in ("complete", "rounds"))
-print(os.path.basename(sys.argv[1]), shown, "gain", gains)
+for mode in ("complete", "rounds"):
+    one, more = [], []
+    for _ in range(int(os.environ["gain_runs"])):
+        one.append(once(mode, "1"))
+        more.append(once(mode, os.environ["gain_workers"]))
+    shown = " ".join(f"{min(it[0] for it in times):.3f} ({min(it[1] for it in times):.3f})" for times in (one, more))
+    name = os.path.basename(sys.argv[1]).removesuffix(".trs")
+    print(name, mode, shown, "least", ratios(min, one, more), "median", ratios(statistics.median, one, more), flush=True)
 PY
 done
