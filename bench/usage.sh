@@ -48,7 +48,8 @@ for mode in $modes; do
     agree_on "the mode" "$mode" "$(sed -n "s/^  $mode  *\([a-z].*\)/\1/p" "$page")"
 done
 while read -r option standard; do
-    range="$(sed -n "s/.*let $option = .*range(\([0-9_]*\)\.\.=\([0-9_]*\)).*/\1 to \2/p" "$words/command.rt" | tr -d _)"
+    # the range stands in the line before
+    range="$(grep -B 1 -F "number_option(alloc, \"$option\"," "$words/command.rt" | sed -n 's/.*range(\([0-9_]*\)\.\.=\([0-9_]*\)).*/\1 to \2/p' | tr -d _)"
     grep -Eq "^  --$option .*, $range +default $standard\$" "$page" || lacks "the option $option, $range, default $standard"
     agree_on "the option" "$option" ", $range; $standard where it isn't given"
 done <<<"$options"
