@@ -1,5 +1,5 @@
 // The first precedence that orients given rules.
-ghost use Rattle.std.specs.Prelude.{ℕ, List, ◌≡◌, ◌++◌, IsTrue, IsSome, ◌↔◌, IfOk, map, ◌+◌, ◌<◌, ◌≤◌, length, Contains, [], ◌∷◌, true, false};
+ghost use Rattle.std.specs.Prelude.{ℕ, List, ◌≡◌, ◌++◌, IsTrue, IsSome, IsSomeAnd, ◌↔◌, IfOk, IfSome, map, ◌+◌, ◌<◌, ◌≤◌, length, Contains, [], ◌∷◌, true, false};
 ghost use Rattle.kb_term.specs.Pair.{place_in};
 ghost use Rattle.kb_lpo.specs.PathOrder.{LpoGreater, IsAbove};
 ghost use Rattle.kb_lpo.specs.Precedences.{precedences};
@@ -228,63 +228,64 @@ fn fitting(table: &Known, symbols: &[Symbol], f: Symbol, count: u8) -> Option<Kn
     None
 }
 
-/// Puts the symbols that are left behind those of the prefix, each time the least that may follow, and tests this one
-/// arrangement. Where it orients all rules it is the first that does; else the prefix is as before.
-fn first_fitting(
-    known: &Known,
-    rules: &[Rule],
-    count: u8,
-    prefix: &mut Vec<Symbol>,
-    left: u8,
-) -> Result<bool, Memory>
-    requires { (rest : List ℕ) → LpoOrients (numbers prefix.old.items ++ rest) rules.now → Fits known.now (numbers prefix.old.items ++ rest) }
-    ensures { IfOk result (λ found. IsTried rules.now count left (numbers prefix.old.items) (numbers prefix.new.items) found) }
-{
-    if left == 0 {
-        return Ok(orients(prefix, rules));
-    }
-    for y in 0..count {
-        let f = Symbol(y);
-        if may_follow(known, prefix, f, count) {
-            prefix.push(f)?;
-            if first_fitting(known, rules, count, prefix, left - 1)? {
-                return Ok(true);
-            }
-            prefix.pop();
-            return Ok(false);
-        }
-    }
-    Ok(false)
+/// By what it is tested whether a symbol may come next, where one arrangement is built.
+#[derive(Clone, Copy)]
+enum Test {
+    /// By what is known.
+    Known,
+    /// By what is known and by each rule alone, whether it is possible.
+    Rules,
 }
 
-/// Puts the symbols that are left behind those of the prefix, each time the least with which each rule is possible, and
-/// tests this one arrangement. Where it orients all rules it is the first that does; else the prefix is as before.
-fn first_possible(
-    known: &Known,
-    rules: &[Rule],
+/// How one arrangement of so many symbols is built that is to orient all rules.
+#[derive(Clone, Copy)]
+struct Arranging<'a> {
+    rules: &'a [Rule],
     count: u8,
-    prefix: &mut Vec<Symbol>,
-    left: u8,
-) -> Result<bool, Memory>
-    requires { (rest : List ℕ) → LpoOrients (numbers prefix.old.items ++ rest) rules.now → Fits known.now (numbers prefix.old.items ++ rest) }
-    ensures { IfOk result (λ found. IsTried rules.now count left (numbers prefix.old.items) (numbers prefix.new.items) found) }
-{
-    if left == 0 {
-        return Ok(orients(prefix, rules));
-    }
-    for y in 0..count {
-        let f = Symbol(y);
+    test: Test,
+}
+
+impl<'a> Arranging<'a> {
+    /// What is known once `f` stands behind the listed symbols: none where it is listed, or the test refuses it.
+    fn placed(&self, known: &Known, symbols: &[Symbol], f: Symbol) -> Option<Known>
+        ensures unlisted { IfSome result (λ more. ¬ Contains (numbers symbols.now) f.0) }
+        ensures sound { (rest : List ℕ) → ¬ Contains (numbers symbols.now) f.0 → Fits known.now (numbers symbols.now ++ f.0 ∷ rest) → LpoOrients (numbers symbols.now ++ f.0 ∷ rest) self.now.rules.now → IsSomeAnd result (λ more. Fits more (numbers symbols.now ++ f.0 ∷ rest)) }
+    {
         let mut more = *known;
-        if place_possible(&mut more, rules, prefix, f, count) {
-            prefix.push(f)?;
-            if first_possible(&more, rules, count, prefix, left - 1)? {
-                return Ok(true);
-            }
-            prefix.pop();
-            return Ok(false);
-        }
+        let is_next = match self.test {
+            Test::Known => may_follow(known, symbols, f, self.count),
+            Test::Rules => place_possible(&mut more, self.rules, symbols, f, self.count),
+        };
+        if is_next { Some(more) } else { None }
     }
-    Ok(false)
+
+    /// Puts the symbols that are left behind those of the prefix, each time the least that passes the test, and tries this one
+    /// arrangement. Where it orients all rules it is the first that does; else the prefix is as before.
+    fn try_first(
+        &self,
+        known: &Known,
+        prefix: &mut Vec<Symbol>,
+        left: u8,
+    ) -> Result<bool, Memory>
+        requires { (rest : List ℕ) → LpoOrients (numbers prefix.old.items ++ rest) self.now.rules.now → Fits known.now (numbers prefix.old.items ++ rest) }
+        ensures { IfOk result (λ found. IsTried self.now.rules.now self.now.count left (numbers prefix.old.items) (numbers prefix.new.items) found) }
+    {
+        if left == 0 {
+            return Ok(orients(prefix, self.rules));
+        }
+        for y in 0..self.count {
+            let f = Symbol(y);
+            if let Some(more) = self.placed(known, prefix, f) {
+                prefix.push(f)?;
+                if self.try_first(&more, prefix, left - 1)? {
+                    return Ok(true);
+                }
+                prefix.pop();
+                return Ok(false);
+            }
+        }
+        Ok(false)
+    }
 }
 
 /// The least symbol with which an arrangement that isn't before the floor begins.
@@ -363,7 +364,12 @@ fn search_or_fit(
     requires bound { IsFloor rules.now count left (numbers prefix.old.items) (numbers floor.now) }
     ensures { IfOk result (λ found. IsSearched rules.now count left (numbers prefix.old.items) (numbers prefix.new.items) found) }
 {
-    if first_fitting(known, rules, count, prefix, left)? {
+    let fitting = Arranging {
+        rules,
+        count,
+        test: Test::Known,
+    };
+    if fitting.try_first(known, prefix, left)? {
         return Ok(true);
     }
     search_from(known, rules, count, prefix, left, floor, before)
@@ -386,10 +392,20 @@ fn search_above(
         return Ok(None);
     }
     let mut prefix = Vec::new(alloc);
-    if first_fitting(&known, rules, count, &mut prefix, count)? {
+    let fitting = Arranging {
+        rules,
+        count,
+        test: Test::Known,
+    };
+    if fitting.try_first(&known, &mut prefix, count)? {
         return Ok(Some(Precedence::new(prefix)));
     }
-    if first_possible(&known, rules, count, &mut prefix, count)? {
+    let possible = Arranging {
+        rules,
+        count,
+        test: Test::Rules,
+    };
+    if possible.try_first(&known, &mut prefix, count)? {
         return Ok(Some(Precedence::new(prefix)));
     }
     if !propagate(&mut known, rules) {

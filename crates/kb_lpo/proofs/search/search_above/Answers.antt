@@ -18,10 +18,10 @@ pub search_or_fit-requires : goal.search_or_fit-requires
 search_or_fit-requires c =
     let rules = c.args.rules.now in
     let n = c.count-count.result in
-    let ys = numbers c.first_fitting.new.prefix.items in
-    let xs = numbers c.first_possible.new.prefix.items in
-    let before : ys ≡ [] = still_empty rules n (numbers c.new-prefix.result.items) ys c.in_ok-first_fitting.field-0 c.if-branch.false (ap numbers c.new-prefix.ensures.items) c.in_ok-first_fitting.ensures in
-    let empty : xs ≡ [] = still_empty rules n ys xs c.in_ok-first_possible.field-0 c.if-branch-2.false before c.in_ok-first_possible.ensures in
+    let ys = numbers c.try_first.new.prefix.items in
+    let xs = numbers c.try_first-2.new.prefix.items in
+    let before : ys ≡ [] = still_empty rules n (numbers c.new-prefix.result.items) ys c.in_ok-try_first.field-0 c.if-branch.false (ap numbers c.new-prefix.ensures.items) c.in_ok-try_first.ensures in
+    let empty : xs ≡ [] = still_empty rules n ys xs c.in_ok-try_first-2.field-0 c.if-branch-2.false before c.in_ok-try_first-2.ensures in
     record {
       sound = λ rest o. let p = xs ++ rest in (c.propagate.ensures p (c.force_all.ensures p (c.new-known.ensures p) o).1 o).1;
       bound = subst₂ (λ k xs. IsFloor rules k k xs (numbers c.args.floor.now)) (sym c.count-count.ensures.count) (sym empty) c.requires.bound;
@@ -31,26 +31,26 @@ pub returns-then-branch : goal.returns-then-branch
 returns-then-branch c =
     let rules = c.args.rules.now in
     let n = c.count-count.result in
-    let s = subst (λ b. IsTried rules n n (numbers c.new-prefix.result.items) (numbers c.first_fitting.new.prefix.items) b) c.if-branch.true c.in_ok-first_fitting.ensures in
-    subst (λ z. IsFirst (λ prec. LpoOrients prec rules) (precedences z) (Some c.new.result)) c.count-count.ensures.count (subst (λ z. IsFirst (λ prec. LpoOrients prec rules) (precedences n) (Some z)) (sym c.new.ensures) (whole_found rules n (numbers c.new-prefix.result.items) (numbers c.first_fitting.new.prefix.items) (ap numbers c.new-prefix.ensures.items) s))
+    let s = subst (λ b. IsTried rules n n (numbers c.new-prefix.result.items) (numbers c.try_first.new.prefix.items) b) c.if-branch.true c.in_ok-try_first.ensures in
+    subst (λ z. IsFirst (λ prec. LpoOrients prec rules) (precedences z) (Some c.new.result)) c.count-count.ensures.count (subst (λ z. IsFirst (λ prec. LpoOrients prec rules) (precedences n) (Some z)) (sym c.new.ensures) (whole_found rules n (numbers c.new-prefix.result.items) (numbers c.try_first.new.prefix.items) (ap numbers c.new-prefix.ensures.items) s))
 
 pub returns-then-branch-2 : goal.returns-then-branch-2
 returns-then-branch-2 c =
     let rules = c.args.rules.now in
     let n = c.count-count.result in
-    let ys = numbers c.first_fitting.new.prefix.items in
-    let before : ys ≡ [] = still_empty rules n (numbers c.new-prefix.result.items) ys c.in_ok-first_fitting.field-0 c.if-branch.false (ap numbers c.new-prefix.ensures.items) c.in_ok-first_fitting.ensures in
-    let s = subst (λ b. IsTried rules n n ys (numbers c.first_possible.new.prefix.items) b) c.if-branch-2.true c.in_ok-first_possible.ensures in
-    subst (λ z. IsFirst (λ prec. LpoOrients prec rules) (precedences z) (Some c.new-then-branch-2.result)) c.count-count.ensures.count (subst (λ z. IsFirst (λ prec. LpoOrients prec rules) (precedences n) (Some z)) (sym c.new-then-branch-2.ensures) (whole_found rules n ys (numbers c.first_possible.new.prefix.items) before s))
+    let ys = numbers c.try_first.new.prefix.items in
+    let before : ys ≡ [] = still_empty rules n (numbers c.new-prefix.result.items) ys c.in_ok-try_first.field-0 c.if-branch.false (ap numbers c.new-prefix.ensures.items) c.in_ok-try_first.ensures in
+    let s = subst (λ b. IsTried rules n n ys (numbers c.try_first-2.new.prefix.items) b) c.if-branch-2.true c.in_ok-try_first-2.ensures in
+    subst (λ z. IsFirst (λ prec. LpoOrients prec rules) (precedences z) (Some c.new-then-branch-2.result)) c.count-count.ensures.count (subst (λ z. IsFirst (λ prec. LpoOrients prec rules) (precedences n) (Some z)) (sym c.new-then-branch-2.ensures) (whole_found rules n ys (numbers c.try_first-2.new.prefix.items) before s))
 
 pub returns-then-branch-3 : goal.returns-then-branch-3
 returns-then-branch-3 c =
     let rules = c.args.rules.now in
     let n = c.count-count.result in
-    let ys = numbers c.first_fitting.new.prefix.items in
-    let xs = numbers c.first_possible.new.prefix.items in
-    let before : ys ≡ [] = still_empty rules n (numbers c.new-prefix.result.items) ys c.in_ok-first_fitting.field-0 c.if-branch.false (ap numbers c.new-prefix.ensures.items) c.in_ok-first_fitting.ensures in
-    let empty : xs ≡ [] = still_empty rules n ys xs c.in_ok-first_possible.field-0 c.if-branch-2.false before c.in_ok-first_possible.ensures in
+    let ys = numbers c.try_first.new.prefix.items in
+    let xs = numbers c.try_first-2.new.prefix.items in
+    let before : ys ≡ [] = still_empty rules n (numbers c.new-prefix.result.items) ys c.in_ok-try_first.field-0 c.if-branch.false (ap numbers c.new-prefix.ensures.items) c.in_ok-try_first.ensures in
+    let empty : xs ≡ [] = still_empty rules n ys xs c.in_ok-try_first-2.field-0 c.if-branch-2.false before c.in_ok-try_first-2.ensures in
     let s = subst (λ b. IsSearched rules n n xs (numbers c.search_or_fit.new.prefix.items) b) c.if-branch-3.true c.in_ok-search_or_fit.ensures in
     subst (λ z. IsFirst (λ prec. LpoOrients prec rules) (precedences z) (Some c.new-then-branch-3.result)) c.count-count.ensures.count (subst (λ z. IsFirst (λ prec. LpoOrients prec rules) (precedences n) (Some z)) (sym c.new-then-branch-3.ensures) (whole_found rules n xs (numbers c.search_or_fit.new.prefix.items) empty s))
 
@@ -58,9 +58,9 @@ pub returns : goal.returns
 returns c =
     let rules = c.args.rules.now in
     let n = c.count-count.result in
-    let ys = numbers c.first_fitting.new.prefix.items in
-    let xs = numbers c.first_possible.new.prefix.items in
-    let before : ys ≡ [] = still_empty rules n (numbers c.new-prefix.result.items) ys c.in_ok-first_fitting.field-0 c.if-branch.false (ap numbers c.new-prefix.ensures.items) c.in_ok-first_fitting.ensures in
-    let empty : xs ≡ [] = still_empty rules n ys xs c.in_ok-first_possible.field-0 c.if-branch-2.false before c.in_ok-first_possible.ensures in
+    let ys = numbers c.try_first.new.prefix.items in
+    let xs = numbers c.try_first-2.new.prefix.items in
+    let before : ys ≡ [] = still_empty rules n (numbers c.new-prefix.result.items) ys c.in_ok-try_first.field-0 c.if-branch.false (ap numbers c.new-prefix.ensures.items) c.in_ok-try_first.ensures in
+    let empty : xs ≡ [] = still_empty rules n ys xs c.in_ok-try_first-2.field-0 c.if-branch-2.false before c.in_ok-try_first-2.ensures in
     let s = subst (λ b. IsSearched rules n n xs (numbers c.search_or_fit.new.prefix.items) b) c.if-branch-3.false c.in_ok-search_or_fit.ensures in
     subst (λ z. IsFirst (λ prec. LpoOrients prec rules) (precedences z) None) c.count-count.ensures.count (whole_none rules n xs (numbers c.search_or_fit.new.prefix.items) empty s)
