@@ -143,7 +143,7 @@ impl CertPool {
             Known::Bound(start) => miss.search_from(rt, family, sig, rules, start)?,
             Known::Nothing => miss.search(rt, family, sig, rules)?,
         };
-        let _kept = self.keep(rt, &keys, sig, rules, &answer);
+        self.keep(rt, &keys, sig, rules, &answer).ok();
         Ok(answer)
     }
 
@@ -282,7 +282,7 @@ impl Searcher for CertPool {
             return Ok(answer);
         }
         let answer = search_from(self.alloc, family, sig, rules, start)?;
-        let _kept = self.keep(rt, &keys, sig, rules, &answer);
+        self.keep(rt, &keys, sig, rules, &answer).ok();
         Ok(answer)
     }
 

@@ -69,6 +69,13 @@ impl Answer {
         &self.problem
     }
 
+    /// The parts have the forms that their texts may have. It runs nothing: each answer keeps this.
+    pub fn has_form(&self)
+        ensures { IsAnswer self.now }
+    {
+        self.problem();
+    }
+
     /// The rules, each with the trace step that it cites.
     pub fn rules(&self) -> &[(Rule, u32)]
         ensures { result.now ≡ self.now.rules }

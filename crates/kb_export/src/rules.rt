@@ -1,7 +1,6 @@
 // The rules of an answer as a problem.
 ghost use Rattle.std.specs.Prelude.{◌≡◌, ◌≤◌, ◌++◌, ◌∷◌, IfOk, OnOk, flat_map, length, max};
 ghost use Rattle.std.specs.List.{range_with_len};
-ghost use Rattle.kb_term.specs.Signature.{IsSignature};
 ghost use Rattle.kb_term.specs.Tree.{variables_of};
 ghost use Rattle.kb_text.specs.Terms.{names_of, prefix_length, variable_text};
 ghost use Rattle.kb_export.specs.ReadBack.{SpellsSame};
@@ -96,13 +95,6 @@ fn rule_lines(alloc: Global, answer: &Answer) -> Result<Vec<u8>, Memory>
     Ok(out)
 }
 
-// The names of a signature are different identifiers.
-fn names_are_identifiers(signature: &Signature)
-    ensures { IsSignature signature.now }
-{
-    let _symbols = signature.symbols();
-}
-
 /// The rules of an answer in the layout of problems that other tools read too: a section of variables, and a section of rules
 /// with a line for each rule, whose sides are joined by `->` and written as by `term_text`.
 ///
@@ -112,6 +104,6 @@ pub fn trs_text(alloc: Global, answer: &Answer) -> Result<Vec<u8>, Memory>
     ensures text { IfOk result (λ text. text.items ≡ rules_text (rules_problem answer.now)) }
     ensures read { IfOk result (λ text. length answer.now.rules ≤ 256 → length text.items ≤ 1048576 → SpellsSame text.items (rules_problem answer.now)) }
 {
-    names_are_identifiers(answer.problem().signature());
+    answer.problem().signature().names_are_identifiers();
     rule_lines(alloc, answer)
 }

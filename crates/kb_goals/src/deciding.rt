@@ -2,7 +2,7 @@
 ghost use Rattle.std.specs.Prelude.{◌≡◌, ◌≤◌, IfOk, All, length};
 ghost use Rattle.kb_term.specs.Signature.{IsEquationWithinLimits};
 ghost use Rattle.kb_term.specs.View.{equations_of_list};
-ghost use Rattle.kb_checker.specs.Answers.{IsAnswer, IsGoodAnswer, rules_of as rules_of_answer};
+ghost use Rattle.kb_checker.specs.Answers.{IsGoodAnswer, rules_of as rules_of_answer};
 ghost use Rattle.kb_goals.specs.Answering.{AreDecided, AreRight};
 
 use kb_checker::Answer;
@@ -25,13 +25,6 @@ pub fn rules_of(alloc: Global, answer: &Answer) -> Result<Vec<Rule>, Memory>
     Ok(rules)
 }
 
-// The parts of an answer have the forms that its text may have.
-fn has_form(answer: &Answer)
-    ensures { IsAnswer answer.now }
-{
-    let _problem = answer.problem();
-}
-
 /// What the rules of a good answer say of each goal behind it: a yes says that the equations of its problem prove the goal, a no
 /// that they don't. That an answer is good is what `check` says by `Accepted`; the goals that `read_goals` gives are over its
 /// symbols.
@@ -49,7 +42,7 @@ pub fn decide_goals(
     ensures decided { IfOk result (λ decisions. AreDecided (rules_of_answer answer.now.rules) (equations_of_list goals.now) decisions.items) }
     ensures right { IfOk result (λ decisions. AreRight answer.now.problem.equations (equations_of_list goals.now) decisions.items) }
 {
-    has_form(answer);
+    answer.has_form();
     let rules = rules_of(alloc, answer)?;
     let mut decisions = Vec::new(alloc);
     for k in 0..goals.len() {

@@ -261,12 +261,7 @@ impl<'a> Arranging<'a> {
 
     /// Puts the symbols that are left behind those of the prefix, each time the least that passes the test, and tries this one
     /// arrangement. Where it orients all rules it is the first that does; else the prefix is as before.
-    fn try_first(
-        &self,
-        known: &Known,
-        prefix: &mut Vec<Symbol>,
-        left: u8,
-    ) -> Result<bool, Memory>
+    fn try_first(&self, known: &Known, prefix: &mut Vec<Symbol>, left: u8) -> Result<bool, Memory>
         requires { (rest : List ℕ) → LpoOrients (numbers prefix.old.items ++ rest) self.now.rules.now → Fits known.now (numbers prefix.old.items ++ rest) }
         ensures { IfOk result (λ found. IsTried self.now.rules.now self.now.count left (numbers prefix.old.items) (numbers prefix.new.items) found) }
     {

@@ -37,8 +37,7 @@ pub fn reduce(alloc: Global, a: &Answer) -> Result<Reduction, Memory>
     if let Checked::Rejected(reason, n) = check(alloc, a)? {
         return Ok(Reduction::Rejected(reason, n));
     }
-    // An answer keeps its form, and says so where its problem is read.
-    let _problem = a.problem();
+    a.has_form();
     let alone = rules_alone(alloc, a.rules())?;
     let mut steps = a.trace().clone()?.into_steps();
     let mut rules = Vec::new(alloc);

@@ -31,13 +31,6 @@ pub(crate) struct Parts {
     pub(crate) trace: Trace,
 }
 
-// The names of a signature are different identifiers.
-fn names_are_identifiers(sig: &Signature)
-    ensures { IsSignature sig.now }
-{
-    let _symbols = sig.symbols();
-}
-
 /// The equations behind the line that says how many there are, and how many lines and bytes they take with it.
 fn read_counted_equations(
     alloc: Global,
@@ -137,7 +130,7 @@ pub(crate) fn read_problem(
     ensures fault { IfErr result (IsSectionFault ProblemPart text.now first) }
 {
     let (sig, line) = read_symbols(alloc, text, first)?;
-    names_are_identifiers(&sig);
+    sig.names_are_identifiers();
     let (_, rest) = text.split_at(line);
     let (equations, lines, size) = read_counted_equations(alloc, &sig, rest, first + 1)?;
     Ok((Problem::new(sig, equations), 1 + lines, line + size))
@@ -162,7 +155,7 @@ pub(crate) fn read_parts(
     ensures size { IfOk result (λ p. p.2 ≤ length text.now) }
     ensures fault { IfErr result (IsSectionFault (RulePart version sig.now) text.now first) }
 {
-    names_are_identifiers(sig);
+    sig.names_are_identifiers();
     let (rules, rule_lines, rule_size) = read_counted_rules(alloc, sig, text, first)?;
     let at = first + rule_lines;
     let (_, rest) = text.split_at(rule_size);

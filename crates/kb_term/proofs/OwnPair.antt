@@ -1,5 +1,5 @@
 -- The canonical pair of a canonical pair is itself.
-use Rattle.std.proofs.Common.{◌≡◌, ◌⊎◌, inl, inr, refl, ap, ap₂, sym, ◌∙◌, arith, ℕ, suc, ◌≤◌, List, [], ◌∷◌, ◌++◌, length, get_or, Bool, true, false, Contains, Ordering, Less, Equal, Greater, Some, ⊎_elim}
+use Rattle.std.proofs.Common.{◌≡◌, ◌⊎◌, inl, inr, refl, ap, ap₂, sym, ◌∙◌, arith, ℕ, suc, ◌≤◌, List, [], ◌∷◌, ◌++◌, length, get_or, Bool, true, false, Contains, Ordering, Less, Equal, Greater, Some, None, subst, cond, ⊎_elim}
 use Rattle.std.specs.Prelude.{map, ◌==◌}
 use Rattle.std.specs.Ordering.{ordering_index}
 use Rattle.std.proofs.lemmas.Bool.{false≢true}
@@ -11,6 +11,8 @@ use Rattle.kb_term.proofs.Compared.{tree-is_eq}
 use Rattle.kb_term.proofs.Variants.{IsApart, at_place, in_distinct, distinct_renamed, variables_renamed, map_append, numbered_renamed, unnumbered}
 use Rattle.kb_term.proofs.CanonicalPairs.{flip, tree_flip, tree_equal, lesser_cases, lesser_comm}
 use Rattle.kb_term.proofs.NameList.{variables_of_pair-swapped}
+use Rattle.kb_term.proofs.RuleBelow.{numbered-below}
+use Rattle.kb_term.specs.Rule.{IsRuleBelow, rule_between}
 
 equal_from_index : (o : Ordering) → (ordering_index o == 1) ≡ true → o ≡ Equal
 equal_from_index Less e = absurd (false≢true e)
@@ -102,3 +104,26 @@ canonical_own s t d f = go (lesser_cases (numbered s t) (numbered t s))
     go : (canonical s t ≡ numbered s t) ⊎ (canonical s t ≡ numbered t s) → IsCanonicalPair (canonical s t)
     go (inl e) = own s t (canonical s t) e refl d f
     go (inr e) = own t s (canonical s t) e (lesser_comm (numbered t s) (numbered s t)) turned (omega (arith, f, variables_of_pair-swapped s t))
+
+-- a canonical pair is numbered by its first side, then its second
+pub numbered_same : (e : Pair) → IsCanonicalPair e → numbered e.first e.second ≡ e
+numbered_same e c = go (tree_eq e.first e.second) refl
+  where
+    whole : canonical e.first e.second ≡ e → numbered e.first e.second ≡ e
+    whole k = by (lesser_cases (numbered e.first e.second) (numbered e.second e.first))
+      where
+        by : (canonical e.first e.second ≡ numbered e.first e.second) ⊎ (canonical e.first e.second ≡ numbered e.second e.first) → numbered e.first e.second ≡ e
+        by (inl h) = sym h ∙ k
+        by (inr h) =
+            let own : e ≡ numbered e.second e.first = sym k ∙ h in
+            ap (λ (p : Pair). numbered p.first p.second) own ∙ numbered_own e.second e.first ∙ sym own
+
+    go : (b : Bool) → tree_eq e.first e.second ≡ b → numbered e.first e.second ≡ e
+    go true d = absurd (let h : None ≡ Some e = subst (λ b. cond b None (Some (canonical e.first e.second)) ≡ Some e) d c.own in cc)
+    go false d = whole (let h : Some (canonical e.first e.second) ≡ Some e = subst (λ b. cond b None (Some (canonical e.first e.second)) ≡ Some e) d c.own in cc)
+
+-- so its sides make a rule of variables below 64
+pub same_below : (e : Pair) (s t : Tree) → IsCanonicalPair e → s ≡ e.first → t ≡ e.second → IsRuleBelow 64 (rule_between s t)
+same_below e s t c h k =
+    let below : IsRuleBelow 64 (rule_between e.first e.second) = subst (λ (p : Pair). IsRuleBelow 64 (rule_between p.first p.second)) (numbered_same e c) (numbered-below e.first e.second 64 c.few) in
+    subst (IsRuleBelow 64) (ap₂ rule_between (sym h) (sym k)) below

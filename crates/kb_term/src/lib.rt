@@ -32,7 +32,7 @@ pub use pair::{Pair, canonical};
 pub use position::{Position, subterm};
 pub use problem::Problem;
 pub use replacement::replace;
-pub use rule::{Rule, numbered_rule, rule_of};
+pub use rule::{Rule, numbered_rule, rule_from, rule_of};
 pub use signature::Signature;
 pub use subst::{Subst, apply, instance_of};
 pub use term::{Symbol, Term, Terms, compare, depth, size, total_size};

@@ -12,13 +12,6 @@ use kb_term::{Memory, Signature};
 use kb_text::{Fields, TextFault, line_length};
 use std::alloc::Global;
 
-// The names of a signature are different identifiers.
-fn names_are_identifiers(signature: &Signature)
-    ensures { IsSignature signature.now }
-{
-    let _symbols = signature.symbols();
-}
-
 /// The step with the number that the line is, without its line feed.
 fn read_step(
     alloc: Global,
@@ -67,7 +60,7 @@ pub fn read_trace(alloc: Global, sig: &Signature, lines: &[u8]) -> Result<Trace,
     ensures one { IfOk result (λ t. (u : List TraceStep) → IsTraceForm sig.now u → lines.now ≡ trace_text sig.now u → t ≡ u) }
     ensures fault { IfErr result (IsTextFault (IsTraceText sig.now) lines.now) }
 {
-    names_are_identifiers(sig);
+    sig.names_are_identifiers();
     let mut steps = Vec::new(alloc);
     let mut at = 0;
     let mut number = 1;

@@ -95,6 +95,13 @@ impl Board {
         self.journal.as_slice()
     }
 
+    /// The journal is legal and makes the board. It runs nothing: each board keeps this.
+    pub fn journal_is_legal(&self)
+        ensures { IsLegalBoard self.now }
+    {
+        self.journal();
+    }
+
     /// The state: the board without flight and journal.
     pub fn state(&self) -> &State
         ensures { record result.now { flight = self.now.plain.flight } ≡ self.now.plain }

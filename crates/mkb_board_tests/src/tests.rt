@@ -103,7 +103,7 @@ fn take(rt: &impl Abort, alloc: Global, board: &mut Board, worker: u8) -> Hand
     ensures stays { (t : Held) (s : Read) → IsHeld board.old t s → IsHeld board.new t s }
 {
     held_tickets_stay();
-    let _journal = board.journal();
+    board.journal_is_legal();
     match board.take(alloc, worker).expect(rt, "memory") {
         Taken::Job(ticket, snapshot) => Hand { ticket, snapshot },
         _ => panic!(rt; "no ticket"),

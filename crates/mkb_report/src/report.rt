@@ -71,13 +71,13 @@ fn answer_of(alloc: Global, state: &State, p: &Process) -> Result<Answer, Memory
     Ok(Answer::new(problem, rules, constraints, cert, trace))
 }
 
-// The problem, whose names are different identifiers: each signature keeps this, and says so where its symbols are read.
+// The problem, whose names are different identifiers: each signature keeps this.
 fn problem_of(state: &State) -> Result<Problem, Memory>
     ensures problem { IfOk result (λ problem. problem ≡ state.now.problem) }
     ensures names { IsSignature state.now.problem.signature }
 {
     let problem = state.problem();
-    let _symbols = problem.signature().symbols();
+    problem.signature().names_are_identifiers();
     Ok(problem.clone()?)
 }
 

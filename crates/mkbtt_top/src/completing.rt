@@ -44,7 +44,7 @@ fn report_text(alloc: Global, board: &Board, verdict: &Verdict) -> Result<Vec<u8
 {
     // laws: the report is good, and the journal is legal
     reports_are_good();
-    let _journal = board.journal();
+    board.journal_is_legal();
     let report = report_of(alloc, board.state(), verdict)?;
     answer_text(alloc, &report)
 }

@@ -2,8 +2,8 @@
 use crate::building::{constant, unary};
 use kb_term::{
     Limit, Memory, Pair, Position, Rule, Subst, Symbol, Term, TermFault, Terms, apart, apply,
-    canonical, depth, is_rule_below, is_variant, pair_limit, replace, rule_of, size, subterm,
-    term_limit,
+    canonical, depth, is_rule_below, is_variant, pair_limit, replace, rule_from, rule_of, size,
+    subterm, term_limit,
 };
 use std::alloc::Global;
 use std::test::Fail;
@@ -90,6 +90,8 @@ fn the_pair_of_f_of_x_and_x(rt: HostRuntime) -> Result<(), Fail> {
     assert!(rt; is_variant(rule.left(), &f7));
     let other = shifted(alloc, &rule)?;
     assert!(rt; *other.right() == Term::Var(64));
+    let forth = rule_from(alloc, pair, 0)?;
+    assert!(rt; *forth.left() == Term::Var(0) && is_variant(forth.right(), &f7));
     Ok(())
 }
 

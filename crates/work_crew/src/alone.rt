@@ -39,12 +39,12 @@ pub fn work_alone<G: Gate>(alloc: Global, board: Board, gate: &G) -> Crew
     ensures legal { IsLegalBoard result.board }
 {
     let mut board = board;
-    let _opening = board.journal();
+    board.journal_is_legal();
     let out_of_memory = take_turns(alloc, &mut board, gate).is_err();
     if out_of_memory {
         board.halt();
     }
-    let _journal = board.journal();
+    board.journal_is_legal();
     Crew {
         board,
         out_of_memory,
@@ -75,7 +75,7 @@ fn take_turn<G: Gate>(alloc: Global, board: &mut Board, gate: &G) -> Result<Turn
     ensures err { OnErr result (IsStopped board.new) }
     ensures same { IsSameRun board.old board.new }
 {
-    let _journal = board.journal();
+    board.journal_is_legal();
     match board.take(alloc, 1)? {
         Taken::Job(ticket, snapshot) => {
             ask(gate, &moment_of(board, &ticket, gate.wants_cost()));

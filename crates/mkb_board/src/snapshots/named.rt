@@ -12,7 +12,7 @@ use crate::normal::are_same;
 use kb_jobs::{NamedRules, SharedRules};
 use kb_label::Process;
 use kb_node::{NodeId, View};
-use kb_term::{Memory, Pair, Rule, RuleRef, rule_of};
+use kb_term::{Memory, Pair, Rule, RuleRef, rule_from};
 use mkb_rules::State;
 use std::alloc::{AllocError, Global};
 
@@ -30,7 +30,7 @@ pub(crate) fn rule_at(alloc: Global, state: &State, a: RuleRef) -> Result<Rule, 
     ensures { IfOk result (λ rule. rule_at state.now a ≡ Some rule) }
 {
     let pair = pair_at(state, NodeId(a.node))?;
-    rule_of(alloc, &pair, a.dir)
+    rule_from(alloc, pair, a.dir)
 }
 
 /// The rules with the names.

@@ -29,16 +29,16 @@ loop-k-preserved c =
     }
 
 pub with_rules-requires : goal.with_rules-requires
-with_rules-requires c = answer_whole c.args.a.now c.loop-k.k (omega (arith, c.loop-k-test.false, ap (length {A = Rule × ℕ}) c.rules-k-end.ensures)) c.loop-k.invariant.more c.loop-k.rules.items c.loop-k.invariant.composed c.loop-k.steps.items c.new.result c.loop-k.invariant.steps c.loop-k.invariant.room c.new.ensures c.thin.new.rules.items c.in_ok-thin.ensures c.problem-problem.ensures.kept (c.in_ok-reason.ensures.good c.in_default.is)
+with_rules-requires c = answer_whole c.args.a.now c.loop-k.k (omega (arith, c.loop-k-test.false, ap (length {A = Rule × ℕ}) c.rules-k-end.ensures)) c.loop-k.invariant.more c.loop-k.rules.items c.loop-k.invariant.composed c.loop-k.steps.items c.new.result c.loop-k.invariant.steps c.loop-k.invariant.room c.new.ensures c.thin.new.rules.items c.in_ok-thin.ensures c.has_form.ensures (c.in_ok-reason.ensures.good c.in_default.is)
 
 pub returns-clause-good : goal.returns-clause-good
 returns-clause-good c b e =
-    let whole = good_whole c.args.a.now c.loop-k.k (omega (arith, c.loop-k-test.false, ap (length {A = Rule × ℕ}) c.rules-k-end.ensures)) c.loop-k.invariant.more c.loop-k.rules.items c.loop-k.invariant.composed c.loop-k.steps.items c.new.result c.loop-k.invariant.steps c.loop-k.invariant.room c.new.ensures c.thin.new.rules.items c.in_ok-thin.ensures c.problem-problem.ensures.kept (c.in_ok-reason.ensures.good c.in_default.is) in
+    let whole = good_whole c.args.a.now c.loop-k.k (omega (arith, c.loop-k-test.false, ap (length {A = Rule × ℕ}) c.rules-k-end.ensures)) c.loop-k.invariant.more c.loop-k.rules.items c.loop-k.invariant.composed c.loop-k.steps.items c.new.result c.loop-k.invariant.steps c.loop-k.invariant.room c.new.ensures c.thin.new.rules.items c.in_ok-thin.ensures c.has_form.ensures (c.in_ok-reason.ensures.good c.in_default.is) in
     subst IsGoodAnswer (sym c.in_ok-with_rules.ensures ∙ same_answer c.in_ok-with_rules.field-0 b e) whole
 
 pub returns-clause-reduced : goal.returns-clause-reduced
 returns-clause-reduced c b e =
-    let whole = system_whole c.args.a.now c.loop-k.k (omega (arith, c.loop-k-test.false, ap (length {A = Rule × ℕ}) c.rules-k-end.ensures)) c.loop-k.invariant.more c.loop-k.rules.items c.loop-k.invariant.composed c.loop-k.steps.items c.new.result c.loop-k.invariant.steps c.loop-k.invariant.room c.new.ensures c.thin.new.rules.items c.in_ok-thin.ensures c.problem-problem.ensures.kept (c.in_ok-reason.ensures.good c.in_default.is) in
+    let whole = system_whole c.args.a.now c.loop-k.k (omega (arith, c.loop-k-test.false, ap (length {A = Rule × ℕ}) c.rules-k-end.ensures)) c.loop-k.invariant.more c.loop-k.rules.items c.loop-k.invariant.composed c.loop-k.steps.items c.new.result c.loop-k.invariant.steps c.loop-k.invariant.room c.new.ensures c.thin.new.rules.items c.in_ok-thin.ensures c.has_form.ensures (c.in_ok-reason.ensures.good c.in_default.is) in
     subst IsReducedSystem (ap (λ (x : Answer). x.rules) (sym c.in_ok-with_rules.ensures ∙ same_answer c.in_ok-with_rules.field-0 b e)) whole
 
 pub returns-clause-reduction : goal.returns-clause-reduction

@@ -11,7 +11,7 @@ pub returns-in_err-rules-clause-fault : goal.returns-in_err-rules-clause-fault
 returns-in_err-rules-clause-fault c =
     let v = c.args.version in
     let sig = c.args.sig.now in
-    let names = c.names_are_identifiers.ensures in
+    let names = c.names_are_identifiers.ensures.kept in
     let text = c.args.text.now in
     let fault = c.in_err-rules.field-0.0 in
     handed_on (IsSectionFault (RulePart v sig) text c.args.first) c.from_residual.result fault c.from_residual.ensures.0 c.from_residual.ensures.1 (first_fault (CountedRules sig) (λ rs. ConstraintPart v sig) text c.args.first (counted_rules_section sig names) (λ rs xs s. some_constraint_part v sig) fault c.in_err-rules.ensures.fault)
@@ -20,7 +20,7 @@ pub returns-in_err-constraints-clause-fault : goal.returns-in_err-constraints-cl
 returns-in_err-constraints-clause-fault c =
     let v = c.args.version in
     let sig = c.args.sig.now in
-    let names = c.names_are_identifiers.ensures in
+    let names = c.names_are_identifiers.ensures.kept in
     let text = c.args.text.now in
     let t1 = c.split_at.result.1.now in
     let rs = c.in_ok-rules.rules.items in
@@ -34,7 +34,7 @@ pub returns-in_err-cert-clause-fault : goal.returns-in_err-cert-clause-fault
 returns-in_err-cert-clause-fault c =
     let v = c.args.version in
     let sig = c.args.sig.now in
-    let names = c.names_are_identifiers.ensures in
+    let names = c.names_are_identifiers.ensures.kept in
     let text = c.args.text.now in
     let t1 = c.split_at.result.1.now in
     let rs = c.in_ok-rules.rules.items in
@@ -52,7 +52,7 @@ pub returns-in_err-trace-clause-fault : goal.returns-in_err-trace-clause-fault
 returns-in_err-trace-clause-fault c =
     let v = c.args.version in
     let sig = c.args.sig.now in
-    let names = c.names_are_identifiers.ensures in
+    let names = c.names_are_identifiers.ensures.kept in
     let text = c.args.text.now in
     let t1 = c.split_at.result.1.now in
     let rs = c.in_ok-rules.rules.items in

@@ -9,7 +9,7 @@ use Rattle.kb_trace.proofs.reading.read_trace.Goals as goal
 pub loop-at-init : goal.loop-at-init
 loop-at-init c = record {
   read = subst (IsReadPart c.args.sig.now c.args.lines.now 0 1) (sym c.new-steps.ensures.items) (record { within = omega arith; number_is = omega arith; parts = λ i. c.args.lines.now; form = record { count = omega arith; steps = All-nil (IsStepForm c.args.sig.now) } });
-  names = c.names_are_identifiers.ensures;
+  names = c.names_are_identifiers.ensures.kept;
 }
 
 pub loop-at-preserved : goal.loop-at-preserved
