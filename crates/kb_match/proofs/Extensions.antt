@@ -1,17 +1,19 @@
 -- Lists of variables and terms that grow: by one entry, and pattern by pattern.
 use Rattle.std.proofs.Common.{ℕ, zero, suc, ◌+◌, ◌<◌, ◌≡◌, refl, sym, ap, ap₂, ◌∙◌, arith, subst, List, [], ◌∷◌, ◌++◌, length, get_or, take, append_assoc, append-nil, Bool, true, false, cond}
-use Rattle.std.specs.Prelude.{◌==◌, ◌||◌, Result, Ok}
+use Rattle.std.specs.Prelude.{◌==◌, ◌||◌, ◌↔◌, Result, Ok, Err, IfOk, IsTrue}
 use Rattle.std.specs.List.{list_any}
+use Rattle.std.specs.Borrow.{Bor}
 use Rattle.std.proofs.lemmas.Bool.{false≢true, eqb-true, eq-eqb, ne_eqb}
 use Rattle.kb_term.specs.Tree.{Tree, variable, apply, no_trees, more_trees, trees_of, variables_of, variables_in}
 use Rattle.kb_term.specs.Pair.{distinct}
 use Rattle.kb_term.specs.Substitution.{instance, instances, substitution_of, Matches}
 use Rattle.kb_term.proofs.Distinct.{distinct-new, distinct-old}
 use Rattle.kb_term.proofs.Trees.{more_trees-inj}
-use Rattle.kb_term.specs.View.{tree_of, entries_of_list}
+use Rattle.kb_term.specs.View.{tree_of}
 use Rattle.kb_term.specs.declared.term.Term.{Term}
 use Rattle.kb_match.specs.Matching.{listed_variables, IsMatchList}
 use Rattle.kb_match.specs.Extending.{Gives, IsAbsent, IsPresent, IsExtended}
+use Rattle.kb_match.specs.Binding.{bindings_of_list}
 
 gives_append : (k : ℕ → Tree) (es ds : List (ℕ × Tree)) → Gives k es → Gives k ds → Gives k (es ++ ds)
 gives_append k [] ds g h = h
@@ -201,9 +203,9 @@ match_from p s new h = record { variables = h.variables [] refl; makes = (h.back
 pub match_none : (p s : Tree) → ((k : ℕ → Tree) → Gives k [] → ¬ (instance k p ≡ s)) → ¬ Matches p s
 match_none p s h (k, e) = h k tt e
 
-more_absent : (es : List (ℕ × Term)) (i n : ℕ) (x : ℕ × Term) → i < length es → x ≡ get_or es i x → (x.0 == n) ≡ false → IsAbsent n (entries_of_list (take i es)) → IsAbsent n (entries_of_list (take (suc i) es))
+more_absent : (es : List (ℕ × Bor Term)) (i n : ℕ) (x : ℕ × Bor Term) → i < length es → x ≡ get_or es i x → (x.0 == n) ≡ false → IsAbsent n (bindings_of_list (take i es)) → IsAbsent n (bindings_of_list (take (suc i) es))
 more_absent [] i n x h is d a = absurd (omega (arith, h))
-more_absent (e ∷ es) zero n x h is d a = subst (λ (y : ℕ × Term). ((y.0 == n) || false) ≡ false) is (rw d refl)
+more_absent (e ∷ es) zero n x h is d a = subst (λ (y : ℕ × Bor Term). ((y.0 == n) || false) ≡ false) is (rw d refl)
 more_absent (e ∷ es) (suc i) n x h is d a = both (e.0 == n) _ _ a (more_absent es i n x (omega (arith, h)) is d)
   where
     both : (a b c : Bool) → (a || b) ≡ false → (b ≡ false → c ≡ false) → (a || c) ≡ false
@@ -211,24 +213,35 @@ more_absent (e ∷ es) (suc i) n x h is d a = both (e.0 == n) _ _ a (more_absent
     both false b c e f = f e
 
 -- a variable that stands at the entry i and at none before it
-pub absent_more : (es : List (ℕ × Term)) (i n : ℕ) (x : ℕ × Term) → i < length es → x ≡ get_or es i x → ¬ (x.0 ≡ n) → IsAbsent n (entries_of_list (take i es)) → IsAbsent n (entries_of_list (take (i + 1) es))
-absent_more es i n x h is other a = let next : suc i ≡ i + 1 = omega arith in subst (λ j. IsAbsent n (entries_of_list (take j es))) next (more_absent es i n x h is (ne_eqb x.0 n other) a)
+pub absent_more : (es : List (ℕ × Bor Term)) (i n : ℕ) (x : ℕ × Bor Term) → i < length es → x ≡ get_or es i x → ¬ (x.0 ≡ n) → IsAbsent n (bindings_of_list (take i es)) → IsAbsent n (bindings_of_list (take (i + 1) es))
+absent_more es i n x h is other a = let next : suc i ≡ i + 1 = omega arith in subst (λ j. IsAbsent n (bindings_of_list (take j es))) next (more_absent es i n x h is (ne_eqb x.0 n other) a)
 
-at_present : (es : List (ℕ × Term)) (i n : ℕ) (x : ℕ × Term) → i < length es → x ≡ get_or es i x → (x.0 == n) ≡ true → IsAbsent n (entries_of_list (take i es)) → IsPresent n (tree_of x.1) (entries_of_list es)
+at_present : (es : List (ℕ × Bor Term)) (i n : ℕ) (x : ℕ × Bor Term) → i < length es → x ≡ get_or es i x → (x.0 == n) ≡ true → IsAbsent n (bindings_of_list (take i es)) → IsPresent n (tree_of x.1.now) (bindings_of_list es)
 at_present [] i n x h is d a = absurd (omega (arith, h))
-at_present (e ∷ es) zero n x h is d a = subst (λ (y : ℕ × Term). IsPresent n (tree_of x.1) (entries_of_list (y ∷ es))) is (rw d refl, rw d refl)
+at_present (e ∷ es) zero n x h is d a = subst (λ (y : ℕ × Bor Term). IsPresent n (tree_of x.1.now) (bindings_of_list (y ∷ es))) is (rw d refl, rw d refl)
 at_present (e ∷ es) (suc i) n x h is d a = go (e.0 == n) a (at_present es i n x (omega (arith, h)) is d)
   where
-    go : (b : Bool) → (b || list_any (λ y. y == n) (listed_variables (entries_of_list (take i es)))) ≡ false → (IsAbsent n (entries_of_list (take i es)) → IsPresent n (tree_of x.1) (entries_of_list es)) → ((b || list_any (λ y. y == n) (listed_variables (entries_of_list es))) ≡ true) × (cond b (tree_of e.1) (substitution_of (entries_of_list es) n) ≡ tree_of x.1)
+    go : (b : Bool) → (b || list_any (λ y. y == n) (listed_variables (bindings_of_list (take i es)))) ≡ false → (IsAbsent n (bindings_of_list (take i es)) → IsPresent n (tree_of x.1.now) (bindings_of_list es)) → ((b || list_any (λ y. y == n) (listed_variables (bindings_of_list es))) ≡ true) × (cond b (tree_of e.1.now) (substitution_of (bindings_of_list es) n) ≡ tree_of x.1.now)
     go true a f = absurd (false≢true (sym a))
     go false a f = f a
 
-pub present_at : (es : List (ℕ × Term)) (i n : ℕ) (x : ℕ × Term) → i < length es → x ≡ get_or es i x → x.0 ≡ n → IsAbsent n (entries_of_list (take i es)) → IsPresent n (tree_of x.1) (entries_of_list es)
+pub present_at : (es : List (ℕ × Bor Term)) (i n : ℕ) (x : ℕ × Bor Term) → i < length es → x ≡ get_or es i x → x.0 ≡ n → IsAbsent n (bindings_of_list (take i es)) → IsPresent n (tree_of x.1.now) (bindings_of_list es)
 present_at es i n x h is same a = at_present es i n x h is (eq-eqb x.0 n same) a
 
-pub entries_push : (es : List (ℕ × Term)) (n : ℕ) (t : Term) → entries_of_list (es ++ (n, t) ∷ []) ≡ entries_of_list es ++ (n, tree_of t) ∷ []
-entries_push [] n t = refl
-entries_push (e ∷ es) n t = ap ((e.0, tree_of e.1) ∷◌) (entries_push es n t)
+pub bindings_push : (es : List (ℕ × Bor Term)) (n : ℕ) (t : Bor Term) → bindings_of_list (es ++ (n, t) ∷ []) ≡ bindings_of_list es ++ (n, tree_of t.now) ∷ []
+bindings_push [] n t = refl
+bindings_push (e ∷ es) n t = ap ((e.0, tree_of e.1.now) ∷◌) (bindings_push es n t)
+
+-- the answer of a match that starts from nothing listed
+pub matches_from : {E : Type 0} (r : Result Bool E) (p s : Tree) (old new : List (ℕ × Tree)) → old ≡ []
+    → (r ≡ Ok true → IsExtended (variables_of p) (λ k. instance k p ≡ s) old new)
+    → (r ≡ Ok false → (k : ℕ → Tree) → Gives k old → ¬ (instance k p ≡ s))
+    → IfOk r (λ b. IsTrue b ↔ Matches p s)
+matches_from (Err e) p s old new none matched clash = tt
+matches_from (Ok true) p s old new none matched clash =
+    ((λ _. (substitution_of new, (match_from p s new (subst (λ es. IsExtended (variables_of p) (λ k. instance k p ≡ s) es new) none (matched refl))).makes)), λ _. refl)
+matches_from (Ok false) p s old new none matched clash =
+    ((λ e. absurd (false≢true e)), λ m. absurd (match_none p s (subst (λ es. (k : ℕ → Tree) → Gives k es → ¬ (instance k p ≡ s)) none (clash refl)) m))
 
 -- the same for equal terms
 pub extended_as : {p q s t : Tree} → p ≡ q → s ≡ t → (es ds : List (ℕ × Tree)) → IsExtended (variables_of p) (λ k. instance k p ≡ s) es ds → IsExtended (variables_of q) (λ k. instance k q ≡ t) es ds

@@ -1,3 +1,4 @@
 pub mod Fitting
 pub mod Matching
 pub mod Extending
+pub mod Binding

@@ -7,4 +7,4 @@ mod matcher;
 
 pub use fitting::fits;
 pub use laws::{matches_are_one, matching_terms_fit};
-pub use matcher::match_term;
+pub use matcher::{match_term, matches};

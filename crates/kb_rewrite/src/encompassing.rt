@@ -1,10 +1,9 @@
 // What a rule can do to a term.
 ghost use Rattle.std.specs.Prelude.{◌↔◌, IfOk, IsTrue};
-ghost use Rattle.kb_term.specs.Substitution.{Matches};
 ghost use Rattle.kb_term.specs.View.{tree_of};
 ghost use Rattle.kb_rewrite.specs.NormalForm.{Encompasses, IsFound};
 
-use kb_match::match_term;
+use kb_match::matches;
 use kb_term::{Found, Memory, Rule, Term, is_variant};
 use std::alloc::Global;
 
@@ -25,21 +24,11 @@ pub fn found(alloc: Global, t: &Term, rule: &Rule) -> Result<Found, Memory>
     }
 }
 
-/// Whether the pattern matches the term.
-pub(crate) fn matches_term(alloc: Global, pattern: &Term, t: &Term) -> Result<bool, Memory>
-    ensures { IfOk result (λ b. IsTrue b ↔ Matches (tree_of pattern.now) (tree_of t.now)) }
-{
-    match match_term(alloc, pattern, t)? {
-        Some(_) => Ok(true),
-        None => Ok(false),
-    }
-}
-
 /// Whether the pattern matches a subterm.
 fn encompasses(alloc: Global, t: &Term, pattern: &Term) -> Result<bool, Memory>
     ensures { IfOk result (λ b. IsTrue b ↔ Encompasses (tree_of t.now) (tree_of pattern.now)) }
 {
-    if matches_term(alloc, pattern, t)? {
+    if matches(alloc, pattern, t)? {
         return Ok(true);
     }
     match t {

@@ -1,6 +1,6 @@
 // Worked examples.
 use crate::building::{binary, constant, unary};
-use kb_match::{fits, match_term, matches_are_one, matching_terms_fit};
+use kb_match::{fits, match_term, matches, matches_are_one, matching_terms_fit};
 use kb_term::{Memory, Subst, Symbol, Term, Terms};
 use std::alloc::Global;
 
@@ -83,6 +83,18 @@ fn eight_variables_twice_match_a_term_of_size_512(rt: HostRuntime) {
     let other = eight_chains(alloc, 36).expect(&rt, "memory");
     let none = match_term(alloc, &pattern, &other).expect(&rt, "memory");
     assert!(rt; none.is_none());
+}
+
+#[test]
+fn one_variable_matches_one_constant_twice_and_not_two(rt: HostRuntime) {
+    let alloc = rt.alloc();
+    let pattern = binary(alloc, 2, Term::Var(4), Term::Var(4)).expect(&rt, "memory");
+    let two = binary(alloc, 2, constant(alloc, 0), constant(alloc, 3)).expect(&rt, "memory");
+    let one = binary(alloc, 2, constant(alloc, 3), constant(alloc, 3)).expect(&rt, "memory");
+    assert!(rt; !matches(alloc, &pattern, &two).expect(&rt, "memory"));
+    assert!(rt; matches(alloc, &pattern, &one).expect(&rt, "memory"));
+    assert!(rt; matches(alloc, &Term::Var(1), &two).expect(&rt, "memory"));
+    assert!(rt; !matches(alloc, &one, &Term::Var(1)).expect(&rt, "memory"));
 }
 
 #[test]

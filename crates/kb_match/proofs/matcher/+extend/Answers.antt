@@ -2,24 +2,25 @@ use Rattle.std.proofs.Common.{arith, ◌≡◌, ◌<◌, ◌∙◌, sym, ap, sub
 use Rattle.std.specs.Prelude.{map, Ok}
 use Rattle.kb_term.specs.Tree.{tree_depth, trees_of, apply}
 use Rattle.kb_term.specs.Substitution.{instance}
-use Rattle.kb_term.specs.View.{tree_of, entries_of_list}
+use Rattle.kb_term.specs.View.{tree_of}
+use Rattle.kb_match.specs.Binding.{bindings_of_list}
 use Rattle.kb_term.proofs.Arguments.{argument-is, argument-depth, arguments-length}
 use Rattle.kb_term.proofs.Trees.{apply-inj}
 use Rattle.kb_match.specs.Extending.{IsPresent, IsAbsent}
-use Rattle.kb_match.proofs.Extensions.{extended_as, clash_as, extended_old, clash_old, extended_new, extended_more, extended_all, clash_at, same_length, entries_push, ok_value}
+use Rattle.kb_match.proofs.Extensions.{extended_as, clash_as, extended_old, clash_old, extended_new, extended_more, extended_all, clash_at, same_length, bindings_push, ok_value}
 use Rattle.kb_match.proofs.matcher.+extend.Goals as goal
 use Rattle.kb_match.proofs.matcher.+extend.Goals.{then-f-g-via-then-f-g, then-f-g-via-else-f-g+then-patterns-subjects}
 
 pub returns-in-Some-clause-matched : goal.returns-in-Some-clause-matched
 returns-in-Some-clause-matched t c e =
-    let es = entries_of_list c.args.entries.now.items in
-    let here : IsPresent c.in-Var-default.n (tree_of c.in-Some.known.now) es = subst (λ v. IsPresent c.in-Var-default.n (tree_of c.in-Some.known.now) (entries_of_list v)) c.deref.ensures.value c.in-Some.ensures in
+    let es = bindings_of_list c.args.bindings.now.items in
+    let here : IsPresent c.in-Var-default.n (tree_of c.in-Some.known.now) es = subst (λ v. IsPresent c.in-Var-default.n (tree_of c.in-Some.known.now) (bindings_of_list v)) c.deref.ensures.value c.in-Some.ensures in
     extended_as (sym (ap tree_of c.in-Var-default.is-0)) refl es es (extended_old c.in-Var-default.n (tree_of c.in-Some.known.now) (tree_of c.args.subject.now) es here (c.eq.ensures.same.0 (ok_value e)))
 
 pub returns-in-Some-clause-clash : goal.returns-in-Some-clause-clash
 returns-in-Some-clause-clash t c e =
-    let es = entries_of_list c.args.entries.now.items in
-    let here : IsPresent c.in-Var-default.n (tree_of c.in-Some.known.now) es = subst (λ v. IsPresent c.in-Var-default.n (tree_of c.in-Some.known.now) (entries_of_list v)) c.deref.ensures.value c.in-Some.ensures in
+    let es = bindings_of_list c.args.bindings.now.items in
+    let here : IsPresent c.in-Var-default.n (tree_of c.in-Some.known.now) es = subst (λ v. IsPresent c.in-Var-default.n (tree_of c.in-Some.known.now) (bindings_of_list v)) c.deref.ensures.value c.in-Some.ensures in
     clash_as (sym (ap tree_of c.in-Var-default.is-0)) refl es (clash_old c.in-Var-default.n (tree_of c.in-Some.known.now) (tree_of c.args.subject.now) es here (λ same. absurd (cc (c.eq.ensures.same.1 same, ok_value e))))
 
 pub returns-then-f-g-clause-clash : goal.returns-then-f-g-clause-clash
@@ -57,8 +58,8 @@ returns-then-not-branch-clause-clash t c e =
     let there = argument-is others ts i c.index-subjects-i.result refl (omega (arith, c.loop-i-test.true, c.if-patterns-subjects.false)) c.index-subjects-i.is in
     let whole : tree_of c.args.pattern.now ≡ apply c.in-App-App.f.0 (trees_of ps) = ap tree_of c.in-App-App.is-0 ∙ ap (λ vs. apply c.in-App-App.f.0 (trees_of vs)) (sym c.items-patterns.ensures) in
     let other : tree_of c.args.subject.now ≡ apply c.in-App-App.g.0 (trees_of ts) = ap tree_of c.in-App-App.is-1 ∙ ap (λ vs. apply c.in-App-App.g.0 (trees_of vs)) (sym c.items-subjects.ensures) in
-    let none = clash_as here there (entries_of_list c.loop-i.entries.items) (c.in_ok-extend-in-App-App.ensures.clash (ap Ok c.if-not-branch.true)) in
-    λ k g same. clash_at ps ts i (entries_of_list c.args.entries.now.items) (entries_of_list c.loop-i.entries.items) room c.loop-i.invariant none k g (apply-inj (sym (ap (instance k) whole) ∙ same ∙ other)).1
+    let none = clash_as here there (bindings_of_list c.loop-i.bindings.items) (c.in_ok-extend-in-App-App.ensures.clash (ap Ok c.if-not-branch.true)) in
+    λ k g same. clash_at ps ts i (bindings_of_list c.args.bindings.now.items) (bindings_of_list c.loop-i.bindings.items) room c.loop-i.invariant none k g (apply-inj (sym (ap (instance k) whole) ∙ same ∙ other)).1
 
 pub loop-i-preserved : goal.loop-i-preserved
 loop-i-preserved t c =
@@ -71,18 +72,17 @@ loop-i-preserved t c =
     let space : i < length ts = omega (arith, arguments-length items, arguments-length others, c.loop-i-test.true, c.if-patterns-subjects.false) in
     let here = argument-is items ps i c.index-patterns-i.result refl c.loop-i-test.true c.index-patterns-i.is in
     let there = argument-is others ts i c.index-subjects-i.result refl (omega (arith, c.loop-i-test.true, c.if-patterns-subjects.false)) c.index-subjects-i.is in
-    let one = extended_as here there (entries_of_list c.loop-i.entries.items) (entries_of_list c.extend.new.entries.items) (c.in_ok-extend-in-App-App.ensures.matched (ap Ok c.if-not-branch.false)) in
-    extended_more ps ts i (entries_of_list c.args.entries.now.items) (entries_of_list c.loop-i.entries.items) (entries_of_list c.extend.new.entries.items) room space c.loop-i.invariant one
+    let one = extended_as here there (bindings_of_list c.loop-i.bindings.items) (bindings_of_list c.extend.new.bindings.items) (c.in_ok-extend-in-App-App.ensures.matched (ap Ok c.if-not-branch.false)) in
+    extended_more ps ts i (bindings_of_list c.args.bindings.now.items) (bindings_of_list c.loop-i.bindings.items) (bindings_of_list c.extend.new.bindings.items) room space c.loop-i.invariant one
 
 pub returns-in_ok-push-in-Var-default-clause-matched : goal.returns-in_ok-push-in-Var-default-clause-matched
 returns-in_ok-push-in-Var-default-clause-matched t c e =
     let n = c.in-Var-default.n in
-    let before = c.args.entries.now.items in
-    let es = entries_of_list before in
-    let absent : IsAbsent n es = subst (λ v. IsAbsent n (entries_of_list v)) c.deref.ensures.value c.in_default.ensures in
-    let copy : tree_of c.in_ok-clone-in-Var-default.field-0 ≡ tree_of c.args.subject.now = ap tree_of c.in_ok-clone-in-Var-default.ensures.cases in
-    let new_is : entries_of_list c.push.new.self.items ≡ es ++ (n, tree_of c.args.subject.now) ∷ [] = ap entries_of_list c.in_ok-push-in-Var-default.ensures.items ∙ entries_push before n c.in_ok-clone-in-Var-default.field-0 ∙ ap (λ u. es ++ (n, u) ∷ []) copy in
-    extended_as (sym (ap tree_of c.in-Var-default.is-0)) refl es (entries_of_list c.push.new.self.items) (extended_new n (tree_of c.args.subject.now) es (entries_of_list c.push.new.self.items) absent new_is)
+    let before = c.args.bindings.now.items in
+    let es = bindings_of_list before in
+    let absent : IsAbsent n es = subst (λ v. IsAbsent n (bindings_of_list v)) c.deref.ensures.value c.in_default.ensures in
+    let new_is : bindings_of_list c.push.new.self.items ≡ es ++ (n, tree_of c.args.subject.now) ∷ [] = ap bindings_of_list c.in_ok-push-in-Var-default.ensures.items ∙ bindings_push before n c.args.subject in
+    extended_as (sym (ap tree_of c.in-Var-default.is-0)) refl es (bindings_of_list c.push.new.self.items) (extended_new n (tree_of c.args.subject.now) es (bindings_of_list c.push.new.self.items) absent new_is)
 
 pub returns-after-loop-i-clause-matched : goal.returns-after-loop-i-clause-matched
 returns-after-loop-i-clause-matched t c e =
@@ -96,6 +96,6 @@ returns-after-loop-i-clause-matched t c e =
     let whole : tree_of c.args.pattern.now ≡ apply c.in-App-App.f.0 (trees_of ps) = ap tree_of c.in-App-App.is-0 ∙ ap (λ vs. apply c.in-App-App.f.0 (trees_of vs)) (sym c.items-patterns.ensures) in
     let other : tree_of c.args.subject.now ≡ apply c.in-App-App.g.0 (trees_of ts) = ap tree_of c.in-App-App.is-1 ∙ ap (λ vs. apply c.in-App-App.g.0 (trees_of vs)) (sym c.items-subjects.ensures) in
     let one : c.in-App-App.f.0 ≡ c.in-App-App.g.0 = omega (arith, c.if-f-g.false) in
-    let es = entries_of_list c.args.entries.now.items in
-    let ds = entries_of_list c.loop-i.entries.items in
+    let es = bindings_of_list c.args.bindings.now.items in
+    let ds = bindings_of_list c.loop-i.bindings.items in
     extended_as (sym whole) (sym other) es ds (extended_all c.in-App-App.f.0 c.in-App-App.g.0 ps ts n es ds one as_many as_many_too c.loop-i.invariant)

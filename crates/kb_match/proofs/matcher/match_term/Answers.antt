@@ -1,8 +1,9 @@
-use Rattle.std.proofs.Common.{ap, subst, sym, ◌≡◌, []}
+use Rattle.std.proofs.Common.{ap, subst, sym, ◌≡◌, ◌∙◌, []}
 use Rattle.std.specs.Prelude.{Ok}
 use Rattle.kb_term.specs.Tree.{variables_of}
 use Rattle.kb_term.specs.Substitution.{instance}
-use Rattle.kb_term.specs.View.{tree_of, entries_of_list}
+use Rattle.kb_term.specs.View.{tree_of}
+use Rattle.kb_match.specs.Binding.{bindings_of_list}
 use Rattle.kb_match.specs.Matching.{IsMatchList}
 use Rattle.kb_match.specs.Extending.{IsExtended}
 use Rattle.kb_match.proofs.Extensions.{match_from}
@@ -12,7 +13,7 @@ pub returns-then-branch : goal.returns-then-branch
 returns-then-branch c =
     let p = tree_of c.args.pattern.now in
     let s = tree_of c.args.subject.now in
-    let new = entries_of_list c.extend.new.entries.items in
-    let none : entries_of_list c.new-entries.result.items ≡ [] = ap entries_of_list c.new-entries.ensures.items in
+    let new = bindings_of_list c.extend.new.bindings.items in
+    let none : bindings_of_list c.new-bindings.result.items ≡ [] = ap bindings_of_list c.new-bindings.ensures.items in
     let grown : IsExtended (variables_of p) (λ k. instance k p ≡ s) [] new = subst (λ es. IsExtended (variables_of p) (λ k. instance k p ≡ s) es new) none (c.in_ok-extend.ensures.matched (ap Ok c.if-branch.true)) in
-    subst (λ m. IsMatchList m p s) (sym c.new.ensures) (match_from p s new grown)
+    subst (λ m. IsMatchList m p s) (sym (c.in_ok-copied.ensures ∙ ap bindings_of_list c.deref.ensures.value)) (match_from p s new grown)

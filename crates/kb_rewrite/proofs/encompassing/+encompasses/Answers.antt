@@ -7,7 +7,7 @@ use Rattle.kb_rewrite.proofs.Positions.{encompasses_root, encompasses_variable, 
 use Rattle.kb_rewrite.proofs.encompassing.+encompasses.Goals as goal
 
 pub returns-then-branch : goal.returns-then-branch
-returns-then-branch t c = ((λ e. encompasses_root (tree_of c.args.t.now) (tree_of c.args.pattern.now) (c.in_ok-matches_term.ensures.0 c.if-branch.true)), λ h. refl)
+returns-then-branch t c = ((λ e. encompasses_root (tree_of c.args.t.now) (tree_of c.args.pattern.now) (c.in_ok-matches.ensures.0 c.if-branch.true)), λ h. refl)
 
 pub encompasses-requires : goal.encompasses-requires
 encompasses-requires t c =
@@ -40,11 +40,11 @@ loop-k-preserved t c =
 pub returns-in-Var : goal.returns-in-Var
 returns-in-Var t c =
     let whole : tree_of c.args.t.now ≡ variable c.in-Var.field-0 = ap tree_of c.in-Var.is in
-    ((λ e. absurd (false_true refl e)), λ h. absurd (false_true c.if-branch.false (c.in_ok-matches_term.ensures.1 (matches_same (tree_of c.args.pattern.now) (sym whole) (encompasses_variable c.in-Var.field-0 (tree_of c.args.pattern.now) (encompasses_same (tree_of c.args.pattern.now) whole h))))))
+    ((λ e. absurd (false_true refl e)), λ h. absurd (false_true c.if-branch.false (c.in_ok-matches.ensures.1 (matches_same (tree_of c.args.pattern.now) (sym whole) (encompasses_variable c.in-Var.field-0 (tree_of c.args.pattern.now) (encompasses_same (tree_of c.args.pattern.now) whole h))))))
 
 pub returns-after-loop-k : goal.returns-after-loop-k
 returns-after-loop-k t c =
     let items = c.items-items.result.now in
     let us = map tree_of items in
     let whole : tree_of c.args.t.now ≡ apply c.in-App.field-0.0 (trees_of us) = ap tree_of c.in-App.is ∙ ap (λ vs. apply c.in-App.field-0.0 (trees_of vs)) (sym c.items-items.ensures) in
-    ((λ e. absurd (false_true refl e)), λ h. absurd (encompasses_none c.in-App.field-0.0 us (tree_of c.args.pattern.now) (λ m. false_true c.if-branch.false (c.in_ok-matches_term.ensures.1 (matches_same (tree_of c.args.pattern.now) (sym whole) m))) (λ j p. c.loop-k.invariant j (omega (arith, p, arguments-length items, c.loop-k-test.false))) (encompasses_same (tree_of c.args.pattern.now) whole h)))
+    ((λ e. absurd (false_true refl e)), λ h. absurd (encompasses_none c.in-App.field-0.0 us (tree_of c.args.pattern.now) (λ m. false_true c.if-branch.false (c.in_ok-matches.ensures.1 (matches_same (tree_of c.args.pattern.now) (sym whole) m))) (λ j p. c.loop-k.invariant j (omega (arith, p, arguments-length items, c.loop-k-test.false))) (encompasses_same (tree_of c.args.pattern.now) whole h)))
