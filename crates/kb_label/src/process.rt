@@ -185,6 +185,7 @@ impl Ord for Process {
 
     fn cmp(&self, other: &Process) -> Ordering {
         match self.len.cmp(&other.len) {
+            Ordering::Equal if self.len as usize <= WORD_BITS => self.words[0].cmp(&other.words[0]),
             Ordering::Equal => self.words.cmp(&other.words),
             by_length => by_length,
         }
