@@ -1,5 +1,5 @@
 -- A name packed into words: its bits, the step of one bit more, and the order of names as the order of words.
-use Rattle.std.proofs.Common.{Some, ◌≡◌, ℕ, ◌+◌, ◌-◌, ◌*◌, ◌/◌, ◌%◌, ◌^◌, ◌<◌, ◌≤◌, Bool, true, false, List, [], ◌∷◌, ◌++◌, length, drop, set, get_or, zero, suc, refl, sym, ap, subst, ◌∙◌, inl, inr, arith, length-append, length-drop, length-set, eqb}
+use Rattle.std.proofs.Common.{Some, ◌≡◌, ℕ, ◌+◌, ◌-◌, ◌*◌, ◌/◌, ◌%◌, ◌^◌, ◌<◌, ◌≤◌, Bool, true, false, List, [], ◌∷◌, ◌++◌, length, drop, set, get_or, zero, suc, refl, sym, ap, ap₂, subst, ◌∙◌, inl, inr, arith, length-append, length-drop, length-set, eqb}
 use Rattle.std.proofs.lemmas.Nat.{pow_pos, pow-add, shr_high, shr_le}
 use Rattle.std.proofs.Math.Nat.{pow-suc, add-mul-div_right}
 use Rattle.std.proofs.lemmas.List.{get_or-drop, drop-drop, drop-append-le, drop_all, ext_get_or, get_or-set_same, get_or-set_other}
@@ -256,15 +256,38 @@ bit_there words p i e h l =
     slice_get-get_or p i false l
     ∙ ap Some (sym (bit_at-words_of 16 i p (omega arith)) ∙ ap (λ ws. bit_at ws i) (sym e))
 
--- names of one length are in the order of their words
-pub name_cmp_words : (ws vs : List ℕ) (p q : Name) → ws ≡ words_of 16 p → vs ≡ words_of 16 q → length p ≤ 1023 → nat_cmp (length p) (length q) ≡ Equal → slice_cmp nat_cmp ws vs ≡ name_cmp p q
-name_cmp_words ws vs p q e f short same =
-    let h = by_ranked (length p < length q) (length p ≡ length q) (length q < length p) (nat_cmp (length p) (length q)) same (ranked (length p) (length q) (nat_cmp (length p) (length q)) refl) in
-    (λ i. slice_cmp nat_cmp (e i) (f i))
-    ∙ words_of_cmp 16 p q h (omega arith)
-    ∙ ap (λ o. ordering_then o (bits_cmp p q)) (sym same)
+same_length : (p q : Name) → nat_cmp (length p) (length q) ≡ Equal → length p ≡ length q
+same_length p q same = by_ranked (length p < length q) (length p ≡ length q) (length q < length p) (nat_cmp (length p) (length q)) same (ranked (length p) (length q) (nat_cmp (length p) (length q)) refl)
   where
     by_ranked : (A B C : Type 0) (o : Ordering) → o ≡ Equal → MatchOrdering o A B C → B
     by_ranked A B C Less k m = absurd (cc)
     by_ranked A B C Equal k m = m
     by_ranked A B C Greater k m = absurd (cc)
+
+-- names of one length are in the order of their words
+pub name_cmp_words : (ws vs : List ℕ) (p q : Name) → ws ≡ words_of 16 p → vs ≡ words_of 16 q → length p ≤ 1023 → nat_cmp (length p) (length q) ≡ Equal → slice_cmp nat_cmp ws vs ≡ name_cmp p q
+name_cmp_words ws vs p q e f short same =
+    (λ i. slice_cmp nat_cmp (e i) (f i))
+    ∙ words_of_cmp 16 p q (same_length p q same) (omega arith)
+    ∙ ap (λ o. ordering_then o (bits_cmp p q)) (sym same)
+
+then_none : (o : Ordering) → ordering_then o Equal ≡ o
+then_none Less = refl
+then_none Equal = refl
+then_none Greater = refl
+
+pub first_word : (ws : List ℕ) (p : Name) → ws ≡ words_of 16 p → get_or ws 0 0 ≡ word 64 p
+first_word ws p e = ap (λ l. get_or l 0 0) e ∙ get_or-words_of 16 0 p (omega arith)
+
+-- short names of one length are in the order of their first words
+pub name_cmp_first : (p q : Name) → length p ≤ 64 → nat_cmp (length p) (length q) ≡ Equal → nat_cmp (word 64 p) (word 64 q) ≡ name_cmp p q
+name_cmp_first p q short same =
+    let h = same_length p q same in
+    sym (then_none (nat_cmp (word 64 p) (word 64 q)))
+    ∙ ap (ordering_then (nat_cmp (word 64 p) (word 64 q))) (ap₂ (slice_cmp bool_cmp) (sym (drop_all 64 p short)) (sym (drop_all 64 q (omega arith))))
+    ∙ word_cmp 64 p q h
+    ∙ ap (λ o. ordering_then o (bits_cmp p q)) (sym same)
+
+-- names of one length of which no bit stands behind the first word are in the order of their first words
+pub name_cmp_word : (ws vs : List ℕ) (p q : Name) → ws ≡ words_of 16 p → vs ≡ words_of 16 q → length p ≤ 64 → nat_cmp (length p) (length q) ≡ Equal → nat_cmp (get_or ws 0 0) (get_or vs 0 0) ≡ name_cmp p q
+name_cmp_word ws vs p q e f short same = ap₂ nat_cmp (first_word ws p e) (first_word vs q f) ∙ name_cmp_first p q short same

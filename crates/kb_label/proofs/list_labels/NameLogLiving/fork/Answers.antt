@@ -9,5 +9,7 @@ relabel-requires c =
 
 pub invariant_of-self : goal.invariant_of-self
 invariant_of-self c =
-    forked_or_same c.relabel.result c.args.process.now c.self.inside.living c.relabel.new.self c.self.invariant.0 c.self.invariant.1
-    (rw c.self.view_is c.requires.living) (rw c.self.view_is c.requires.room) c.relabel.ensures.ok c.relabel.ensures.err
+    let old = c.in_ok-living.living in
+    let forked = forked_or_same c.relabel.result c.args.process.now old c.relabel.new.self (rw c.in_ok-living.ensures c.self.invariant.0) (rw c.in_ok-living.ensures c.self.invariant.1)
+    (rw (c.in_ok-living.ensures, c.self.view_is) c.requires.living) (rw (c.in_ok-living.ensures, c.self.view_is) c.requires.room) c.relabel.ensures.ok c.relabel.ensures.err in
+    (forked.0, forked.1, c.in_ok-names.ensures.names)
