@@ -5,6 +5,7 @@ use Rattle.std.specs.Cmp.Lexicographic.{other_text}
 use lib.Pointwise.{pointwise}
 use Rattle.std.proofs.lemmas.Bool.{false≢true}
 use Rattle.std.proofs.lemmas.Fmt.{decimal_injective}
+use Rattle.std.proofs.lemmas.List.{append_cancel_left}
 use Rattle.kb_text.specs.Fields.{IsWithout}
 use Rattle.kb_text.proofs.Cuts.{one_line}
 use Rattle.kb_report.specs.Sections.{OneLine, counted_line, IsLineOf, IsFirstLine, BeginsWithLine, BeginsWith, IsBadFrom}
@@ -45,15 +46,11 @@ take_front (w ∷ word) xs = ap (w ∷◌) (take_front word xs)
 pub not_begun : (line word xs : List ℕ) → pointwise nat_eq (take (length word) line) word ≡ false → ¬ (line ≡ word ++ xs)
 not_begun line word xs h e = other_text (take (length word) line) word (sym h) (ap (take (length word)) e ∙ take_front word xs)
 
-pub behind_word : (word xs ys : List ℕ) → word ++ xs ≡ word ++ ys → xs ≡ ys
-behind_word [] xs ys e = e
-behind_word (w ∷ word) xs ys e = let f : word ++ xs ≡ word ++ ys = cc in behind_word word xs ys f
-
 pub no_count : (line word digits : List ℕ) (highest : ℕ) → highest ≤ 5000 → line ≡ word ++ digits → ((n : ℕ) → n < 100000 → ¬ (decimal n ≡ digits)) → (n : ℕ) → ¬ IsLineOf (λ n. n ≤ highest) (counted_line word) line n
-no_count line word digits highest l e h n k = let small = k.form in h n (omega arith) (behind_word word (decimal n) digits (sym k.spelling ∙ e))
+no_count line word digits highest l e h n k = let small = k.form in h n (omega arith) (append_cancel_left word (decimal n) digits (sym k.spelling ∙ e))
 
 pub high_count : (line word digits : List ℕ) (highest number : ℕ) → highest ≤ 5000 → line ≡ word ++ digits → number < 100000 → decimal number ≡ digits → highest < number → (n : ℕ) → ¬ IsLineOf (λ n. n ≤ highest) (counted_line word) line n
 high_count line word digits highest number l e b d h n k =
     let small = k.form in
-    let same = decimal_injective n number (omega arith) (omega arith) (behind_word word (decimal n) digits (sym k.spelling ∙ e) ∙ sym d) in
+    let same = decimal_injective n number (omega arith) (omega arith) (append_cancel_left word (decimal n) digits (sym k.spelling ∙ e) ∙ sym d) in
     omega arith

@@ -3,11 +3,11 @@ use Rattle.std.proofs.Common.{ℕ, ◌+◌, ◌<◌, ◌≡◌, refl, sym, ap, s
 use Rattle.std.specs.Prelude.{option_map}
 use Rattle.std.proofs.lemmas.List.Elements.{All-head, All-tail}
 use Rattle.std.proofs.lemmas.Option.{slice_get_within}
+use Rattle.kb_lemmas.proofs.Membership.{contains_cases, contains_first, contains_behind, contains_flat_map, none_in}
 use Rattle.kb_term.specs.Tree.{Tree}
 use Rattle.kb_term.specs.Pair.{Pair, numbered, place_in, variables_of_pair, IsVariantEquation}
 use Rattle.kb_term.specs.Rule.{Rule, rule_of}
 use Rattle.kb_term.specs.declared.origin.RuleRef.{RuleRef}
-use Rattle.kb_term.proofs.Steps.{contains_cases, contains_first, contains_behind}
 use Rattle.kb_term.proofs.Variants.{variants_from_numbered, numbered_renamed}
 use Rattle.kb_term.proofs.OwnPair.{numbered_apart}
 use Rattle.kb_lpo.specs.PathOrder.{LpoGreater}
@@ -22,7 +22,7 @@ use Rattle.kb_cert.proofs.Ordering.{IsRenamedOf, orders_among, orders_renamed}
 use Rattle.kb_label.specs.Names.{Name, has}
 use Rattle.kb_node.specs.declared.node.LabelKind.{LabelKind}
 use Rattle.mkb_model.specs.Plain.{Plain, PlainNode, node_numbers, directions, label_or_none, constraint_kind, is_constraint, constraints_of, pair_at, rule_at, rules_at}
-use Rattle.mkb_model.proofs.Lists.{in_filter, in_filter_map, in_flat_map, in_numbers, none_in}
+use Rattle.mkb_model.proofs.Lists.{in_filter, in_filter_map, in_numbers}
 
 -- ---- no order orders both directions
 
@@ -85,7 +85,7 @@ module _ (b : Plain) (p : Name) (c : Certificate) (h : Orders c (rules_at b (con
   listed : (a : RuleRef) (x : PlainNode) → slice_get b.nodes a.node ≡ Some x → Contains (directions a.node) a → is_constraint b p a ≡ true → Contains (rules_at b (constraints_of b p)) (rule_of x.pair a.dir)
   listed a x at d t =
       in_filter_map (rule_at b) (constraints_of b p) a (rule_of x.pair a.dir)
-      (in_filter (is_constraint b p) (flat_map directions (node_numbers b)) a (in_flat_map directions (node_numbers b) a.node a (in_numbers 0 _ a.node (omega arith) (omega (arith, slice_get_within b.nodes a.node x at))) d) t)
+      (in_filter (is_constraint b p) (flat_map directions (node_numbers b)) a (contains_flat_map directions (node_numbers b) a.node a (in_numbers 0 _ a.node (omega arith) (omega (arith, slice_get_within b.nodes a.node x at))) d) t)
       (ap (λ (o : Option PlainNode). option_map (λ (q : Pair). rule_of q a.dir) (option_map (λ (y : PlainNode). y.pair) o)) at)
 
   pub one_way : (n : ℕ) → is_constraint b p (record { node = n; dir = 0 }) ≡ true → is_constraint b p (record { node = n; dir = 1 }) ≡ true → ⊥
