@@ -6,7 +6,8 @@ use Rattle.std.proofs.Common.{ℕ, zero, suc, ◌≤◌, ◌<◌, ◌≡◌, tru
 use Rattle.std.specs.Prelude.{option_map, IsTrue, IsSome}
 use Rattle.std.specs.List.{cons_option}
 use Rattle.std.proofs.lemmas.List.Elements.{Contains-append_cases}
-use Rattle.kb_term.proofs.Steps.{contains_cases}
+use Rattle.kb_lemmas.proofs.Membership.{contains_cases, contains_flat_map_back, contains_mapped, none_in}
+use Rattle.kb_lemmas.proofs.Options.{some_is, none_some}
 use Rattle.kb_term.proofs.FewArguments.{few_from_arities}
 use Rattle.kb_term.proofs.RuleBelow.{numbered-below}
 use Rattle.kb_term.specs.FewArguments.{HasFewArguments}
@@ -32,7 +33,7 @@ use Rattle.mkb_model.specs.Journals.{Moment, IsPossibleRun, IsFirstJob, IsFreeJo
 use Rattle.mkb_model.proofs.KnownFacts.{facts_hold}
 use Rattle.mkb_model.specs.declared.entry.Ticket.{Ticket}
 use Rattle.mkb_model.specs.declared.entry.Entry.{Entry}
-use Rattle.mkb_model.proofs.Lists.{filter_in, filter_map_in, flat_map_in, map_in, numbers_in, none_in, some_is, none_some}
+use Rattle.mkb_model.proofs.Lists.{filter_in, filter_map_in, numbers_in}
 use Rattle.mkb_model.proofs.Living.{within_budget, living_forked}
 use Rattle.mkb_model.proofs.Selections.{legal-possible, first-free}
 use Rattle.mkb_model.proofs.Sizes.{limited_run, numbered_within, turned}
@@ -231,21 +232,21 @@ work_there b p j i =
     numbered_there m k = let l = numbers_in 0 (length b.nodes) m k in omega (arith, l.1)
 
     reduces : Contains (map (λ n. jobs.Reduce p (record { 0 = n })) (node_numbers b)) j → HasJobNodes b j
-    reduces k = let m = map_in (λ n. jobs.Reduce p (record { 0 = n })) (node_numbers b) j k in subst {A = Job} (HasJobNodes b) m.2 (numbered_there m.0 m.1)
+    reduces k = let m = contains_mapped (λ n. jobs.Reduce p (record { 0 = n })) (node_numbers b) j k in subst {A = Job} (HasJobNodes b) m.2 (numbered_there m.0 m.1)
 
     orients : Contains (map (λ n. jobs.Orient p (record { 0 = n })) (node_numbers b)) j → HasJobNodes b j
-    orients k = let m = map_in (λ n. jobs.Orient p (record { 0 = n })) (node_numbers b) j k in subst {A = Job} (HasJobNodes b) m.2 (numbered_there m.0 m.1)
+    orients k = let m = contains_mapped (λ n. jobs.Orient p (record { 0 = n })) (node_numbers b) j k in subst {A = Job} (HasJobNodes b) m.2 (numbered_there m.0 m.1)
 
     overlaps : Contains (flat_map (λ (a : RuleRef). map (jobs.Overlap p a) (rules_of b p)) (rules_of b p)) j → HasJobNodes b j
     overlaps k =
-        let m = flat_map_in (λ (a : RuleRef). map (jobs.Overlap p a) (rules_of b p)) (rules_of b p) j k in
-        let l = map_in (jobs.Overlap p m.0) (rules_of b p) j m.2 in
+        let m = contains_flat_map_back (λ (a : RuleRef). map (jobs.Overlap p a) (rules_of b p)) (rules_of b p) j k in
+        let l = contains_mapped (jobs.Overlap p m.0) (rules_of b p) j m.2 in
         subst {A = Job} (HasJobNodes b) l.2 (passing_there b (is_rule b p) m.0 m.1, passing_there b (is_rule b p) l.0 l.1)
 
 free_there : (b : Plain) (j : Job) → IsFreeJob b j → HasJobNodes b j
 free_there b j i =
     let f = filter_in (is_free (flying_jobs b)) (due_jobs b) j i in
-    let m = flat_map_in (due_jobs_of b) (awake b) j f.0 in
+    let m = contains_flat_map_back (due_jobs_of b) (awake b) j f.0 in
     work_there b m.0 j (filter_in (is_due b) (work_of b m.0 ++ jobs.Close m.0 ∷ []) j m.2).0
 
 grounded : (state : Plain) (flight : List Ticket) (j : Job) → HasJobNodes (record state { flight = flight }) j → HasJobNodes state j

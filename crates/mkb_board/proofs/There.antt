@@ -16,6 +16,7 @@ use Rattle.mkb_model.specs.Sleeping.{is_failed}
 use Rattle.mkb_model.specs.Plain.{is_over, over_reason}
 use Rattle.std.specs.List.{find, list_all}
 use Rattle.std.specs.Prelude.{option_and_then, if◌then◌else◌, ◌||◌}
+use Rattle.kb_lemmas.proofs.Options.{some_is, none_some}
 use Rattle.kb_node.specs.declared.node.LabelKind.TheVariants.{E}
 use Rattle.kb_node.specs.declared.node.NodeId.{NodeId}
 use Rattle.kb_node.specs.declared.job.Job.{Job}
@@ -32,7 +33,6 @@ use Rattle.mkb_model.specs.Journals.{Moment, IsPossibleRun, IsFreeJob, IsFinishi
 use Rattle.mkb_model.specs.declared.proposed.Proposed.{Proposed}
 use Rattle.mkb_model.specs.declared.proposed.Proposed.TheVariants.{Facts, Rewrite, One, Both, Refuse, Deduce, Unjoined, Closed, Limit}
 use Rattle.mkb_model.specs.declared.entry.Entry.TheVariants.{Take}
-use Rattle.mkb_model.proofs.Lists.{some_is, none_some}
 use Rattle.mkb_model.proofs.Roles.{on_there}
 use Rattle.mkb_model.proofs.Views.{rule_listed}
 use Rattle.mkb_model.proofs.Rewriting.{source_of}

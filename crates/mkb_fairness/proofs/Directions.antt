@@ -2,6 +2,7 @@
 use Rattle.std.proofs.Common.{ℕ, ◌≡◌, ◌≢◌, ◌⊎◌, inl, inr, refl, sym, ap, ap₂, ◌∙◌, subst, arith, List, [], ◌∷◌, ◌++◌, Contains, true, false, Option, Some, None, ⊎_elim}
 use Rattle.std.specs.Option.{option_map_or}
 use Rattle.std.proofs.lemmas.List.Elements.{Contains-append_left}
+use Rattle.kb_lemmas.proofs.Membership.{contains_behind, contains_cases, contains_first, none_in}
 use Rattle.kb_term.specs.Pair.{Pair}
 use Rattle.kb_term.specs.Rule.{Rule, rule_of}
 use Rattle.kb_term.specs.Signature.{Signature, Problem, IsWithinLimits, IsRuleOver}
@@ -10,7 +11,7 @@ use Rattle.kb_term.specs.declared.origin.RuleRef.{RuleRef}
 use Rattle.kb_term.proofs.Bridge.{step_to_position}
 use Rattle.kb_term.proofs.Chains.{reaches_map, reaches_one}
 use Rattle.kb_term.proofs.Instances.{instance-variable}
-use Rattle.kb_term.proofs.Steps.{Step, at_root, contains_behind, contains_cases, contains_first}
+use Rattle.kb_term.proofs.Steps.{Step, at_root}
 use Rattle.kb_label.specs.Names.{Name, has, name_eq, relabel}
 use Rattle.kb_label.specs.declared.verdict.Reason.{Reason}
 use Rattle.kb_label.proofs.Members.{name_eq-eq, name_eq-refl}
@@ -32,7 +33,7 @@ use Rattle.mkb_model.proofs.AllFine.{commits_fine, constraints_in, in_constraint
 use Rattle.mkb_model.proofs.Commits.{orients}
 use Rattle.mkb_model.proofs.Fitting.{pairs_stay}
 use Rattle.mkb_model.proofs.KnownFacts.{rule_stays}
-use Rattle.mkb_model.proofs.Lists.{clash, decide, filter_map_in, in_filter_map, none_in}
+use Rattle.mkb_model.proofs.Lists.{clash, decide, filter_map_in, in_filter_map}
 use Rattle.mkb_model.proofs.OneRoles.{reversed_rule}
 use Rattle.mkb_model.proofs.Orienting.{orient-roles}
 use Rattle.mkb_model.proofs.Proper.{IsOrdered, composed_differs}

@@ -1,5 +1,6 @@
 -- What a change of roles does to the equations and rules that a process has.
 use Rattle.std.proofs.Common.{ℕ, zero, suc, ◌≡◌, ◌⊎◌, ◌↔◌, inl, inr, refl, sym, ap, ◌∙◌, subst, arith, List, Some, ⊎_elim}
+use Rattle.kb_lemmas.proofs.Options.{some_is}
 use Rattle.kb_term.proofs.CanonicalPairs.{canonical_from_same, lesser_cases}
 use Rattle.kb_term.specs.Tree.{Tree}
 use Rattle.kb_term.specs.Pair.{Pair, numbered, IsCanonical, IsTrivial, IsSameEquation}
@@ -9,7 +10,6 @@ use Rattle.mkb_model.specs.Plain.{Plain, PlainNode, rule_kind, constraint_kind, 
 use Rattle.kb_node.specs.declared.node.LabelKind.{LabelKind}
 use Rattle.kb_node.specs.declared.node.LabelKind.TheVariants.{E}
 use Rattle.mkb_model.specs.Ready.{IsOn, KeepsPairs}
-use Rattle.mkb_model.proofs.Lists.{some_is}
 use Rattle.mkb_model.proofs.Roles.{kind_number}
 use Rattle.mkb_model.proofs.Views.{same_itself, same_sym, same_trans, same_turned, rule_sym, rule_trans, rule_of-between, from_side, to_side, EqView, RuleView, equations-view, pair_back}
 use Rattle.mkb_model.proofs.Moves.{IsLean}

@@ -3,6 +3,8 @@ use Rattle.std.proofs.Common.{ℕ, ◌≡◌, ◌≢◌, ◌⊎◌, inl, inr, re
 use Rattle.std.specs.Prelude.{option_map, option_and_then, is_none}
 use Rattle.std.specs.Option.{option_map_or}
 use Rattle.std.proofs.lemmas.List.Elements.{Contains-append_cases}
+use Rattle.kb_lemmas.proofs.Membership.{contains_cases, none_in, contains_map, contains_mapped, contains_flat_map_back}
+use Rattle.kb_lemmas.proofs.Options.{none_some}
 use Rattle.kb_term.specs.Tree.{Tree, variable, apply}
 use Rattle.kb_term.specs.Position.{subtree_at, replace_at, argument, with_argument}
 use Rattle.kb_term.specs.Substitution.{instance}
@@ -15,7 +17,6 @@ use Rattle.kb_term.specs.Proving.{RewritesAt}
 use Rattle.kb_term.specs.declared.origin.RuleRef.{RuleRef}
 use Rattle.kb_term.specs.declared.origin.Found.{Found}
 use Rattle.kb_term.specs.declared.origin.Found.TheVariants.{Strict}
-use Rattle.kb_term.proofs.Steps.{contains_cases}
 use Rattle.mkb_model.specs.Plain.{Plain, rule_at, known, pair_in}
 use Rattle.mkb_model.specs.DueJobs.{reducers}
 use Rattle.mkb_model.specs.Effects.{applied, effect, limit_of, give_up, effect_label}
@@ -31,7 +32,6 @@ use Rattle.mkb_model.specs.declared.proposed.Proposed.TheVariants.{Facts, Rewrit
 use Rattle.mkb_model.specs.declared.entry.Entry.{Entry}
 use Rattle.mkb_model.specs.declared.entry.Entry.TheVariants.{Take, Commit, Drop, Abandon, Halt}
 use Rattle.mkb_model.specs.Ready.{KeepsPairs}
-use Rattle.mkb_model.proofs.Lists.{none_some, none_in, in_map, map_in, flat_map_in}
 use Rattle.mkb_model.proofs.Readiness.{named_rule}
 use Rattle.mkb_model.proofs.Fitting.{pairs_follow, pairs_stay}
 use Rattle.mkb_model.specs.declared.settings.Settings.{Settings}
@@ -82,9 +82,9 @@ facts_true b (Reduce p n) fs (pair, there, missing) f i = (
 
     sided : (f.side ≡ 0) ⊎ (f.side ≡ 1)
     sided =
-        let c = subst {A = List (ℕ × RuleRef)} (λ xs. Contains xs (f.side, f.rule)) missing.are_unknown (in_map (λ (f : Fact). (f.side, f.rule)) fs f i) in
-        let w = flat_map_in (λ w. map (λ a. (w, a)) (filter (λ a. is_none (known b n.0 w a)) (reducers b p n.0))) (0 ∷ 1 ∷ []) (f.side, f.rule) c in
-        let m = map_in (λ a. (w.0, a)) (filter (λ a. is_none (known b n.0 w.0 a)) (reducers b p n.0)) (f.side, f.rule) w.2 in
+        let c = subst {A = List (ℕ × RuleRef)} (λ xs. Contains xs (f.side, f.rule)) missing.are_unknown (contains_map (λ (f : Fact). (f.side, f.rule)) fs f i) in
+        let w = contains_flat_map_back (λ w. map (λ a. (w, a)) (filter (λ a. is_none (known b n.0 w a)) (reducers b p n.0))) (0 ∷ 1 ∷ []) (f.side, f.rule) c in
+        let m = contains_mapped (λ a. (w.0, a)) (filter (λ a. is_none (known b n.0 w.0 a)) (reducers b p n.0)) (f.side, f.rule) w.2 in
         let e : w.0 ≡ f.side = ap (λ (x : ℕ × RuleRef). x.0) m.2 in
         ⊎_elim (λ k. inl (sym e ∙ sym k)) (λ k. inr (sym e ∙ sym (⊎_elim (λ z. z) (λ z. none_in z) (contains_cases 1 [] w.0 k)))) (contains_cases 0 (1 ∷ []) w.0 w.1)
 facts_true b (Orient p n) fs h f i = absurd h

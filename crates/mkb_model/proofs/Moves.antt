@@ -1,7 +1,7 @@
 -- Steps of completion between states that differ in few equations and rules.
 use Rattle.std.proofs.Common.{ℕ, ◌≡◌, ◌⊎◌, ◌↔◌, inl, inr, refl, sym, ap, subst, arith, List, [], ◌∷◌, ◌++◌, Some, ⊎_elim, Contains}
 use Rattle.std.proofs.lemmas.List.Elements.{Contains-append_cases, Contains-append_left, Contains-append_right}
-use Rattle.kb_term.proofs.Steps.{contains_cases, contains_first}
+use Rattle.kb_lemmas.proofs.Membership.{contains_cases, contains_first}
 use Rattle.kb_term.specs.Tree.{Tree, variable}
 use Rattle.kb_term.specs.Signature.{Signature, IsWellFormed}
 use Rattle.kb_term.specs.Substitution.{IsVariant}

@@ -1,6 +1,8 @@
 -- The state of the first process on the opening board is reached from the problem: the trivial equations are deleted.
 use Rattle.std.proofs.Common.{ℕ, ◌+◌, ◌≡◌, ◌≢◌, ◌⊎◌, ◌↔◌, inl, inr, refl, sym, ap, ap₂, ◌∙◌, subst, true, List, [], ◌∷◌, ◌++◌, Option, Some, None, ⊎_elim, Contains}
 use Rattle.std.proofs.lemmas.List.Elements.{Contains-append_cases, Contains-append_left, Contains-append_right}
+use Rattle.kb_lemmas.proofs.Membership.{contains_cases, contains_behind, contains_first, none_in}
+use Rattle.kb_lemmas.proofs.Options.{some_is, none_some}
 use Rattle.kb_term.specs.Tree.{Tree}
 use Rattle.kb_term.specs.Pair.{Pair, canonical, canonical_pair, IsSameEquation}
 use Rattle.kb_term.specs.Signature.{Signature, Problem}
@@ -9,7 +11,6 @@ use Rattle.kb_laws.specs.Completion.{KbState, KbReaches, Keeps, kb_start}
 use Rattle.mkb_model.specs.Ready.{IsOn, KeepsPairs, AllFine}
 use Rattle.mkb_model.proofs.MemberSteps.{delete}
 use Rattle.kb_term.specs.declared.origin.Origin.TheVariants.{Input}
-use Rattle.kb_term.proofs.Steps.{contains_cases, contains_behind, contains_first}
 use Rattle.kb_term.proofs.Instances.{trees_decide}
 use Rattle.kb_term.proofs.CanonicalPairs.{canonical_from_same, same_from_canonical}
 use Rattle.kb_label.specs.Names.{Name, root, has}
@@ -20,7 +21,7 @@ use Rattle.mkb_model.specs.Headline.{EachCompletes}
 use Rattle.kb_node.specs.declared.node.LabelKind.{LabelKind}
 use Rattle.kb_node.specs.declared.node.LabelKind.TheVariants.{R0, R1, E}
 use Rattle.kb_node.specs.declared.job.Job.{Job}
-use Rattle.mkb_model.proofs.Lists.{clash, some_is, none_some, none_in}
+use Rattle.mkb_model.proofs.Lists.{clash}
 use Rattle.mkb_model.proofs.Roles.{keeps-with_node, equation-no_rule, equation-no_constraint}
 use Rattle.mkb_model.proofs.Pairs.{pairs_trans, same_kept, pairs-with_node, pairs-gains_equation, node-with_node}
 use Rattle.mkb_model.proofs.Views.{same_itself, same_sym, same_trans, EqView, equations-view, rules-view, constraints-view, pair_back}

@@ -2,8 +2,11 @@
 use Rattle.std.proofs.Common.{ℕ, zero, suc, ◌+◌, ◌-◌, ◌≤◌, ◌<◌, ◌≡◌, refl, sym, ap, ap₂, ◌∙◌, subst, arith, List, [], ◌∷◌, ◌++◌, map, filter, flat_map, length, Contains, Bool, true, false, cond, Option, None, ⊎_elim}
 use Rattle.std.specs.Prelude.{option_map}
 use Rattle.std.specs.List.{filter_map, cons_option}
-use Rattle.std.proofs.lemmas.List.{append_assoc, append-nil}
-use Rattle.kb_term.proofs.Steps.{contains_cases, contains_behind, contains_first}
+use Rattle.std.proofs.lemmas.List.{append-nil}
+use Rattle.std.proofs.lemmas.Grind.{flat_map-append}
+use Rattle.kb_lemmas.proofs.Lists.{filter_none_of}
+use Rattle.kb_lemmas.proofs.Membership.{contains_cases, contains_behind, contains_first, none_in, contains_flat_map_back}
+use Rattle.kb_lemmas.proofs.Options.{none_some}
 use Rattle.kb_term.specs.Tree.{Tree}
 use Rattle.kb_term.specs.Rule.{rule_of}
 use Rattle.kb_term.specs.Signature.{Problem}
@@ -21,7 +24,7 @@ use Rattle.mkb_model.specs.declared.proposed.Proposed.{Proposed}
 use Rattle.mkb_model.specs.declared.proposed.Proposed.TheVariants.{Closed}
 use Rattle.mkb_model.specs.declared.entry.Entry.{Entry}
 use Rattle.mkb_model.specs.declared.entry.Entry.TheVariants.{Take, Commit, Drop, Abandon, Halt}
-use Rattle.mkb_model.proofs.Lists.{clash, false_unless, none_some, none_in, filter_in, flat_map_in, numbers_in}
+use Rattle.mkb_model.proofs.Lists.{clash, false_unless, filter_in, numbers_in}
 use Rattle.mkb_model.proofs.Roles.{KeepsRoles, below, on_there}
 use Rattle.mkb_model.proofs.Pairs.{pairs_trans}
 use Rattle.mkb_model.proofs.Fitting.{pairs_stay, effect_cases}
@@ -49,18 +52,6 @@ filter_append {A} f (x ∷ xs) ys = go (f x) (filter_append f xs ys)
     go : (b : Bool) → filter f (xs ++ ys) ≡ filter f xs ++ filter f ys → cond b (x ∷ filter f (xs ++ ys)) (filter f (xs ++ ys)) ≡ cond b (x ∷ filter f xs) (filter f xs) ++ filter f ys
     go true e = ap (x ∷◌) e
     go false e = e
-
-flat_map_append : {A B : Type 0} (f : A → List B) (xs ys : List A) → flat_map f (xs ++ ys) ≡ flat_map f xs ++ flat_map f ys
-flat_map_append f [] ys = refl
-flat_map_append f (x ∷ xs) ys = ap (f x ++◌) (flat_map_append f xs ys) ∙ sym (append_assoc (f x) (flat_map f xs) (flat_map f ys))
-
-filter_nothing : {A : Type 0} (f : A → Bool) (xs : List A) → ((x : A) → Contains xs x → f x ≡ false) → filter f xs ≡ []
-filter_nothing f [] h = refl
-filter_nothing {A} f (x ∷ xs) h = go (f x) (h x (contains_first x xs)) (filter_nothing f xs (λ y i. h y (contains_behind x xs y i)))
-  where
-    go : (b : Bool) → b ≡ false → filter f xs ≡ [] → cond b (x ∷ filter f xs) (filter f xs) ≡ []
-    go true e k = clash refl e
-    go false e k = k
 
 filter_same : {A : Type 0} (f k : A → Bool) → ((x : A) → f x ≡ k x) → (xs : List A) → filter f xs ≡ filter k xs
 filter_same f k h [] = refl
@@ -94,15 +85,15 @@ module _ (b c : Plain) (p : Name) (roles : KeepsRoles b.nodes c.nodes p) (keeps 
   pub same_equations : equations_of c p ≡ equations_of b p
   same_equations = ap (filter (is_equation c p)) numbers_more ∙ filter_append (is_equation c p) (node_numbers b) (numbers_from (0 + length b.nodes) more)
       ∙ ap₂ (λ (x y : List ℕ). x ++ y) (filter_same (is_equation c p) (is_equation b p) (λ n. role_tests b c p roles n E) (node_numbers b))
-      (filter_nothing (is_equation c p) (numbers_from (0 + length b.nodes) more) (λ n i. false_unless (is_equation c p n) (λ o. let l = on_there b.nodes p n E ((roles n E).0 o) in let r = (numbers_in (0 + length b.nodes) more n i).0 in absurd (omega (arith, l, r)))))
+      (filter_none_of (is_equation c p) (numbers_from (0 + length b.nodes) more) (λ n i. false_unless (is_equation c p n) (λ o. let l = on_there b.nodes p n E ((roles n E).0 o) in let r = (numbers_in (0 + length b.nodes) more n i).0 in absurd (omega (arith, l, r)))))
       ∙ append-nil (equations_of b p)
 
   pub same_rules : rules_of c p ≡ rules_of b p
-  same_rules = ap (λ ns. filter (is_rule c p) (flat_map directions ns)) numbers_more ∙ ap (filter (is_rule c p)) (flat_map_append directions (node_numbers b) (numbers_from (0 + length b.nodes) more))
+  same_rules = ap (λ ns. filter (is_rule c p) (flat_map directions ns)) numbers_more ∙ ap (filter (is_rule c p)) (flat_map-append directions (node_numbers b) (numbers_from (0 + length b.nodes) more))
       ∙ filter_append (is_rule c p) (flat_map directions (node_numbers b)) (flat_map directions (numbers_from (0 + length b.nodes) more))
       ∙ ap₂ (λ (x y : List RuleRef). x ++ y) (filter_same (is_rule c p) (is_rule b p) (λ a. role_tests b c p roles a.node (rule_kind a.dir)) (flat_map directions (node_numbers b)))
-      (filter_nothing (is_rule c p) (flat_map directions (numbers_from (0 + length b.nodes) more)) (λ a i. false_unless (is_rule c p a) (λ o.
-      let m = flat_map_in directions (numbers_from (0 + length b.nodes) more) a i in
+      (filter_none_of (is_rule c p) (flat_map directions (numbers_from (0 + length b.nodes) more)) (λ a i. false_unless (is_rule c p a) (λ o.
+      let m = contains_flat_map_back directions (numbers_from (0 + length b.nodes) more) a i in
       let l = on_there b.nodes p a.node (rule_kind a.dir) ((roles a.node (rule_kind a.dir)).0 o) in
       let r = (numbers_in (0 + length b.nodes) more m.0 m.1).0 in
       let e = node m.0 a m.2 in
