@@ -1,16 +1,11 @@
 -- Overlaps whose sides have one normal form by the strategy are joinable.
-use Rattle.std.proofs.Common.{ℕ, zero, suc, ◌≡◌, arith, List, [], ◌∷◌, Contains, Some, slice_get}
+use Rattle.std.proofs.Common.{List, [], ◌∷◌}
+use Rattle.kb_lemmas.proofs.Membership.{slice_contains}
 use Rattle.kb_term.specs.Tree.{Tree}
 use Rattle.kb_term.specs.Rule.{Rule}
 use Rattle.kb_term.specs.Proving.{IsPath, Step, IsJoinable}
 use Rattle.kb_rewrite.specs.NormalForm.{StrategyStep}
 use Rattle.kb_laws.specs.Overlaps.{OverlapsJoin, OverlapsClose, HaveOneNormalForm}
-use Rattle.kb_term.proofs.Steps.{contains_behind}
-
-pub slice_contains : {X : Type 0} (xs : List X) (i : ℕ) (x : X) → slice_get xs i ≡ Some x → Contains xs x
-slice_contains [] i x e = absurd (cc)
-slice_contains (y ∷ ys) zero x e = (0, omega arith, cc)
-slice_contains (y ∷ ys) (suc i) x e = contains_behind y ys x (slice_contains ys i x e)
 
 pub strategy_step : (rules : List Rule) (s t : Tree) → StrategyStep rules s t → Step rules s t
 strategy_step rules s t (p, i, f, h) = (f.redex.rule, slice_contains rules i f.redex.rule f.redex.there, p, h)

@@ -1,8 +1,9 @@
 -- Every chain of the bounded path order has a bound.
 use Rattle.std.proofs.Common.{ℕ, zero, suc, ◌+◌, ◌≡◌, ◌≤◌, ◌<◌, ◌⊎◌, inl, inr, refl, sym, ap, ◌∙◌, subst, arith, List, [], ◌∷◌, Contains, length, not, ◌==◌, lt-suc_self}
 use Rattle.std.proofs.lemmas.Bool.{cases_lt, cond_both}
+use Rattle.kb_lemmas.proofs.Membership.{contains_cases}
 use Rattle.kb_term.specs.Tree.{Tree, variable, apply, Trees, no_trees, more_trees}
-use Rattle.kb_term.proofs.Steps.{trees_length, IsWellFormed, AreWellFormed, contains_cases}
+use Rattle.kb_term.proofs.Steps.{trees_length, IsWellFormed, AreWellFormed}
 use Rattle.kb_term.specs.Pair.{place_in}
 use Rattle.kb_lpo.specs.PathOrder.{IsAbove}
 use Rattle.kb_lpo.proofs.Lpo.{IsArgument, DifferFirst}
