@@ -155,7 +155,7 @@ all_agree g before (u ∷ us) h k =
 short_variable : (names : List Name) (k : ℕ) → length names ≤ 24 → k < 64 → nat_le (length (variable_text names k)) 64 ≡ true
 short_variable names k few l =
     let digits : length (decimal (k + 1)) ≤ 2 = length-decimal-le 2 (k + 1) (omega arith) (omega arith) (omega arith) in
-    le-leb (length (variable_text names k)) 64 (omega (arith, digits, prefix_small names, length-append (replicate (prefix_length names) 120) (decimal (k + 1)), length-replicate (prefix_length names) 120))
+    le-leb (length (variable_text names k)) 64 (omega (arith, digits, prefix_small names, length-append (replicate (prefix_length names) 120) (decimal (k + 1)), length-replicate {A = ℕ} (prefix_length names) 120))
 
 short_variables : (names : List Name) (n k : ℕ) → length names ≤ 24 → k + n ≤ 64 → list_all (λ (x : Name). nat_le (length x) 64) (map (variable_text names) (range_with_len k n)) ≡ true
 short_variables names zero k few l = refl

@@ -150,7 +150,7 @@ head_of (x ∷ xs) = x
 
 -- the first row of what is tried, and the others
 head_length : (f : SymbolEntry) (sig : Signature) (row : ℕ × List ℕ) (i : Interpretation) (x : ℕ) → shape_of (row ∷ i) ≡ shape_of (uniform (f ∷ sig) 0 1) → length (replicate f.arity x) ≡ length row.1
-head_length f sig row i x s = let e : length row.1 ≡ length (replicate {A = ℕ} f.arity 1) = ap head_of s in omega (arith, length-replicate f.arity 1, length-replicate f.arity x)
+head_length f sig row i x s = let e : length row.1 ≡ length (replicate {A = ℕ} f.arity 1) = ap head_of s in omega (arith, length-replicate {A = ℕ} f.arity 1, length-replicate f.arity x)
 
 pub first_tried : (f : SymbolEntry) (sig : Signature) (top : ℕ) (row : ℕ × List ℕ) (i : Interpretation) → IsTried (f ∷ sig) top (row ∷ i) → IsTriedRow top f.arity row
 first_tried f sig top row i t = record {

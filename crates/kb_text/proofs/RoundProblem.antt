@@ -28,7 +28,7 @@ names_of-entries uses (x ∷ xs) = ap (x ∷◌) (names_of-entries uses xs)
 short_variable : (symbols : List Name) (k : ℕ) → length symbols ≤ 24 → k < 64 → nat_le (length (variable_text symbols k)) 64 ≡ true
 short_variable symbols k few l =
     let digits : length (decimal (k + 1)) ≤ 2 = length-decimal-le 2 (k + 1) (omega arith) (omega arith) (omega arith) in
-    le-leb (length (variable_text symbols k)) 64 (omega (arith, digits, prefix_small symbols, length-append (replicate (prefix_length symbols) 120) (decimal (k + 1)), length-replicate (prefix_length symbols) 120))
+    le-leb (length (variable_text symbols k)) 64 (omega (arith, digits, prefix_small symbols, length-append (replicate (prefix_length symbols) 120) (decimal (k + 1)), length-replicate {A = ℕ} (prefix_length symbols) 120))
 
 short_variables : (symbols : List Name) (n s : ℕ) → length symbols ≤ 24 → s + n ≤ 64 → list_all (λ (x : Name). nat_le (length x) 64) (map (variable_text symbols) (range_with_len s n)) ≡ true
 short_variables symbols zero s few l = refl

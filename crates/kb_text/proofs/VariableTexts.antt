@@ -91,7 +91,7 @@ some_digits : (m : ℕ) → m ≤ 64 → 0 < length (decimal m)
 some_digits m h = ⊎_elim (λ l. let e = ap length (decimal_digit m l) in omega arith) (λ l. let e = ap length (two_digits m l (omega arith)) in omega arith) (cases_lt m 10)
 
 pub variable_longer : (p m : ℕ) → m ≤ 64 → p < length (replicate p 120 ++ decimal m)
-variable_longer p m h = omega (arith, some_digits m h, length-append (replicate p 120) (decimal m), length-replicate p 120)
+variable_longer p m h = omega (arith, some_digits m h, length-append (replicate p 120) (decimal m), length-replicate {A = ℕ} p 120)
 
 -- its letters are letters x
 pub variable_letters : (p m : ℕ) → list_all (λ b. nat_eq 120 b) (take p (replicate p 120 ++ decimal m)) ≡ true
