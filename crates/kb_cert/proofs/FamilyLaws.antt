@@ -3,13 +3,14 @@ use Rattle.std.proofs.Common.{ℕ, Option, Some, None, zero-lt-suc, suc-le-suc, 
 use Rattle.std.specs.List.{AllZip, range_with_len}
 use Rattle.std.proofs.lemmas.List.Elements.{All-contains, All-weaker, Contains-append_cases, Contains-append_left}
 use Rattle.std.proofs.lemmas.Bool.{cond-true, cond-false, ne_eqb, eq-eqb}
+use Rattle.kb_linear.proofs.Ready.{interpretation_fits}
 use Rattle.kb_lemmas.proofs.Membership.{listed_or_not, contains_cases, contains_first, contains_flat_map_back, contains_map}
 use Rattle.kb_term.specs.Tree.{Tree, variable, apply, Trees, no_trees, more_trees, list_of, variables_of}
 use Rattle.kb_term.specs.Rule.{Rule, IsRule}
 use Rattle.kb_term.specs.Signature.{Signature, SymbolEntry, IsWellFormed, AreWellFormed, IsRuleOver}
 use Rattle.kb_term.specs.Proving.{IsTerminating}
 use Rattle.kb_linear.specs.LinearOrder.{Interpretation, linear_value, weighted_sum, LinearGreater, IsInterpretationOf}
-use Rattle.kb_linear.specs.Interpretations.{choices, rows, interpretations_to, interpretations_up_to, top_constant, interpretations, LinearOrients}
+use Rattle.kb_linear.specs.Interpretations.{choices, rows, interpretations_to, interpretations_up_to, interpretations, LinearOrients}
 use Rattle.kb_lpo.specs.Precedences.{arrangements, precedences}
 use Rattle.kb_kbo.specs.KnuthBendix.{KboOrder, KboGreater}
 use Rattle.kb_kbo.specs.KnuthBendixLaws.{HasWeights}
@@ -65,9 +66,6 @@ interpretation_to g top i c = rows_fit top g i (choices_from (map (λ (f : Symbo
 interpretation_up_to : (g : Signature) (top : Option ℕ) (i : Interpretation) → Contains (interpretations_up_to g top) i → IsInterpretationOf g i
 interpretation_up_to g None i c = absurd (omega arith)
 interpretation_up_to g (Some top) i c = interpretation_to g top i c
-
-pub interpretation_fits : (g : Signature) (i : Interpretation) → Contains (interpretations g) i → IsInterpretationOf g i
-interpretation_fits g i c = interpretation_up_to g (top_constant g) i c
 
 no_member : {X : Type 0} (f : X → Certificate) (xs : List X) (c : Certificate) → ((x : X) → ¬ (f x ≡ c)) → ¬ Contains (map f xs) c
 no_member f xs c differs i = let r = contains_map_back f xs c i in differs r.0 r.2

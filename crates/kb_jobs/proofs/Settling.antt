@@ -5,6 +5,7 @@ use Rattle.std.specs.List.{list_any}
 use Rattle.std.proofs.lemmas.List.{append-nil, map-append}
 use Rattle.std.proofs.lemmas.List.Concat.{flat_map-append}
 use Rattle.std.proofs.lemmas.List.Elements.{Contains-append_cases, Contains-append_left, Contains-append_right}
+use Rattle.mkb_model.proofs.Rewriting.{trivial_none}
 use Rattle.kb_lemmas.proofs.Options.{none_some, some_is}
 use Rattle.kb_lemmas.proofs.Membership.{contains_mapped, contains_map}
 use Rattle.kb_term.specs.Tree.{Tree, variable, apply, no_trees, variables_of}
@@ -102,14 +103,11 @@ canonical_cases : (u v : Tree) (b : Bool) → tree_eq u v ≡ b → (u ≡ v) �
 canonical_cases u v true e = inl (tree_eq-true u v e)
 canonical_cases u v false e = inr (ap (λ z. cond z None (Some (canonical u v))) e)
 
-none_equal : (u v : Tree) → canonical_pair u v ≡ None → u ≡ v
-none_equal u v e = ⊎_elim (λ q. q) (λ q. none_some (sym e ∙ q)) (canonical_cases u v (tree_eq u v) refl)
-
 equal_none : (u v : Tree) → u ≡ v → canonical_pair u v ≡ None
 equal_none u v e = ap (λ z. cond z None (Some (canonical u v))) (tree_eq-same u v e)
 
 pub joined_none : (equations : List (Tree × Tree)) (u v : Tree) (b : Bool) → b ≡ true → None ≡ canonical_pair u v → IsTrue b ↔ IsJoinedBy equations u v
-joined_none equations u v b t e = ((λ h. inl (none_equal u v (sym e))), (λ h. t))
+joined_none equations u v b t e = ((λ h. inl (trivial_none u v (sym e))), (λ h. t))
 
 pub joined_some : (qs : List Pair) (u v : Tree) (q : Pair) (b : Bool) → b ≡ list_any (λ y. pair_eq y q) qs → Some q ≡ canonical_pair u v → IsTrue b ↔ IsJoinedBy (equations_of qs) u v
 joined_some qs u v q b is e = (there, back)

@@ -70,3 +70,13 @@ filter_lost p (x ∷ xs) y c e = go (p x) refl (filter_less p xs) (filter_lost p
     go : (b : Bool) → p x ≡ b → length (filter p xs) ≤ length xs → (Contains xs y → p y ≡ false → length (filter p xs) < length xs) → length (cond b (x ∷ filter p xs) (filter p xs)) < length (x ∷ xs)
     go false q h rest = omega arith
     go true q h rest = ⊎_elim (λ s. absurd (false≢true (sym (ap p s ∙ e) ∙ q))) (λ d. let r = rest d e in omega arith) (contains_cases x xs y c)
+
+pub get_take : {X : Type 0} (n : ℕ) (xs : List X) (i : ℕ) (x : X) → slice_get (take n xs) i ≡ Some x → (i < n) × (slice_get xs i ≡ Some x)
+get_take zero xs i x e = absurd (none-some x e)
+get_take (suc n) [] i x e = absurd (none-some x e)
+get_take (suc n) (y ∷ ys) zero x e = (omega arith, e)
+get_take (suc n) (y ∷ ys) (suc i) x e = let h = get_take n ys i x e in (omega (arith, h.0), h.1)
+
+pub take_front : (xs ys : List ℕ) → take (length xs) (xs ++ ys) ≡ xs
+take_front [] ys = refl
+take_front (x ∷ xs) ys = ap (x ∷◌) (take_front xs ys)

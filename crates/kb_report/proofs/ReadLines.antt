@@ -1,19 +1,16 @@
 -- What a line that was cut off says of the text.
-use Rattle.std.proofs.Common.{◌≡◌, ap, sym, ◌∙◌, subst, arith, ℕ, ◌<◌, ◌≤◌, List, [], ◌∷◌, ◌++◌, length, take, false}
+use Rattle.std.proofs.Common.{◌≡◌, ap, sym, ◌∙◌, subst, arith, ℕ, ◌<◌, ◌≤◌, List, ◌∷◌, ◌++◌, length, take, false}
 use Rattle.std.specs.Prelude.{decimal, nat_eq}
 use Rattle.std.specs.Cmp.Lexicographic.{other_text}
 use lib.Pointwise.{pointwise}
-use Rattle.std.proofs.lemmas.Bool.{false≢true}
 use Rattle.std.proofs.lemmas.Fmt.{decimal_injective}
 use Rattle.std.proofs.lemmas.List.{append_cancel_left}
+use Rattle.kb_trace.proofs.TraceLines.{no_feed}
+use Rattle.kb_lemmas.proofs.Lists.{take_front}
 use Rattle.kb_text.specs.Fields.{IsWithout}
 use Rattle.kb_text.proofs.Cuts.{one_line}
 use Rattle.kb_report.specs.Sections.{OneLine, counted_line, IsLineOf, IsFirstLine, BeginsWithLine, BeginsWith, IsBadFrom}
 use Rattle.kb_report.proofs.SectionLaws.{line_read, line_bad}
-
-pub no_feed : (xs ys : List ℕ) → IsWithout 10 (xs ++ 10 ∷ ys) → ⊥
-no_feed [] ys h = false≢true (sym h.0)
-no_feed (x ∷ xs) ys h = no_feed xs ys h.1
 
 -- a text without a line feed begins with no line
 pub no_line_of : {X : Type 0} (P : X → Type 0) (f : X → List ℕ) (text : List ℕ) → IsWithout 10 text → (x : X) (back : List ℕ) → ¬ BeginsWithLine P f text x back
@@ -38,10 +35,6 @@ pub line_is_read : {X : Type 0} (P : X → Type 0) (f : X → List ℕ) (text li
 line_is_read P f text line rest x l i = line_read P f text x rest (this_line P f text line rest x l i)
 
 -- ---- words before a text
-
-take_front : (word xs : List ℕ) → take (length word) (word ++ xs) ≡ word
-take_front [] xs = λ i. []
-take_front (w ∷ word) xs = ap (w ∷◌) (take_front word xs)
 
 pub not_begun : (line word xs : List ℕ) → pointwise nat_eq (take (length word) line) word ≡ false → ¬ (line ≡ word ++ xs)
 not_begun line word xs h e = other_text (take (length word) line) word (sym h) (ap (take (length word)) e ∙ take_front word xs)

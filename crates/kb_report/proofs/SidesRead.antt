@@ -4,6 +4,7 @@ use Rattle.std.specs.Prelude.{Option, codes, decimal, IfOk, MatchOption}
 use Rattle.std.specs.List.{join_with_byte, slice_split}
 use Rattle.std.proofs.lemmas.List.Splits.{join_with_byte-slice_split}
 use Rattle.std.proofs.lemmas.Fmt.{decimal_injective}
+use Rattle.kb_trace.proofs.OneStep.{again}
 use Rattle.kb_lemmas.proofs.Numbers.{eq_above}
 use Rattle.kb_term.specs.Rule.{Rule}
 use Rattle.kb_term.specs.Signature.{Signature, IsSignature, IsEquationWithinLimits}
@@ -19,7 +20,7 @@ use Rattle.kb_trace.proofs.FieldsRead.{said}
 use Rattle.kb_trace.proofs.StepForms.{up_to, is_up_to-true}
 use Rattle.kb_checker.specs.Answers.{IsRuleForm}
 use Rattle.kb_report.specs.SystemSections.{rule_body, AreSidesIn, IsEquationLine, IsRuleLine}
-use Rattle.kb_report.proofs.SystemLines.{field, again, sides_spelled, sides_without, one_sides, equation_cut}
+use Rattle.kb_report.proofs.SystemLines.{field, sides_spelled, sides_without, one_sides, equation_cut}
 
 -- ---- sides
 

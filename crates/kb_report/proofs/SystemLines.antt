@@ -5,6 +5,7 @@ use Rattle.std.specs.List.{list_any, starts_with, slice_split}
 use Rattle.std.proofs.lemmas.Bool.{false≢true, ne_eqb, and_parts, not-true}
 use Rattle.std.proofs.lemmas.Fmt.{decimal_digit}
 use Rattle.std.proofs.lemmas.List.Elements.{All-head, All-tail, Contains-get_or}
+use Rattle.kb_trace.proofs.OneStep.{again}
 use Rattle.kb_lemmas.proofs.Numbers.{eq_above}
 use Rattle.kb_term.specs.Identifier.{marks, begins_otherwise, is_unbroken, IsIdentifier}
 use Rattle.kb_term.specs.Signature.{Signature, SymbolEntry, IsSignature, IsEquationWithinLimits}
@@ -113,9 +114,6 @@ sides_spelled sig s t f =
       left = record { within = f.left; variables = all_below s (subst (HasVariablesBelow 64) (ap (λ p. p.first) f.by_occurrence) b.left); spelling = refl };
       right = record { within = f.right; variables = all_below t (subst (HasVariablesBelow 64) (ap (λ p. p.second) f.by_occurrence) b.right); spelling = refl };
     }
-
-pub again : (sig : Signature) (bytes : List ℕ) (t : Tree) → bytes ≡ term_text (names_of sig) t → TermSpelled sig (term_text (names_of sig) t) t → TermSpelled sig bytes t
-again sig bytes t e h = record { within = h.within; variables = h.variables; spelling = e }
 
 pub sides_without : (c : ℕ) → IsBlank c → (sig : Signature) → IsSignature sig → (sign : List ℕ) → IsWithout c sign → (s t : Tree) → IsEquationWithinLimits sig (s, t) → AreWithout c (infix_text (names_of sig) sign s t)
 sides_without c k sig i sign w s t f =

@@ -5,6 +5,7 @@ use Rattle.std.specs.List.{list_all, list_any, AllByRecursion}
 use Rattle.std.proofs.lemmas.List.Folds.{list_all-append, list_any-append}
 use Rattle.std.proofs.lemmas.List.Elements.{filter-append}
 use Rattle.std.proofs.lemmas.Bool.{or_from, or_parts, and_parts, and_from}
+use Rattle.kb_text.proofs.RewrittenLists.{among-append}
 use Rattle.kb_text.specs.Names.{Name, is_among, firsts, are_distinct}
 use Rattle.kb_text.specs.Tokens.{Token, identifier}
 use Rattle.kb_text.specs.Grammar.{Section, variables, rules, skipped}
@@ -12,7 +13,7 @@ use Rattle.kb_text.specs.Problems.{arity_in, agree, are_ordered, is_variables, i
 use Rattle.kb_text.specs.Refusals.{has_other_arity, is_new, is_some_and}
 use Rattle.kb_syntax.specs.Moves.{names_of_token}
 use Rattle.kb_text.proofs.Firsts.{is_among-firsts, firsts-push, bytes_eq-comm}
-use Rattle.kb_syntax.proofs.FineLists.{among-append, arity-more, some-within}
+use Rattle.kb_syntax.proofs.FineLists.{arity-more, some-within}
 
 -- a test of a list holds for its front
 pub all_front : {X : Type 0} (p : X → Bool) (xs ys : List X) → list_all p (xs ++ ys) ≡ true → list_all p xs ≡ true

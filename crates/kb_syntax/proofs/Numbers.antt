@@ -2,10 +2,10 @@
 use Rattle.std.proofs.Common.{◌≡◌, ◌⊎◌, inl, inr, refl, ap, sym, ◌∙◌, arith, ℕ, ◌+◌, List, [], ◌∷◌, map, filter, Bool, true, false, not, cond, ◌&&◌, ◌||◌, ◌==◌}
 use Rattle.std.specs.Prelude.{bytes_eq}
 use Rattle.std.proofs.lemmas.Bool.{cases_eq, eq-eqb, ne_eqb, or_left, or_right, or_parts, or_from}
+use Rattle.kb_text.proofs.RewrittenLists.{same_name}
 use Rattle.kb_term.specs.Pair.{distinct, place_in}
 use Rattle.kb_text.specs.Names.{Name, is_among, firsts, number_of, are_distinct}
 use Rattle.kb_text.proofs.Firsts.{same_bytes, bytes_eq-other, bytes_eq-comm, is_among-firsts}
-use Rattle.kb_syntax.proofs.FineLists.{same_name}
 use Rattle.kb_syntax.proofs.FitsLists.{not_either}
 
 -- a name among those that pass a test of names

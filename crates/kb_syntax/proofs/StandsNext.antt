@@ -4,6 +4,7 @@ use Rattle.std.specs.Prelude.{not, map, option_map, is_some, bytes_eq, codes}
 use Rattle.std.specs.List.{list_any}
 use Rattle.std.proofs.lemmas.Option.{same_Some}
 use Rattle.std.proofs.lemmas.List.Elements.{filter-append}
+use Rattle.kb_text.proofs.RewrittenLists.{among-append}
 use Rattle.kb_lemmas.proofs.Options.{some_of_map}
 use Rattle.kb_text.specs.Names.{Name, is_among, firsts, with_name}
 use Rattle.kb_text.specs.Tokens.{Token, arrow, equals, left_paren, right_paren, identifier, end_of_input}
@@ -19,7 +20,7 @@ use Rattle.kb_syntax.specs.Written.{equation_of}
 use Rattle.kb_syntax.specs.declared.reader.Place.{Place}
 use Rattle.kb_syntax.specs.declared.notes.Notes.{Notes}
 use Rattle.kb_syntax.proofs.Fine.{Fine, Unshown}
-use Rattle.kb_syntax.proofs.FineLists.{no-equations, among-append}
+use Rattle.kb_syntax.proofs.FineLists.{no-equations}
 use Rattle.kb_syntax.proofs.Known.{arity-append}
 use Rattle.kb_text.proofs.Firsts.{same_bytes}
 use Rattle.kb_syntax.proofs.WrittenArguments.{with_name-firsts}

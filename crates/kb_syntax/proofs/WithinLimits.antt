@@ -11,12 +11,12 @@ use Rattle.kb_term.specs.Signature.{SymbolEntry, Problem, HasArity, IsWellFormed
 use Rattle.kb_term.proofs.Variants.{rename_same}
 use Rattle.std.proofs.lemmas.List.Elements.{Contains-append_left, Contains-append_right}
 use Rattle.std.proofs.lemmas.Bool.{not-true, leb-true, and_parts, or_left, or_right}
+use Rattle.kb_text.proofs.RewrittenLists.{among-append, same_name}
 use Rattle.kb_lemmas.proofs.Membership.{contains_cases}
 use Rattle.kb_text.specs.Names.{Name, is_among, number_of}
 use Rattle.kb_text.specs.Grammar.{Written, alone, applied, Arguments, no_arguments, argument, WrittenEquation, Section}
 use Rattle.kb_text.specs.Problems.{variables_of as declared, equations_of, names_in, names_in_all, count_of, uses_in, uses_in_all, arity_in, depth_in, depth_in_all, sides_of, all_names, all_uses, variables_among, symbols_among, term_of, terms_of, symbol_names, equation_variables, equation_of, entry_of, is_unapplied, are_unapplied, Spells}
 use Rattle.kb_text.proofs.Firsts.{same_bytes, is_among-firsts}
-use Rattle.kb_syntax.proofs.FineLists.{among-append, same_name}
 use Rattle.kb_syntax.proofs.FitsTerms.{few_arguments}
 use Rattle.kb_syntax.proofs.FitsLists.{all_front, all_behind}
 use Rattle.kb_syntax.proofs.Numbers.{among-filter, distinct_firsts, distinct_numbers, place_number}

@@ -7,6 +7,7 @@ use Rattle.std.proofs.lemmas.Bool.Decides.{nat_tests}
 use Rattle.std.proofs.lemmas.List.{take-append-drop}
 use Rattle.std.proofs.lemmas.Slice.Eq.{bytes_eq-Decides}
 use Rattle.kb_lemmas.proofs.Membership.{contains_cases, contains_first, contains_behind}
+use Rattle.kb_lemmas.proofs.Lists.{take_front}
 use Rattle.kb_term.specs.Identifier.{is_white_space, begins_otherwise}
 use Rattle.kb_text.specs.Tokens.{Token, Placed, Start, white, mark, letter, marks, mark_of, start_of, tokens_by, tokens_from, letter_before, with_letter, identifier}
 use Rattle.kb_text.specs.Spelling.{IsBroken, IsUnbrokenBefore, Stands, a_mark, an_identifier, the_end, AreSpelled}
@@ -91,10 +92,6 @@ begins_is : (text w : List ℕ) → starts_with nat_eq text w ≡ true → text 
 begins_is text w s =
     let same : w ≡ take (length w) text = (bytes_eq-Decides w (take (length w) text)).0 s in
     sym (take-append-drop (length w) text) ∙ ap (λ (z : List ℕ). z ++ drop (length w) text) (sym same)
-
-take_front : (w rest : List ℕ) → take (length w) (w ++ rest) ≡ w
-take_front [] rest = refl
-take_front (x ∷ w) rest = ap (x ∷◌) (take_front w rest)
 
 -- ---- what begins where
 

@@ -18,7 +18,6 @@ use Rattle.kb_node.specs.declared.job.Fact.{Fact}
 use Rattle.mkb_model.specs.Jobs.{ref_eq}
 use Rattle.mkb_model.specs.Plain.{Plain, PlainNode, known, pair_in, rule_at, rules_at, rules_of}
 use Rattle.mkb_model.specs.Ready.{KeepsPairs}
-use Rattle.mkb_model.proofs.AllFine.{pair_there}
 use Rattle.mkb_model.proofs.Commits.{pairs-applied}
 use Rattle.mkb_rules.specs.Named.{IsRuleThere}
 use Rattle.kb_jobs.specs.declared.rules.NamedRules.{NamedRules}
@@ -27,6 +26,7 @@ use Rattle.mkb_model.specs.Effects.{applied, effect, effect_label, give_up, limi
 use Rattle.kb_label.specs.declared.verdict.Reason.{Reason}
 use Rattle.std.specs.Option.{option_map_or}
 use Rattle.std.proofs.lemmas.Bool.{eqb-true, or_parts, or_from}
+use Rattle.mkb_model.proofs.Views.{there_pair}
 use Rattle.kb_lemmas.proofs.Booleans.{and_gives_left, and_gives_right}
 use Rattle.kb_lemmas.proofs.Options.{none_some}
 use Rattle.mkb_model.specs.declared.proposed.Proposed.{Proposed}
@@ -103,7 +103,7 @@ in_range (y ∷ ys) (suc n) q e = omega (arith, in_range ys n q e)
 module _ (b c : Plain) (keeps : KeepsPairs b.nodes c.nodes) where
   same_rule : (a : RuleRef) → IsRuleThere b a → IsRuleThere c a × (rule_at c a ≡ rule_at b a)
   same_rule a h =
-      let q = pair_there b.nodes a.node h.0 in
+      let q = there_pair b.nodes a.node h.0 in
       let there = keeps a.node q.0 q.1 in
       ((in_range c.nodes a.node q.0 there, h.1), ap (option_map (λ (z : Pair). rule_of z a.dir)) (there ∙ sym q.1))
 

@@ -6,6 +6,7 @@ use Rattle.std.proofs.Common.{ℕ, zero, suc, ◌≤◌, ◌<◌, ◌≡◌, tru
 use Rattle.std.specs.Prelude.{option_map, IsTrue, IsSome}
 use Rattle.std.specs.List.{cons_option}
 use Rattle.std.proofs.lemmas.List.Elements.{Contains-append_cases}
+use Rattle.mkb_model.proofs.Views.{there_pair}
 use Rattle.kb_lemmas.proofs.Membership.{contains_cases, contains_flat_map_back, contains_mapped, none_in}
 use Rattle.kb_lemmas.proofs.Options.{some_is, none_some}
 use Rattle.kb_term.proofs.FewArguments.{few_from_arities}
@@ -37,7 +38,7 @@ use Rattle.mkb_model.proofs.Lists.{filter_in, filter_map_in, numbers_in}
 use Rattle.mkb_model.proofs.Living.{within_budget, living_forked}
 use Rattle.mkb_model.proofs.Selections.{legal-possible, first-free}
 use Rattle.mkb_model.proofs.Sizes.{limited_run, numbered_within, turned}
-use Rattle.mkb_model.proofs.AllFine.{states_ordered, commits_fine, pair_there}
+use Rattle.mkb_model.proofs.AllFine.{states_ordered, commits_fine}
 use Rattle.mkb_model.proofs.Flyers.{free_lives}
 use Rattle.mkb_model.proofs.Certificates.{certified_run}
 use Rattle.mkb_model.specs.Invariants.{FactsHold, IsCertified, SleepersWait, IsLabel}
@@ -138,7 +139,7 @@ module _ (P : Problem) (n : Settings) (ms : List Moment) (b : Plain) (within : I
   -- the constraints with the rule of a direction of the node behind them
   one_more : (s : OrientSnapshot) → IsTakenOrient b s → has b.living s.process ≡ true → s.node.0 < length b.nodes → (rules : List Rule) (d : ℕ) → rules ≡ rules_at b (constraints_of b s.process ++ record { node = s.node.0; dir = d } ∷ []) → AreOneMore s rules
   one_more s h lives there rules d e =
-      let q = pair_there b.nodes s.node.0 there in
+      let q = there_pair b.nodes s.node.0 there in
       let a : RuleRef = record { node = s.node.0; dir = d } in
       let r : rule_at b a ≡ Some (rule_of q.0 d) = ap (option_map (λ (z : Pair). rule_of z d)) q.1 in
       (rules_at b (constraints_of b s.process), rule_of q.0 d, e ∙ rules_behind b (constraints_of b s.process) a (rule_of q.0 d) r, first_taken s h lives)

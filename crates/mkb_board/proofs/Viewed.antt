@@ -7,6 +7,7 @@ use Rattle.std.specs.Ordering.{ordering_then}
 use Rattle.std.specs.declared.cmp.Ordering.{Ordering}
 use Rattle.std.proofs.lemmas.List.{map-append, take_more, append-nil}
 use Rattle.std.proofs.lemmas.List.Elements.{filter-append, filter_map-append, All-contains, Contains-append_cases}
+use Rattle.mkb_model.proofs.Views.{there_pair}
 use Rattle.kb_lemmas.proofs.Membership.{all_rest, contains_first, contains_cases, contains_flat_map_back, none_in}
 use Rattle.kb_lemmas.proofs.Lists.{filter_less}
 use Rattle.kb_lemmas.proofs.Options.{none_some}
@@ -19,7 +20,6 @@ use Rattle.kb_laws.proofs.Complete.{all_from}
 use Rattle.mkb_model.specs.Plain.{Plain, numbers_from, node_numbers, directions, is_rule, rules_of, pair_at, rule_at, rules_at, equations_at, sides, known}
 use Rattle.mkb_model.specs.Proposals.{NamedRule, named_rules}
 use Rattle.mkb_model.proofs.Lists.{filter_in, numbers_in}
-use Rattle.mkb_model.proofs.AllFine.{pair_there}
 use Rattle.kb_jobs.specs.Rules.{named, ComesBefore, AreInOrder}
 use Rattle.kb_jobs.proofs.Preorder.{nat_less, nat_same}
 use Rattle.kb_jobs.specs.Reducing.{no_name}
@@ -79,7 +79,7 @@ others_order b p F = kept_order F (rules_of b p) (kept_order (is_rule b p) (flat
 -- ---- names with rules
 
 pub rule_there : (b : Plain) (a : RuleRef) → IsRuleThere b a → (r : Rule) × (rule_at b a ≡ Some r)
-rule_there b a h = let q = pair_there b.nodes a.node h.0 in (rule_of q.0 a.dir, ap (option_map (λ (z : Pair). rule_of z a.dir)) q.1)
+rule_there b a h = let q = there_pair b.nodes a.node h.0 in (rule_of q.0 a.dir, ap (option_map (λ (z : Pair). rule_of z a.dir)) q.1)
 
 -- names that are there, with their rules
 pub named_there : (b : Plain) (names : List RuleRef) → All (IsRuleThere b) names → named names (rules_at b names) ≡ named_rules b names

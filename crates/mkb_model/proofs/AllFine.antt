@@ -1,5 +1,5 @@
 -- What is committed in a possible run of a problem within the limits is fine, and each process has each node in one role.
-use Rattle.std.proofs.Common.{ℕ, zero, suc, ◌+◌, ◌<◌, ◌≡◌, ◌≢◌, ◌⊎◌, inl, inr, refl, sym, ap, ◌∙◌, subst, arith, List, [], ◌∷◌, ◌++◌, filter, flat_map, length, slice_index_or, Contains, All, Bool, true, false, not, Option, Some, None, ⊎_elim}
+use Rattle.std.proofs.Common.{ℕ, ◌+◌, ◌<◌, ◌≡◌, ◌≢◌, ◌⊎◌, inl, inr, refl, sym, ap, ◌∙◌, subst, arith, List, [], ◌∷◌, ◌++◌, filter, flat_map, length, slice_index_or, Contains, All, Bool, true, false, not, Option, Some, None, ⊎_elim}
 use Rattle.std.specs.Prelude.{IsFalse, option_map}
 use Rattle.std.specs.List.{filter_map}
 use Rattle.std.specs.Option.{option_map_or}
@@ -45,7 +45,7 @@ use Rattle.mkb_model.specs.declared.entry.Entry.{Entry}
 use Rattle.mkb_model.specs.declared.entry.Entry.TheVariants.{Take, Commit, Drop, Abandon, Halt}
 use Rattle.mkb_model.proofs.Lists.{clash, decide, false_unless, filter_in, in_filter, filter_map_in, in_filter_map, in_numbers}
 use Rattle.mkb_model.proofs.Roles.{kind_number, KeepsRoles, on_there, put_other, label-with_node, equation-no_rule}
-use Rattle.mkb_model.proofs.Views.{rule_listed}
+use Rattle.mkb_model.proofs.Views.{rule_listed, there_pair}
 use Rattle.mkb_model.proofs.Changes.{Fits}
 use Rattle.mkb_model.proofs.Proper.{IsOrdered}
 use Rattle.mkb_model.proofs.Commits.{orients}
@@ -72,15 +72,10 @@ pub earlier_run : (May : Plain → Job → Type 0) (P : Problem) (n : Settings) 
 earlier_run May P n [] c run m i = none_in i
 earlier_run May P n (x ∷ ms) c run m i = ⊎_elim (λ e. (ms, subst {A = Moment} (λ z. IsRunBy May P n ms z.board) e run.0)) (λ k. earlier_run May P n ms x.board run.0 m k) (contains_cases x ms m i)
 
-pub pair_there : (xs : List PlainNode) (n : ℕ) → n < length xs → (q : Pair) × (pair_in xs n ≡ Some q)
-pair_there [] n l = absurd (omega (arith, l))
-pair_there (x ∷ xs) zero l = (x.pair, refl)
-pair_there (x ∷ xs) (suc n) l = pair_there xs n (omega (arith, l))
-
 -- a rule whose node was there is the same on a later board
 pub rule_back : (b c : Plain) (a : RuleRef) (r : Rule) → KeepsPairs b.nodes c.nodes → a.node < length b.nodes → rule_at c a ≡ Some r → rule_at b a ≡ Some r
 rule_back b c a r keeps l h =
-    let q = pair_there b.nodes a.node l in
+    let q = there_pair b.nodes a.node l in
     ap (option_map (λ q. rule_of q a.dir)) q.1 ∙ sym (ap (option_map (λ q. rule_of q a.dir)) (keeps a.node q.0 q.1)) ∙ h
 
 -- ---- ordered states
@@ -254,7 +249,7 @@ module _ (P : Problem) (n : Settings) (past : List Moment) (b : Plain) (run : Is
 
   -- the node of an equation of the process has a pair
   equation_pair : (p : Name) (m : ℕ) → is_equation b p m ≡ true → (q : Pair) × (pair_in b.nodes m ≡ Some q)
-  equation_pair p m o = pair_there b.nodes m (on_there b.nodes p m E o)
+  equation_pair p m o = there_pair b.nodes m (on_there b.nodes p m E o)
 
   pub ready : IsReady P.signature b x
   ready = go j x refl refl f.proposed

@@ -4,6 +4,7 @@ use Rattle.std.specs.Prelude.{⊤, unwrap_or}
 use Rattle.std.specs.List.{find}
 use Rattle.std.specs.Ordering.{is_eq}
 use Rattle.std.proofs.lemmas.Bool.{and_from}
+use Rattle.kb_label.proofs.Forked.{begins-trans}
 use Rattle.kb_lemmas.proofs.Booleans.{and_gives_left, and_gives_right}
 use Rattle.kb_term.specs.Signature.{Signature, Problem}
 use Rattle.kb_laws.specs.Completion.{KbState, KbReaches, KbFollows, kb_start}
@@ -30,15 +31,6 @@ bit_same false true h = clash h refl
 pub begins-refl : (p : Name) → is_beginning p p ≡ true
 begins-refl [] = refl
 begins-refl (x ∷ p) = and_from (is_eq (bit_cmp x x)) (is_beginning p p) (bit_refl x) (begins-refl p)
-
-pub begins-trans : (p q r : Name) → is_beginning p q ≡ true → is_beginning q r ≡ true → is_beginning p r ≡ true
-begins-trans [] q r h k = refl
-begins-trans (x ∷ p) [] r h k = clash h refl
-begins-trans (x ∷ p) (y ∷ q) [] h k = clash k refl
-begins-trans (x ∷ p) (y ∷ q) (z ∷ r) h k =
-    let e = bit_same x y (and_gives_left (is_eq (bit_cmp x y)) (is_beginning p q) h) in
-    let f = and_gives_left (is_eq (bit_cmp y z)) (is_beginning q r) k in
-    and_from (is_eq (bit_cmp x z)) (is_beginning p r) (subst {A = Bool} (λ v. is_eq (bit_cmp v z) ≡ true) (sym e) f) (begins-trans p q r (and_gives_right (is_eq (bit_cmp x y)) (is_beginning p q) h) (and_gives_right (is_eq (bit_cmp y z)) (is_beginning q r) k))
 
 -- of two beginnings of one name, one begins the other
 pub two_beginnings : (p q r : Name) → is_beginning p r ≡ true → is_beginning q r ≡ true → (is_beginning p q ≡ true) ⊎ (is_beginning q p ≡ true)

@@ -22,7 +22,7 @@ use Rattle.kb_node.specs.declared.node.LabelKind.TheVariants.{E, X}
 use Rattle.kb_node.specs.declared.job.Deduced.{Deduced}
 use Rattle.mkb_model.specs.declared.proposed.Proposed.{Proposed}
 use Rattle.mkb_model.specs.declared.proposed.Proposed.TheVariants.{Facts, Rewrite, One, Both, Refuse, Deduce, Unjoined, Closed, Limit}
-use Rattle.kb_label.proofs.Members.{has-meet, name_eq-eq, name_eq-refl}
+use Rattle.kb_label.proofs.Members.{has-meet, name_eq-eq}
 use Rattle.mkb_model.specs.Ready.{IsOn, KeepsPairs, OneRole, IsDeducedFrom, IsReady, IsNew}
 use Rattle.mkb_model.proofs.Lists.{clash, decide, false_unless}
 use Rattle.mkb_model.proofs.Roles.{on_there, on-gains, has-one, keeps-with_node, keeps-gains_rule, keeps-gains_equation, keeps-loses, keeps-fork, on-fork, KeepsRoles, keeps_trans, refused-no_rule, refused-no_constraint, kind_number}
@@ -101,9 +101,6 @@ same_parts b c q he hr hc k = record {
 
 pub is_p : (p q : Name) → has (p ∷ []) q ≡ true → q ≡ p
 is_p p q h = name_eq-eq q p (sym (has-one p q) ∙ h)
-
-self_in : (p : Name) → has (p ∷ []) p ≡ true
-self_in p = has-one p p ∙ name_eq-refl p
 
 -- an orienting commit acts on a process that has the equation
 pub orients : (b : Plain) (p : Name) (n : ℕ) → is_empty (orient_label b p n) ≡ false → is_equation b p n ≡ true

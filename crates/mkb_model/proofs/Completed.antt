@@ -11,6 +11,7 @@ use Rattle.kb_term.specs.Signature.{Problem, IsWithinLimits, IsEquationWithinLim
 use Rattle.kb_term.specs.Proving.{IsPath, IsChain, Reaches, IsJoinable, Proves}
 use Rattle.kb_term.specs.declared.origin.RuleRef.{RuleRef}
 use Rattle.std.proofs.lemmas.List.Elements.{All-contains}
+use Rattle.kb_rewrite.proofs.Irreducible.{step_from}
 use Rattle.kb_lemmas.proofs.Membership.{slice_contains, contains_cases, contains_first, none_in, contains_map, contains_flat_map, contains_flat_map_back}
 use Rattle.kb_lemmas.proofs.Lists.{get_map_back}
 use Rattle.kb_lemmas.proofs.Options.{some_is, none_some}
@@ -20,7 +21,7 @@ use Rattle.kb_cert.specs.Family.{family}
 use Rattle.kb_cert.proofs.Members.{first_contained}
 use Rattle.kb_laws.specs.Complete.{IsCompleteSystem}
 use Rattle.kb_laws.specs.Overlaps.{OverlapsClose, HaveOneNormalForm}
-use Rattle.kb_laws.proofs.Closing.{strategy_step, closed_joins}
+use Rattle.kb_laws.proofs.Closing.{closed_joins}
 use Rattle.kb_laws.proofs.Complete.{complete_state}
 use Rattle.kb_label.specs.Names.{Name}
 use Rattle.kb_label.specs.declared.verdict.Verdict.TheVariants.{Complete}
@@ -157,7 +158,7 @@ normal_stays rules (y ∷ path) u x h (step, k) = absurd (h y step)
 
 strategy_chain : (rules : List Rule) (path : List Tree) (s t : Tree) → IsPath (StrategyStep rules) path s t → IsChain rules path s t
 strategy_chain rules [] s t e = e
-strategy_chain rules (u ∷ path) s t (h, k) = (strategy_step rules s u h, strategy_chain rules path u t k)
+strategy_chain rules (u ∷ path) s t (h, k) = (step_from rules s u h, strategy_chain rules path u t k)
 
 -- an equation proves its own sides
 proves_itself : (es : List (Tree × Tree)) (e : Tree × Tree) → Contains es e → Proves es e.0 e.1

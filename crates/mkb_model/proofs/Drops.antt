@@ -2,6 +2,7 @@
 use Rattle.std.proofs.Common.{ℕ, zero, suc, ◌≡◌, ◌≢◌, ◌⊎◌, inl, inr, refl, sym, ap, ◌∙◌, subst, List, [], ◌∷◌, ◌++◌, Bool, true, false, cond, not, ◌&&◌, ◌||◌, ◌==◌, Option, Some, None, ⊎_elim}
 use Rattle.std.specs.List.{list_any}
 use Rattle.std.proofs.lemmas.Bool.{and_from, or_cases, or_left, or_right}
+use Rattle.mkb_model.proofs.Orienting.{self}
 use Rattle.kb_lemmas.proofs.Membership.{split_at}
 use Rattle.kb_lemmas.proofs.Booleans.{and_gives_left, and_gives_right}
 use Rattle.kb_term.specs.Tree.{Tree}
@@ -11,7 +12,7 @@ use Rattle.kb_term.specs.declared.origin.RuleRef.{RuleRef}
 use Rattle.kb_term.specs.declared.origin.Found.{Found}
 use Rattle.kb_term.specs.declared.origin.Found.TheVariants.{No, Variant, Strict}
 use Rattle.kb_label.specs.Names.{Name, has, is_empty, join, meet}
-use Rattle.kb_label.proofs.Members.{has-filter, has-join, has-meet, has-minus, name_eq-refl}
+use Rattle.kb_label.proofs.Members.{has-filter, has-join, has-meet, has-minus}
 use Rattle.kb_node.specs.declared.job.Job.{Job}
 use Rattle.kb_node.specs.declared.job.Job.TheVariants.{Reduce, Orient, Overlap, Close}
 use Rattle.kb_node.specs.declared.node.NodeId.{NodeId}
@@ -39,9 +40,6 @@ use Rattle.mkb_model.specs.declared.settings.Settings.{Settings}
 not_empty : (l : List Name) (p : Name) → has l p ≡ true → is_empty l ≡ false
 not_empty [] p h = clash h refl
 not_empty (q ∷ l) p h = refl
-
-has_itself : (p : Name) → has (p ∷ []) p ≡ true
-has_itself p = or_left _ false (name_eq-refl p)
 
 in_not_over : (b : Plain) (l : List Name) (p : Name) → has l p ≡ true → is_over b p ≡ false → has (not_over b l) p ≡ true
 in_not_over b l p h o = has-filter (λ q. not (is_over b q)) l p ∙ and_from (not (is_over b p)) (has l p) (not_of_false o) h
@@ -123,7 +121,7 @@ acts_at_take b (Overlap p a c) (Limit i cause) due h = subst {A = Job} (λ z. is
     (not_empty (not_over b (overlap_label b a c)) p (in_not_over b (overlap_label b a c) p (overlap_named b p a c (and_gives_right (is_working b p) (is_work_due b (Overlap p a c)) due)) (working b (Overlap p a c) due)))
 acts_at_take b (Close p) (Unjoined q ds) due h = refl
 acts_at_take b (Close p) (Closed q) due h = refl
-acts_at_take b (Close p) (Limit i cause) due h = subst {A = Job} (λ z. is_empty (not_over b (limit_label b z cause)) ≡ false) (sym h.0) (not_empty (not_over b (p ∷ [])) p (in_not_over b (p ∷ []) p (has_itself p) (working b (Close p) due)))
+acts_at_take b (Close p) (Limit i cause) due h = subst {A = Job} (λ z. is_empty (not_over b (limit_label b z cause)) ≡ false) (sym h.0) (not_empty (not_over b (p ∷ [])) p (in_not_over b (p ∷ []) p (self p) (working b (Close p) due)))
 acts_at_take b (Orient p n) (Limit i cause) due h = absurd h
 acts_at_take b (Orient p n) (Rewrite m w at a kind t) due h = absurd h
 acts_at_take b (Overlap p d e) (Rewrite m w at a kind t) due h = absurd h
@@ -225,7 +223,7 @@ closings_commit P n past b w t p c run d q e = go d.proposal (subst {A = Job} (�
     go : (x : Proposed) → Proposes d.finishing.before (Close q) x → is_dropped b x ≡ true → ⊥
     go (Unjoined r ds) h idle = clash idle refl
     go (Closed r) h idle = clash idle refl
-    go (Limit i cause) h idle = clash idle (subst {A = Job} (λ z. is_empty (not_over b (limit_label b z cause)) ≡ false) (sym h.0) (not_empty (not_over b (q ∷ [])) q (in_not_over b (q ∷ []) q (has_itself q) rest)))
+    go (Limit i cause) h idle = clash idle (subst {A = Job} (λ z. is_empty (not_over b (limit_label b z cause)) ≡ false) (sym h.0) (not_empty (not_over b (q ∷ [])) q (in_not_over b (q ∷ []) q (self q) rest)))
     go (Facts fs) h idle = absurd h
     go (Rewrite m v at a kind u) h idle = absurd h
     go (One r m k s) h idle = absurd h

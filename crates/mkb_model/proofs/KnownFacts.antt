@@ -1,12 +1,13 @@
 -- In a run the known facts are true, and none is of a strict redex.
 use Rattle.std.proofs.Common.{ℕ, ◌≡◌, ◌≢◌, ◌⊎◌, inl, inr, refl, sym, ap, ◌∙◌, subst, List, [], ◌∷◌, map, filter, Option, Some, None, ⊎_elim, Contains}
-use Rattle.std.specs.Prelude.{option_map, option_and_then, is_none}
+use Rattle.std.specs.Prelude.{option_map, is_none}
 use Rattle.std.specs.Option.{option_map_or}
 use Rattle.std.proofs.lemmas.List.Elements.{Contains-append_cases}
+use Rattle.kb_term.proofs.Subtrees.{replace-there}
 use Rattle.kb_lemmas.proofs.Membership.{contains_cases, none_in, contains_map, contains_mapped, contains_flat_map_back}
 use Rattle.kb_lemmas.proofs.Options.{none_some}
-use Rattle.kb_term.specs.Tree.{Tree, variable, apply}
-use Rattle.kb_term.specs.Position.{subtree_at, replace_at, argument, with_argument}
+use Rattle.kb_term.specs.Tree.{Tree}
+use Rattle.kb_term.specs.Position.{subtree_at}
 use Rattle.kb_term.specs.Substitution.{instance}
 use Rattle.kb_term.specs.Pair.{Pair}
 use Rattle.kb_term.specs.Rule.{Rule, rule_of}
@@ -36,21 +37,11 @@ use Rattle.mkb_model.proofs.Readiness.{named_rule}
 use Rattle.mkb_model.proofs.Fitting.{pairs_follow, pairs_stay}
 use Rattle.mkb_model.specs.declared.settings.Settings.{Settings}
 
--- what stands at a position can be replaced
-pub replaceable : (p : List ℕ) (t u v : Tree) → subtree_at t p ≡ Some u → (w : Tree) × (replace_at t p v ≡ Some w)
-replaceable [] t u v h = (v, refl)
-replaceable (i ∷ p) (variable n) u v h = none_some h
-replaceable (i ∷ p) (apply f ts) u v h = go (argument ts i) (λ x k. replaceable p x u v k) h
-  where
-    go : (o : Option Tree) → ((x : Tree) → subtree_at x p ≡ Some u → (w : Tree) × (replace_at x p v ≡ Some w)) → option_and_then (λ t. subtree_at t p) o ≡ Some u → (w : Tree) × (option_and_then (λ t. option_map (λ x. apply f (with_argument ts i x)) (replace_at t p v)) o ≡ Some w)
-    go None ih k = none_some k
-    go (Some x) ih k = let r = ih x k in (apply f (with_argument ts i r.0), ap (option_map (λ x. apply f (with_argument ts i x))) r.1)
-
 -- a rule rewrites what its left side is encompassed by
 pub encompassed_rewrites : (t : Tree) (rule : Rule) → Encompasses t rule.left → (p : List ℕ) × (u : Tree) × RewritesAt rule p t u
 encompassed_rewrites t rule (p, (u, there, (m, e))) =
     let h : subtree_at t p ≡ Some (instance m rule.left) = there ∙ ap Some (sym e) in
-    let r = replaceable p t (instance m rule.left) (instance m rule.right) h in
+    let r = replace-there p t (instance m rule.left) (instance m rule.right) h in
     (p, r.0, (m, record { redex = h; result = r.1 }))
 
 -- ---- facts

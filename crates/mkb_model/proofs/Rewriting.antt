@@ -1,10 +1,11 @@
 -- A rewriting is a run of completion of each process that it acts on: it simplifies an equation, or composes or collapses a rule.
-use Rattle.std.proofs.Common.{ℕ, zero, suc, ◌≡◌, ◌≢◌, ◌⊎◌, ◌↔◌, inl, inr, refl, sym, ap, ◌∙◌, subst, arith, List, Some, None, ⊎_elim, Bool, true, false, cond, ◌==◌, Ordering, Less, Equal, Greater}
-use Rattle.std.specs.Ordering.{ordering_index}
+use Rattle.std.proofs.Common.{ℕ, zero, suc, ◌≡◌, ◌≢◌, ◌⊎◌, ◌↔◌, inl, inr, refl, sym, ap, ◌∙◌, subst, arith, List, Some, None, ⊎_elim, Bool, true, false, cond}
 use Rattle.std.proofs.lemmas.Bool.{and_from, or_cases}
+use Rattle.kb_laws.proofs.CompletionLaws.{same_equation_itself}
+use Rattle.kb_term.proofs.OwnPair.{tree_eq-true}
 use Rattle.kb_lemmas.proofs.Booleans.{and_gives_left, and_gives_right}
 use Rattle.kb_lemmas.proofs.Options.{some_is, none_some}
-use Rattle.kb_term.specs.Tree.{Tree, tree_eq, tree_cmp}
+use Rattle.kb_term.specs.Tree.{Tree, tree_eq}
 use Rattle.kb_term.specs.Pair.{Pair, canonical, numbered, canonical_pair, IsSameEquation}
 use Rattle.kb_term.specs.Rule.{rule_of, IsVariantRule, rule_between}
 use Rattle.kb_overlap.specs.Trace.{side, other_side}
@@ -17,30 +18,21 @@ use Rattle.mkb_model.specs.Effects.{loses, rewrite_label, direction, is_strict, 
 use Rattle.kb_node.specs.declared.node.LabelKind.{LabelKind}
 use Rattle.kb_node.specs.declared.node.LabelKind.TheVariants.{R0, R1, E, C0, C1, X}
 use Rattle.kb_label.proofs.Members.{has-meet, has-join}
-use Rattle.kb_term.proofs.Compared.{tree-is_eq}
-use Rattle.kb_term.proofs.CanonicalPairs.{lesser_cases, tree_equal}
+use Rattle.kb_term.proofs.CanonicalPairs.{lesser_cases}
 use Rattle.mkb_model.specs.Ready.{IsOn, IsRole, OneRole}
 use Rattle.mkb_model.proofs.Lists.{clash, false_unless}
 use Rattle.mkb_model.proofs.Roles.{on-loses, kind_number}
 use Rattle.mkb_model.proofs.Pairs.{pair_eq-eq, pair_eq-refl}
-use Rattle.mkb_model.proofs.Views.{same_itself, same_turned, rule_sym, rule_trans, rule_of-between, numbered_variant, from_side, to_side}
+use Rattle.mkb_model.proofs.Views.{same_turned, rule_sym, rule_trans, rule_of-between, numbered_variant, from_side, to_side}
 use Rattle.mkb_model.proofs.Adding.{rule_role}
 
 -- ---- small facts
-
-pub trees_equal : (s t : Tree) → tree_eq s t ≡ true → s ≡ t
-trees_equal s t h = tree_equal s t (is_equal (tree_cmp s t) (sym (tree-is_eq s t) ∙ h))
-  where
-    is_equal : (o : Ordering) → (ordering_index o == 1) ≡ true → o ≡ Equal
-    is_equal Less e = clash e refl
-    is_equal Equal e = refl
-    is_equal Greater e = clash e refl
 
 pub trivial_none : (s t : Tree) → canonical_pair s t ≡ None → s ≡ t
 trivial_none s t h = go (tree_eq s t) refl h
   where
     go : (b : Bool) → tree_eq s t ≡ b → cond b None (Some (canonical s t)) ≡ None → s ≡ t
-    go true e k = trees_equal s t e
+    go true e k = tree_eq-true s t e
     go false e k = none_some (sym k)
 
 pub some_canonical : (s t : Tree) (z : Pair) → canonical_pair s t ≡ Some z → canonical s t ≡ z
@@ -59,7 +51,7 @@ other_to q zero = refl
 other_to q (suc w) = refl
 
 pub side_pair : (q : Pair) (w : ℕ) → IsSameEquation (sides q) (side q w, other_side q w)
-side_pair q zero = same_itself (sides q)
+side_pair q zero = same_equation_itself (sides q)
 side_pair q (suc w) = same_turned q.first q.second
 
 pub rule_of-side : (q : Pair) (w : ℕ) → IsVariantRule (rule_of q w) (rule_between (side q w) (other_side q w))

@@ -3,6 +3,7 @@ use Rattle.std.proofs.Common.{◌≡◌, ◌≢◌, ◌⊎◌, inl, inr, refl, s
 use Rattle.std.specs.Prelude.{IsFalse}
 use Rattle.std.specs.Option.{option_map_or}
 use Rattle.std.proofs.lemmas.Bool.{or_cases}
+use Rattle.kb_label.proofs.Forked.{begins-trans}
 use Rattle.kb_lemmas.proofs.Booleans.{and_gives_left, and_gives_right}
 use Rattle.kb_term.specs.Signature.{Signature, Problem}
 use Rattle.kb_laws.specs.Completion.{KbState, KbReaches, IsSameState}
@@ -25,7 +26,7 @@ use Rattle.mkb_model.proofs.Moves.{reaches_same, same_state}
 use Rattle.mkb_model.proofs.Changes.{Fits}
 use Rattle.mkb_model.proofs.Commits.{IsApartFrom, applied_reaches, fork_reaches, orients}
 use Rattle.mkb_model.proofs.Fitting.{HasPairs, fits-applied, fits_run, proposed_pairs}
-use Rattle.mkb_model.proofs.Ancestors.{begins-refl, begins-trans, two_beginnings, Simulates, Simulating}
+use Rattle.mkb_model.proofs.Ancestors.{begins-refl, two_beginnings, Simulates, Simulating}
 use Rattle.mkb_model.specs.declared.settings.Settings.{Settings}
 
 -- ---- children

@@ -4,6 +4,7 @@ use Rattle.std.specs.Prelude.{option_map}
 use Rattle.std.specs.List.{filter_map, cons_option}
 use Rattle.std.proofs.lemmas.List.{append-nil}
 use Rattle.std.proofs.lemmas.Grind.{flat_map-append}
+use Rattle.mkb_model.proofs.Views.{there_pair}
 use Rattle.kb_lemmas.proofs.Lists.{filter_none_of}
 use Rattle.kb_lemmas.proofs.Membership.{contains_cases, contains_behind, contains_first, none_in, contains_flat_map_back}
 use Rattle.kb_lemmas.proofs.Options.{none_some}
@@ -35,7 +36,7 @@ use Rattle.mkb_model.proofs.Unmoved.{role_tests}
 use Rattle.mkb_model.proofs.Resting.{rules_in}
 use Rattle.mkb_model.proofs.Restful.{stands_run, resting_run, stays, effect_closed, closing_job, not_forked, IsForkOfClosed}
 use Rattle.mkb_model.proofs.Staying.{closers_stay}
-use Rattle.mkb_model.proofs.AllFine.{pair_there, earlier_run}
+use Rattle.mkb_model.proofs.AllFine.{earlier_run}
 use Rattle.mkb_model.specs.declared.settings.Settings.{Settings}
 
 -- ---- lists
@@ -68,7 +69,7 @@ no_pair (x ∷ xs) (suc n) l = no_pair xs n (omega (arith, l))
 
 -- a board that keeps the pairs has as many nodes
 longer : (xs ys : List PlainNode) → KeepsPairs xs ys → length xs ≤ length ys
-longer xs ys h = ⊎_elim (λ l. let q = pair_there xs (length ys) l in none_some (sym (no_pair ys (length ys) (omega arith)) ∙ h (length ys) q.0 q.1)) (λ l. l) (below (length ys) (length xs))
+longer xs ys h = ⊎_elim (λ l. let q = there_pair xs (length ys) l in none_some (sym (no_pair ys (length ys) (omega arith)) ∙ h (length ys) q.0 q.1)) (λ l. l) (below (length ys) (length xs))
 
 -- ---- who keeps its roles
 
@@ -104,7 +105,7 @@ module _ (b c : Plain) (p : Name) (roles : KeepsRoles b.nodes c.nodes p) (keeps 
       node k a i = ⊎_elim (λ e. ap (λ (z : RuleRef). z.node) e) (λ j. ⊎_elim (λ e. ap (λ (z : RuleRef). z.node) e) (λ q. none_in q) (contains_cases (record { node = k; dir = 1 }) [] a j)) (contains_cases (record { node = k; dir = 0 }) (record { node = k; dir = 1 } ∷ []) a i)
 
   same_pair : (n : ℕ) → n < length b.nodes → pair_in c.nodes n ≡ pair_in b.nodes n
-  same_pair n l = let q = pair_there b.nodes n l in keeps n q.0 q.1 ∙ sym q.1
+  same_pair n l = let q = there_pair b.nodes n l in keeps n q.0 q.1 ∙ sym q.1
 
   pub same_rules_on : rules_on c p ≡ rules_on b p
   same_rules_on = ap (named_rules c) same_rules ∙ filter_map_same (λ a. option_map {U = NamedRule} (λ r. record { ref = a; rule = r }) (rule_at c a)) (λ a. option_map {U = NamedRule} (λ r. record { ref = a; rule = r }) (rule_at b a)) (rules_of b p)

@@ -22,9 +22,6 @@ use Rattle.mkb_model.proofs.Roles.{on_there}
 
 -- ---- sameness
 
-pub same_itself : (d : Tree × Tree) → IsSameEquation d d
-same_itself d = same_from_canonical d.0 d.1 d.0 d.1 refl
-
 pub same_sym : (d e : Tree × Tree) → IsSameEquation d e → IsSameEquation e d
 same_sym d e h = same_from_canonical e.0 e.1 d.0 d.1 (sym (canonical_from_same d.0 d.1 e.0 e.1 h))
 
@@ -33,9 +30,6 @@ same_trans d e f h k = same_from_canonical d.0 d.1 f.0 f.1 (canonical_from_same 
 
 pub same_turned : (s t : Tree) → IsSameEquation (s, t) (t, s)
 same_turned s t = inr (variants_from_numbered s t s t refl)
-
-pub rule_itself : (r : Rule) → IsVariantRule r r
-rule_itself r = variants_from_numbered r.left r.right r.left r.right refl
 
 pub rule_sym : (q r : Rule) → IsVariantRule q r → IsVariantRule r q
 rule_sym q r h = variants_from_numbered r.left r.right q.left q.right (sym (numbered_from_variants q.left q.right r.left r.right h))

@@ -39,9 +39,9 @@ use Rattle.mkb_model.specs.Plain.{Plain, PlainNode, rules_of, constraints_of, pa
 use Rattle.mkb_model.specs.Effects.{pair_eq}
 use Rattle.mkb_model.specs.Limits.{IsLimitedPair}
 use Rattle.mkb_model.specs.Verdicts.{verdict}
-use Rattle.mkb_model.proofs.AllFine.{pair_there}
 use Rattle.mkb_model.proofs.Lists.{same_test}
 use mathlib.Core.Bool.{true≢false}
+use Rattle.mkb_model.proofs.Views.{there_pair}
 use Rattle.kb_lemmas.proofs.Membership.{contains_cases, contains_first, contains_behind, contains_map, contains_mapped, none_in}
 use Rattle.kb_lemmas.proofs.Options.{some_is, some_of_map}
 use Rattle.mkb_model.proofs.Pairs.{pair_eq-eq, pair_eq-refl}
@@ -87,7 +87,7 @@ rules_zip : (b : Plain) (f : ℕ → ℕ) (names : List RuleRef) (rules : List (
 rules_zip b f [] [] h e k = tt
 rules_zip b f [] (r ∷ rules) h e k = absurd (cc)
 rules_zip b f (a ∷ names) [] h e k = absurd (cc)
-rules_zip b f (a ∷ names) (r ∷ rules) h e k = go (λ m n. rules_zip b f names rules (λ c i. h c (contains_behind a names c i)) m n) (pair_there b.nodes a.node (h a (contains_first a names)).0)
+rules_zip b f (a ∷ names) (r ∷ rules) h e k = go (λ m n. rules_zip b f names rules (λ c i. h c (contains_behind a names c i)) m n) (there_pair b.nodes a.node (h a (contains_first a names)).0)
   where
     go : (map (λ (x : Rule × ℕ). x.0) rules ≡ rules_at b names → map (λ (x : Rule × ℕ). x.1) rules ≡ map f (map (λ (c : RuleRef). c.node) names) → AllZip (IsCitedRule b f) names rules)
         → (q : Pair) × (pair_at b a.node ≡ Some q) → AllZip (IsCitedRule b f) (a ∷ names) (r ∷ rules)
@@ -285,7 +285,7 @@ module _ (b : Plain) (r : IsReached b) where
 
   cited_is : (p : Name) (trace : List TraceStep) (t : IsTraceOf (pairs_of b) (wanted_nodes b p) trace) (a : RuleRef) → IsRuleThere b a → cited_by b trace a ≡ number_in t.kept a.node
   cited_is p trace t a there =
-      let q = pair_there b.nodes a.node there.0 in
+      let q = there_pair b.nodes a.node there.0 in
       ap (λ (o : Option Pair). option_map_or (number_with trace) o 0) q.1 ∙ ap (λ k. k + 1) (first_place t.kept a.node q.0 q.1 t.kept trace t.steps)
 
   cites_are : (p : Name) (trace : List TraceStep) (t : IsTraceOf (pairs_of b) (wanted_nodes b p) trace) (names : List RuleRef) → ((a : RuleRef) → Contains names a → IsRuleThere b a)

@@ -1,8 +1,7 @@
 -- Elements of lists by their places.
-use Rattle.std.proofs.Common.{ℕ, zero, suc, ◌≡◌, ◌<◌, ◌⊎◌, inl, inr, Bool, true, false, List, [], ◌∷◌, ◌++◌, length, set, take, Some, refl, ap, arith}
+use Rattle.std.proofs.Common.{ℕ, zero, suc, ◌≡◌, ◌<◌, ◌⊎◌, inl, inr, Bool, true, false, List, [], ◌∷◌, ◌++◌, length, set, Some, refl, ap, arith}
 use Rattle.std.specs.Prelude.{slice_get, nat_lt, nat_eq}
 use Rattle.std.proofs.lemmas.Bool.Decides.{nat_tests}
-use Rattle.std.proofs.lemmas.Option.{none-some}
 
 module _ {A : Type 0} where
   pub get_left : (xs ys : List A) (i : ℕ) → i < length xs → slice_get (xs ++ ys) i ≡ slice_get xs i
@@ -39,9 +38,3 @@ less_or_not m n = go (nat_lt m n) refl
     go : (b : Bool) → nat_lt m n ≡ b → (m < n) ⊎ (m < n → ⊥)
     go true e = inl (grind (arith, nat_tests))
     go false e = inr (λ g. grind (arith, nat_tests))
-
-pub get_take : {A : Type 0} (n : ℕ) (xs : List A) (i : ℕ) (x : A) → slice_get (take n xs) i ≡ Some x → (i < n) × (slice_get xs i ≡ Some x)
-get_take zero xs i x e = absurd (none-some x e)
-get_take (suc n) [] i x e = absurd (none-some x e)
-get_take (suc n) (y ∷ ys) zero x e = (omega arith, e)
-get_take (suc n) (y ∷ ys) (suc i) x e = let h = get_take n ys i x e in (omega (arith, h.0), h.1)
