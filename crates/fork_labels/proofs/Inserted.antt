@@ -7,6 +7,7 @@ use mathlib.Core.Bool.{true≢false}
 use Rattle.std.specs.Cmp.{tied_itself, nat_cmp_total}
 use Rattle.std.specs.Ordering.{is_eq, nat_cmp, ordering_then}
 use Rattle.std.specs.declared.cmp.Ordering.TheVariants.{Less, Equal, Greater}
+use Rattle.std.proofs.Math.Bool.{or-true}
 use Rattle.kb_label.specs.Names.{Name, child, bits_cmp, name_cmp, name_eq, has, minus, relabel, IsInNameOrder}
 use Rattle.kb_label.specs.NameOrder.{name_cmp-same, name_eq-by_cmp}
 use Rattle.kb_label.proofs.Members.{name_eq-refl, name_eq-eq, has-minus}
@@ -38,14 +39,10 @@ map-remove f [] (suc k) = refl
 map-remove f (y ∷ xs) zero = refl
 map-remove f (y ∷ xs) (suc k) = ap (λ zs. f y ∷ zs) (map-remove f xs k)
 
-or_true : (b : Bool) → (b || true) ≡ true
-or_true true = refl
-or_true false = refl
-
 -- two maps that agree on the names of a list
 map_agree : (f g : Name → ℕ) (l : List Name) → ((q : Name) → has l q ≡ true → f q ≡ g q) → map f l ≡ map g l
 map_agree f g [] h = refl
-map_agree f g (p ∷ l) h = ap₂ ◌∷◌ (h p (ap (λ b. b || has l p) (name_eq-refl p))) (map_agree f g l (λ q k. h q (ap (λ b. name_eq q p || b) k ∙ or_true (name_eq q p))))
+map_agree f g (p ∷ l) h = ap₂ ◌∷◌ (h p (ap (λ b. b || has l p) (name_eq-refl p))) (map_agree f g l (λ q k. h q (ap (λ b. name_eq q p || b) k ∙ or-true (name_eq q p))))
 
 -- ---- names in their order
 
@@ -113,7 +110,7 @@ module _ (fs : List ℕ) (p : Name) (l : IsLog fs) (h : has (living_of fs) p ≡
   has-child true =
       has-relabel p (child p true) (living_of fs) h
       ∙ ap (λ b. name_eq (child p true) (child p false) || (b || (not (name_eq (child p true) p) && has (living_of fs) (child p true)))) (name_eq-refl (child p true))
-      ∙ or_true (name_eq (child p true) (child p false))
+      ∙ or-true (name_eq (child p true) (child p false))
 
   -- without its children the names are those that lived beside the parent
   others : minus (minus (relabel p (living_of fs)) (child p true ∷ [])) (child p false ∷ []) ≡ minus (living_of fs) (p ∷ [])

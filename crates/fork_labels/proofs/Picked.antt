@@ -1,6 +1,8 @@
 -- The names at the places of a set.
 use Rattle.std.proofs.Common.{◌≡◌, ℕ, ◌<◌, List, [], ◌∷◌, ◌++◌, length, Bool, true, false, ◌&&◌, ◌||◌, not, set, get_or, zero, suc, refl, sym, ap, ap₂, ◌∙◌, arith}
 use mathlib.Core.Bool.{true≢false}
+use Rattle.std.proofs.Math.Bool.{or-true, or-false}
+use Rattle.kb_lemmas.proofs.Booleans.{or_swap}
 use Rattle.kb_label.specs.Names.{Name, root, name_eq, has, join, IsInNameOrder}
 use Rattle.kb_label.proofs.Members.{name_eq-refl, name_eq-eq, has-join}
 use Rattle.kb_label.proofs.Ordered.{ordered-join}
@@ -11,25 +13,16 @@ abbrev pub AreDistinct : List Name → Type 0
 AreDistinct [] = Unit {0}
 AreDistinct (p ∷ names) = (has names p ≡ false) × AreDistinct names
 
-or_false : (b : Bool) → (b || false) ≡ b
-or_false true = refl
-or_false false = refl
-
 or_assoc : (a b c : Bool) → (a || (b || c)) ≡ ((a || b) || c)
 or_assoc true b c = refl
 or_assoc false b c = refl
-
-or_swap : (a b c : Bool) → (a || (b || c)) ≡ (b || (a || c))
-or_swap true true c = refl
-or_swap true false c = refl
-or_swap false b c = refl
 
 pub has-append : (l m : List Name) (q : Name) → has (l ++ m) q ≡ (has l q || has m q)
 has-append [] m q = refl
 has-append (p ∷ l) m q = ap (λ b. name_eq q p || b) (has-append l m q) ∙ or_assoc (name_eq q p) (has l q) (has m q)
 
 pub has-sorted : (l : List Name) (q : Name) → has (join l []) q ≡ has l q
-has-sorted l q = has-join l [] q ∙ or_false (has l q)
+has-sorted l q = has-join l [] q ∙ or-false (has l q)
 
 pub sorted : (l : List Name) → IsInNameOrder (join l [])
 sorted l = ordered-join l [] tt
@@ -168,14 +161,10 @@ has-set (b ∷ bs) (p ∷ ns) (suc s) q h g =
     ∙ or_swap (b && name_eq q p) (name_eq q (get_or ns s root)) (has (picked bs ns) q)
     ∙ ap (λ x. name_eq q (get_or ns s root) || x) (sym (has-picked b bs p ns q))
 
-or_true : (b : Bool) → (b || true) ≡ true
-or_true true = refl
-or_true false = refl
-
 pub has-name_at : (ns : List Name) (s : ℕ) → s < length ns → has ns (get_or ns s root) ≡ true
 has-name_at [] s g = absurd (omega arith)
 has-name_at (p ∷ ns) zero g = ap (λ x. x || has ns p) (name_eq-refl p)
-has-name_at (p ∷ ns) (suc s) g = ap (λ x. name_eq (get_or ns s root) p || x) (has-name_at ns s (omega arith)) ∙ or_true (name_eq (get_or ns s root) p)
+has-name_at (p ∷ ns) (suc s) g = ap (λ x. name_eq (get_or ns s root) p || x) (has-name_at ns s (omega arith)) ∙ or-true (name_eq (get_or ns s root) p)
 
 -- whether a place is in the set
 pub has-place : (bs : List Bool) (ns : List Name) (s : ℕ) → length bs ≡ length ns → s < length ns → AreDistinct ns → has (picked bs ns) (get_or ns s root) ≡ get_or bs s false

@@ -2,6 +2,8 @@
 use Rattle.std.proofs.Common.{◌≡◌, ℕ, ◌+◌, ◌<◌, List, [], ◌∷◌, ◌++◌, length, Bool, true, false, ◌&&◌, ◌||◌, not, set, get_or, replicate, zero, suc, refl, sym, ap, ap₂, ◌∙◌, arith, length-append, length-set}
 use Rattle.std.proofs.lemmas.List.{length-replicate, get_or-replicate, replicate_more}
 use mathlib.Core.Bool.{true≢false}
+use Rattle.std.proofs.lemmas.Bool.{or_from, or_parts, false_from_ne_true}
+use Rattle.kb_lemmas.proofs.Booleans.{or_swap}
 use Rattle.kb_label.specs.Names.{Name, root, child, name_eq, has, join, minus, add, relabel, IsInNameOrder}
 use Rattle.kb_label.specs.Forks.{IsForked, at_first, at_fork}
 use Rattle.kb_label.proofs.Members.{name_eq-refl, name_eq-eq}
@@ -28,11 +30,6 @@ picked-append [] cs (p ∷ ns) ms h = absurd (omega arith)
 picked-append (b ∷ bs) cs [] ms h = absurd (omega arith)
 picked-append (true ∷ bs) cs (p ∷ ns) ms h = ap (λ l. p ∷ l) (picked-append bs cs ns ms (omega arith))
 picked-append (false ∷ bs) cs (p ∷ ns) ms h = picked-append bs cs ns ms (omega arith)
-
-or_swap : (a b c : Bool) → (a || (b || c)) ≡ (b || (a || c))
-or_swap true true c = refl
-or_swap true false c = refl
-or_swap false b c = refl
 
 -- the name at a place of the set is replaced
 has-replaced : (bs : List Bool) (ns : List Name) (s : ℕ) (r q : Name) → length bs ≡ length ns → s < length ns → AreDistinct ns
@@ -142,38 +139,26 @@ pub record Good (ns : List Name) : Type 0 where
   pub forked : IsForked (join ns [])
   pub distinct : AreDistinct ns
 
-or_of_false : (a b : Bool) → a ≡ false → b ≡ false → (a || b) ≡ false
-or_of_false true b h g = absurd (true≢false h)
-or_of_false false b h g = g
-
-neither : (a b : Bool) → (a || b) ≡ false → (a ≡ false) × (b ≡ false)
-neither true b h = absurd (true≢false h)
-neither false b h = (refl, h)
-
-not_true : (b : Bool) → (b ≡ true → ⊥) → b ≡ false
-not_true true h = absurd (h refl)
-not_true false h = refl
-
 turned : (p r : Name) → name_eq r p ≡ false → name_eq p r ≡ false
-turned p r h = not_true (name_eq p r) (λ e. true≢false (sym (name_eq-refl p) ∙ ap (λ x. name_eq x p) (name_eq-eq p r e) ∙ h))
+turned p r h = false_from_ne_true (name_eq p r) (λ e. true≢false (sym (name_eq-refl p) ∙ ap (λ x. name_eq x p) (name_eq-eq p r e) ∙ h))
 
 pub has-set_absent : (ns : List Name) (s : ℕ) (r q : Name) → has ns q ≡ false → name_eq q r ≡ false → has (set ns s r) q ≡ false
 has-set_absent [] s r q h e = refl
-has-set_absent (p ∷ ns) zero r q h e = or_of_false (name_eq q r) (has ns q) e (neither (name_eq q p) (has ns q) h).1
-has-set_absent (p ∷ ns) (suc s) r q h e = or_of_false (name_eq q p) (has (set ns s r) q) (neither (name_eq q p) (has ns q) h).0 (has-set_absent ns s r q (neither (name_eq q p) (has ns q) h).1 e)
+has-set_absent (p ∷ ns) zero r q h e = or_from (name_eq q r) (has ns q) e (or_parts (name_eq q p) (has ns q) h).1
+has-set_absent (p ∷ ns) (suc s) r q h e = or_from (name_eq q p) (has (set ns s r) q) (or_parts (name_eq q p) (has ns q) h).0 (has-set_absent ns s r q (or_parts (name_eq q p) (has ns q) h).1 e)
 
 distinct-set : (ns : List Name) (s : ℕ) (r : Name) → AreDistinct ns → has ns r ≡ false → AreDistinct (set ns s r)
 distinct-set [] s r d h = tt
-distinct-set (p ∷ ns) zero r d h = ((neither (name_eq r p) (has ns r) h).1, d.1)
+distinct-set (p ∷ ns) zero r d h = ((or_parts (name_eq r p) (has ns r) h).1, d.1)
 distinct-set (p ∷ ns) (suc s) r d h =
-    let w = neither (name_eq r p) (has ns r) h in
+    let w = or_parts (name_eq r p) (has ns r) h in
     (has-set_absent ns s r p d.0 (turned p r w.0), distinct-set ns s r d.1 w.1)
 
 distinct-push : (ns : List Name) (r : Name) → AreDistinct ns → has ns r ≡ false → AreDistinct (ns ++ r ∷ [])
 distinct-push [] r d h = (refl, tt)
 distinct-push (p ∷ ns) r d h =
-    let w = neither (name_eq r p) (has ns r) h in
-    (has-append ns (r ∷ []) p ∙ or_of_false (has ns p) (name_eq p r || false) d.0 (or_of_false (name_eq p r) false (turned p r w.0) refl), distinct-push ns r d.1 w.1)
+    let w = or_parts (name_eq r p) (has ns r) h in
+    (has-append ns (r ∷ []) p ∙ or_from (has ns p) (name_eq p r || false) d.0 (or_from (name_eq p r) false (turned p r w.0) refl), distinct-push ns r d.1 w.1)
 
 pub good-root : Good (root ∷ [])
 good-root = record { forked = at_first; distinct = (refl, tt) }
@@ -186,13 +171,13 @@ pub fresh : (ns : List Name) (s : ℕ) → s < length ns → Good ns → (b : Bo
 fresh ns s g w b =
     let p = get_or ns s root in
     let there : has (join ns []) p ≡ true = has-sorted ns p ∙ has-name_at ns s g in
-    not_true (has ns (child p b)) (λ e.
+    false_from_ne_true (has ns (child p b)) (λ e.
     let same : p ≡ child p b = (leaves-forked (join ns []) w.forked).apart p (child p b) there (has-sorted ns (child p b) ∙ e) (begins-more p (b ∷ [])) in
     let long : length p ≡ length (child p b) = ap length same in
     omega (arith, long, length-child p b))
 
 pub children_differ : (p : Name) → name_eq (child p true) (child p false) ≡ false
-children_differ p = not_true (name_eq (child p true) (child p false)) (λ e. ends p (name_eq-eq (child p true) (child p false) e))
+children_differ p = false_from_ne_true (name_eq (child p true) (child p false)) (λ e. ends p (name_eq-eq (child p true) (child p false) e))
   where
     tail : Name → Name
     tail [] = []

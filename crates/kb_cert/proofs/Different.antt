@@ -1,16 +1,17 @@
 -- Symbols that are all different, and names that tell them apart.
-use Rattle.std.proofs.Common.{ℕ, zero, suc, ◌+◌, ◌-◌, ◌≤◌, ◌<◌, ◌≡◌, ⊎_elim, refl, sym, ap, ap₂, ◌∙◌, subst, arith, List, [], ◌∷◌, ◌++◌, length, map, filter, take, drop, get_or, All, Contains, Bool, true, false, ◌==◌, cond, zero-lt-suc, suc-le-suc}
+use Rattle.std.proofs.Common.{ℕ, zero, suc, ◌+◌, ◌-◌, ◌≤◌, ◌<◌, ◌≡◌, ⊎_elim, refl, sym, ap, ap₂, ◌∙◌, subst, arith, List, [], ◌∷◌, ◌++◌, length, map, filter, take, drop, get_or, All, Contains, true, false, ◌==◌, zero-lt-suc, suc-le-suc}
 use Rattle.std.specs.Prelude.{not, ◌&&◌, nat_eq, nat_lt}
 use Rattle.std.specs.List.{list_all}
-use Rattle.std.proofs.lemmas.Bool.{false≢true, cases_lt, lt-ltb, eq-eqb, eqb-true, ne_eqb, ltb-true}
+use Rattle.std.proofs.lemmas.Bool.{cases_lt, lt-ltb, eq-eqb, eqb-true, ne_eqb, ltb-true, and_parts}
+use Rattle.kb_lemmas.proofs.Lists.{filter_less, filter_lost}
+use Rattle.kb_lemmas.proofs.Membership.{all_rest}
 use Rattle.kb_term.specs.Pair.{distinct}
 use Rattle.kb_term.specs.Signature.{Signature, SymbolEntry, IsSignature}
 use Rattle.kb_term.specs.declared.term.Symbol.{Symbol}
-use Rattle.kb_term.proofs.Steps.{contains_cases}
 use Rattle.kb_term.proofs.Variants.{in_distinct}
 use Rattle.kb_cert.specs.CertificateText.{each_behind, names_of, name_at, is_precedence}
 use Rattle.kb_cert.specs.Reading.{AreDifferent, AreNames, IsPrecedenceText, SpellsNames}
-use Rattle.kb_cert.proofs.Fields.{all_rest, both_true, one_cut, behind_at_end, names_free, tail_of}
+use Rattle.kb_cert.proofs.Fields.{one_cut, behind_at_end, names_free, tail_of}
 use Rattle.kb_cert.proofs.Members.{keep_all}
 
 abbrev numbers : List Symbol → List ℕ
@@ -50,22 +51,6 @@ different_distinct (x ∷ xs) d = ap (x ∷◌) (ap (filter (λ y. not (y == x))
   where
     other : (y : ℕ) → Contains xs y → not (y == x) ≡ true
     other y c = ap not (ne_eqb y x (λ e. d.0 (subst (Contains xs) e c)))
-
-filter_less : (p : ℕ → Bool) (xs : List ℕ) → length (filter p xs) ≤ length xs
-filter_less p [] = omega arith
-filter_less p (x ∷ xs) = go (p x) (filter_less p xs)
-  where
-    go : (b : Bool) → length (filter p xs) ≤ length xs → length (cond b (x ∷ filter p xs) (filter p xs)) ≤ length (x ∷ xs)
-    go true h = omega arith
-    go false h = omega arith
-
-filter_lost : (p : ℕ → Bool) (xs : List ℕ) (y : ℕ) → Contains xs y → p y ≡ false → length (filter p xs) < length xs
-filter_lost p [] y c e = absurd (omega arith)
-filter_lost p (x ∷ xs) y c e = go (p x) refl (filter_less p xs) (filter_lost p xs y)
-  where
-    go : (b : Bool) → p x ≡ b → length (filter p xs) ≤ length xs → (Contains xs y → p y ≡ false → length (filter p xs) < length xs) → length (cond b (x ∷ filter p xs) (filter p xs)) < length (x ∷ xs)
-    go false q h rest = omega arith
-    go true q h rest = ⊎_elim (λ s. absurd (false≢true (sym (ap p s ∙ e) ∙ q))) (λ d. let r = rest d e in omega arith) (contains_cases x xs y c)
 
 distinct_less : (xs : List ℕ) → length (distinct xs) ≤ length xs
 distinct_less [] = omega arith
@@ -112,8 +97,8 @@ pub record IsPrecedence (sig : Signature) (symbols : List ℕ) : Type 0 where
 
 lt_from : (n : ℕ) (xs : List ℕ) → list_all (λ f. nat_lt f n) xs ≡ true → All (λ f. f < n) xs
 lt_from n [] h k d p = absurd (omega arith)
-lt_from n (x ∷ xs) h zero d p = ltb-true x n (both_true (nat_lt x n) (list_all (λ f. nat_lt f n) xs) h).0
-lt_from n (x ∷ xs) h (suc k) d p = lt_from n xs (both_true (nat_lt x n) (list_all (λ f. nat_lt f n) xs) h).1 k d (omega arith)
+lt_from n (x ∷ xs) h zero d p = ltb-true x n (and_parts (nat_lt x n) (list_all (λ f. nat_lt f n) xs) h).0
+lt_from n (x ∷ xs) h (suc k) d p = lt_from n xs (and_parts (nat_lt x n) (list_all (λ f. nat_lt f n) xs) h).1 k d (omega arith)
 
 lt_to : (n : ℕ) (xs : List ℕ) → All (λ f. f < n) xs → list_all (λ f. nat_lt f n) xs ≡ true
 lt_to n [] h = refl
@@ -121,8 +106,8 @@ lt_to n (x ∷ xs) h = let l : nat_lt x n ≡ true = lt-ltb x n (h 0 x (zero-lt-
 
 pub precedence_from : (sig : Signature) (symbols : List ℕ) → is_precedence sig symbols ≡ true → IsPrecedence sig symbols
 precedence_from sig symbols h =
-    let r = both_true (nat_eq (length symbols) (length sig) && nat_eq (length (distinct symbols)) (length sig)) (list_all (λ f. nat_lt f (length sig)) symbols) h in
-    let s = both_true (nat_eq (length symbols) (length sig)) (nat_eq (length (distinct symbols)) (length sig)) r.0 in
+    let r = and_parts (nat_eq (length symbols) (length sig) && nat_eq (length (distinct symbols)) (length sig)) (list_all (λ f. nat_lt f (length sig)) symbols) h in
+    let s = and_parts (nat_eq (length symbols) (length sig)) (nat_eq (length (distinct symbols)) (length sig)) r.0 in
     let l = eqb-true (length symbols) (length sig) s.0 in
     let m = eqb-true (length (distinct symbols)) (length sig) s.1 in
     record { count = l; different = distinct_different symbols (m ∙ sym l); within = lt_from (length sig) symbols r.1 }

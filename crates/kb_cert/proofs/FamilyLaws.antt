@@ -2,13 +2,15 @@
 use Rattle.std.proofs.Common.{ℕ, Option, Some, None, zero-lt-suc, suc-le-suc, zero, suc, ◌+◌, ◌*◌, ◌≡◌, ◌≤◌, ◌⊎◌, inl, inr, refl, ap, ap₂, subst, arith, List, [], ◌∷◌, ◌++◌, map, All, Contains, length, cond, ◌==◌, replicate, ⊎_elim, flat_map, filter, not, sym, ◌∙◌, ◌<◌}
 use Rattle.std.specs.List.{AllZip, range_with_len}
 use Rattle.std.proofs.lemmas.List.Elements.{All-contains, All-weaker, Contains-append_cases, Contains-append_left}
-use Rattle.std.proofs.lemmas.Bool.{cases_eq, cond-true, cond-false, ne_eqb, eq-eqb}
+use Rattle.std.proofs.lemmas.Bool.{cond-true, cond-false, ne_eqb, eq-eqb}
+use Rattle.kb_linear.proofs.Ready.{interpretation_fits}
+use Rattle.kb_lemmas.proofs.Membership.{listed_or_not, contains_cases, contains_first, contains_flat_map_back, contains_map}
 use Rattle.kb_term.specs.Tree.{Tree, variable, apply, Trees, no_trees, more_trees, list_of, variables_of}
 use Rattle.kb_term.specs.Rule.{Rule, IsRule}
 use Rattle.kb_term.specs.Signature.{Signature, SymbolEntry, IsWellFormed, AreWellFormed, IsRuleOver}
 use Rattle.kb_term.specs.Proving.{IsTerminating}
 use Rattle.kb_linear.specs.LinearOrder.{Interpretation, linear_value, weighted_sum, LinearGreater, IsInterpretationOf}
-use Rattle.kb_linear.specs.Interpretations.{choices, rows, interpretations_to, interpretations_up_to, top_constant, interpretations, LinearOrients}
+use Rattle.kb_linear.specs.Interpretations.{choices, rows, interpretations_to, interpretations_up_to, interpretations, LinearOrients}
 use Rattle.kb_lpo.specs.Precedences.{arrangements, precedences}
 use Rattle.kb_kbo.specs.KnuthBendix.{KboOrder, KboGreater}
 use Rattle.kb_kbo.specs.KnuthBendixLaws.{HasWeights}
@@ -22,7 +24,7 @@ use Rattle.kb_cert.specs.declared.family.Family.TheVariants.{Stated}
 use Rattle.kb_cert.proofs.Ordering.{nothing_ordered, all_from}
 use Rattle.kb_cert.specs.declared.certificate.Certificate.{Certificate}
 use Rattle.kb_cert.specs.declared.certificate.Certificate.TheVariants.{Lpo, Linear, Kbo}
-use Rattle.kb_term.proofs.Steps.{Step, Occurs, OccursIn, occurs_from, occurs_to, contains_cases, contains_behind, contains_first}
+use Rattle.kb_term.proofs.Steps.{Step, Occurs, OccursIn, occurs_from, occurs_to}
 use Rattle.kb_term.proofs.Relation.{Steps}
 use Rattle.kb_term.proofs.Bridge.{halts_to}
 use Rattle.kb_lpo.proofs.Arities.{keeps_well}
@@ -30,7 +32,7 @@ use Rattle.kb_lpo.proofs.PathOrderLaws.{lpo_rule, terminating_by_lpo}
 use Rattle.kb_lpo.specs.PathOrder.{LpoGreater}
 use Rattle.kb_lpo.proofs.Lpo.{path_from_lpo, lpo_from_path}
 use Rattle.kb_lpo.proofs.LpoLaws.{chain_greater}
-use Rattle.kb_linear.proofs.Sorted.{contains_map_back, contains_flat_map_back, choices_from, contains_map}
+use Rattle.kb_linear.proofs.Sorted.{contains_map_back, choices_from}
 use Rattle.kb_linear.proofs.LinearHalting.{row_of, Fits, row_fits, linear_halts, chain_linear}
 
 coefficients_fit : (n : ℕ) (cs : List ℕ) → AllZip (λ xs y. Contains xs y) (replicate n (1 ∷ 2 ∷ [])) cs → Fits n (0, cs)
@@ -64,9 +66,6 @@ interpretation_to g top i c = rows_fit top g i (choices_from (map (λ (f : Symbo
 interpretation_up_to : (g : Signature) (top : Option ℕ) (i : Interpretation) → Contains (interpretations_up_to g top) i → IsInterpretationOf g i
 interpretation_up_to g None i c = absurd (omega arith)
 interpretation_up_to g (Some top) i c = interpretation_to g top i c
-
-pub interpretation_fits : (g : Signature) (i : Interpretation) → Contains (interpretations g) i → IsInterpretationOf g i
-interpretation_fits g i c = interpretation_up_to g (top_constant g) i c
 
 no_member : {X : Type 0} (f : X → Certificate) (xs : List X) (c : Certificate) → ((x : X) → ¬ (f x ≡ c)) → ¬ Contains (map f xs) c
 no_member f xs c differs i = let r = contains_map_back f xs c i in differs r.0 r.2
@@ -119,17 +118,8 @@ mutual
   sum_least g i fit a x (more_trees t ts) (c ∷ cs) w e p (inl o) = at_least c (a x) (linear_value i a t) (weighted_sum i a ts cs) (p 0 0 (zero-lt-suc _)) (value_least g i fit a x t w.0 o)
   sum_least g i fit a x (more_trees t ts) (c ∷ cs) w e p (inr o) = let q = sum_least g i fit a x ts cs w.1 (omega arith) (λ k d l. p (suc k) d (suc-le-suc l)) o in omega arith
 
-contains_decides : (xs : List ℕ) (x : ℕ) → Contains xs x ⊎ (Contains xs x → ⊥)
-contains_decides [] x = inr (λ c. omega arith)
-contains_decides (y ∷ ys) x = go (cases_eq y x) (contains_decides ys x)
-  where
-    go : (y ≡ x) ⊎ (y ≡ x → ⊥) → Contains ys x ⊎ (Contains ys x → ⊥) → Contains (y ∷ ys) x ⊎ (Contains (y ∷ ys) x → ⊥)
-    go (inl e) c = inl (0, omega arith, e)
-    go (inr d) (inl c) = inl (contains_behind y ys x c)
-    go (inr d) (inr n) = inr (λ c. ⊎_elim d n (contains_cases y ys x c))
-
 pub linear_variables : (g : Signature) (i : Interpretation) → IsInterpretationOf g i → (s t : Tree) → IsWellFormed g t → LinearGreater i s t → (x : ℕ) → Contains (variables_of t) x → Contains (variables_of s) x
-linear_variables g i fit s t w h x c = ⊎_elim (λ d. d) (λ n. absurd (go n)) (contains_decides (variables_of s) x)
+linear_variables g i fit s t w h x c = ⊎_elim (λ d. d) (λ n. absurd (go n)) (listed_or_not (variables_of s) x)
   where
     big : ℕ → ℕ
     big y = cond (y == x) (linear_value i (λ z. 0) s) 0

@@ -1,19 +1,13 @@
 -- Texts field by field.
-use Rattle.std.proofs.Common.{ℕ, zero, suc, ◌+◌, ◌-◌, ◌/◌, ◌%◌, ◌≤◌, ◌<◌, ◌≡◌, ⊎_elim, refl, sym, ap, ap₂, ◌∙◌, subst, arith, List, [], ◌∷◌, ◌++◌, length, map, take, drop, take-append-drop, get_or, All, Bool, true, false, IsTrue, zero-lt-suc, suc-le-suc}
-use Rattle.std.specs.Prelude.{decimal, not, ◌&&◌}
-use Rattle.std.proofs.lemmas.Bool.{false≢true, cases_lt}
+use Rattle.std.proofs.Common.{ℕ, zero, suc, ◌+◌, ◌-◌, ◌/◌, ◌%◌, ◌≤◌, ◌<◌, ◌≡◌, ⊎_elim, refl, sym, ap, ap₂, ◌∙◌, subst, arith, List, [], ◌∷◌, ◌++◌, length, map, take, drop, take-append-drop, get_or, All, true, zero-lt-suc}
+use Rattle.std.specs.Prelude.{decimal, not}
+use Rattle.std.proofs.lemmas.Bool.{false≢true, cases_lt, and_parts}
 use Rattle.std.proofs.lemmas.Fmt.{decimal_digit, decimal_step}
+use Rattle.kb_lemmas.proofs.Membership.{all_rest, all_more}
 use Rattle.kb_term.specs.Identifier.{IsIdentifier, is_unbroken, begins_otherwise}
 use Rattle.kb_term.specs.Signature.{Signature, SymbolEntry, IsSignature}
 use Rattle.kb_cert.specs.CertificateText.{each_behind, names_of, name_at}
 use Rattle.kb_cert.specs.Reading.{IsFree, IsAtEnd, IsFieldEnd, ArePieces}
-
-pub all_rest : {X : Type 0} (P : X → Type 0) (x : X) (xs : List X) → All P (x ∷ xs) → All P xs
-all_rest P x xs h k d p = h (suc k) d (suc-le-suc p)
-
-pub all_more : {X : Type 0} (P : X → Type 0) (x : X) (xs : List X) → P x → All P xs → All P (x ∷ xs)
-all_more P x xs p h zero d l = p
-all_more P x xs p h (suc k) d l = h k d (omega arith)
 
 abbrev pub tail_of : List ℕ → List ℕ
 tail_of [] = []
@@ -72,16 +66,10 @@ pub none_left : (b : ℕ) (written : ℕ → List ℕ) (P : ℕ → Type 0) (cou
 none_left b written P count [] c e = record { count_is = sym c; each = λ k d p. absurd (omega arith); spelling = refl }
 none_left b written P count (x ∷ text) c e = absurd (omega arith)
 
--- names have no space
-pub both_true : (a b : Bool) → a && b ≡ true → (a ≡ true) × (b ≡ true)
-both_true true true e = (refl, refl)
-both_true true false e = absurd (false≢true e)
-both_true false b e = absurd (false≢true e)
-
 unbroken_free : (bytes : List ℕ) → is_unbroken bytes ≡ true → IsFree 32 bytes
 unbroken_free [] h k d p = absurd (omega arith)
-unbroken_free (x ∷ bytes) h zero d p = λ e. false≢true (sym (ap (λ z. not (begins_otherwise (z ∷ bytes))) e) ∙ (both_true (not (begins_otherwise (x ∷ bytes))) (is_unbroken bytes) h).0)
-unbroken_free (x ∷ bytes) h (suc k) d p = unbroken_free bytes (both_true (not (begins_otherwise (x ∷ bytes))) (is_unbroken bytes) h).1 k d (omega arith)
+unbroken_free (x ∷ bytes) h zero d p = λ e. false≢true (sym (ap (λ z. not (begins_otherwise (z ∷ bytes))) e) ∙ (and_parts (not (begins_otherwise (x ∷ bytes))) (is_unbroken bytes) h).0)
+unbroken_free (x ∷ bytes) h (suc k) d p = unbroken_free bytes (and_parts (not (begins_otherwise (x ∷ bytes))) (is_unbroken bytes) h).1 k d (omega arith)
 
 name_free : (sig : Signature) (f : ℕ) → All (λ (e : SymbolEntry). IsIdentifier e.name × (length e.name ≤ 64)) sig → f < length sig → IsFree 32 (name_at (names_of sig) f)
 name_free [] f h p = absurd (omega arith)
@@ -118,9 +106,6 @@ two_bytes [] x y l e d = absurd (omega arith)
 two_bytes (z ∷ []) x y l e d = absurd (omega arith)
 two_bytes (z ∷ w ∷ []) x y l e d = ap₂ (λ a b. a ∷ b ∷ []) (sym e) (sym d)
 two_bytes (z ∷ w ∷ v ∷ text) x y l e d = absurd (omega arith)
-
-pub fails : {P : Type 0} → ¬ P → (IsTrue false → P) × (P → IsTrue false)
-fails h = (λ x. absurd (false≢true x), λ x. absurd (h x))
 
 pub at_end_nothing : (b : ℕ) (text : List ℕ) → IsAtEnd b (drop (length text) text)
 at_end_nothing b [] = tt

@@ -1,11 +1,11 @@
 -- Four letters are the names of a signature, whatever their arities.
-use Rattle.std.proofs.Common.{ℕ, ◌≡◌, ◌≤◌, refl, sym, ap, ◌∙◌, subst, arith, List, [], ◌∷◌, length, Vec, All}
-use Rattle.std.specs.Prelude.{AllPairs}
+use Rattle.std.proofs.Common.{ℕ, ◌≡◌, ◌≤◌, refl, sym, ap, ◌∙◌, subst, arith, List, [], ◌∷◌, length, Vec}
 use Rattle.std.specs.declared.alloc.Global.{Global}
 use Rattle.std.proofs.lemmas.List.Kept.{AllPairs-cons}
+use Rattle.kb_lemmas.proofs.Lists.{other_single}
+use Rattle.kb_lemmas.proofs.Membership.{all_none, no_pairs, all_more}
 use Rattle.kb_term.specs.Identifier.{IsIdentifier}
 use Rattle.kb_term.specs.Signature.{SymbolEntry, IsSignature, symbols_of_list}
-use Rattle.kb_cert.proofs.Fields.{all_more}
 
 abbrev entry : ℕ → ℕ → SymbolEntry
 entry letter arity = record { name = letter ∷ []; arity = arity }
@@ -29,15 +29,6 @@ identifier-m : IsIdentifier (109 ∷ [])
 unfolding lib.Utf8.encode
 identifier-m = record { some = omega arith; utf8 = (109 ∷ [], (refl, refl)); unbroken = refl }
 
-other_name : (a b : ℕ) → ¬ (a ≡ b) → ¬ (a ∷ [] ≡ b ∷ [])
-other_name a b d e = d (cc)
-
-nothing_more : {X : Type 0} (P : X → Type 0) → All P []
-nothing_more P k d h = absurd (omega arith)
-
-no_pairs : {X : Type 0} (R : X → X → Type 0) → AllPairs R []
-no_pairs R i j d h k = absurd (omega arith)
-
 signature-letters : (a b c d : ℕ) → IsSignature (letters a b c d)
 signature-letters a b c d =
     let N : SymbolEntry → Type 0 = λ f. IsIdentifier f.name × (length f.name ≤ 64) in
@@ -47,10 +38,10 @@ signature-letters a b c d =
     let h : SymbolEntry = entry 104 c in
     let m : SymbolEntry = entry 109 d in
     record {
-      names = all_more N f (g ∷ h ∷ m ∷ []) (identifier-f, omega arith) (all_more N g (h ∷ m ∷ []) (identifier-g, omega arith) (all_more N h (m ∷ []) (identifier-h, omega arith) (all_more N m [] (identifier-m, omega arith) (nothing_more N))));
-      differ = AllPairs-cons R f (g ∷ h ∷ m ∷ []) (all_more (R f) g (h ∷ m ∷ []) (other_name 102 103 (λ e. omega arith)) (all_more (R f) h (m ∷ []) (other_name 102 104 (λ e. omega arith)) (all_more (R f) m [] (other_name 102 109 (λ e. omega arith)) (nothing_more (R f)))))
-          (AllPairs-cons R g (h ∷ m ∷ []) (all_more (R g) h (m ∷ []) (other_name 103 104 (λ e. omega arith)) (all_more (R g) m [] (other_name 103 109 (λ e. omega arith)) (nothing_more (R g))))
-          (AllPairs-cons R h (m ∷ []) (all_more (R h) m [] (other_name 104 109 (λ e. omega arith)) (nothing_more (R h))) (AllPairs-cons R m [] (nothing_more (R m)) (no_pairs R))));
+      names = all_more N f (g ∷ h ∷ m ∷ []) (identifier-f, omega arith) (all_more N g (h ∷ m ∷ []) (identifier-g, omega arith) (all_more N h (m ∷ []) (identifier-h, omega arith) (all_more N m [] (identifier-m, omega arith) (all_none N))));
+      differ = AllPairs-cons R f (g ∷ h ∷ m ∷ []) (all_more (R f) g (h ∷ m ∷ []) (other_single 102 103 (λ e. omega arith)) (all_more (R f) h (m ∷ []) (other_single 102 104 (λ e. omega arith)) (all_more (R f) m [] (other_single 102 109 (λ e. omega arith)) (all_none (R f)))))
+          (AllPairs-cons R g (h ∷ m ∷ []) (all_more (R g) h (m ∷ []) (other_single 103 104 (λ e. omega arith)) (all_more (R g) m [] (other_single 103 109 (λ e. omega arith)) (all_none (R g))))
+          (AllPairs-cons R h (m ∷ []) (all_more (R h) m [] (other_single 104 109 (λ e. omega arith)) (all_none (R h))) (AllPairs-cons R m [] (all_none (R m)) (no_pairs R))));
     }
 
 pub four_letters : (f g h m : Vec ℕ Global) (a b c d : ℕ) (items : List (Vec ℕ Global × ℕ)) → f.items ≡ 102 ∷ [] → g.items ≡ 103 ∷ [] → h.items ≡ 104 ∷ [] → m.items ≡ 109 ∷ [] → items ≡ (f, a) ∷ (g, b) ∷ (h, c) ∷ (m, d) ∷ [] → IsSignature (symbols_of_list items)

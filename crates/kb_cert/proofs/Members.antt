@@ -4,7 +4,8 @@ use Rattle.std.specs.Prelude.{not, ◌&&◌, nat_eq, nat_le, nat_lt, replicate, 
 use Rattle.std.specs.List.{list_all, range_with_len}
 use Rattle.std.proofs.lemmas.Bool.{le-leb, lt-ltb, eq-eqb}
 use Rattle.std.proofs.lemmas.List.Elements.{All-contains, Contains-append_cases, Contains-append_right}
-use Rattle.kb_term.proofs.Steps.{contains_cases, contains_behind, contains_first}
+use Rattle.std.proofs.lemmas.List.{length-replicate}
+use Rattle.kb_lemmas.proofs.Membership.{contains_cases, contains_behind, contains_first, contains_flat_map_back}
 use Rattle.kb_term.specs.Pair.{distinct}
 use Rattle.kb_term.specs.Rule.{Rule}
 use Rattle.kb_term.specs.Signature.{Signature}
@@ -12,9 +13,9 @@ use Rattle.kb_lpo.specs.Precedences.{arrangements, precedences}
 use Rattle.kb_linear.specs.LinearOrder.{Interpretation}
 use Rattle.kb_linear.specs.Interpretations.{interpretations}
 use Rattle.kb_linear.specs.Numbers.{IsWithin}
-use Rattle.kb_linear.proofs.Sorted.{contains_map_back, contains_flat_map_back, contains_range}
+use Rattle.kb_linear.proofs.Sorted.{contains_map_back, contains_range}
 use Rattle.kb_linear.proofs.Within.{within_lengths}
-use Rattle.kb_linear.proofs.Members.{IsTried, first_tried, others_tried, length-replicate}
+use Rattle.kb_linear.proofs.Members.{IsTried, first_tried, others_tried}
 use Rattle.kb_linear.proofs.Ready.{tried_to_three}
 use Rattle.kb_kbo.specs.KnuthBendix.{KboOrder}
 use Rattle.kb_kbo.specs.Orders.{kbo_orders}

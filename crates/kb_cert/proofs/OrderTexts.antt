@@ -1,15 +1,16 @@
 -- Reading weights with a precedence.
-use Rattle.std.proofs.Common.{ℕ, ◌-◌, ◌≤◌, ◌<◌, ◌≡◌, sym, ap, ap₂, ◌∙◌, subst, arith, List, [], ◌∷◌, ◌++◌, length, map, All, Bool, true, false, zero-lt-suc}
+use Rattle.std.proofs.Common.{ℕ, ◌-◌, ◌≤◌, ◌<◌, ◌≡◌, sym, ap, ap₂, ◌∙◌, subst, arith, List, [], ◌∷◌, ◌++◌, length, map, All, true, false, zero-lt-suc}
 use Rattle.std.specs.Prelude.{decimal, nat_eq, ◌&&◌}
 use Rattle.std.specs.List.{list_all, join_with_byte}
-use Rattle.std.proofs.lemmas.Bool.{eqb-true, eq-eqb}
+use Rattle.std.proofs.lemmas.Bool.{eqb-true, eq-eqb, and_from, and_parts}
+use Rattle.kb_lemmas.proofs.Membership.{all_more, all_rest}
 use Rattle.kb_term.specs.Signature.{Signature}
 use Rattle.kb_kbo.specs.KnuthBendix.{KboOrder}
 use Rattle.kb_kbo.specs.Measures.{order_of}
 use Rattle.kb_cert.specs.CertificateText.{each_behind, names_of, name_at, is_between, are_weights, is_precedence}
 use Rattle.kb_cert.specs.Reading.{IsFree, IsFieldEnd, AreNumbers, SpellsNumbers, IsWeightsText, IsPrecedenceText, IsOrderText}
 use Rattle.kb_cert.proofs.Texts.{join_with_byte-behind}
-use Rattle.kb_cert.proofs.Fields.{all_more, all_rest, both_true, one_cut, behind_at_end, first_piece, number_free}
+use Rattle.kb_cert.proofs.Fields.{one_cut, behind_at_end, first_piece, number_free}
 use Rattle.kb_cert.proofs.RowLaws.{between_from, between_to, free_append, numbers_free}
 
 -- the first weight is the first field, and the others are the rest
@@ -36,14 +37,11 @@ weights_none count text field rest old new l t e h weights w = let r = weights_p
 pub weights_no_first : (count : ℕ) (text field rest : List ℕ) → 0 < count → text ≡ field ++ rest → IsFieldEnd 44 field rest → ((n : ℕ) → (1 ≤ n) × (n ≤ 15) → ¬ (decimal n ≡ field)) → (weights : List ℕ) → ¬ IsWeightsText count text weights
 weights_no_first count text field rest l t e h weights w = let r = weights_parts count text field rest weights l t e w in h r.0 r.1 r.2
 
-both : (a b : Bool) → a ≡ true → b ≡ true → (a && b) ≡ true
-both a b e d = λ i. e i && d i
-
 -- the weights are the first field, and the names are the rest
 pub order_found : (sig : Signature) (count : ℕ) (text field rest weights symbols : List ℕ) → 0 < count → count ≡ length sig → text ≡ 32 ∷ (field ++ rest) → IsWeightsText count field weights → IsPrecedenceText sig rest symbols → IsOrderText sig text (order_of weights symbols)
 order_found sig count text field rest [] symbols l c t w p = absurd (let k = w.count_is in omega arith)
 order_found sig count text field rest (x ∷ xs) symbols l c t w p = record {
-  order_is = both (are_weights sig (x ∷ xs)) (is_precedence sig symbols) (both (nat_eq (length (x ∷ xs)) (length sig)) (list_all (is_between 1 15) (x ∷ xs)) (eq-eqb (length (x ∷ xs)) (length sig) (w.count_is ∙ c)) (between_to 15 (x ∷ xs) w.each)) p.precedence_is;
+  order_is = and_from (are_weights sig (x ∷ xs)) (is_precedence sig symbols) (and_from (nat_eq (length (x ∷ xs)) (length sig)) (list_all (is_between 1 15) (x ∷ xs)) (eq-eqb (length (x ∷ xs)) (length sig) (w.count_is ∙ c)) (between_to 15 (x ∷ xs) w.each)) p.precedence_is;
   spelling = ap₂ (λ a b. 32 ∷ (a ++ b)) w.spelling p.spelling ∙ sym t;
 }
 
@@ -56,8 +54,8 @@ weights_free x xs h =
 -- what the test of weights says
 pub tested : (sig : Signature) (weights symbols : List ℕ) → (are_weights sig weights && is_precedence sig symbols) ≡ true → (length weights ≡ length sig) × All (λ n. (1 ≤ n) × (n ≤ 15)) weights × (is_precedence sig symbols ≡ true)
 tested sig weights symbols h =
-    let b = both_true (are_weights sig weights) (is_precedence sig symbols) h in
-    let w = both_true (nat_eq (length weights) (length sig)) (list_all (is_between 1 15) weights) b.0 in
+    let b = and_parts (are_weights sig weights) (is_precedence sig symbols) h in
+    let w = and_parts (nat_eq (length weights) (length sig)) (list_all (is_between 1 15) weights) b.0 in
     (eqb-true (length weights) (length sig) w.0, between_from 15 weights w.1, b.1)
 
 order_parts : (sig : Signature) (count : ℕ) (text field rest weights symbols : List ℕ) → 0 < count → count ≡ length sig → IsFieldEnd 32 field rest → text ≡ 32 ∷ (field ++ rest) → IsOrderText sig text (order_of weights symbols) → IsWeightsText count field weights × IsPrecedenceText sig rest symbols

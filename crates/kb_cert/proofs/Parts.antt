@@ -1,7 +1,7 @@
 -- The first member of the family, part by part.
 use Rattle.std.proofs.Common.{ℕ, ⊎_elim, zero, suc, ◌≡◌, refl, sym, ap, ap₂, ◌∙◌, subst, arith, List, [], ◌∷◌, ◌++◌, length, map, All, Contains, slice_index_or, append_assoc}
 use Rattle.std.specs.Prelude.{Option, Some, None, option_map}
-use Rattle.std.proofs.lemmas.List.{append-nil}
+use Rattle.std.proofs.lemmas.List.{append-nil, map-append}
 use Rattle.std.proofs.lemmas.List.Elements.{All-append, All-contains, Contains-append_cases, Contains-append_right}
 use Rattle.kb_term.specs.First.{IsFirst}
 use Rattle.kb_term.specs.Rule.{Rule}
@@ -11,13 +11,13 @@ use Rattle.kb_linear.specs.LinearOrder.{Interpretation}
 use Rattle.kb_linear.specs.Interpretations.{interpretations, LinearOrients, IsLowerBound as IsLinearBound}
 use Rattle.std.specs.Option.{IfSome}
 use Rattle.std.specs.Bool.{IsTrue}
+use Rattle.kb_lemmas.proofs.Membership.{all_front, all_behind, contains_first}
 use Rattle.kb_cert.specs.CertificateText.{is_certificate}
 use Rattle.kb_cert.proofs.Members.{first_text}
 use Rattle.kb_cert.proofs.Ordering.{orders_among}
 use Rattle.kb_kbo.specs.KnuthBendix.{KboOrder}
 use Rattle.kb_kbo.specs.Orders.{kbo_orders, IsFirstKbo, IsLowerBound as IsKboBound}
 use Rattle.kb_linear.proofs.Sorted.{contains_map_back}
-use Rattle.kb_term.proofs.Steps.{contains_first}
 use Rattle.kb_cert.specs.Family.{family, Orders, IsFirstOrder, IsLowerBound, FirstBoundsMore, NoneForMore}
 use Rattle.kb_cert.specs.declared.family.Family.{Family}
 use Rattle.kb_cert.specs.declared.family.Family.TheVariants.{Stated}
@@ -34,12 +34,8 @@ map_none Q f [] h k d i = absurd (omega arith)
 map_none Q f (x ∷ xs) h zero d i = h 0 (f x) (omega arith)
 map_none Q f (x ∷ xs) h (suc k) d i = map_none Q f xs (λ j e q. h (suc j) e (omega arith)) k d (omega arith)
 
-map_append : {X Y : Type 0} (f : X → Y) (xs ys : List X) → map f (xs ++ ys) ≡ map f xs ++ map f ys
-map_append f [] ys = refl
-map_append f (x ∷ xs) ys = ap (f x ∷◌) (map_append f xs ys)
-
 some_map : {X Y : Type 0} (Q : Y → Type 0) (f : X → Y) (xs : List X) (x : X) → IsFirst (λ x. Q (f x)) xs (Some x) → IsFirst Q (map f xs) (Some (f x))
-some_map Q f xs x (h, before, after, e, n) = (h, map f before, map f after, ap (map f) e ∙ map_append f before (x ∷ after), none_map Q f before n)
+some_map Q f xs x (h, before, after, e, n) = (h, map f before, map f after, ap (map f) e ∙ map-append f before (x ∷ after), none_map Q f before n)
 
 some_front : {X : Type 0} (Q : X → Type 0) (xs ys : List X) (x : X) → IsFirst Q xs (Some x) → IsFirst Q (xs ++ ys) (Some x)
 some_front Q xs ys x (h, before, after, e, n) = (h, before, after ++ ys, ap (λ z. z ++ ys) e ∙ append_assoc before (x ∷ after) ys, n)
@@ -121,15 +117,6 @@ split_behind f (y ∷ xs) rest c n [] after e = absurd (n y (ap (head_of c) e))
 split_behind f (y ∷ xs) rest c n (d ∷ before) after e =
     let r = split_behind f xs rest c n before after (ap tail_of e) in
     record { more = r.more; whole = r.whole; before_is = ap₂ (λ (z : Certificate) zs. z ∷ zs) (sym (ap (head_of d) e)) r.before_is }
-
-all_front : {X : Type 0} (P : X → Type 0) (xs ys : List X) → All P (xs ++ ys) → All P xs
-all_front P [] ys h k d i = absurd (omega arith)
-all_front P (x ∷ xs) ys h zero d i = h 0 x (omega arith)
-all_front P (x ∷ xs) ys h (suc k) d i = all_front P xs ys (λ j e q. h (suc j) e (omega arith)) k d (omega arith)
-
-all_behind : {X : Type 0} (P : X → Type 0) (xs ys : List X) → All P (xs ++ ys) → All P ys
-all_behind P [] ys h = h
-all_behind P (x ∷ xs) ys h = all_behind P xs ys (λ j e q. h (suc j) e (omega arith))
 
 no_member : {X : Type 0} (f : X → Certificate) (xs : List X) (c : Certificate) → ((x : X) → ¬ (f x ≡ c)) → ¬ Contains (map f xs) c
 no_member f xs c differs i = let r = contains_map_back f xs c i in differs r.0 r.2

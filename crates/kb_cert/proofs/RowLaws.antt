@@ -3,22 +3,23 @@ use Rattle.std.proofs.Common.{ℕ, zero, suc, ◌+◌, ◌≤◌, ◌<◌, ◌�
 use Rattle.std.specs.Prelude.{decimal, nat_eq, nat_le, ◌&&◌, Vec, Option, Some, None, MatchOption}
 use Rattle.std.specs.List.{list_all}
 use Rattle.std.specs.declared.alloc.Global.{Global}
-use Rattle.std.proofs.lemmas.Bool.{false≢true, leb-true, le-leb, eqb-true, eq-eqb}
+use Rattle.std.proofs.lemmas.Bool.{false≢true, leb-true, le-leb, eqb-true, eq-eqb, and_parts}
+use Rattle.kb_lemmas.proofs.Membership.{all_more, all_rest}
 use Rattle.kb_term.specs.Signature.{Signature, SymbolEntry, HasArity}
 use Rattle.kb_linear.specs.Limits.{interpretation_of, IsSmall}
 use Rattle.kb_cert.specs.CertificateText.{each_behind, interp_text, is_between, is_row, are_rows}
 use Rattle.kb_cert.specs.Reading.{IsFree, IsFieldEnd, AreNumbers, SpellsNumbers, IsRowText, AreRows, SpellsRows}
 use Rattle.kb_cert.proofs.Texts.{join_with_byte-behind}
-use Rattle.kb_cert.proofs.Fields.{all_more, all_rest, both_true, one_cut, behind_at_end, first_piece, number_free}
+use Rattle.kb_cert.proofs.Fields.{one_cut, behind_at_end, first_piece, number_free}
 
 -- numbers from 1 to the greatest, by the test and one by one
 pub between_from : (most : ℕ) (cs : List ℕ) → list_all (is_between 1 most) cs ≡ true → All (λ n. (1 ≤ n) × (n ≤ most)) cs
 between_from most [] h k d p = absurd (omega arith)
 between_from most (c ∷ cs) h zero d p =
-    let r = both_true (is_between 1 most c) (list_all (is_between 1 most) cs) h in
-    let s = both_true (nat_le 1 c) (nat_le c most) r.0 in
+    let r = and_parts (is_between 1 most c) (list_all (is_between 1 most) cs) h in
+    let s = and_parts (nat_le 1 c) (nat_le c most) r.0 in
     (leb-true 1 c s.0, leb-true c most s.1)
-between_from most (c ∷ cs) h (suc k) d p = between_from most cs (both_true (is_between 1 most c) (list_all (is_between 1 most) cs) h).1 k d (omega arith)
+between_from most (c ∷ cs) h (suc k) d p = between_from most cs (and_parts (is_between 1 most c) (list_all (is_between 1 most) cs) h).1 k d (omega arith)
 
 pub between_to : (most : ℕ) (cs : List ℕ) → All (λ n. (1 ≤ n) × (n ≤ most)) cs → list_all (is_between 1 most) cs ≡ true
 between_to most [] h = refl
@@ -37,8 +38,8 @@ record IsRow (arity : ℕ) (row : ℕ × List ℕ) : Type 0 where
 
 row_from : (arity : ℕ) (row : ℕ × List ℕ) → is_row arity row ≡ true → IsRow arity row
 row_from arity row h =
-    let r = both_true (nat_le row.0 15 && nat_eq (length row.1) arity) (list_all (is_between 1 3) row.1) h in
-    let s = both_true (nat_le row.0 15) (nat_eq (length row.1) arity) r.0 in
+    let r = and_parts (nat_le row.0 15 && nat_eq (length row.1) arity) (list_all (is_between 1 3) row.1) h in
+    let s = and_parts (nat_le row.0 15) (nat_eq (length row.1) arity) r.0 in
     record { constant = leb-true row.0 15 s.0; count = eqb-true (length row.1) arity s.1; each = between_from 3 row.1 r.1 }
 
 row_to : (arity : ℕ) (row : ℕ × List ℕ) → IsRow arity row → is_row arity row ≡ true
@@ -110,7 +111,7 @@ from_symbol (e ∷ sig) (suc f) n h =
 rows_less : (e : SymbolEntry) (sig : Signature) (text field rest : List ℕ) (rows : List (ℕ × List ℕ)) → IsFieldEnd 32 field rest → text ≡ 32 ∷ (field ++ rest) → AreRows (e ∷ sig) text rows → (row : ℕ × List ℕ) × IsRowText e.arity field row × (more : List (ℕ × List ℕ)) × AreRows sig rest more
 rows_less e sig text field rest [] f t a = absurd (false≢true a.rows_are)
 rows_less e sig text field rest (row ∷ rows) f t a =
-    let b = both_true (is_row e.arity row) (are_rows sig rows) a.rows_are in
+    let b = and_parts (is_row e.arity row) (are_rows sig rows) a.rows_are in
     let p = first_piece 32 (interp_text row) (map interp_text rows) text field rest (row_free e.arity row b.0) f t a.spelling in
     (row, record { row_is = b.0; spelling = p.0 }, rows, record { rows_are = b.1; spelling = p.1 })
 
@@ -162,6 +163,6 @@ rows_small [] [] h k d p = absurd (omega arith)
 rows_small [] (row ∷ rows) h k d p = absurd (false≢true h)
 rows_small (e ∷ sig) [] h k d p = absurd (false≢true h)
 rows_small (e ∷ sig) (row ∷ rows) h zero d p =
-    let s = row_from e.arity row (both_true (is_row e.arity row) (are_rows sig rows) h).0 in
+    let s = row_from e.arity row (and_parts (is_row e.arity row) (are_rows sig rows) h).0 in
     record { constant = s.constant; coefficients = s.each }
-rows_small (e ∷ sig) (row ∷ rows) h (suc k) d p = rows_small sig rows (both_true (is_row e.arity row) (are_rows sig rows) h).1 k d (omega arith)
+rows_small (e ∷ sig) (row ∷ rows) h (suc k) d p = rows_small sig rows (and_parts (is_row e.arity row) (are_rows sig rows) h).1 k d (omega arith)

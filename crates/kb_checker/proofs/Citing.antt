@@ -1,11 +1,10 @@
 -- The step that a rule cites.
 use Rattle.std.proofs.Common.{ℕ, ◌≡◌, ◌-◌, ◌≤◌, ◌∙◌, refl, sym, ap, arith, List, length, get_or, Option, Some, None, Bool, true, false, cond, ⊎_elim}
 use Rattle.std.specs.Prelude.{IsTrue, ◌↔◌, option_map}
-use Rattle.std.proofs.lemmas.Option.{slice_get-map, slice_get-get_or}
+use Rattle.std.proofs.lemmas.Option.{slice_get-map, slice_get-get_or, same_Some}
 use Rattle.kb_term.specs.Tree.{Tree, tree_eq}
 use Rattle.kb_term.specs.Pair.{Pair, numbered, canonical, canonical_pair, IsCanonicalPair}
 use Rattle.kb_term.proofs.OwnPair.{tree_eq-true, tree_eq-same}
-use Rattle.kb_term.proofs.Subtrees.{some_same}
 use Rattle.kb_overlap.specs.Trace.{TraceStep, item}
 use Rattle.kb_trace.specs.Steps.{pairs_of}
 use Rattle.kb_trace.proofs.Cited.{item_before}
@@ -48,5 +47,5 @@ pub traced_is : (l r : Tree) (e found : Pair) (o : Option Pair) (b : Bool) → o
 traced_is l r e found o b at is h =
     let made : canonical l r ≡ found = the_pair (tree_eq l r) (canonical l r) found (sym is) in (
       λ y. at ∙ ap Some (sym (h.0 y) ∙ sym made),
-      λ z. h.1 (sym made ∙ some_same (canonical l r) e (sym z ∙ at)),
+      λ z. h.1 (sym made ∙ same_Some (canonical l r) e (sym z ∙ at)),
     )

@@ -2,8 +2,9 @@
 use Rattle.std.proofs.Common.{ℕ, zero, suc, ◌+◌, ◌≤◌, ◌<◌, ◌≡◌, ◌⊎◌, inl, inr, refl, sym, ap, ap₂, ◌∙◌, subst, arith, List, [], ◌∷◌, ◌++◌, length, append_assoc, All, Contains, ⊎_elim}
 use Rattle.std.specs.Prelude.{Result, Ok, Err, ◌==◌}
 use Rattle.std.proofs.lemmas.List.Elements.{All-contains, All-head, All-tail, All-cons, Contains-append_cases, Contains-append_right}
-use Rattle.kb_term.proofs.Steps.{contains_first}
-use Rattle.kb_term.proofs.Subtrees.{some_same}
+use Rattle.std.proofs.lemmas.List.{append-nil}
+use Rattle.std.proofs.lemmas.Option.{same_Some}
+use Rattle.kb_lemmas.proofs.Membership.{contains_first}
 use Rattle.kb_term.specs.Tree.{Tree}
 use Rattle.kb_term.specs.Pair.{Pair}
 use Rattle.kb_term.specs.Rule.{Rule, IsRule}
@@ -63,13 +64,9 @@ first_once {X} G F H f h xs n m (before, x, after, is, at, good, fails) (front, 
 
 -- ---- traces
 
-append_none : {X : Type 0} (xs : List X) → xs ++ [] ≡ xs
-append_none [] = refl
-append_none {X} (x ∷ xs) = ap (λ (ys : List X). x ∷ ys) (append_none xs)
-
 -- each step of a right trace is right
 right_there : (es : List (Tree × Tree)) (start : List Pair) (before : List TraceStep) (s : TraceStep) (after : List TraceStep) → IsRightAfter es start (before ++ s ∷ after) → IsRightOrigin es (item (start ++ pairs_of before)) s.origin s.pair
-right_there es start [] s after h = subst {A = List Pair} (λ ps. IsRightOrigin es (item ps) s.origin s.pair) (sym (append_none start)) h.0
+right_there es start [] s after h = subst {A = List Pair} (λ ps. IsRightOrigin es (item ps) s.origin s.pair) (sym (append-nil start)) h.0
 right_there es start (b ∷ before) s after h = subst {A = List Pair} (λ ps. IsRightOrigin es (item ps) s.origin s.pair) (append_assoc start (b.pair ∷ []) (pairs_of before)) (right_there es (start ++ b.pair ∷ []) before s after h.1)
 
 bad_never : (es : List (Tree × Tree)) (trace : List TraceStep) (n : ℕ) → IsFirstBadStep es trace n → IsRightTrace es trace → ⊥
@@ -196,8 +193,8 @@ module _ (rules : List Rule) (hold : HoldVariables rules) where
 
   overlaps_both : (i j : ℕ) (os qs : List Overlap) → AreOverlapsOf rules i j os → AreOverlapsOf rules i j qs → Both AreListedAlike os qs
   overlaps_both i j os qs (A, B, a, b, l) (C, D, c, d, k) =
-      let ac : C ≡ A = some_same C A (sym c ∙ a) in
-      let bd : D ≡ B = some_same D B (sym d ∙ b) in
+      let ac : C ≡ A = same_Some C A (sym c ∙ a) in
+      let bd : D ≡ B = same_Some D B (sym d ∙ b) in
       lists_both A B (overlap_positions A (i == j)) os qs l (subst {A = Rule} (λ z. IsOverlapList A z (i == j) qs) bd (subst {A = Rule} (λ z. IsOverlapList z D (i == j) qs) ac k))
 
   inner_both : (i j : ℕ) (os qs : List Overlap) → AreInnerOverlaps rules i j os → AreInnerOverlaps rules i j qs → Both AreListedAlike os qs
@@ -221,21 +218,21 @@ module _ (rules : List Rule) (hold : HoldVariables rules) where
   at_most (suc j) (suc m) h = ⊎_elim (λ e. inl (ap suc e)) (λ k. inr (omega (arith, k))) (at_most j m (omega (arith, h)))
 
   inner_begins : (i j m : ℕ) (os : List Overlap) → j ≤ m → AreInnerOverlaps rules i m os → Begins (AreInnerOverlaps rules i j) os
-  inner_begins i zero zero os l h = (os, [], sym (append_none os), h)
+  inner_begins i zero zero os l h = (os, [], sym (append-nil os), h)
   inner_begins i (suc j) zero os l h = absurd (omega (arith, l))
   inner_begins i j (suc m) os l h = go (at_most j m l) (λ k. inner_begins i j m h.0 k h.3)
     where
       go : (j ≡ suc m) ⊎ (j ≤ m) → (j ≤ m → Begins (AreInnerOverlaps rules i j) h.0) → Begins (AreInnerOverlaps rules i j) os
-      go (inl e) ih = (os, [], sym (append_none os), subst {A = ℕ} (λ z. AreInnerOverlaps rules i z os) (sym e) h)
+      go (inl e) ih = (os, [], sym (append-nil os), subst {A = ℕ} (λ z. AreInnerOverlaps rules i z os) (sym e) h)
       go (inr k) ih = begins_more (AreInnerOverlaps rules i j) os h.0 h.1 h.2 (ih k)
 
   outer_begins : (j m : ℕ) (os : List Overlap) → j ≤ m → AreOuterOverlaps rules m os → Begins (AreOuterOverlaps rules j) os
-  outer_begins zero zero os l h = (os, [], sym (append_none os), h)
+  outer_begins zero zero os l h = (os, [], sym (append-nil os), h)
   outer_begins (suc j) zero os l h = absurd (omega (arith, l))
   outer_begins j (suc m) os l h = go (at_most j m l) (λ k. outer_begins j m h.0 k h.3)
     where
       go : (j ≡ suc m) ⊎ (j ≤ m) → (j ≤ m → Begins (AreOuterOverlaps rules j) h.0) → Begins (AreOuterOverlaps rules j) os
-      go (inl e) ih = (os, [], sym (append_none os), subst {A = ℕ} (λ z. AreOuterOverlaps rules z os) (sym e) h)
+      go (inl e) ih = (os, [], sym (append-nil os), subst {A = ℕ} (λ z. AreOuterOverlaps rules z os) (sym e) h)
       go (inr k) ih = begins_more (AreOuterOverlaps rules j) os h.0 h.1 h.2 (ih k)
 
   inner_inside : (i j : ℕ) (os : List Overlap) → AreInnerOverlaps rules i j os → j ≤ length rules

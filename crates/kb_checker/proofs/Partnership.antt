@@ -5,13 +5,12 @@ use Rattle.std.specs.List.Sorted.{IsStrictlyIncreasing}
 use Rattle.std.proofs.Math.Seq.{take-suc}
 use Rattle.std.proofs.lemmas.List.Elements.{Contains-append_left, Contains-append_right, Contains-append_cases}
 use Rattle.std.proofs.lemmas.Grind.{get_or_default_zero}
-use Rattle.std.proofs.lemmas.Option.{slice_get-get_or}
+use Rattle.std.proofs.lemmas.Option.{slice_get-get_or, same_Some}
 use Rattle.kb_term.specs.Tree.{Tree, variable}
 use Rattle.kb_term.specs.Position.{subtree_at, function_positions_of}
 use Rattle.kb_term.specs.Substitution.{instance}
 use Rattle.kb_term.specs.Rule.{Rule}
 use Rattle.kb_term.proofs.Instances.{instance-instance}
-use Rattle.kb_term.proofs.Subtrees.{some_same}
 use Rattle.kb_overlap.specs.Overlap.{Overlap, IsRenamedApart, HasNoOverlapAt, ListsOverlaps, overlap_positions}
 use Rattle.rule_index.specs.declared.index.RuleIndex.{RuleIndex}
 use Rattle.rule_index.specs.Marks.{marks_of}
@@ -20,6 +19,7 @@ use Rattle.rule_index.specs.Index.{IsThere, IsWith, MayOverlap}
 use Rattle.rule_index.proofs.Meeting.{agree_from_instance}
 use Rattle.kb_rewrite.proofs.Indexing.{smaller_before}
 use Rattle.std.proofs.lemmas.Bool.{cases_lt}
+use Rattle.kb_lemmas.proofs.Membership.{only_member}
 use Rattle.kb_checker.specs.Answers.{IsReady}
 use Rattle.kb_checker.specs.Verdicts.{AreOverlapsOf, AreInnerOverlaps}
 use Rattle.kb_checker.specs.Partners.{HoldsLeftSides, IsPartnerAt, IsPartner}
@@ -42,16 +42,12 @@ sides_more rules old new n rule there sides more = record {
     here : (i : ℕ) (r : Rule) → i < n + 1 → n ≤ i → slice_get rules i ≡ Some r → (i ≡ n) × (marks_of r.left ≡ marks_of rule.left)
     here i r h most e =
         let d : i ≡ n = omega (arith, h, most) in
-        (d, ap (λ (q : Rule). marks_of q.left) (some_same _ _ (sym (subst (λ k. slice_get rules k ≡ Some r) d e) ∙ there)))
+        (d, ap (λ (q : Rule). marks_of q.left) (same_Some _ _ (sym (subst (λ k. slice_get rules k ≡ Some r) d e) ∙ there)))
 
 -- ---- partners at one position more
 
 at_front : (index : RuleIndex) (left : Tree) (ps : List (List ℕ)) (p : List ℕ) (key : ℕ) → IsPartnerAt index left ps key → IsPartnerAt index left (ps ++ p ∷ []) key
 at_front index left ps p key (q, u, c, e, m) = (q, u, Contains-append_left ps (p ∷ []) q c, e, m)
-
-single : {X : Type 0} (p q : X) → Contains (p ∷ []) q → p ≡ q
-single p q (zero, l, e) = e
-single p q (suc k, l, e) = absurd (omega (arith, l))
 
 pub partners_more : (index : RuleIndex) (left : Tree) (ps : List (List ℕ)) (p : List ℕ) (u : Tree) (keys found new : List ℕ) → ((key : ℕ) → Contains keys key ↔ IsPartnerAt index left ps key) → subtree_at left p ≡ Some u
     → ((key : ℕ) → Contains found key ↔ MayOverlap index u key) → new ≡ keys ++ found → (key : ℕ) → Contains new key ↔ IsPartnerAt index left (ps ++ p ∷ []) key
@@ -62,7 +58,7 @@ partners_more index left ps p u keys found new old at here is key = (
       (Contains-append_cases keys found key (subst (λ (xs : List ℕ). Contains xs key) is c)),
   λ (q, v, c, e, m). subst (λ (xs : List ℕ). Contains xs key) (sym is) (⊎_elim
       (λ k. Contains-append_left keys found key ((old key).1 (q, v, k, e, m)))
-      (λ k. Contains-append_right keys found key ((here key).1 (subst (λ (w : Tree). MayOverlap index w key) (some_same _ _ (sym (subst (λ (r : List ℕ). subtree_at left r ≡ Some v) (sym (single p q k)) e) ∙ at)) m)))
+      (λ k. Contains-append_right keys found key ((here key).1 (subst (λ (w : Tree). MayOverlap index w key) (same_Some _ _ (sym (subst (λ (r : List ℕ). subtree_at left r ≡ Some v) (sym (only_member p q k)) e) ∙ at)) m)))
       (Contains-append_cases ps (p ∷ []) q c)),
 )
 
@@ -72,7 +68,7 @@ partners_same index left ps p keys old at key = (
   λ c. at_front index left ps p key ((old key).0 c),
   λ (q, v, c, e, m). ⊎_elim
       (λ k. (old key).1 (q, v, k, e, m))
-      (λ k. absurd (none v (sym (subst (λ (r : List ℕ). subtree_at left r ≡ Some v) (sym (single p q k)) e) ∙ at)))
+      (λ k. absurd (none v (sym (subst (λ (r : List ℕ). subtree_at left r ≡ Some v) (sym (only_member p q k)) e) ∙ at)))
       (Contains-append_cases ps (p ∷ []) q c),
 )
   where

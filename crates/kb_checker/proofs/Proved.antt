@@ -1,6 +1,7 @@
 -- The pairs of a right trace are proved by the equations.
 use Rattle.std.proofs.Common.{ℕ, zero, suc, ◌≡◌, ◌∙◌, refl, sym, ap, subst, arith, ⊎_elim, List, [], ◌∷◌, ◌++◌, Contains, Option, Some, None, Ok}
 use Rattle.std.proofs.lemmas.List.Elements.{Contains-append_cases}
+use Rattle.kb_lemmas.proofs.Membership.{contains_cases, slice_contains}
 use Rattle.kb_term.specs.Tree.{Tree, tree_eq}
 use Rattle.kb_term.specs.Position.{subtree_at}
 use Rattle.kb_term.specs.Substitution.{instance}
@@ -10,7 +11,6 @@ use Rattle.kb_term.specs.Proving.{RewritesAt}
 use Rattle.kb_term.specs.declared.limit.Limit.{Limit}
 use Rattle.kb_term.specs.declared.origin.Origin.{Origin}
 use Rattle.kb_term.specs.declared.origin.Origin.TheVariants.{Input, Rewrite, Overlap}
-use Rattle.kb_term.proofs.Steps.{contains_cases}
 use Rattle.kb_term.proofs.Subtrees.{subtree-instance}
 use Rattle.kb_term.proofs.Bridge.{step_from_position}
 use Rattle.kb_term.proofs.StepsInside.{reaches_instance}
@@ -19,7 +19,6 @@ use Rattle.kb_overlap.specs.Trace.{TraceStep, item, side, other_side, IsRightRew
 use Rattle.kb_trace.specs.Steps.{pairs_of}
 use Rattle.kb_laws.proofs.Conversion.{Either, Equal, equal_sym, equal_trans, equal_rule, equal_same, equal_variant, step_made_up}
 use Rattle.kb_laws.proofs.CompletionLaws.{Members}
-use Rattle.kb_laws.proofs.Closing.{slice_contains}
 use Rattle.kb_laws.proofs.LoneRule.{canonical_same, rule_same, same_turned, the_pair}
 
 -- the member with a number is in the list

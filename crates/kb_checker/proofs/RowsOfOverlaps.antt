@@ -2,12 +2,11 @@
 use Rattle.std.proofs.Common.{ℕ, zero, suc, ◌≡◌, ◌+◌, ◌<◌, ◌≤◌, ◌∙◌, refl, sym, ap, subst, subst₂, arith, inl, inr, ⊎_elim, List, [], ◌∷◌, ◌++◌, All, length, length-append, drop, map, Bool, true, false, ◌==◌}
 use Rattle.std.proofs.lemmas.List.{length-map}
 use Rattle.std.proofs.lemmas.List.Elements.{All-contains, Contains-append_left, Contains-append_right}
-use Rattle.std.proofs.lemmas.Option.{slice_get_within}
+use Rattle.std.proofs.lemmas.Option.{slice_get_within, same_Some}
 use Rattle.std.proofs.lemmas.Bool.{cases_order}
 use Rattle.kb_term.specs.Tree.{Tree, Trees, variable, apply, no_trees, more_trees, tree_size, trees_size}
 use Rattle.kb_term.specs.Position.{function_positions_of, function_positions_in}
 use Rattle.kb_term.specs.Rule.{Rule}
-use Rattle.kb_term.proofs.Subtrees.{some_same}
 use Rattle.kb_overlap.specs.Overlap.{Overlap, ListsOverlaps, IsOverlapList, overlap_positions}
 use Rattle.kb_laws.specs.Overlaps.{OverlapsClose}
 use Rattle.kb_laws.proofs.Complete.{all_from}
@@ -78,4 +77,4 @@ all_close rules os h g i j A B e d =
     let row = of_row rules (length rules) i os h g (slice_get_within rules i A e) in
     let two = of_two rules i (length rules) j row.0 row.1 row.2 (slice_get_within rules j B d) in
     let k = two.1 in
-    (two.0, subst₂ (λ x y. IsOverlapList x y (i == j) two.0) (some_same k.0 A (sym k.2 ∙ e)) (some_same k.1 B (sym k.3 ∙ d)) k.4, λ o c. All-contains (Closes rules) two.0 o two.2 c)
+    (two.0, subst₂ (λ x y. IsOverlapList x y (i == j) two.0) (same_Some k.0 A (sym k.2 ∙ e)) (same_Some k.1 B (sym k.3 ∙ d)) k.4, λ o c. All-contains (Closes rules) two.0 o two.2 c)

@@ -3,11 +3,12 @@ use Rattle.std.proofs.Common.{ℕ, ◌≤◌, ◌≡◌, subst, arith, List, [],
 use Rattle.std.specs.Prelude.{IsTrue, nat_le, nat_eq}
 use Rattle.std.specs.List.{list_all}
 use Rattle.std.proofs.lemmas.List.Elements.{All-contains, All-weaker, All-head}
+use Rattle.std.proofs.lemmas.Bool.{and_parts}
+use Rattle.kb_lemmas.proofs.Membership.{contains_mapped}
 use Rattle.kb_term.specs.Tree.{Tree}
 use Rattle.kb_term.specs.Rule.{Rule, IsRule}
 use Rattle.kb_term.specs.Signature.{Signature, IsWellFormed, IsRuleOver, IsEquationWithinLimits}
 use Rattle.kb_term.specs.Proving.{Proves, IsTerminating, equations_of}
-use Rattle.kb_term.proofs.Subtrees.{contains_mapped}
 use Rattle.kb_linear.specs.LinearOrder.{Interpretation, IsInterpretationOf, LinearGreater}
 use Rattle.kb_lpo.specs.PathOrder.{LpoGreater}
 use Rattle.kb_kbo.specs.KnuthBendix.{KboOrder, KboGreater}
@@ -19,7 +20,6 @@ use Rattle.kb_cert.specs.Family.{Orders}
 use Rattle.kb_cert.specs.declared.certificate.Certificate.{Certificate}
 use Rattle.kb_cert.specs.declared.certificate.Certificate.TheVariants.{Lpo, Linear, Kbo}
 use Rattle.kb_cert.proofs.OrderTexts.{tested}
-use Rattle.kb_cert.proofs.Fields.{both_true}
 use Rattle.kb_cert.proofs.RowLaws.{rows_small}
 use Rattle.kb_cert.proofs.FamilyLaws.{linear_rules}
 use Rattle.kb_laws.proofs.Conversion.{Equal, equal_made_up}
@@ -38,9 +38,9 @@ rows_fit [] [] h = tt
 rows_fit [] (row ∷ i) h = absurd (cc)
 rows_fit (f ∷ g) [] h = absurd (cc)
 rows_fit (f ∷ g) (row ∷ i) h =
-    let q = both_true (is_row f.arity row) (are_rows g i) h in
-    let r = both_true (nat_le row.0 15 && nat_eq (length row.1) f.arity) (list_all (is_between 1 3) row.1) q.0 in
-    let n : nat_eq (length row.1) f.arity ≡ true = (both_true (nat_le row.0 15) (nat_eq (length row.1) f.arity) r.0).1 in
+    let q = and_parts (is_row f.arity row) (are_rows g i) h in
+    let r = and_parts (nat_le row.0 15 && nat_eq (length row.1) f.arity) (list_all (is_between 1 3) row.1) q.0 in
+    let n : nat_eq (length row.1) f.arity ≡ true = (and_parts (nat_le row.0 15) (nat_eq (length row.1) f.arity) r.0).1 in
     let small = rows_small (f ∷ g) (row ∷ i) h 0 row (omega arith) in
     ((grind (arith, n), λ k d l. (small.coefficients k d l).0), rows_fit g i q.1)
 

@@ -1,7 +1,7 @@
 -- Lines that lead from one term to another.
 use Rattle.std.proofs.Common.{ℕ, suc, ◌+◌, ◌-◌, ◌<◌, ◌≡◌, ◌≢◌, refl, sym, ap, ap₂, ◌∙◌, subst, arith, List, [], ◌∷◌, ◌++◌, length, Contains, Option, Some, None, Ok, Err}
 use Rattle.std.specs.Prelude.{◌≤◌, ◌↔◌, slice_get, false, IsSomeAnd}
-use Rattle.std.proofs.lemmas.Option.{slice_get-get_or}
+use Rattle.std.proofs.lemmas.Option.{slice_get-get_or, same_Some}
 use Rattle.std.proofs.lemmas.List.Elements.{All-cons}
 use Rattle.kb_term.specs.Tree.{Tree, variables_of}
 use Rattle.kb_term.specs.Position.{subtree_at, replace_at}
@@ -16,7 +16,6 @@ use Rattle.kb_term.specs.Substitution.{instance}
 use Rattle.kb_term.specs.Proving.{RewritesAt}
 use Rattle.kb_term.proofs.Instances.{agree_at, instance-agree}
 use Rattle.kb_term.proofs.Steps.{occurs_from, occurs_to}
-use Rattle.kb_term.proofs.Subtrees.{some_same}
 use Rattle.kb_term.proofs.Bridge.{step_from_position}
 use Rattle.kb_term.proofs.FewArguments.{few_from_arities}
 use Rattle.kb_term.specs.FewArguments.{HasFewArguments}
@@ -36,21 +35,21 @@ use Rattle.kb_decide.specs.declared.decision.Line.{Line}
 -- a rule that holds its variables rewrites at a position in one way
 rewrites_once : (rule : Rule) (p : List ℕ) (t u v : Tree) → ((n : ℕ) → Contains (variables_of rule.right) n → Contains (variables_of rule.left) n) → RewritesAt rule p t u → RewritesAt rule p t v → u ≡ v
 rewrites_once rule p t u v held (m, w) (k, z) =
-    let same : instance m rule.left ≡ instance k rule.left = some_same _ _ (sym w.redex ∙ z.redex) in
+    let same : instance m rule.left ≡ instance k rule.left = same_Some _ _ (sym w.redex ∙ z.redex) in
     let right = instance-agree m k rule.right (λ n o. agree_at m k rule.left same n (occurs_from n rule.left (held n (occurs_to n rule.right o)))) in
-    some_same _ _ (sym w.result ∙ ap (replace_at t p) right ∙ z.result)
+    same_Some _ _ (sym w.result ∙ ap (replace_at t p) right ∙ z.result)
 
 -- a rule at its place in the list is one of the list
 pub among : (rules : List Rule) (i : ℕ) (rule : Rule) → slice_get rules i ≡ Some rule → Contains rules rule
 among rules i rule there =
     let inside = rule_inside rules i rule there in
-    (i, inside, some_same _ _ (sym (slice_get-get_or rules i rule inside) ∙ there))
+    (i, inside, same_Some _ _ (sym (slice_get-get_or rules i rule inside) ∙ there))
 
 -- the step of a line is one
 pub step_once : (rules : List Rule) (line : Line) (s u v : Tree) → HoldVariables rules → IsStepBy rules line s u → IsStepBy rules line s v → u ≡ v
 step_once rules line s u v held one other =
     let same_index : other.index ≡ one.index = omega (arith, one.number, other.number) in
-    let same : other.rule ≡ one.rule = some_same _ _ (sym other.there ∙ ap (slice_get rules) same_index ∙ one.there) in
+    let same : other.rule ≡ one.rule = same_Some _ _ (sym other.there ∙ ap (slice_get rules) same_index ∙ one.there) in
     rewrites_once one.rule line.position s u v (held one.rule (among rules one.index one.rule one.there)) one.rewrites (subst (λ (r : Rule). RewritesAt r line.position s v) same other.rewrites)
 
 -- what a line's rule makes is its step

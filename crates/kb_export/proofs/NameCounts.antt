@@ -2,12 +2,13 @@
 use Rattle.std.proofs.Common.{◌≡◌, refl, ap, ap₂, sym, ◌∙◌, arith, ℕ, ◌+◌, ◌<◌, ◌≤◌, ◌==◌, List, [], ◌∷◌, Bool, true, false, not, ◌&&◌, ◌||◌, cond, length}
 use Rattle.std.specs.Prelude.{bytes_eq, filter, map, ⊤}
 use Rattle.std.specs.List.{list_all}
-use Rattle.std.proofs.lemmas.Bool.{false≢true, eqb-true, eq-eqb}
+use Rattle.std.proofs.lemmas.Bool.{false≢true, eqb-true, eq-eqb, and_parts}
+use Rattle.std.proofs.Math.Bool.{and-false}
+use Rattle.kb_lemmas.proofs.Numbers.{eq_turn}
 use Rattle.kb_term.specs.Pair.{distinct, place_in}
 use Rattle.kb_text.specs.Names.{Name, is_among, number_of, firsts}
 use Rattle.kb_text.specs.Terms.{prefix_length, variable_text}
 use Rattle.kb_text.proofs.Firsts.{same_bytes}
-use Rattle.kb_text.proofs.Identifiers.{and_true}
 use Rattle.kb_text.proofs.RewrittenLists.{among-filter, same_name}
 use Rattle.kb_text.proofs.VariableTexts.{one_variable}
 use Rattle.kb_export.specs.RuleTexts.{bound_of}
@@ -19,16 +20,12 @@ abbrev Differ : List Name → Type 0
 Differ [] = ⊤
 Differ (x ∷ xs) = (is_among xs x ≡ false) × Differ xs
 
-and_false : (v : Bool) → (v && false) ≡ false
-and_false true = refl
-and_false false = refl
-
 differ_filter : (p : Name → Bool) (xs : List Name) → Differ xs → Differ (filter p xs)
 differ_filter p [] d = tt
 differ_filter p (x ∷ xs) d = go (p x) (differ_filter p xs d.1)
   where
     go : (v : Bool) → Differ (filter p xs) → Differ (cond v (x ∷ filter p xs) (filter p xs))
-    go true h = (among-filter p xs x ∙ ap (p x &&◌) d.0 ∙ and_false (p x), h)
+    go true h = (among-filter p xs x ∙ ap (p x &&◌) d.0 ∙ and-false (p x), h)
     go false h = h
 
 differ_firsts : (xs : List Name) → Differ (firsts xs)
@@ -64,7 +61,7 @@ filter_lost y (x ∷ xs) h = go (bytes_eq x y) refl (filter_less (λ z. not (byt
 unique_less : (xs ys : List Name) → Differ xs → list_all (is_among ys) xs ≡ true → length xs ≤ length ys
 unique_less [] ys d h = omega arith
 unique_less (x ∷ xs) ys d h =
-    let r = and_true (is_among ys x) (list_all (is_among ys) xs) h in
+    let r = and_parts (is_among ys x) (list_all (is_among ys) xs) h in
     let rest = unique_less xs (filter (λ z. not (bytes_eq z x)) ys) d.1 (others xs d.0 r.1) in
     omega (arith, rest, filter_lost x ys r.0)
   where
@@ -79,20 +76,20 @@ unique_less (x ∷ xs) ys d h =
     others : (zs : List Name) → is_among zs x ≡ false → list_all (is_among ys) zs ≡ true → list_all (is_among (filter (λ z. not (bytes_eq z x)) ys)) zs ≡ true
     others [] a g = refl
     others (z ∷ zs) a g =
-        let q = and_true (is_among ys z) (list_all (is_among ys) zs) g in
+        let q = and_parts (is_among ys z) (list_all (is_among ys) zs) g in
         ap₂ ◌&&◌ (among-filter (λ z. not (bytes_eq z x)) ys z ∙ ap₂ (λ v w. not v && w) (differ z zs a (bytes_eq z x) refl) q.0) (others zs (behind (bytes_eq x z) (is_among zs x) a) q.1)
 
 all_filter : (p q : Name → Bool) (xs : List Name) → list_all p xs ≡ true → list_all p (filter q xs) ≡ true
 all_filter p q [] h = refl
-all_filter p q (x ∷ xs) h = go (all_filter p q xs (and_true (p x) (list_all p xs) h).1) (q x)
+all_filter p q (x ∷ xs) h = go (all_filter p q xs (and_parts (p x) (list_all p xs) h).1) (q x)
   where
     go : list_all p (filter q xs) ≡ true → (v : Bool) → list_all p (cond v (x ∷ filter q xs) (filter q xs)) ≡ true
-    go next true = ap₂ ◌&&◌ (and_true (p x) (list_all p xs) h).0 next
+    go next true = ap₂ ◌&&◌ (and_parts (p x) (list_all p xs) h).0 next
     go next false = next
 
 all_firsts : (p : Name → Bool) (xs : List Name) → list_all p xs ≡ true → list_all p (firsts xs) ≡ true
 all_firsts p [] h = refl
-all_firsts p (x ∷ xs) h = let r = and_true (p x) (list_all p xs) h in ap₂ ◌&&◌ r.0 (all_filter p (λ y. not (bytes_eq y x)) (firsts xs) (all_firsts p xs r.1))
+all_firsts p (x ∷ xs) h = let r = and_parts (p x) (list_all p xs) h in ap₂ ◌&&◌ r.0 (all_filter p (λ y. not (bytes_eq y x)) (firsts xs) (all_firsts p xs r.1))
 
 -- names among some others are no more than those
 pub few_firsts : (xs ys : List Name) → list_all (is_among ys) xs ≡ true → length (firsts xs) ≤ length ys
@@ -138,12 +135,9 @@ firsts_variables names (n ∷ ns) h =
     ap (λ xs. variable_text names n ∷ filter (λ y. not (bytes_eq y (variable_text names n))) xs) (firsts_variables names ns (omega (arith, h)))
     ∙ ap (variable_text names n ∷◌) (filter_variables names n (distinct ns) (omega (arith, h)) (omega (arith, h, bound_distinct ns)))
 
-eqb_comm : (j k : ℕ) → (j == k) ≡ (k == j)
-eqb_comm j k = grind arith
-
 pub number_variable : (names : List Name) (ns : List ℕ) (k : ℕ) → bound_of ns ≤ 64 → k < 64 → number_of (map (variable_text names) ns) (variable_text names k) ≡ place_in ns k
 number_variable names [] k h l = refl
-number_variable names (n ∷ ns) k h l = ap₂ (λ v m. cond v 0 (m + 1)) (variable_test names k n l (omega (arith, h)) ∙ eqb_comm k n) (number_variable names ns k (omega (arith, h)) l) ∙ go (n == k) refl
+number_variable names (n ∷ ns) k h l = ap₂ (λ v m. cond v 0 (m + 1)) (variable_test names k n l (omega (arith, h)) ∙ eq_turn k n) (number_variable names ns k (omega (arith, h)) l) ∙ go (n == k) refl
   where
     go : (v : Bool) → (n == k) ≡ v → cond (n == k) 0 (place_in ns k + 1) ≡ place_in (n ∷ ns) k
     go true e = rw e refl

@@ -2,10 +2,12 @@
 use Rattle.std.proofs.Common.{◌≡◌, refl, ap, ap₂, sym, ◌∙◌, subst, arith, append-nil, append_assoc, ℕ, zero, suc, ◌+◌, ◌<◌, ◌≤◌, max, List, [], ◌∷◌, ◌++◌, Bool, true, false, not, ◌&&◌, ◌||◌, cond, Some, length, get_or, All, length-append}
 use Rattle.std.specs.Prelude.{bytes_eq, decimal, filter, map, nat_eq, nat_le, replicate, unwrap_or, ⊤}
 use Rattle.std.specs.List.{list_all, range_with_len}
-use Rattle.std.proofs.lemmas.Bool.{eq-eqb, eqb-true, le-leb}
+use Rattle.std.proofs.lemmas.Bool.{eq-eqb, eqb-true, le-leb, and_parts}
 use Rattle.std.proofs.lemmas.Fmt.{length-decimal-le}
-use Rattle.std.proofs.lemmas.List.{get_or-map, length-map, map-append}
+use Rattle.std.proofs.lemmas.List.{get_or-map, length-map, map-append, length-replicate}
 use Rattle.std.proofs.lemmas.List.Elements.{Contains-get_or, filter-append}
+use Rattle.std.proofs.Math.Bool.{or-true}
+use Rattle.kb_lemmas.proofs.Lists.{all_join}
 use Rattle.kb_term.specs.Pair.{Pair, place_in, variables_of_pair}
 use Rattle.kb_term.specs.Signature.{Signature, SymbolEntry, Problem, IsSignature, HasArity, IsTermWithinLimits, IsEquationWithinLimits, IsWithinLimits}
 use Rattle.kb_term.specs.Tree.{Tree, variables_of}
@@ -17,10 +19,9 @@ use Rattle.kb_text.specs.Rewritten.{written_term}
 use Rattle.kb_text.specs.TermReading.{IsBounded}
 use Rattle.kb_text.specs.Terms.{names_of, prefix_length, symbol_text, term_text, variable_text}
 use Rattle.kb_text.proofs.Firsts.{same_bytes, is_among-firsts}
-use Rattle.kb_text.proofs.Identifiers.{and_true}
 use Rattle.kb_text.proofs.Prefixes.{prefix_small}
 use Rattle.kb_text.proofs.ProblemTokens.{IsBoundedEquation}
-use Rattle.kb_text.proofs.RewrittenTerms.{AreApart, all_join, at_number, number_within}
+use Rattle.kb_text.proofs.RewrittenTerms.{AreApart, at_number, number_within}
 use Rattle.kb_text.proofs.RewrittenLists.{among-filter, no_symbol_is_variable, same_name, variables_apart, variables_cover, variables_distinct}
 use Rattle.kb_text.proofs.RewrittenEquations.{AreGoodEquations, agrees, good_equations}
 use Rattle.kb_text.proofs.TermParts.{spelled_bounded}
@@ -132,9 +133,9 @@ symbol_arity signature s f n h =
 -- uses that agree with one function agree with each other
 first_arity : (g : Name → ℕ) (before : List (Name × ℕ)) (u : Name × ℕ) (behind : List (Name × ℕ)) → list_all (λ (u : Name × ℕ). nat_eq u.1 (g u.0)) (before ++ u ∷ behind) ≡ true → arity_in (before ++ u ∷ behind) u.0 ≡ Some (g u.0)
 first_arity g [] u behind h =
-    ap (λ v. cond v (Some u.1) (arity_in behind u.0)) (same_name u.0) ∙ ap Some (eqb-true u.1 (g u.0) (and_true (nat_eq u.1 (g u.0)) (list_all (λ (u : Name × ℕ). nat_eq u.1 (g u.0)) behind) h).0)
+    ap (λ v. cond v (Some u.1) (arity_in behind u.0)) (same_name u.0) ∙ ap Some (eqb-true u.1 (g u.0) (and_parts (nat_eq u.1 (g u.0)) (list_all (λ (u : Name × ℕ). nat_eq u.1 (g u.0)) behind) h).0)
 first_arity g (b ∷ before) u behind h =
-    let r = and_true (nat_eq b.1 (g b.0)) (list_all (λ (u : Name × ℕ). nat_eq u.1 (g u.0)) (before ++ u ∷ behind)) h in
+    let r = and_parts (nat_eq b.1 (g b.0)) (list_all (λ (u : Name × ℕ). nat_eq u.1 (g u.0)) (before ++ u ∷ behind)) h in
     go r.0 (bytes_eq u.0 b.0) refl (first_arity g before u behind r.1)
   where
     go : nat_eq b.1 (g b.0) ≡ true → (v : Bool) → bytes_eq u.0 b.0 ≡ v → arity_in (before ++ u ∷ behind) u.0 ≡ Some (g u.0) → cond (bytes_eq u.0 b.0) (Some b.1) (arity_in (before ++ u ∷ behind) u.0) ≡ Some (g u.0)
@@ -144,21 +145,17 @@ first_arity g (b ∷ before) u behind h =
 all_agree : (g : Name → ℕ) (before us : List (Name × ℕ)) → list_all (λ (u : Name × ℕ). nat_eq u.1 (g u.0)) (before ++ us) ≡ true → list_all (λ (u : Name × ℕ). nat_eq u.1 (g u.0)) us ≡ true → list_all (agrees (before ++ us)) us ≡ true
 all_agree g before [] h k = refl
 all_agree g before (u ∷ us) h k =
-    let r = and_true (nat_eq u.1 (g u.0)) (list_all (λ (u : Name × ℕ). nat_eq u.1 (g u.0)) us) k in
+    let r = and_parts (nat_eq u.1 (g u.0)) (list_all (λ (u : Name × ℕ). nat_eq u.1 (g u.0)) us) k in
     let more = append_assoc before (u ∷ []) us in
     ap₂ ◌&&◌ (ap (λ o. nat_eq u.1 (unwrap_or o 0)) (first_arity g before u us h) ∙ r.0)
     (subst (λ (all : List (Name × ℕ)). list_all (agrees all) us ≡ true) more (all_agree g (before ++ u ∷ []) us (ap (list_all (λ (u : Name × ℕ). nat_eq u.1 (g u.0))) more ∙ h) r.1))
 
 -- ---- lengths
 
-letters_count : (n : ℕ) → length {A = ℕ} (replicate n 120) ≡ n
-letters_count zero = refl
-letters_count (suc n) = omega (arith, letters_count n)
-
 short_variable : (names : List Name) (k : ℕ) → length names ≤ 24 → k < 64 → nat_le (length (variable_text names k)) 64 ≡ true
 short_variable names k few l =
     let digits : length (decimal (k + 1)) ≤ 2 = length-decimal-le 2 (k + 1) (omega arith) (omega arith) (omega arith) in
-    le-leb (length (variable_text names k)) 64 (omega (arith, digits, prefix_small names, length-append (replicate (prefix_length names) 120) (decimal (k + 1)), letters_count (prefix_length names)))
+    le-leb (length (variable_text names k)) 64 (omega (arith, digits, prefix_small names, length-append (replicate (prefix_length names) 120) (decimal (k + 1)), length-replicate {A = ℕ} (prefix_length names) 120))
 
 short_variables : (names : List Name) (n k : ℕ) → length names ≤ 24 → k + n ≤ 64 → list_all (λ (x : Name). nat_le (length x) 64) (map (variable_text names) (range_with_len k n)) ≡ true
 short_variables names zero k few l = refl
@@ -172,7 +169,7 @@ short_symbol signature s f h =
 others_pass : (a b : Name → Bool) (ns : List Name) → list_all (λ c. a c || b c) ns ≡ true → list_all b (filter (λ c. not (a c)) ns) ≡ true
 others_pass a b [] h = refl
 others_pass a b (n ∷ ns) h =
-    let r = and_true (a n || b n) (list_all (λ c. a c || b c) ns) h in
+    let r = and_parts (a n || b n) (list_all (λ c. a c || b c) ns) h in
     go (a n) r.0 (others_pass a b ns r.1)
   where
     go : (v : Bool) → (v || b n) ≡ true → list_all b (filter (λ c. not (a c)) ns) ≡ true → list_all b (cond (not v) (n ∷ filter (λ c. not (a c)) ns) (filter (λ c. not (a c)) ns)) ≡ true
@@ -182,10 +179,6 @@ others_pass a b (n ∷ ns) h =
 names_of-entries : (uses : List (Name × ℕ)) (symbols : List Name) → names_of (map (entry_of uses) symbols) ≡ symbols
 names_of-entries uses [] = refl
 names_of-entries uses (x ∷ xs) = ap (x ∷◌) (names_of-entries uses xs)
-
-or_true : (v : Bool) → (v || true) ≡ true
-or_true true = refl
-or_true false = refl
 
 -- ---- the whole
 
@@ -263,7 +256,7 @@ module _ (p : Problem) (s : IsSignature p.signature) (w : IsWithinLimits p) wher
 
   few_symbols : length symbols ≤ 24
   few_symbols =
-      let known = names_pass signature most (λ c. is_among xs c || is_among names c) (λ k l. ap (λ v. v || is_among names (variable_text names k)) (covers k l)) (λ f h. ap (is_among xs (symbol_text names f) ||◌) (symbol_among signature f h) ∙ or_true (is_among xs (symbol_text names f))) p.equations fine in
+      let known = names_pass signature most (λ c. is_among xs c || is_among names c) (λ k l. ap (λ v. v || is_among names (variable_text names k)) (covers k l)) (λ f h. ap (is_among xs (symbol_text names f) ||◌) (symbol_among signature f h) ∙ or-true (is_among xs (symbol_text names f))) p.equations fine in
       let few = few_firsts (symbols_among xs (all_names es)) names (others_pass (is_among xs) (is_among names) (all_names es) known) in
       omega (arith, few, few_names)
 

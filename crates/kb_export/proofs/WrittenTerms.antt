@@ -4,6 +4,8 @@ use Rattle.std.specs.Prelude.{bytes_eq, filter, map, ⊤}
 use Rattle.std.specs.List.{list_all}
 use Rattle.std.proofs.lemmas.List.{map-append}
 use Rattle.std.proofs.lemmas.List.Elements.{filter-append}
+use Rattle.std.proofs.lemmas.Bool.{and_parts}
+use Rattle.kb_lemmas.proofs.Lists.{all_join}
 use Rattle.kb_term.specs.Signature.{Signature, HasArity}
 use Rattle.kb_term.specs.Substitution.{rename, instances}
 use Rattle.kb_term.specs.Tree.{Tree, variable, apply, Trees, no_trees, more_trees, list_of, variables_of, variables_in, tree_size, trees_size, tree_depth, trees_depth}
@@ -12,9 +14,8 @@ use Rattle.kb_text.specs.Problems.{names_in, names_in_all, uses_in, uses_in_all,
 use Rattle.kb_text.specs.Rewritten.{written_term, written_terms}
 use Rattle.kb_text.specs.TermReading.{IsBounded, AreBounded}
 use Rattle.kb_text.specs.Terms.{names_of, variable_text, symbol_text}
-use Rattle.kb_text.proofs.Identifiers.{and_true}
 use Rattle.kb_text.proofs.RewrittenLists.{same_name}
-use Rattle.kb_text.proofs.RewrittenTerms.{AreApart, IsSymbol, all_join, all_split, at_number, good_other, is_good}
+use Rattle.kb_text.proofs.RewrittenTerms.{AreApart, IsSymbol, all_split, at_number, good_other, is_good}
 use Rattle.kb_text.proofs.TermTexts.{arity_within}
 use Rattle.kb_export.specs.ReadBack.{IsSameTerm, AreSameTerms}
 use Rattle.kb_export.specs.RuleTexts.{bound_of}
@@ -183,14 +184,14 @@ module _ (signature : Signature) (m : ℕ) (xs found symbols : List Name) (place
     pub term_read : (d : ℕ) (t : Tree) → IsBounded signature d t → IsBelow m t → list_all (is_good xs found symbols) (names_in (written_term (names_of signature) t)) ≡ true → rename place t ≡ t → IsSameTerm (names_of signature) t symbols (term_of found symbols (written_term (names_of signature) t))
     term_read d (variable k) b l g e =
         let name = variable_text (names_of signature) k in
-        let good = (and_true (is_good xs found symbols name) true g).0 in
+        let good = (and_parts (is_good xs found symbols name) true g).0 in
         let there : is_among found name ≡ true = sym (ap (λ v. cond v (is_among found name) (not (is_among found name) && is_among symbols name)) (covers k l)) ∙ good in
         let is : term_of found symbols (written_term (names_of signature) (variable k)) ≡ variable (number_of found name) = ap (λ v. cond v (variable (number_of found name)) (apply (number_of symbols name) no_trees)) there in
         subst (IsSameTerm (names_of signature) (variable k) symbols) (sym is) (sym (numbers k l ∙ ap (λ t. variable_in t k) e))
     term_read d (apply f ts) b l g e =
         let name = symbol_text (names_of signature) f in
         let inside = arity_within signature f (length (list_of ts)) b.1 in
-        let h = and_true (is_good xs found symbols name) (list_all (is_good xs found symbols) (names_in_all (written_terms (names_of signature) ts))) (ap (list_all (is_good xs found symbols)) (sym (apply_names (names_of signature) f ts)) ∙ g) in
+        let h = and_parts (is_good xs found symbols name) (list_all (is_good xs found symbols) (names_in_all (written_terms (names_of signature) ts))) (ap (list_all (is_good xs found symbols)) (sym (apply_names (names_of signature) f ts)) ∙ g) in
         let s : IsSymbol xs found symbols name = good_other xs found symbols name h.0 (apart name (symbol_among signature f inside)) in
         subst (IsSameTerm (names_of signature) (apply f ts) symbols) (sym (apply_read (names_of signature) found symbols f ts s.not_found))
         (sym (at_number symbols name s.symbol), terms_read (d - 1) ts b.2 l h.1 (ap arguments_in e))

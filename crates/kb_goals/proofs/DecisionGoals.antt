@@ -1,6 +1,5 @@
 -- The goals behind a good answer are decided by its rules.
-use Rattle.std.proofs.Common.{◌≡◌, ◌≤◌, sym, subst, arith, List, [], ◌∷◌, ◌++◌}
-use Rattle.std.specs.List.{AllZip}
+use Rattle.std.proofs.Common.{◌≡◌, ◌≤◌, sym, subst, arith, List}
 use Rattle.std.proofs.lemmas.List.Elements.{All-weaker}
 use Rattle.kb_term.specs.Rule.{Rule}
 use Rattle.kb_term.specs.Signature.{SymbolEntry, IsEquationWithinLimits}
@@ -17,9 +16,3 @@ goal_for a rules goal i g r e =
       left_over = e.left.well_formed;
       right_over = e.right.well_formed;
     })
-
-pub zip_push : {X Y : Type 0} (R : X → Y → Type 0) (xs : List X) (ys : List Y) (x : X) (y : Y) → AllZip R xs ys → R x y → AllZip R (xs ++ x ∷ []) (ys ++ y ∷ [])
-zip_push R [] [] x y h r = (r, tt)
-zip_push R [] (b ∷ ys) x y h r = absurd h
-zip_push R (a ∷ xs) [] x y h r = absurd h
-zip_push R (a ∷ xs) (b ∷ ys) x y h r = (h.0, zip_push R xs ys x y h.1 r)

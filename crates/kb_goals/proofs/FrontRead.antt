@@ -2,6 +2,7 @@
 use Rattle.std.proofs.Common.{append-nil, append_assoc, take-append-drop, Some, ◌≡◌, refl, ap, ap₂, sym, ◌∙◌, subst, arith, ℕ, ◌+◌, ◌-◌, ◌≤◌, List, [], ◌∷◌, ◌++◌, length, length-append, take, drop}
 use Rattle.std.specs.Prelude.{codes}
 use Rattle.std.proofs.lemmas.List.{drop-drop, drop_all, length-drop, take_all, append_cancel_right}
+use Rattle.kb_trace.proofs.TraceLines.{no_feed}
 use Rattle.kb_text.specs.Fields.{IsWithout, IsTextFault}
 use Rattle.kb_text.specs.Lines.{first_lines, Begins, IsBadLine}
 use Rattle.kb_text.specs.declared.fault.TextFault.{TextFault}
@@ -13,7 +14,6 @@ use Rattle.kb_report.specs.Answers.{IsTextOf, IsSystemText}
 use Rattle.kb_report.specs.Sections.{Lines, text_of, IsFirstLine, BeginsWith, IsBadFrom, IsSectionFault}
 use Rattle.kb_report.proofs.Fronts.{front_of_lines}
 use Rattle.kb_report.proofs.LinesOfTexts.{text_of-append, are_without-front, front_of_text, first_of_lines}
-use Rattle.kb_report.proofs.ReadLines.{no_feed}
 use Rattle.kb_report.proofs.StepsRead.{are_without}
 use Rattle.kb_report.proofs.SystemForm.{end_word, end_without}
 use Rattle.kb_goals.specs.Asking.{AnswerLines, AreOtherLines, IsUpToEnd, ended, endless}

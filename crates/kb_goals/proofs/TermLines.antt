@@ -1,6 +1,7 @@
 -- Terms as a kind of question.
 use Rattle.std.proofs.Common.{◌≡◌, refl, subst, arith, ℕ, List}
 use Rattle.std.specs.Prelude.{codes}
+use Rattle.kb_trace.proofs.OneStep.{again}
 use Rattle.kb_term.specs.Signature.{Signature, IsSignature}
 use Rattle.kb_term.specs.Tree.{Tree, variable}
 use Rattle.kb_text.specs.Fields.{IsWithout}
@@ -9,7 +10,7 @@ use Rattle.kb_text.proofs.PlainTexts.{feed_blank, text_without}
 use Rattle.kb_text.proofs.TermParts.{one_spelled, spelled_bounded}
 use Rattle.kb_report.proofs.SectionLaws.{items_section}
 use Rattle.kb_report.proofs.SidesRead.{some_equation}
-use Rattle.kb_report.proofs.SystemLines.{again, sides_spelled}
+use Rattle.kb_report.proofs.SystemLines.{sides_spelled}
 use Rattle.kb_goals.specs.Simplifying.{IsNumberedTerm, IsTermLine}
 use Rattle.kb_goals.proofs.Asked.{IsKind}
 

@@ -1,21 +1,21 @@
 -- Groups of overlaps: what each adds, and how they make up the overlaps of all pairs of rules.
 use Rattle.std.proofs.Common.{ℕ, zero, suc, ◌≤◌, ◌≡◌, refl, sym, ap, ◌∙◌, subst, arith, List, [], ◌∷◌, ◌++◌, map, take, drop, flat_map, length, Contains, append_assoc, Bool, true, false, Option, Some, None, Ok, ⊎_elim}
-use Rattle.std.specs.Prelude.{slice_get, if◌then◌else◌, nat_lt}
-use Rattle.std.proofs.lemmas.Bool.Decides.{nat_tests}
+use Rattle.std.specs.Prelude.{slice_get, if◌then◌else◌}
 use Rattle.std.proofs.lemmas.List.{append-nil}
 use Rattle.std.proofs.lemmas.List.Concat.{flat_map-append}
 use Rattle.std.proofs.lemmas.List.Elements.{Contains-append_cases}
+use Rattle.std.proofs.lemmas.Bool.{ltb-false}
+use Rattle.kb_lemmas.proofs.Membership.{contains_cases, none_in}
+use Rattle.kb_lemmas.proofs.Options.{none_some, some_is}
 use Rattle.kb_term.specs.Tree.{Tree}
 use Rattle.kb_term.specs.Pair.{Pair, variables_of_pair, pair_limit, first_limit, limit_if}
 use Rattle.kb_term.specs.declared.limit.Limit.{Limit}
 use Rattle.kb_term.specs.declared.limit.Limit.TheVariants.{Size, Depth, Variables}
 use Rattle.kb_term.specs.declared.origin.RuleRef.{RuleRef}
-use Rattle.kb_term.proofs.Steps.{contains_cases}
 use Rattle.kb_node.specs.declared.job.Deduced.{Deduced}
 use Rattle.kb_overlap.specs.Overlap.{pair_or_limit}
 use Rattle.mkb_model.specs.Jobs.{ref_eq}
 use Rattle.mkb_model.specs.Proposals.{NamedRule, NamedOverlap, OverlapsOf, OverlapsOfAll, both_ways, own_limit, FirstThat, deduced_pair, AreDeduced}
-use Rattle.mkb_model.proofs.Lists.{none_in, none_some, some_is}
 use Rattle.mkb_model.proofs.Deductions.{named_overlap as one_overlap}
 use Rattle.kb_jobs.specs.Groups.{AreFew, AddsPairs, AreGroupsOf, IsGroup, overlaps_in, origin_of}
 use Rattle.kb_jobs.specs.declared.groups.Group.{Group}
@@ -31,11 +31,6 @@ pub split_there : {X : Type 0} (xs : List X) (i : ℕ) (x : X) → slice_get xs 
 split_there [] i x e = none_some e
 split_there (y ∷ ys) zero x e = ap (λ z. z ∷ ys) (some_is e)
 split_there (y ∷ ys) (suc i) x e = ap (λ zs. y ∷ zs) (split_there ys i x e)
-
-pub map_there : {X Y : Type 0} (f : X → Y) (xs : List X) (i : ℕ) (x : X) → slice_get xs i ≡ Some x → slice_get (map f xs) i ≡ Some (f x)
-map_there f [] i x e = none_some e
-map_there f (y ∷ ys) zero x e = ap (λ z. Some (f z)) (some_is e)
-map_there f (y ∷ ys) (suc i) x e = map_there f ys i x e
 
 pub take_length : {X : Type 0} (xs : List X) (i : ℕ) → length xs ≤ i → take i xs ≡ xs
 take_length [] zero h = refl
@@ -112,11 +107,8 @@ last_none false true c e = none_some (sym e)
 last_none false false true e = none_some (sym e)
 last_none false false false e = refl
 
-not_more : (m n : ℕ) → nat_lt m n ≡ false → n ≤ m
-not_more m n h = grind (arith, nat_tests)
-
 pub pair_few : (s t : Tree) → pair_limit s t ≡ None → AreFew s t
-pair_few s t e = not_more 64 (length (variables_of_pair s t)) (last_none _ _ _ e)
+pair_few s t e = ltb-false 64 (length (variables_of_pair s t)) (last_none _ _ _ e)
 
 third_none : (a b c : Option Limit) → first_limit (a ∷ b ∷ c ∷ []) ≡ None → c ≡ None
 third_none None None None e = refl

@@ -1,11 +1,12 @@
 -- What the first order for some rules says of them and one more.
-use Rattle.std.proofs.Common.{◌≡◌, ◌-◌, ◌∙◌, refl, ap, sym, subst, arith, List, [], ◌∷◌, ◌++◌, length, Contains, Some, length-append}
+use Rattle.std.proofs.Common.{◌≡◌, ◌-◌, ◌∙◌, ap, sym, subst, arith, List, [], ◌∷◌, ◌++◌, length, Contains, Some, length-append}
 use Rattle.std.specs.Prelude.{slice_get}
 use Rattle.std.proofs.lemmas.List.Elements.{Contains-append_left}
+use Rattle.kb_lemmas.proofs.Lists.{last_at}
+use Rattle.kb_lemmas.proofs.Options.{some_is}
 use Rattle.kb_term.specs.Rule.{Rule}
 use Rattle.kb_cert.specs.Family.{Orders, IsFirstOrder, IsLowerBound, FirstBoundsMore}
 use Rattle.kb_cert.proofs.Ordering.{all_from, orders_push}
-use Rattle.mkb_model.proofs.Lists.{some_is}
 use Rattle.kb_jobs.specs.Orienting.{AreOneMore}
 use Rattle.kb_jobs.specs.declared.orienting.OrientSnapshot.{OrientSnapshot}
 
@@ -13,11 +14,6 @@ use Rattle.kb_jobs.specs.declared.orienting.OrientSnapshot.{OrientSnapshot}
 pub bound_in_force : (s : OrientSnapshot) (rules : List Rule) → FirstBoundsMore s.family s.signature → AreOneMore s rules → IsLowerBound s.family s.signature rules s.in_force
 bound_in_force s rules more (some, rule, e, first) =
     more some rules s.in_force (all_from (Contains rules) some (λ r i. subst {A = List Rule} (λ z. Contains z r) (sym e) (Contains-append_left some (rule ∷ []) r i))) first
-
--- the last of some and one more is that one
-last_at : {X : Type 0} (xs : List X) (x : X) → slice_get (xs ++ x ∷ []) (length xs) ≡ Some x
-last_at [] x = refl
-last_at (y ∷ xs) x = last_at xs x
 
 pub last_is : (rules : List Rule) (last : Rule) → slice_get rules (length rules - 1) ≡ Some last → (some : List Rule) (rule : Rule) → rules ≡ some ++ rule ∷ [] → last ≡ rule
 last_is rules last h some rule e =

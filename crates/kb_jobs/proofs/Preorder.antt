@@ -4,11 +4,11 @@ use Rattle.std.specs.Prelude.{⊤, option_and_then}
 use Rattle.std.specs.Ordering.{ordering_then}
 use Rattle.std.proofs.lemmas.Bool.Decides.{nat_tests}
 use Rattle.std.proofs.lemmas.List.Elements.{Contains-append_cases, Contains-append_left, Contains-append_right}
+use Rattle.kb_lemmas.proofs.Membership.{contains_behind, contains_first, none_in, contains_mapped, contains_map}
+use Rattle.kb_lemmas.proofs.Options.{none_some}
 use Rattle.kb_term.specs.Tree.{Tree, variable, apply, Trees, no_trees, more_trees}
 use Rattle.kb_term.specs.Position.{subtree_at, argument, positions_of, positions_in}
-use Rattle.kb_term.proofs.Steps.{contains_behind, contains_first}
 use Rattle.mkb_model.specs.Jobs.{numbers_cmp}
-use Rattle.mkb_model.proofs.Lists.{none_in, none_some, map_in, in_map}
 
 pub nat_less : (m n : ℕ) → m + 1 ≤ n → nat_cmp m n ≡ Less
 nat_less m n h = grind (arith, nat_tests)
@@ -32,20 +32,20 @@ ascending_append (p ∷ ps) qs h k l =
 ascending_map : (n : ℕ) (ps : List (List ℕ)) → Ascending ps → Ascending (map (λ p. n ∷ p) ps)
 ascending_map n [] h = tt
 ascending_map n (p ∷ ps) h =
-    ((λ q i. let m = map_in (λ p. n ∷ p) ps q i in subst {A = List ℕ} (λ z. numbers_cmp (n ∷ p) z ≡ Less) m.2 (ap (λ o. ordering_then o (numbers_cmp p m.0)) (nat_same n) ∙ h.0 m.0 m.1)), ascending_map n ps h.1)
+    ((λ q i. let m = contains_mapped (λ p. n ∷ p) ps q i in subst {A = List ℕ} (λ z. numbers_cmp (n ∷ p) z ≡ Less) m.2 (ap (λ o. ordering_then o (numbers_cmp p m.0)) (nat_same n) ∙ h.0 m.0 m.1)), ascending_map n ps h.1)
 
 -- the positions in arguments begin with their numbers
 starts : (ts : Trees) (i : ℕ) (q : List ℕ) → Contains (positions_in ts i) q → (j : ℕ) × (p : List ℕ) × (q ≡ j ∷ p) × (i ≤ j)
 starts no_trees i q c = none_in c
 starts (more_trees t ts) i q c =
     ⊎_elim
-    (λ k. let m = map_in (λ p. i ∷ p) (positions_of t) q k in (i, m.0, sym m.2, omega arith))
+    (λ k. let m = contains_mapped (λ p. i ∷ p) (positions_of t) q k in (i, m.0, sym m.2, omega arith))
     (λ k. let r = starts ts (suc i) q k in (r.0, r.1, r.2, let l = r.3 in omega (arith, l)))
     (Contains-append_cases (map (λ p. i ∷ p) (positions_of t)) (positions_in ts (suc i)) q c)
 
 apart : (t : Tree) (ts : Trees) (i : ℕ) (p q : List ℕ) → Contains (map (λ p. i ∷ p) (positions_of t)) p → Contains (positions_in ts (suc i)) q → numbers_cmp p q ≡ Less
 apart t ts i p q j k =
-    let m = map_in (λ p. i ∷ p) (positions_of t) p j in
+    let m = contains_mapped (λ p. i ∷ p) (positions_of t) p j in
     let r = starts ts (suc i) q k in
     let l = r.3 in
     subst {A = List ℕ} (λ z. numbers_cmp z q ≡ Less) m.2 (subst {A = List ℕ} (λ z. numbers_cmp (i ∷ m.0) z ≡ Less) (sym r.2) (ap (λ o. ordering_then o (numbers_cmp m.0 r.1)) (nat_less i r.0 (omega (arith, l)))))
@@ -75,5 +75,5 @@ mutual
 
   position_in : (ts : Trees) (b k : ℕ) (p : List ℕ) (u : Tree) → option_and_then (λ t. subtree_at t p) (argument ts (suc k)) ≡ Some u → Contains (positions_in ts b) ((b + k) ∷ p)
   position_in no_trees b k p u h = none_some h
-  position_in (more_trees t ts) b zero p u h = Contains-append_left (map (λ p. b ∷ p) (positions_of t)) (positions_in ts (suc b)) ((b + 0) ∷ p) (subst {A = ℕ} (λ z. Contains (map (λ p. b ∷ p) (positions_of t)) (z ∷ p)) (omega arith) (in_map (λ p. b ∷ p) (positions_of t) p (position_of t p u h)))
+  position_in (more_trees t ts) b zero p u h = Contains-append_left (map (λ p. b ∷ p) (positions_of t)) (positions_in ts (suc b)) ((b + 0) ∷ p) (subst {A = ℕ} (λ z. Contains (map (λ p. b ∷ p) (positions_of t)) (z ∷ p)) (omega arith) (contains_map (λ p. b ∷ p) (positions_of t) p (position_of t p u h)))
   position_in (more_trees t ts) b (suc k) p u h = Contains-append_right (map (λ p. b ∷ p) (positions_of t)) (positions_in ts (suc b)) ((b + suc k) ∷ p) (subst {A = ℕ} (λ z. Contains (positions_in ts (suc b)) (z ∷ p)) (omega arith) (position_in ts (suc b) k p u h))

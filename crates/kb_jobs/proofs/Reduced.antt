@@ -6,6 +6,8 @@ use Rattle.std.specs.Ordering.{ordering_then}
 use Rattle.std.proofs.lemmas.Bool.{cases_order}
 use Rattle.std.proofs.lemmas.Option.{slice_get-get_or}
 use Rattle.std.proofs.lemmas.List.Elements.{All-head, All-tail, Contains-append_cases}
+use Rattle.kb_lemmas.proofs.Membership.{slice_contains, contains_cases, contains_behind, contains_first, none_in}
+use Rattle.kb_lemmas.proofs.Options.{none_some, some_is}
 use Rattle.kb_term.specs.Tree.{Tree}
 use Rattle.kb_term.specs.Position.{subtree_at}
 use Rattle.kb_term.specs.Substitution.{instance, IsVariant}
@@ -21,7 +23,6 @@ use Rattle.kb_term.specs.declared.fault.TermFault.TheVariants.{Large}
 use Rattle.kb_term.specs.declared.origin.RuleRef.{RuleRef}
 use Rattle.kb_term.specs.declared.origin.Found.{Found}
 use Rattle.kb_term.specs.declared.origin.Found.TheVariants.{No, Variant, Strict}
-use Rattle.kb_term.proofs.Steps.{contains_cases, contains_behind, contains_first}
 use Rattle.kb_overlap.specs.Trace.{side}
 use Rattle.kb_rewrite.specs.NormalForm.{IsFound, IsRedex, IsFirstRedex as IsFirst, HasNoRedex}
 use Rattle.kb_rewrite.specs.Search.{IsRedexAnswer, IsStepAnswer}
@@ -31,7 +32,7 @@ use Rattle.kb_node.specs.declared.job.LimitCause.{LimitCause}
 use Rattle.kb_node.specs.declared.node.NodeId.{NodeId}
 use Rattle.mkb_model.specs.Jobs.{numbers_cmp}
 use Rattle.mkb_model.specs.Proposals.{NamedRule, IsUsableRedex, IsFirstRedex, IsIrreducible, IsFactOf, IsRewriting, IsLargeRewriting, AreMissingFacts, redex_cmp, reason_of}
-use Rattle.mkb_model.proofs.Lists.{clash, not_true, none_in, none_some, some_is}
+use Rattle.mkb_model.proofs.Lists.{clash, not_true}
 use Rattle.kb_jobs.specs.Rules.{named, listed, AreInOrder, ComesBefore, AreNamed}
 use Rattle.kb_jobs.specs.Reducing.{is_any, usable, name_at, no_name, unknown_of, IsReducible, IsFactAt, AreFactsAt}
 use Rattle.kb_jobs.specs.declared.reducing.ReduceSnapshot.{ReduceSnapshot}
@@ -56,11 +57,6 @@ named_in (a ∷ names) (r ∷ rules) x c =
     (λ k. let m = named_in names rules x k in (suc m.0, m.1, m.2))
     (contains_cases (record { ref = a; rule = r }) (named names rules) x c)
 
-pub slice_in : {X : Type 0} (xs : List X) (i : ℕ) (x : X) → slice_get xs i ≡ Some x → Contains xs x
-slice_in [] i x e = none_some e
-slice_in {X} (y ∷ ys) zero x e = subst {A = X} (Contains (y ∷ ys)) (some_is e) (contains_first y ys)
-slice_in (y ∷ ys) (suc i) x e = contains_behind y ys x (slice_in ys i x e)
-
 -- what indexing gave is the member with the number
 pub read_at : {X : Type 0} (xs : List X) (i : ℕ) (x : X) → i < length xs → x ≡ get_or xs i x → slice_get xs i ≡ Some x
 read_at xs i x h is = slice_get-get_or xs i x h ∙ ap Some (sym is)
@@ -68,7 +64,7 @@ read_at xs i x h is = slice_get-get_or xs i x h ∙ ap Some (sym is)
 in_order : (names : List RuleRef) → AreInOrder names → (i j : ℕ) (a c : RuleRef) → i < j → slice_get names i ≡ Some a → slice_get names j ≡ Some c → ComesBefore a c
 in_order [] h i j a c l e f = none_some e
 in_order (x ∷ names) h i zero a c l e f = absurd (omega (arith, l))
-in_order (x ∷ names) h zero (suc j) a c l e f = subst {A = RuleRef} (λ z. ComesBefore z c) (some_is e) (h.0 c (slice_in names j c f))
+in_order (x ∷ names) h zero (suc j) a c l e f = subst {A = RuleRef} (λ z. ComesBefore z c) (some_is e) (h.0 c (slice_contains names j c f))
 in_order (x ∷ names) h (suc i) (suc j) a c l e f = in_order names h.1 i j a c (omega (arith, l)) e f
 
 -- there is a member at each number below the length

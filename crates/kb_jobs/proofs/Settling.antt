@@ -5,6 +5,9 @@ use Rattle.std.specs.List.{list_any}
 use Rattle.std.proofs.lemmas.List.{append-nil, map-append}
 use Rattle.std.proofs.lemmas.List.Concat.{flat_map-append}
 use Rattle.std.proofs.lemmas.List.Elements.{Contains-append_cases, Contains-append_left, Contains-append_right}
+use Rattle.mkb_model.proofs.Rewriting.{trivial_none}
+use Rattle.kb_lemmas.proofs.Options.{none_some, some_is}
+use Rattle.kb_lemmas.proofs.Membership.{contains_mapped, contains_map}
 use Rattle.kb_term.specs.Tree.{Tree, variable, apply, no_trees, variables_of}
 use Rattle.kb_term.specs.Rule.{Rule}
 use Rattle.kb_term.specs.Pair.{Pair, canonical, canonical_pair}
@@ -23,7 +26,7 @@ use Rattle.kb_rewrite.specs.declared.normalising.Normal.{Normal}
 use Rattle.kb_jobs.specs.declared.rules.NamedRules.{NamedRules}
 use Rattle.mkb_model.specs.Plain.{sides}
 use Rattle.mkb_model.specs.Proposals.{NamedRule, as_rules, NamedOverlap, OverlapsOf, deduced_pair, Picks, HasForm, IsJoinedBy, IsFormed, IsJoined, IsUnjoined}
-use Rattle.mkb_model.proofs.Lists.{none_some, some_is, any_in, in_any, map_in, in_map, clash}
+use Rattle.mkb_model.proofs.Lists.{any_in, in_any, clash}
 use Rattle.mkb_model.proofs.Alike.{joined_formed, joined_not_unjoined}
 use Rattle.kb_laws.proofs.Renamings.{Back, normalises_instance}
 use Rattle.kb_jobs.specs.Rules.{named, listed}
@@ -100,14 +103,11 @@ canonical_cases : (u v : Tree) (b : Bool) → tree_eq u v ≡ b → (u ≡ v) �
 canonical_cases u v true e = inl (tree_eq-true u v e)
 canonical_cases u v false e = inr (ap (λ z. cond z None (Some (canonical u v))) e)
 
-none_equal : (u v : Tree) → canonical_pair u v ≡ None → u ≡ v
-none_equal u v e = ⊎_elim (λ q. q) (λ q. none_some (sym e ∙ q)) (canonical_cases u v (tree_eq u v) refl)
-
 equal_none : (u v : Tree) → u ≡ v → canonical_pair u v ≡ None
 equal_none u v e = ap (λ z. cond z None (Some (canonical u v))) (tree_eq-same u v e)
 
 pub joined_none : (equations : List (Tree × Tree)) (u v : Tree) (b : Bool) → b ≡ true → None ≡ canonical_pair u v → IsTrue b ↔ IsJoinedBy equations u v
-joined_none equations u v b t e = ((λ h. inl (none_equal u v (sym e))), (λ h. t))
+joined_none equations u v b t e = ((λ h. inl (trivial_none u v (sym e))), (λ h. t))
 
 pub joined_some : (qs : List Pair) (u v : Tree) (q : Pair) (b : Bool) → b ≡ list_any (λ y. pair_eq y q) qs → Some q ≡ canonical_pair u v → IsTrue b ↔ IsJoinedBy (equations_of qs) u v
 joined_some qs u v q b is e = (there, back)
@@ -115,12 +115,12 @@ joined_some qs u v q b is e = (there, back)
     there : IsTrue b → IsJoinedBy (equations_of qs) u v
     there h =
         let r = any_in (λ y. pair_eq y q) qs (sym is ∙ h) in
-        inr (q, sym e, in_map sides qs q (subst {A = Pair} (Contains qs) (pair_eq-same r.0 q r.2) r.1))
+        inr (q, sym e, contains_map sides qs q (subst {A = Pair} (Contains qs) (pair_eq-same r.0 q r.2) r.1))
 
     back : IsJoinedBy (equations_of qs) u v → IsTrue b
     back (inl d) = none_some (sym (equal_none u v d) ∙ sym e)
     back (inr (p, d, c)) =
-        let m = map_in sides qs (sides p) c in
+        let m = contains_mapped sides qs (sides p) c in
         let same : m.0 ≡ p = ap₂ {C = Pair} (λ x y. record { first = x; second = y }) (ap (λ (z : Tree × Tree). z.0) m.2) (ap (λ (z : Tree × Tree). z.1) m.2) in
         is ∙ in_any (λ y. pair_eq y q) qs q (subst {A = Pair} (Contains qs) (same ∙ some_is (sym d ∙ sym e)) m.1) (pair_eq-refl q)
 

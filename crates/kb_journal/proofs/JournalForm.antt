@@ -2,8 +2,9 @@
 use Rattle.std.proofs.Common.{append_assoc, ◌≡◌, refl, ap, ap₂, sym, ◌∙◌, subst, arith, ℕ, ◌+◌, ◌-◌, ◌^◌, ◌<◌, ◌≤◌, List, [], ◌∷◌, ◌++◌, length, drop, get_or, All}
 use Rattle.std.specs.Prelude.{codes, decimal, flat_map, replicate}
 use Rattle.std.proofs.lemmas.Fmt.{decimal_injective}
-use Rattle.std.proofs.lemmas.List.{length-replicate}
+use Rattle.std.proofs.lemmas.List.{length-replicate, append_cancel_left}
 use Rattle.std.proofs.lemmas.List.Elements.{All-replicate, All-head, All-tail}
+use Rattle.kb_lemmas.proofs.Texts.{line_and}
 use Rattle.kb_term.specs.Signature.{Signature, Problem, IsSignature, IsEquationWithinLimits, IsWithinLimits}
 use Rattle.kb_term.specs.Tree.{Tree, variable}
 use Rattle.kb_text.specs.Fields.{IsWithout}
@@ -57,17 +58,13 @@ selection_without = (refl, (refl, (refl, (refl, (refl, (refl, (refl, (refl, (ref
 
 -- ---- each section tells its value and its end
 
-same_back : (word xs ys : List ℕ) → word ++ xs ≡ word ++ ys → xs ≡ ys
-same_back [] xs ys e = e
-same_back (b ∷ word) xs ys e = let f : word ++ xs ≡ word ++ ys = cc in same_back word xs ys f
-
 pub amount_without : (word : List ℕ) → IsWithout 10 word → (n : ℕ) → n < 2 ^ 64 → IsWithout 10 (counted_line word n)
 amount_without word w n h = without-append 10 word (decimal n) w (decimal_without 10 n (omega arith) h)
 
 pub amount_section : (word : List ℕ) (low high : ℕ) → high < 2 ^ 64 → IsWithout 10 word → IsSection (Amount word low high)
 amount_section word low high h w =
     line_section {X = ℕ} (λ n. (low ≤ n) × (n ≤ high)) (counted_line word) (λ n l. amount_without word w n (let most = l.1 in omega arith))
-    (λ m n l k e. decimal_injective m n (let most = l.1 in omega arith) (let most = k.1 in omega arith) (same_back word (decimal m) (decimal n) e))
+    (λ m n l k e. decimal_injective m n (let most = l.1 in omega arith) (let most = k.1 in omega arith) (append_cancel_left word (decimal m) (decimal n) e))
 
 -- the line of the symbols is not that of a selection
 not_symbols : (sig : Signature) → ¬ (symbols_body sig ≡ selection_word)
@@ -282,10 +279,6 @@ entry_texts : (k : ℕ) (ls : List EntryLine) → flat_map entry_line ls ≡ tex
 entry_texts k [] = refl
 entry_texts k (l ∷ ls) = append_assoc (entry_body l) (10 ∷ []) (flat_map entry_line ls) ∙ ap (λ (t : List ℕ). entry_body l ++ 10 ∷ t) (entry_texts (k + 1) ls)
 
--- a line and what is behind it
-line_and : (body rest more : List ℕ) → rest ≡ more → (body ++ 10 ∷ []) ++ rest ≡ body ++ 10 ∷ more
-line_and body rest more e = append_assoc body (10 ∷ []) rest ∙ ap (λ (t : List ℕ). body ++ 10 ∷ t) e
-
 -- a line, lines of items and what is behind them
 lines_and : (body flat rest : List ℕ) (items more : Lines) → flat ≡ text_of items → rest ≡ text_of more → ((body ++ 10 ∷ []) ++ flat) ++ rest ≡ body ++ 10 ∷ text_of (items ++ more)
 lines_and body flat rest items more f e =
@@ -338,12 +331,8 @@ lines_without lines (j, i, f, e) = subst (AreWithout 10) (sym e) (without_of j i
 
 -- ---- one journal
 
-behind : (xs ys zs : Lines) → xs ++ ys ≡ xs ++ zs → ys ≡ zs
-behind [] ys zs e = e
-behind (x ∷ xs) ys zs e = let t : xs ++ ys ≡ xs ++ zs = cc in behind xs ys zs t
-
 same_lines_back : (xs ys zs ws : Lines) → xs ≡ ys → xs ++ zs ≡ ys ++ ws → zs ≡ ws
-same_lines_back xs ys zs ws s e = behind xs zs ws (e ∙ ap (λ (l : Lines). l ++ ws) (sym s))
+same_lines_back xs ys zs ws s e = append_cancel_left xs zs ws (e ∙ ap (λ (l : Lines). l ++ ws) (sym s))
 
 same_rest : (sig : Signature) → IsSignature sig → (es fs : List (Tree × Tree)) (ls ms : List EntryLine) → All (IsEquationWithinLimits sig) es → All (IsEquationWithinLimits sig) fs → length es ≤ 256 → length fs ≤ 256
     → All IsEntryLine ls → All IsEntryLine ms → length ls < 2 ^ 64 → length ms < 2 ^ 64 → lines_from_equations (record { signature = sig; equations = es }) ls ≡ lines_from_equations (record { signature = sig; equations = fs }) ms → (es ≡ fs) × (ls ≡ ms)

@@ -3,6 +3,9 @@ use Rattle.std.proofs.Common.{ℕ, zero, suc, ◌≡◌, refl, sym, ap, ◌∙�
 use Rattle.std.specs.Prelude.{option_and_then, option_map}
 use Rattle.std.specs.Option.{option_map_or}
 use Rattle.std.proofs.lemmas.List.Elements.{All-cons, All-nil, All-push, All-head, All-tail}
+use Rattle.std.proofs.lemmas.Bool.{or_left, or_right}
+use Rattle.mkb_model.proofs.Views.{there_pair}
+use Rattle.kb_lemmas.proofs.Options.{none_some}
 use Rattle.kb_term.specs.Tree.{Tree}
 use Rattle.kb_term.specs.View.{tree_of}
 use Rattle.kb_term.specs.Pair.{Pair, canonical_pair}
@@ -26,12 +29,10 @@ use Rattle.mkb_model.specs.declared.entry.Effect.TheVariants.{Over, Made}
 use Rattle.mkb_model.specs.declared.entry.Entry.{Entry}
 use Rattle.mkb_model.specs.declared.entry.Entry.TheVariants.{Take, Commit, Drop, Abandon, Halt}
 use Rattle.mkb_model.specs.declared.settings.Settings.{Settings}
-use Rattle.mkb_model.proofs.Lists.{none_some, or_left, or_right}
 use Rattle.mkb_model.proofs.Pairs.{pair_eq-refl, found_node, node-with_node, pairs-gains_equation, pairs-gains_rule}
 use Rattle.mkb_model.proofs.Changes.{Fits}
 use Rattle.mkb_model.proofs.Fitting.{fits_run, pairs_follow}
 use Rattle.mkb_model.proofs.Selections.{legal-possible}
-use Rattle.mkb_model.proofs.AllFine.{pair_there}
 use Rattle.mkb_rules.specs.Applicable.{IsApplicable}
 use Rattle.mkb_board.specs.Boards.{Seen, IsLegalBoard}
 use Rattle.mkb_board.proofs.There.{applicable}
@@ -144,7 +145,7 @@ module _ (P : Problem) (s : Settings) (past : List Moment) (b c : Plain) (within
   made_there (Facts fs) is none = tt
   made_there (Rewrite n v at a found u) is none =
       let named = is_applicable (Rewrite n v at a found u) is in
-      let p = pair_there b.nodes n.0 named.0.0 in
+      let p = there_pair b.nodes n.0 named.0.0 in
       let nodes : c.nodes ≡ rewritten (rewrite_label b n.0 v a found) n.0 v at a found (tree_of u) p.0 b.nodes =
       nodes_are (Rewrite n v at a found u) is none ∙ ap (λ (o : Option Pair). option_map_or (λ q. rewritten (rewrite_label b n.0 v a found) n.0 v at a found (tree_of u) q) o (λ xs. xs) b.nodes) p.1 in
       record {

@@ -7,13 +7,15 @@ use Rattle.std.specs.Cmp.Lexicographic.{same_text, other_text}
 use Rattle.std.proofs.lemmas.Bool.Decides.{nat_tests}
 use Rattle.std.proofs.lemmas.Fmt.{decimal_digit, decimal_is_IsNumeral}
 use Rattle.std.proofs.lemmas.Str.Parse.{digit_from_value}
+use Rattle.std.proofs.lemmas.Bool.{lt-ltb, ltb-true, le-ltb}
+use Rattle.kb_lemmas.proofs.Numbers.{eq_above}
 use Rattle.kb_term.specs.declared.origin.RuleRef.{RuleRef}
 use Rattle.kb_label.specs.Names.{Name}
 use Rattle.kb_label.specs.declared.verdict.Reason.{Reason}
 use Rattle.kb_label.specs.declared.verdict.Reason.TheVariants.{Nodes, Processes, Size, Depth, Variables, Steps}
 use Rattle.kb_text.specs.Fields.{IsWithout}
 use Rattle.kb_text.proofs.Cuts.{AreWithout, without-append, are_without-append, fields_cut}
-use Rattle.kb_text.proofs.PlainTexts.{IsBlank, space_blank, feed_blank, high_byte, word_without, decimal_without, join_without}
+use Rattle.kb_text.proofs.PlainTexts.{IsBlank, space_blank, feed_blank, word_without, decimal_without, join_without}
 use Rattle.kb_report.specs.Reports.{reason_word}
 use Rattle.kb_report.specs.Summaries.{bit_digit, process_text}
 use Rattle.kb_journal.specs.declared.entry_line.EntryLine.{EntryLine}
@@ -26,8 +28,8 @@ use Rattle.kb_journal.specs.LineReading.{at_most, is_text, line_read, number_rea
 
 bits_without : (c : ℕ) → IsBlank c → (p : Name) → IsWithout c (map bit_digit p)
 bits_without c k [] = tt
-bits_without c k (true ∷ p) = (high_byte 49 c (let low = k.low in omega arith), bits_without c k p)
-bits_without c k (false ∷ p) = (high_byte 48 c (let low = k.low in omega arith), bits_without c k p)
+bits_without c k (true ∷ p) = (eq_above 49 c (let low = k.low in omega arith), bits_without c k p)
+bits_without c k (false ∷ p) = (eq_above 48 c (let low = k.low in omega arith), bits_without c k p)
 
 process_without : (c : ℕ) → IsBlank c → (p : Name) → IsWithout c (process_text p)
 process_without c k [] = word_without c k.low (codes "e") refl
@@ -85,7 +87,7 @@ fields_without c k (Abandon t) h = (word_without c k.low (codes "abandon") refl,
 fields_without c k Halt h = (word_without c k.low (codes "halt") refl, tt)
 
 pub entry_without : (l : EntryLine) → IsEntryLine l → IsWithout 10 (entry_body l)
-entry_without l h = join_without 10 32 (entry_fields l) (high_byte 32 10 (omega arith)) (fields_without 10 feed_blank l h)
+entry_without l h = join_without 10 32 (entry_fields l) (eq_above 32 10 (omega arith)) (fields_without 10 feed_blank l h)
 
 -- the fields are those that the line is cut into
 pub entry_cut : (l : EntryLine) → IsEntryLine l → slice_split (λ b. b == 32) (entry_body l) ≡ entry_fields l
@@ -115,17 +117,11 @@ is_text-refl text = go (is_text text text) refl
     go true e = refl
     go false e = absurd (other_text text text (sym e) refl)
 
-below : (m n : ℕ) → m < n → nat_lt m n ≡ true
-below m n h = grind (arith, nat_tests)
-
-lt_of : (m n : ℕ) → nat_lt m n ≡ true → m < n
-lt_of m n h = grind (arith, nat_tests, h)
-
 pub number_read-decimal : (n : ℕ) → n < 2 ^ 64 → number_read (decimal n) ≡ Some n
 number_read-decimal n h =
     let value : digits_value 10 (decimal n) ≡ n = (decimal_is_IsNumeral n h).1 in
     ap (λ v. if nat_lt v (2 ^ 64) && is_text (decimal v) (decimal n) then Some v else None) value
-    ∙ ap (λ b. if b && is_text (decimal n) (decimal n) then Some n else None) (below n (2 ^ 64) h)
+    ∙ ap (λ b. if b && is_text (decimal n) (decimal n) then Some n else None) (lt-ltb n (2 ^ 64) h)
     ∙ ap (λ b. if b then Some n else None) (is_text-refl (decimal n))
 
 -- what is read exactly
@@ -139,7 +135,7 @@ read_exactly digits None h = sym (go (nat_lt v (2 ^ 64)) refl (is_text (decimal 
     go : (a : Bool) → nat_lt v (2 ^ 64) ≡ a → (b : Bool) → is_text (decimal v) digits ≡ b → (if a && b then Some v else None) ≡ None
     go false p b q = refl
     go true p false q = refl
-    go true p true q = absurd (h v (lt_of v (2 ^ 64) p) (same_text (decimal v) digits (sym q)))
+    go true p true q = absurd (h v (ltb-true v (2 ^ 64) p) (same_text (decimal v) digits (sym q)))
 
 number_is : (n : ℕ) → n < 2 ^ 64 → unwrap_or (number_read (decimal n)) 0 ≡ n
 number_is n h = ap (λ o. unwrap_or o 0) (number_read-decimal n h)
@@ -162,9 +158,6 @@ bits_length : (p : Name) → length (map bit_digit p) ≡ length p
 bits_length [] = refl
 bits_length (b ∷ p) = ap suc (bits_length p)
 
-not_below : (m n : ℕ) → n ≤ m → nat_lt m n ≡ false
-not_below m n h = grind (arith, nat_tests)
-
 no_word : (b : Bool) (text : List ℕ) → is_text (bit_digit b ∷ text) (codes "e") ≡ false
 no_word true text = refl
 no_word false text = refl
@@ -174,7 +167,7 @@ process_is [] h = refl
 process_is (b ∷ p) h =
     let text : List ℕ = map bit_digit (b ∷ p) in
     ap (λ v. if v || nat_lt 1023 (length text) then [] else map (λ c. c == 49) text) (no_word b (map bit_digit p))
-    ∙ ap (λ v. if v then [] else map (λ c. c == 49) text) (not_below 1023 (length text) (omega (arith, bits_length (b ∷ p))))
+    ∙ ap (λ v. if v then [] else map (λ c. c == 49) text) (le-ltb 1023 (length text) (omega (arith, bits_length (b ∷ p))))
     ∙ bits_read (b ∷ p)
 
 front_of : (xs : List ℕ) (y z : ℕ) → take (length (xs ++ y ∷ z ∷ []) - 2) (xs ++ y ∷ z ∷ []) ≡ xs

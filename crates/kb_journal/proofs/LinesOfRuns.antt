@@ -2,6 +2,7 @@
 use Rattle.std.proofs.Common.{ℕ, ◌≡◌, ◌<◌, refl, sym, ap, ap₂, ◌∙◌, subst, arith, List, [], ◌∷◌, ◌++◌, map, length, length-append, All}
 use Rattle.std.proofs.lemmas.List.{map-append}
 use Rattle.std.proofs.lemmas.List.Elements.{All-head, All-tail}
+use Rattle.kb_lemmas.proofs.Lists.{same_end}
 use Rattle.kb_term.specs.Signature.{Problem, IsWithinLimits}
 use Rattle.kb_node.specs.declared.job.Job.TheVariants.{Reduce, Orient, Overlap, Close}
 use Rattle.mkb_model.specs.Plain.{Plain, PlainNode}
@@ -76,16 +77,6 @@ lines_move xs (e ∷ J) = ap₂ (λ (m : Move) (ms : List Move). m ∷ ms) (line
 longer : {A : Type 0} (xs : List A) (x : A) → 0 < length (xs ++ x ∷ [])
 longer xs x = omega (arith, length-append xs (x ∷ []))
 
-pub same_ends : {A : Type 0} (xs ys : List A) (x y : A) → xs ++ x ∷ [] ≡ ys ++ y ∷ [] → (xs ≡ ys) × (x ≡ y)
-same_ends [] [] x y e = (refl, cc)
-same_ends [] (z ∷ ys) x y e = absurd (let n = ap length e in omega (arith, longer ys y))
-same_ends (z ∷ xs) [] x y e = absurd (let n = ap length e in omega (arith, longer xs x))
-same_ends {A} (z ∷ xs) (u ∷ ys) x y e =
-    let first : z ≡ u = cc in
-    let rest : xs ++ x ∷ [] ≡ ys ++ y ∷ [] = cc in
-    let r = same_ends xs ys x y rest in
-    (ap₂ (λ (v : A) (vs : List A). v ∷ vs) first r.0, r.1)
-
 pub no_end : {A : Type 0} (xs : List A) (x : A) → [] ≡ xs ++ x ∷ [] → ⊥
 no_end xs x e = let n = ap length e in absurd (omega (arith, longer xs x))
 
@@ -96,7 +87,7 @@ same_moves [] [] e = refl
 same_moves [] (n ∷ ns) e = absurd (no_end (map move_of (journal_of ns)) (move_of n.entry) (e ∙ map-append move_of (journal_of ns) (n.entry ∷ [])))
 same_moves (m ∷ ms) [] e = absurd (no_end (map move_of (journal_of ms)) (move_of m.entry) (sym e ∙ map-append move_of (journal_of ms) (m.entry ∷ [])))
 same_moves (m ∷ ms) (n ∷ ns) e =
-    let r = same_ends (map move_of (journal_of ms)) (map move_of (journal_of ns)) (move_of m.entry) (move_of n.entry) (sym (map-append move_of (journal_of ms) (m.entry ∷ [])) ∙ e ∙ map-append move_of (journal_of ns) (n.entry ∷ [])) in
+    let r = same_end (map move_of (journal_of ms)) (map move_of (journal_of ns)) (move_of m.entry) (move_of n.entry) (sym (map-append move_of (journal_of ms) (m.entry ∷ [])) ∙ e ∙ map-append move_of (journal_of ns) (n.entry ∷ [])) in
     ap₂ (λ (x : Move) (xs : List Move). x ∷ xs) r.1 (same_moves ms ns r.0)
 
 -- two legal journals with the same moves are one
@@ -109,7 +100,7 @@ same_journals P s within J K c d a b e =
 pub same_next : (P : Problem) (s : Settings) → IsWithinLimits P → (J : List Entry) (e f : Entry) (c d : Plain) → After P s (J ++ e ∷ []) c → After P s (J ++ f ∷ []) d → move_of e ≡ move_of f → (e ≡ f) × (c ≡ d)
 same_next P s within J e f c d a b m =
     let r = same_journals P s within (J ++ e ∷ []) (J ++ f ∷ []) c d a b (map-append move_of J (e ∷ []) ∙ ap (λ x. map move_of J ++ x ∷ []) m ∙ sym (map-append move_of J (f ∷ []))) in
-    ((same_ends J J e f r.0).1, r.1)
+    ((same_end J J e f r.0).1, r.1)
 
 -- two legal journals with the same lines are one
 pub same_lines : (P : Problem) (s : Settings) → IsWithinLimits P → (ls : List EntryLine) (J K : List Entry) (c d : Plain) → HasLines P s ls J c → HasLines P s ls K d → (J ≡ K) × (c ≡ d)
@@ -146,7 +137,7 @@ last_moment P s within m past c (run, f) = record {
 pub last_of : (P : Problem) (s : Settings) → IsWithinLimits P → (J : List Entry) (e : Entry) (c : Plain) → After P s (J ++ e ∷ []) c → IsLast P s J e c
 last_of P s within J e c ([], j, run) = absurd (no_end J e j)
 last_of P s within J e c (m ∷ past, j, run) =
-    let r = same_ends (journal_of past) J m.entry e j in
+    let r = same_end (journal_of past) J m.entry e j in
     subst {A = List Entry} (λ K. IsLast P s K e c) r.0 (subst {A = Entry} (λ f. IsLast P s (journal_of past) f c) r.1 (last_moment P s within m past c run))
 
 -- the lines with one more
@@ -176,7 +167,7 @@ lines_shorter P s within ls l K d h = go h.after
     go ([], j, run) = absurd (no_end ls l (ap (map (line_of d.nodes)) j ∙ h.lines_are))
     go (m ∷ past, j, run) =
         let last = last_moment P s within m past d run in
-        let r = same_ends (map (line_of d.nodes) (journal_of past)) ls (line_of d.nodes m.entry) l (sym (map-append (line_of d.nodes) (journal_of past) (m.entry ∷ [])) ∙ ap (map (line_of d.nodes)) j ∙ h.lines_are) in
+        let r = same_end (map (line_of d.nodes) (journal_of past)) ls (line_of d.nodes m.entry) l (sym (map-append (line_of d.nodes) (journal_of past) (m.entry ∷ [])) ∙ ap (map (line_of d.nodes)) j ∙ h.lines_are) in
         record {
           journal = journal_of past;
           entry = m.entry;

@@ -2,10 +2,11 @@
 use Rattle.std.proofs.Common.{ℕ, ◌+◌, ◌-◌, ◌≡◌, ◌≢◌, ◌<◌, length-append, take, get_or, ◌==◌, ⊎_elim, refl, sym, ap, ap₂, ◌∙◌, subst, arith, List, [], ◌∷◌, ◌++◌, map, filter, length, not, Some, None, Bool, true, false, Contains, Result, Ok, Err}
 use Rattle.std.specs.Prelude.{IfOk, IsTrue, IsFalse, ◌↔◌, if◌then◌else◌, nat_lt}
 use Rattle.std.proofs.lemmas.Bool.Decides.{nat_tests}
-use Rattle.std.proofs.lemmas.Bool.{false≢true}
+use Rattle.std.proofs.lemmas.Bool.{false≢true, lt-ltb}
 use Rattle.std.proofs.lemmas.List.{map-append, take_more}
 use Rattle.std.proofs.lemmas.List.Elements.{Contains-append_left, Contains-append_right, Contains-push_cases}
-use Rattle.kb_term.proofs.Steps.{contains_first}
+use Rattle.kb_lemmas.proofs.Numbers.{lt_itself}
+use Rattle.kb_lemmas.proofs.Membership.{contains_first, contains_mapped, contains_map, none_in}
 use Rattle.kb_term.specs.Signature.{Problem, IsWithinLimits}
 use Rattle.kb_term.specs.declared.memory.Memory.{Memory}
 use Rattle.kb_label.specs.Names.{Name}
@@ -26,7 +27,7 @@ use Rattle.mkb_model.specs.declared.entry.Ticket.{Ticket}
 use Rattle.mkb_model.specs.declared.entry.Entry.{Entry}
 use Rattle.mkb_model.specs.declared.entry.Entry.TheVariants as entries
 use Rattle.mkb_model.specs.declared.settings.Settings.{Settings}
-use Rattle.mkb_model.proofs.Lists.{filter_in, in_filter, map_in, in_map, none_in}
+use Rattle.mkb_model.proofs.Lists.{filter_in, in_filter}
 use Rattle.mkb_model.proofs.Flights.{effect_flight}
 use Rattle.mkb_model.proofs.Living.{effect_setting}
 use Rattle.mkb_model.proofs.Unique.{after_once}
@@ -276,7 +277,7 @@ module _ (old : Seen) (l : EntryLine) (legal : IsLegalBoard old) where
 -- ---- what stays held
 
 hand_of : (hs : List Hand) (t : Ticket) → Contains (tickets_of hs) t → (h : Hand) × Contains hs h × (h.ticket ≡ t)
-hand_of hs t i = map_in (λ (h : Hand). h.ticket) hs t i
+hand_of hs t i = contains_mapped (λ (h : Hand). h.ticket) hs t i
 
 pub hold_taken : (old new : Seen) (hs : List Hand) (w : ℕ) (t : Ticket) (s : Snapshot) → HoldAll old hs → IsLegalBoard new → TakesJob old new w t s → HoldAll new (hs ++ record { ticket = t; snapshot = s } ∷ [])
 hold_taken old new hs w t s h legal k = record {
@@ -297,7 +298,7 @@ hold_ended old new hs n h legal stays flight = record {
       let k = filter_in (λ (x : Ticket). not (x.number == n)) old.plain.flight u (subst {A = List Ticket} (λ ts. Contains ts u) flight i) in
       let g = hand_of hs u (h.whole u k.0) in
       let stays_in = in_filter (λ (z : Hand). not (z.ticket.number == n)) hs g.0 g.1 (ap (λ (z : Ticket). not (z.number == n)) g.2 ∙ k.1) in
-      subst {A = Ticket} (Contains (tickets_of (filter (λ (z : Hand). not (z.ticket.number == n)) hs))) g.2 (in_map (λ (z : Hand). z.ticket) (filter (λ (z : Hand). not (z.ticket.number == n)) hs) g.0 stays_in);
+      subst {A = Ticket} (Contains (tickets_of (filter (λ (z : Hand). not (z.ticket.number == n)) hs))) g.2 (contains_map (λ (z : Hand). z.ticket) (filter (λ (z : Hand). not (z.ticket.number == n)) hs) g.0 stays_in);
 }
   where
     differs : (m n : ℕ) → not (m == n) ≡ true → m ≢ n
@@ -419,12 +420,6 @@ halt_made old new hs l h legal k plain entered =
       },
     )
 
-not_less : (n : ℕ) → nat_lt n n ≡ false
-not_less n = grind (arith, nat_tests)
-
-less : (m n : ℕ) → m < n → nat_lt m n ≡ true
-less m n h = grind (arith, nat_tests)
-
 -- whether a halt was made shows in the number of entries
 pub halt_or_not : (old new : Seen) (hs : List Hand) (l : EntryLine) (grew : Bool) → HoldAll old hs → IsLegalBoard new → l ≡ Halt → new.plain ≡ old.plain → new.journal ≡ (if has_halt old.journal then old.journal else old.journal ++ entries.Halt ∷ []) → grew ≡ nat_lt (length old.journal) (length new.journal) → IsMadeOrNot old new hs l grew
 halt_or_not old new hs l grew h legal k plain entered is = go (has_halt old.journal) refl
@@ -432,11 +427,11 @@ halt_or_not old new hs l grew h legal k plain entered is = go (has_halt old.jour
     go : (b : Bool) → has_halt old.journal ≡ b → IsMadeOrNot old new hs l grew
     go true e =
         let same : new.journal ≡ old.journal = entered ∙ ap (λ b. if b then old.journal else old.journal ++ entries.Halt ∷ []) e in
-        let flat : grew ≡ false = is ∙ ap (λ (J : List Entry). nat_lt (length old.journal) (length J)) same ∙ not_less (length old.journal) in
+        let flat : grew ≡ false = is ∙ ap (λ (J : List Entry). nat_lt (length old.journal) (length J)) same ∙ lt_itself (length old.journal) in
         subst {A = Bool} (IsMadeOrNot old new hs l) (sym flat) (no_halt old l h.legal k e)
     go false e =
         let more : new.journal ≡ old.journal ++ entries.Halt ∷ [] = entered ∙ ap (λ b. if b then old.journal else old.journal ++ entries.Halt ∷ []) e in
-        let yes : grew ≡ true = is ∙ ap (λ (J : List Entry). nat_lt (length old.journal) (length J)) more ∙ less (length old.journal) (length (old.journal ++ entries.Halt ∷ [])) (omega (arith, length-append old.journal (entries.Halt ∷ []))) in
+        let yes : grew ≡ true = is ∙ ap (λ (J : List Entry). nat_lt (length old.journal) (length J)) more ∙ lt-ltb (length old.journal) (length (old.journal ++ entries.Halt ∷ [])) (omega (arith, length-append old.journal (entries.Halt ∷ []))) in
         subst {A = Bool} (IsMadeOrNot old new hs l) (sym yes) (halt_made old new hs l h legal k plain more)
 
 -- ---- the whole

@@ -2,6 +2,7 @@
 use Rattle.std.proofs.Common.{◌≡◌, ap, sym, ◌∙◌, subst, arith, ℕ, ◌+◌, ◌^◌, ◌<◌, ◌≤◌, List, [], ◌∷◌, ◌++◌, drop}
 use Rattle.std.specs.Prelude.{decimal}
 use Rattle.std.proofs.lemmas.Fmt.{decimal_injective}
+use Rattle.std.proofs.lemmas.List.{append_cancel_left}
 use Rattle.kb_term.specs.Signature.{Signature}
 use Rattle.kb_text.specs.Fields.{IsWithout}
 use Rattle.kb_text.specs.declared.fault.TextFault.{TextFault}
@@ -9,7 +10,6 @@ use Rattle.kb_text.specs.declared.fault.TextFault.TheVariants.{BadText, Memory}
 use Rattle.kb_report.specs.Sections.{Lines, text_of, IsBadFrom, IsSectionFault}
 use Rattle.kb_report.specs.SystemSections.{symbols_body, Symbols}
 use Rattle.kb_report.proofs.LinesOfTexts.{behind_first}
-use Rattle.kb_report.proofs.ReadLines.{behind_word}
 use Rattle.mkb_model.specs.declared.settings.Selection.{Selection}
 use Rattle.mkb_model.specs.declared.settings.Selection.TheVariants.{Stated, Size}
 use Rattle.kb_journal.specs.JournalSections.{selection_word, IsAmountLine, Selected}
@@ -18,12 +18,12 @@ use Rattle.kb_journal.proofs.JournalForm.{selection_differs}
 -- ---- numbers
 
 pub no_amount : (line word digits : List ℕ) (low high : ℕ) → high < 2 ^ 64 → line ≡ word ++ digits → ((n : ℕ) → n < 2 ^ 64 → ¬ (decimal n ≡ digits)) → (n : ℕ) → ¬ IsAmountLine word low high line n
-no_amount line word digits low high l e h n k = let most = k.form.1 in h n (omega arith) (behind_word word (decimal n) digits (sym k.spelling ∙ e))
+no_amount line word digits low high l e h n k = let most = k.form.1 in h n (omega arith) (append_cancel_left word (decimal n) digits (sym k.spelling ∙ e))
 
 pub other_amount : (line word digits : List ℕ) (low high number : ℕ) → high < 2 ^ 64 → line ≡ word ++ digits → number < 2 ^ 64 → decimal number ≡ digits → ((low ≤ number) × (number ≤ high) → ⊥) → (n : ℕ) → ¬ IsAmountLine word low high line n
 other_amount line word digits low high number l e b d out n k =
     let most = k.form.1 in
-    let same = decimal_injective n number (omega arith) b (behind_word word (decimal n) digits (sym k.spelling ∙ e) ∙ sym d) in
+    let same = decimal_injective n number (omega arith) b (append_cancel_left word (decimal n) digits (sym k.spelling ∙ e) ∙ sym d) in
     out (subst (λ m. (low ≤ m) × (m ≤ high)) same k.form)
 
 -- ---- the selection

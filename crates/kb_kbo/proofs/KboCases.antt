@@ -1,8 +1,8 @@
 -- The Knuth-Bendix order by cases on the terms; it is transitive, irreflexive and decided.
 use Rattle.std.proofs.Common.{ℕ, ◌≤◌, ◌<◌, ◌≡◌, ◌⊎◌, inl, inr, ⊎_elim, refl, sym, ap, ◌∙◌, subst, arith, List, [], ◌∷◌, ◌++◌, Contains}
 use Rattle.std.proofs.lemmas.Bool.{cases_lt, cases_eq}
+use Rattle.kb_lemmas.proofs.Membership.{contains_cases}
 use Rattle.kb_term.specs.Tree.{Tree, variable, apply, Trees, no_trees, more_trees, list_of, variables_of}
-use Rattle.kb_term.proofs.Steps.{contains_cases}
 use Rattle.kb_term.proofs.Instances.{trees_decide}
 use Rattle.kb_term.specs.Pair.{place_in}
 use Rattle.kb_lpo.specs.PathOrder.{IsAbove}

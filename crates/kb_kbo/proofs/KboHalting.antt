@@ -1,11 +1,12 @@
 -- What a Knuth-Bendix order orients halts: a chain runs through different terms that weigh no more.
 use Rattle.std.proofs.Common.{ℕ, ◌≡◌, ⊎_elim, subst, arith, List, [], ◌∷◌, All, Contains, length}
 use Rattle.std.proofs.lemmas.List.Elements.{All-contains, All-contains_itself, All-weaker}
+use Rattle.kb_lemmas.proofs.Membership.{contains_cases}
 use Rattle.kb_term.specs.Tree.{Tree, variable, variables_of}
 use Rattle.kb_term.specs.Rule.{Rule}
 use Rattle.kb_term.specs.Signature.{Signature, IsWellFormed, IsRuleOver}
 use Rattle.kb_term.specs.Proving.{IsChain}
-use Rattle.kb_term.proofs.Steps.{contains_cases, occurs_to}
+use Rattle.kb_term.proofs.Steps.{occurs_to}
 use Rattle.kb_term.proofs.Bridge.{step_from_position}
 use Rattle.kb_lpo.proofs.Arities.{arity_at, below, well_from, keeps_well}
 use Rattle.kb_linear.proofs.Sorted.{IsSorted}

@@ -3,10 +3,10 @@ use Rattle.std.proofs.Common.{ℕ, zero, suc, ◌≤◌, ◌≡◌, ⊎_elim, re
 use Rattle.std.specs.Prelude.{nat_le, replicate}
 use Rattle.std.specs.List.{AllZip}
 use Rattle.std.proofs.lemmas.List.Elements.{All-cons, All-nil, All-weaker}
+use Rattle.kb_lemmas.proofs.Membership.{contains_cases, contains_flat_map_back}
 use Rattle.kb_term.specs.Signature.{Signature}
-use Rattle.kb_term.proofs.Steps.{contains_cases}
 use Rattle.kb_lpo.specs.Precedences.{precedences}
-use Rattle.kb_linear.proofs.Sorted.{contains_map_back, contains_flat_map_back, choices_from}
+use Rattle.kb_linear.proofs.Sorted.{contains_map_back, choices_from}
 use Rattle.kb_kbo.specs.KnuthBendix.{KboOrder}
 use Rattle.kb_kbo.specs.KnuthBendixLaws.{HasWeights}
 use Rattle.kb_kbo.specs.Orders.{weightings, orders_of, kbo_orders}

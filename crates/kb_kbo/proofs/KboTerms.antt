@@ -4,10 +4,11 @@ use Rattle.std.specs.Prelude.{replicate}
 use Rattle.std.specs.List.{AllZip}
 use Rattle.std.proofs.lemmas.List.{length-append}
 use Rattle.std.proofs.lemmas.List.Elements.{Contains-append_cases, Contains-append_left, Contains-append_right}
+use Rattle.kb_lemmas.proofs.Membership.{contains_cases, contains_behind, contains_first, split_at, contains_map, contains_flat_map}
 use Rattle.kb_term.specs.Tree.{Tree, variable, apply, Trees, no_trees, more_trees, list_of, trees_of, apply_to, tree_depth, trees_depth}
-use Rattle.kb_term.proofs.Steps.{Occurs, OccursIn, IsWellFormed, AreWellFormed, trees_length, contains_cases, contains_behind, contains_first}
+use Rattle.kb_term.proofs.Steps.{Occurs, OccursIn, IsWellFormed, AreWellFormed, trees_length}
 use Rattle.kb_linear.specs.Interpretations.{choices}
-use Rattle.kb_linear.proofs.Sorted.{IsSorted, split_at, contains_map, contains_flat_map, choices_to}
+use Rattle.kb_linear.proofs.Sorted.{IsSorted, choices_to}
 
 contains_elsewhere : {X : Type 0} (before after : List X) (x y : X) → ¬ (x ≡ y) → Contains (before ++ x ∷ after) y → Contains (before ++ after) y
 contains_elsewhere before after x y n c =

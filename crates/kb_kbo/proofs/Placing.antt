@@ -3,16 +3,12 @@ use Rattle.std.proofs.Common.{ℕ, zero, suc, ◌≡◌, ◌<◌, ◌+◌, ◌++
 use Rattle.std.specs.Prelude.{Some, None}
 use Rattle.std.specs.List.{range_with_len}
 use Rattle.std.proofs.lemmas.Bool.{false≢true}
-use Rattle.std.proofs.lemmas.List.{append_assoc}
+use Rattle.std.proofs.lemmas.List.{append_assoc, append-nil}
 use Rattle.kb_term.specs.First.{IsFirst}
 use Rattle.kb_lpo.specs.Precedences.{arrangements, precedences}
 use Rattle.kb_lpo.specs.Search.{outside}
 use Rattle.kb_lpo.proofs.First.{tried, block, found, none_append, none_block, none_where, tried_listed, tried_unlisted, outside_all}
 use Rattle.kb_kbo.specs.Search.{IsPlaced}
-
-pub append_nil : {X : Type 0} (xs : List X) → xs ++ [] ≡ xs
-append_nil [] = refl
-append_nil (x ∷ xs) = ap (x ∷◌) (append_nil xs)
 
 none_one : (Q : List ℕ → Type 0) → ¬ Q [] → IsFirst Q ([] ∷ []) None
 none_one Q h zero d i q = h q
@@ -21,10 +17,10 @@ none_one Q h (suc k) d i q = omega arith
 -- with no symbol left, the prefix is the only candidate
 pub leaf : (Q : List ℕ → Type 0) (count left : ℕ) (xs : List ℕ) (b : Bool) → left ≡ 0 → (IsTrue b → Q xs) × (Q xs → IsTrue b) → IsPlaced Q count left xs xs b
 leaf Q count left xs true e h =
-    let o : Q (xs ++ []) = subst Q (sym (append_nil xs)) (h.0 refl) in
-    ([], sym (append_nil xs), subst (λ n. IsFirst (λ r. Q (xs ++ r)) (arrangements n (outside count xs)) (Some [])) (sym e) (o, [], [], refl, λ k d i. absurd (omega arith)))
+    let o : Q (xs ++ []) = subst Q (sym (append-nil xs)) (h.0 refl) in
+    ([], sym (append-nil xs), subst (λ n. IsFirst (λ r. Q (xs ++ r)) (arrangements n (outside count xs)) (Some [])) (sym e) (o, [], [], refl, λ k d i. absurd (omega arith)))
 leaf Q count left xs false e h =
-    (refl, subst (λ n. IsFirst (λ r. Q (xs ++ r)) (arrangements n (outside count xs)) None) (sym e) (none_one (λ r. Q (xs ++ r)) (λ o. false≢true (h.1 (subst Q (append_nil xs) o)))))
+    (refl, subst (λ n. IsFirst (λ r. Q (xs ++ r)) (arrangements n (outside count xs)) None) (sym e) (none_one (λ r. Q (xs ++ r)) (λ o. false≢true (h.1 (subst Q (append-nil xs) o)))))
 
 -- what was found behind one more symbol
 pub found_next : (Q : List ℕ → Type 0) (count n left y : ℕ) (xs ys now : List ℕ) → suc n ≡ left → ys ≡ xs ++ y ∷ [] → y < count → ¬ Contains xs y

@@ -5,22 +5,21 @@ use Rattle.std.specs.List.{AllZip}
 use Rattle.std.specs.Option.{option_to_list, IsSome}
 use Rattle.std.proofs.lemmas.Bool.{cases_lt, cases_eq, le-leb, false≢true}
 use Rattle.std.proofs.lemmas.Bool.Decides.{leb_tells}
-use Rattle.std.proofs.lemmas.List.{append_assoc, length-append}
-use Rattle.std.proofs.lemmas.List.Elements.{All-append, Contains-append_cases, Contains-append_right}
+use Rattle.std.proofs.lemmas.List.{append_assoc, length-append, map-append, append-nil}
+use Rattle.std.proofs.lemmas.List.Elements.{Contains-append_cases, Contains-append_right}
 use Rattle.std.proofs.lemmas.Grind.{flat_map-append}
+use Rattle.kb_lemmas.proofs.Membership.{contains_cases, contains_first, contains_flat_map_back, contains_map, contains_flat_map}
 use Rattle.kb_term.specs.First.{IsFirst}
 use Rattle.kb_term.specs.Rule.{Rule}
 use Rattle.kb_term.specs.Signature.{Signature}
-use Rattle.kb_term.proofs.Steps.{contains_cases, contains_first}
 use Rattle.kb_lpo.specs.Precedences.{precedences}
-use Rattle.kb_lpo.proofs.First.{snoc_inj}
+use Rattle.kb_lpo.proofs.First.{snoc_inj, none_append}
 use Rattle.kb_linear.specs.Numbers.{IsLess}
-use Rattle.kb_linear.proofs.Sorted.{IsSorted, IsListLess, AreSorted, sorted_flat_map, sorted_map, sorted_choices, sorted_after, contains_at, contains_map_back, contains_flat_map_back, contains_map, contains_flat_map, choices_from, choices_to}
+use Rattle.kb_linear.proofs.Sorted.{IsSorted, IsListLess, AreSorted, sorted_flat_map, sorted_map, sorted_choices, sorted_after, contains_at, contains_map_back, choices_from, choices_to}
 use Rattle.kb_kbo.specs.KnuthBendix.{KboOrder}
 use Rattle.kb_kbo.specs.Measures.{order_of}
 use Rattle.kb_kbo.specs.Orders.{KboOrients, weightings, kbo_orders, orders_of, IsFirstKbo, IsLowerBound}
 use Rattle.kb_kbo.specs.Search.{orders_behind, IsWeighed, IsFloor, lowest_of, floor_behind}
-use Rattle.kb_kbo.proofs.Placing.{append_nil}
 
 -- so many weights from 1 to 3
 abbrev pub IsChosen : ℕ → List ℕ → Type 0
@@ -86,25 +85,18 @@ none_map Q f [] h k d i = absurd (omega arith)
 none_map Q f (x ∷ xs) h zero d i = h 0 x (omega arith)
 none_map Q f (x ∷ xs) h (suc k) d i = none_map Q f xs (λ j e q. h (suc j) e (omega arith)) k d (omega arith)
 
-map_append : {X Y : Type 0} (f : X → Y) (xs ys : List X) → map f (xs ++ ys) ≡ map f xs ++ map f ys
-map_append f [] ys = refl
-map_append f (x ∷ xs) ys = ap (f x ∷◌) (map_append f xs ys)
-
 some_map : {X Y : Type 0} (Q : Y → Type 0) (f : X → Y) (xs : List X) (x : X) → IsFirst (λ x. Q (f x)) xs (Some x) → IsFirst Q (map f xs) (Some (f x))
-some_map Q f xs x (h, before, after, e, n) = (h, map f before, map f after, ap (map f) e ∙ map_append f before (x ∷ after), none_map Q f before n)
-
-none_join : {X : Type 0} (Q : X → Type 0) (xs ys : List X) → IsFirst Q xs None → IsFirst Q ys None → IsFirst Q (xs ++ ys) None
-none_join Q xs ys h k = All-append (λ y. ¬ Q y) xs ys h k
+some_map Q f xs x (h, before, after, e, n) = (h, map f before, map f after, ap (map f) e ∙ map-append f before (x ∷ after), none_map Q f before n)
 
 some_front : {X : Type 0} (Q : X → Type 0) (xs ys : List X) (x : X) → IsFirst Q xs (Some x) → IsFirst Q (xs ++ ys) (Some x)
 some_front Q xs ys x (h, before, after, e, n) = (h, before, after ++ ys, ap (λ z. z ++ ys) e ∙ append_assoc before (x ∷ after) ys, n)
 
 some_behind : {X : Type 0} (Q : X → Type 0) (xs ys : List X) (x : X) → IsFirst Q xs None → IsFirst Q ys (Some x) → IsFirst Q (xs ++ ys) (Some x)
-some_behind Q xs ys x m (h, before, after, e, n) = (h, xs ++ before, after, ap (λ z. xs ++ z) e ∙ sym (append_assoc xs before (x ∷ after)), none_join Q xs before m n)
+some_behind Q xs ys x m (h, before, after, e, n) = (h, xs ++ before, after, ap (λ z. xs ++ z) e ∙ sym (append_assoc xs before (x ∷ after)), none_append Q xs before m n)
 
 -- with no weight left, the precedences of the weights that are given
 leaf_orders : (k : ℕ) (ws : List ℕ) → orders_behind k 0 ws ≡ map (λ (p : List ℕ). order_of ws p) (precedences k)
-leaf_orders k ws = append_nil (map (λ (p : List ℕ). order_of (ws ++ []) p) (precedences k)) ∙ ap (λ (z : List ℕ). map (λ (p : List ℕ). order_of z p) (precedences k)) (append_nil ws)
+leaf_orders k ws = append-nil (map (λ (p : List ℕ). order_of (ws ++ []) p) (precedences k)) ∙ ap (λ (z : List ℕ). map (λ (p : List ℕ). order_of z p) (precedences k)) (append-nil ws)
 
 pub leaf_weighed : (rules : List Rule) (k n left : ℕ) (ws list : List ℕ) (found : Option (List ℕ)) → left ≡ 0 → n ≡ k → list ≡ ws → IsFirst (λ p. KboOrients (order_of list p) rules) (precedences n) found → IsWeighed rules k left ws ws found
 leaf_weighed rules k n left ws list found z m e h = at_zero found (subst (λ (i : ℕ). IsFirst (λ p. KboOrients (order_of ws p) rules) (precedences i) found) m (subst (λ (l : List ℕ). IsFirst (λ p. KboOrients (order_of l p) rules) (precedences n) found) e h))
@@ -169,9 +161,9 @@ pub none_weighed : (rules : List Rule) (k n left : ℕ) (before : List ℕ) (v :
 none_weighed rules k n left before v e h none =
     subst (λ (m : ℕ). IsFirst (λ order. KboOrients order rules) (orders_behind k m before) None) e
     (subst (λ os. IsFirst (λ order. KboOrients order rules) os None) (sym (three_weights k n before))
-    (none_join (λ order. KboOrients order rules) (orders_next k n before 1) (orders_next k n before 2 ++ (orders_next k n before 3 ++ [])) (none 1 (omega arith) (omega arith) (omega arith))
-    (none_join (λ order. KboOrients order rules) (orders_next k n before 2) (orders_next k n before 3 ++ []) (none 2 (omega arith) (omega arith) (omega arith))
-    (none_join (λ order. KboOrients order rules) (orders_next k n before 3) [] (none 3 (omega arith) (omega arith) (omega arith)) (λ i d l. absurd (omega arith))))))
+    (none_append (λ order. KboOrients order rules) (orders_next k n before 1) (orders_next k n before 2 ++ (orders_next k n before 3 ++ [])) (none 1 (omega arith) (omega arith) (omega arith))
+    (none_append (λ order. KboOrients order rules) (orders_next k n before 2) (orders_next k n before 3 ++ []) (none 2 (omega arith) (omega arith) (omega arith))
+    (none_append (λ order. KboOrients order rules) (orders_next k n before 3) [] (none 3 (omega arith) (omega arith) (omega arith)) (λ i d l. absurd (omega arith))))))
 
 -- one more weight without an order
 pub none_more : (rules : List Rule) (k n : ℕ) (before : List ℕ) (v : ℕ) → NoneBelow rules k n before v → IsFirst (λ order. KboOrients order rules) (orders_behind k n (before ++ v ∷ [])) None → NoneBelow rules k n before (v + 1)

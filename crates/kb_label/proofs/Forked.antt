@@ -3,6 +3,8 @@ use Rattle.std.specs.Prelude.{List, [], ◌∷◌, ◌++◌, Bool, true, false, 
 use Rattle.std.proofs.Common.{ap, ap₂, sym, ◌∙◌, subst, inl, inr, ⊎_elim, arith, length-append}
 use mathlib.Core.Bool.{true≢false}
 use Rattle.std.specs.Ordering.{is_eq}
+use Rattle.std.proofs.lemmas.Bool.{false_from_ne_true, or_cases}
+use Rattle.kb_lemmas.proofs.Booleans.{and_gives_left, and_gives_right}
 use Rattle.kb_label.specs.Names.{Name, root, child, bit_cmp, name_eq, is_beginning, has, add, minus, relabel, IsInNameOrder}
 use Rattle.kb_label.specs.declared.process.TheConstants.{MAX_BITS}
 use Rattle.kb_label.specs.Forks.{IsForked, at_first, at_fork}
@@ -10,22 +12,6 @@ use Rattle.kb_label.proofs.Members.{name_eq-refl, name_eq-eq, has-add, has-minus
 use Rattle.kb_label.proofs.Ordered.{ordered-add, ordered-filter, length-add, length-without}
 
 -- ---- tests
-
-not_true : (b : Bool) → (b ≡ true → ⊥) → b ≡ false
-not_true true h = absurd (h refl)
-not_true false h = refl
-
-and_left : (a b : Bool) → (a && b) ≡ true → a ≡ true
-and_left true b h = refl
-and_left false b h = absurd (true≢false (sym h))
-
-and_right : (a b : Bool) → (a && b) ≡ true → b ≡ true
-and_right true b h = h
-and_right false b h = absurd (true≢false (sym h))
-
-or_cases : (a b : Bool) → (a || b) ≡ true → (a ≡ true) ⊎ (b ≡ true)
-or_cases true b h = inl refl
-or_cases false b h = inr h
 
 not_or : (a : Bool) → not (a || false) ≡ true → a ≡ false
 not_or true h = absurd (true≢false (sym h))
@@ -56,22 +42,22 @@ begins-trans [] q r h k = refl
 begins-trans (x ∷ p) [] r h k = absurd (true≢false (sym h))
 begins-trans (x ∷ p) (y ∷ q) [] h k = absurd (true≢false (sym k))
 begins-trans (x ∷ p) (y ∷ q) (z ∷ r) h k =
-    let e : x ≡ y = bit-equal x y (and_left (is_eq (bit_cmp x y)) (is_beginning p q) h) in
-    let d : is_eq (bit_cmp y z) ≡ true = and_left (is_eq (bit_cmp y z)) (is_beginning q r) k in
-    ap₂ ◌&&◌ (ap (λ v. is_eq (bit_cmp v z)) e ∙ d) (begins-trans p q r (and_right (is_eq (bit_cmp x y)) (is_beginning p q) h) (and_right (is_eq (bit_cmp y z)) (is_beginning q r) k))
+    let e : x ≡ y = bit-equal x y (and_gives_left (is_eq (bit_cmp x y)) (is_beginning p q) h) in
+    let d : is_eq (bit_cmp y z) ≡ true = and_gives_left (is_eq (bit_cmp y z)) (is_beginning q r) k in
+    ap₂ ◌&&◌ (ap (λ v. is_eq (bit_cmp v z)) e ∙ d) (begins-trans p q r (and_gives_right (is_eq (bit_cmp x y)) (is_beginning p q) h) (and_gives_right (is_eq (bit_cmp y z)) (is_beginning q r) k))
 
 -- what begins a child begins its parent or is the child
 pub begins-child : (q p : Name) (b : Bool) → is_beginning q (child p b) ≡ true → (is_beginning q p ≡ true) ⊎ (q ≡ child p b)
 begins-child [] p b h = inl refl
-begins-child (x ∷ []) [] b h = inr (ap (λ v. v ∷ []) (bit-equal x b (and_left (is_eq (bit_cmp x b)) true h)))
-begins-child (x ∷ y ∷ q) [] b h = absurd (true≢false (sym (and_right (is_eq (bit_cmp x b)) false h)))
+begins-child (x ∷ []) [] b h = inr (ap (λ v. v ∷ []) (bit-equal x b (and_gives_left (is_eq (bit_cmp x b)) true h)))
+begins-child (x ∷ y ∷ q) [] b h = absurd (true≢false (sym (and_gives_right (is_eq (bit_cmp x b)) false h)))
 begins-child (x ∷ q) (y ∷ p) b h =
-    let e : is_eq (bit_cmp x y) ≡ true = and_left (is_eq (bit_cmp x y)) (is_beginning q (child p b)) h in
-    ⊎_elim (λ w. inl (ap₂ ◌&&◌ e w)) (λ w. inr (ap₂ ◌∷◌ (bit-equal x y e) w)) (begins-child q p b (and_right (is_eq (bit_cmp x y)) (is_beginning q (child p b)) h))
+    let e : is_eq (bit_cmp x y) ≡ true = and_gives_left (is_eq (bit_cmp x y)) (is_beginning q (child p b)) h in
+    ⊎_elim (λ w. inl (ap₂ ◌&&◌ e w)) (λ w. inr (ap₂ ◌∷◌ (bit-equal x y e) w)) (begins-child q p b (and_gives_right (is_eq (bit_cmp x y)) (is_beginning q (child p b)) h))
 
 children-begin : (p : Name) (b d : Bool) → is_beginning (child p b) (child p d) ≡ true → b ≡ d
-children-begin [] b d h = bit-equal b d (and_left (is_eq (bit_cmp b d)) true h)
-children-begin (x ∷ p) b d h = children-begin p b d (and_right (is_eq (bit_cmp x x)) (is_beginning (child p b) (child p d)) h)
+children-begin [] b d h = bit-equal b d (and_gives_left (is_eq (bit_cmp b d)) true h)
+children-begin (x ∷ p) b d h = children-begin p b d (and_gives_right (is_eq (bit_cmp x x)) (is_beginning (child p b) (child p d)) h)
 
 -- ---- forks
 
@@ -93,14 +79,14 @@ module _ (p : Name) (l : List Name) (h : has l p ≡ true) where
       ⊎_elim (λ e. inl (false, name_eq-eq q (child p false) e))
       (λ v. ⊎_elim (λ e. inl (true, name_eq-eq q (child p true) e))
       (λ u. let both = sym (has-minus l (p ∷ []) q) ∙ u in
-      inr (not_or (name_eq q p) (and_left (not (has (p ∷ []) q)) (has l q) both), and_right (not (has (p ∷ []) q)) (has l q) both))
+      inr (not_or (name_eq q p) (and_gives_left (not (has (p ∷ []) q)) (has l q) both), and_gives_right (not (has (p ∷ []) q)) (has l q) both))
       (or_cases (name_eq q (child p true)) (has (minus l (p ∷ [])) q) (sym (has-add (child p true) (minus l (p ∷ [])) q) ∙ v)))
       (or_cases (name_eq q (child p false)) (has (add (child p true) (minus l (p ∷ []))) q) (sym (has-add (child p false) (add (child p true) (minus l (p ∷ []))) q) ∙ ap (λ m. has m q) (sym relabelled) ∙ w))
 
   module _ (all : AreLeaves l) where
     -- a child of a living process doesn't live
     new : (b : Bool) → has l (child p b) ≡ false
-    new b = not_true (has l (child p b)) (λ w. let e : p ≡ child p b = all.apart p (child p b) h w (begins-more p (b ∷ [])) in let f : length p ≡ length (child p b) = ap length e in omega (arith, f, length-child p b))
+    new b = false_from_ne_true (has l (child p b)) (λ w. let e : p ≡ child p b = all.apart p (child p b) h w (begins-more p (b ∷ [])) in let f : length p ≡ length (child p b) = ap length e in omega (arith, f, length-child p b))
 
     new_left : (b : Bool) → has (minus l (p ∷ [])) (child p b) ≡ false
     new_left b = has-minus l (p ∷ []) (child p b) ∙ ap (λ v. not (has (p ∷ []) (child p b)) && v) (new b) ∙ and_false (not (has (p ∷ []) (child p b)))
@@ -113,7 +99,7 @@ module _ (p : Name) (l : List Name) (h : has l p ≡ true) where
     new_both = has-add (child p true) (minus l (p ∷ [])) (child p false) ∙ ap₂ ◌||◌ differ (new_left false)
       where
         differ : name_eq (child p false) (child p true) ≡ false
-        differ = not_true (name_eq (child p false) (child p true)) (λ e. true≢false (sym (children-begin p false true (subst (λ v. is_beginning (child p false) v ≡ true) (name_eq-eq (child p false) (child p true) e) (begins-self (child p false))))))
+        differ = false_from_ne_true (name_eq (child p false) (child p true)) (λ e. true≢false (sym (children-begin p false true (subst (λ v. is_beginning (child p false) v ≡ true) (name_eq-eq (child p false) (child p true) e) (begins-self (child p false))))))
 
     pub length-relabel : length (relabel p l) ≡ suc (length l)
     length-relabel =

@@ -6,6 +6,7 @@ use Rattle.std.specs.Ordering.{is_eq}
 use Rattle.std.specs.declared.cmp.Ordering.{Ordering}
 use Rattle.std.specs.declared.cmp.Ordering.TheVariants.{Less, Equal, Greater}
 use Rattle.std.specs.Cmp.{tied_itself}
+use Rattle.kb_lemmas.proofs.Booleans.{or_swap}
 use Rattle.kb_label.specs.Names.{Name, bits_cmp, name_cmp, name_eq, has, by_order, add, join, meet, minus}
 use Rattle.kb_label.specs.NameOrder.{bits_cmp-total, bits_cmp-equal, name_cmp-equal, is_eq-equal}
 
@@ -18,11 +19,6 @@ pub name_eq-eq : (p q : Name) → name_eq p q ≡ true → p ≡ q
 name_eq-eq p q h = bits_cmp-equal p q (is_eq-equal (bits_cmp p q) h)
 
 -- ---- labels
-
-or_swap : (a b c : Bool) → (a || (b || c)) ≡ (b || (a || c))
-or_swap true true c = refl
-or_swap true false c = refl
-or_swap false b c = refl
 
 or_again : (a c : Bool) → (a || c) ≡ (a || (a || c))
 or_again true c = refl

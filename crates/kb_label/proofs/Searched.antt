@@ -1,5 +1,5 @@
 -- What a binary search in a list of names answers.
-use Rattle.std.specs.Prelude.{ℕ, List, [], ◌∷◌, Bool, true, false, ◌||◌, ◌≡◌, refl, length, suc, zero, ◌<◌, ◌≤◌, insert, is_ok, Result, Ok, Err, IfOk, IfErr}
+use Rattle.std.specs.Prelude.{ℕ, List, [], ◌∷◌, true, false, ◌||◌, ◌≡◌, refl, length, suc, zero, ◌<◌, ◌≤◌, insert, is_ok, Result, Ok, Err, IfOk, IfErr}
 use Rattle.std.proofs.Common.{ap, ap₂, add-one, sym, ◌∙◌, arith, get_or}
 use mathlib.Core.Bool.{true≢false}
 use Rattle.std.specs.declared.cmp.Ordering.{Ordering}
@@ -7,6 +7,7 @@ use Rattle.std.specs.Ordering.{is_eq, is_lt, ordering_index}
 use Rattle.std.specs.List.Sorted.{IsSorted, IsNonDecreasingBy, IsPartitionPoint, IsBinarySearchResult, IsSearchInRange}
 use Rattle.std.proofs.lemmas.List.Sorted.{searchable_from_sorted}
 use Rattle.std.specs.declared.cmp.Ordering.TheVariants.{Less, Equal, Greater}
+use Rattle.std.proofs.Math.Bool.{or-true}
 use Rattle.kb_label.specs.Names.{Name, name_cmp, name_eq, has, add, by_order, IsInNameOrder}
 use Rattle.kb_label.specs.NameOrder.{name_cmp-total, name_cmp-equal, name_eq-by_cmp}
 use Rattle.kb_label.proofs.Ordered.{turned, turned_back, rest, lower, before-absent, add-later}
@@ -26,15 +27,11 @@ sorted l o k d h w =
 pub searchable : (l : List Name) (p : Name) → IsInNameOrder l → IsNonDecreasingBy (λ q. ordering_index (name_cmp q p)) l
 searchable l p o = searchable_from_sorted name_cmp-total (λ q. q) l p (sorted l o)
 
-or_true : (b : Bool) → (b || true) ≡ true
-or_true true = refl
-or_true false = refl
-
 -- a name that stands somewhere
 pub at-has : (l : List Name) (p : Name) (k : ℕ) → k < length l → get_or l k p ≡ p → has l p ≡ true
 at-has [] p k h e = absurd (omega arith)
 at-has (q ∷ l) p zero h e = ap (λ b. b || has l p) (ap (name_eq p) e ∙ name_eq-refl p)
-at-has (q ∷ l) p (suc k) h e = ap (λ b. name_eq p q || b) (at-has l p k (omega arith) e) ∙ or_true (name_eq p q)
+at-has (q ∷ l) p (suc k) h e = ap (λ b. name_eq p q || b) (at-has l p k (omega arith) e) ∙ or-true (name_eq p q)
 
 -- a name that is there is not added again
 pub add-present : (p : Name) (l : List Name) → IsInNameOrder l → has l p ≡ true → add p l ≡ l

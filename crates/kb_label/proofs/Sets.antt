@@ -4,6 +4,7 @@ use Rattle.std.proofs.Common.{ap, ap₂, sym, ◌∙◌, subst}
 use mathlib.Core.Bool.{true≢false}
 use Rattle.std.specs.declared.cmp.Ordering.{Ordering}
 use Rattle.std.specs.declared.cmp.Ordering.TheVariants.{Less, Equal, Greater}
+use Rattle.std.proofs.Math.Bool.{or-false}
 use Rattle.kb_label.specs.Names.{Name, child, name_cmp, name_eq, has, add, minus, relabel, IsInNameOrder}
 use Rattle.kb_label.specs.NameOrder.{name_cmp-equal}
 use Rattle.kb_label.proofs.Members.{name_eq-refl, name_eq-eq, has-add, has-minus}
@@ -39,15 +40,11 @@ same_names (p ∷ l) (q ∷ m) o w h = go (name_cmp p q) refl (λ v g. same_name
         ap₂ ◌∷◌ (sym same) (ih (subst (λ v. IsInNameOrder (v ∷ m)) same w) (λ r. h r ∙ ap (λ v. name_eq r v || has m r) same))
     go Greater e ih = not_less q p m l o (sym (h q)) (turned p q e)
 
-or_false : (b : Bool) → (b || false) ≡ b
-or_false true = refl
-or_false false = refl
-
 pub has-relabel : (p q : Name) (l : List Name) → has l p ≡ true → has (relabel p l) q ≡ (name_eq q (child p false) || (name_eq q (child p true) || (not (name_eq q p) && has l q)))
 has-relabel p q l h =
     ap (λ m. has m q) (relabelled p l h)
     ∙ has-add (child p false) (add (child p true) (minus l (p ∷ []))) q
-    ∙ ap (λ b. name_eq q (child p false) || b) (has-add (child p true) (minus l (p ∷ [])) q ∙ ap (λ b. name_eq q (child p true) || b) (has-minus l (p ∷ []) q ∙ ap (λ b. not b && has l q) (or_false (name_eq q p))))
+    ∙ ap (λ b. name_eq q (child p false) || b) (has-add (child p true) (minus l (p ∷ [])) q ∙ ap (λ b. name_eq q (child p true) || b) (has-minus l (p ∷ []) q ∙ ap (λ b. not b && has l q) (or-false (name_eq q p))))
 
 pub relabel-absent : (p : Name) (l : List Name) → has l p ≡ false → relabel p l ≡ l
 relabel-absent p l h = rw h refl

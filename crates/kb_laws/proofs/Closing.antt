@@ -1,23 +1,15 @@
 -- Overlaps whose sides have one normal form by the strategy are joinable.
-use Rattle.std.proofs.Common.{ℕ, zero, suc, ◌≡◌, arith, List, [], ◌∷◌, Contains, Some, slice_get}
+use Rattle.std.proofs.Common.{List, [], ◌∷◌}
+use Rattle.kb_rewrite.proofs.Irreducible.{step_from}
 use Rattle.kb_term.specs.Tree.{Tree}
 use Rattle.kb_term.specs.Rule.{Rule}
 use Rattle.kb_term.specs.Proving.{IsPath, Step, IsJoinable}
 use Rattle.kb_rewrite.specs.NormalForm.{StrategyStep}
 use Rattle.kb_laws.specs.Overlaps.{OverlapsJoin, OverlapsClose, HaveOneNormalForm}
-use Rattle.kb_term.proofs.Steps.{contains_behind}
-
-pub slice_contains : {X : Type 0} (xs : List X) (i : ℕ) (x : X) → slice_get xs i ≡ Some x → Contains xs x
-slice_contains [] i x e = absurd (cc)
-slice_contains (y ∷ ys) zero x e = (0, omega arith, cc)
-slice_contains (y ∷ ys) (suc i) x e = contains_behind y ys x (slice_contains ys i x e)
-
-pub strategy_step : (rules : List Rule) (s t : Tree) → StrategyStep rules s t → Step rules s t
-strategy_step rules s t (p, i, f, h) = (f.redex.rule, slice_contains rules i f.redex.rule f.redex.there, p, h)
 
 strategy_path : (rules : List Rule) (path : List Tree) (s t : Tree) → IsPath (StrategyStep rules) path s t → IsPath (Step rules) path s t
 strategy_path rules [] s t e = e
-strategy_path rules (u ∷ path) s t (h, k) = (strategy_step rules s u h, strategy_path rules path u t k)
+strategy_path rules (u ∷ path) s t (h, k) = (step_from rules s u h, strategy_path rules path u t k)
 
 pub joined : (rules : List Rule) (s t : Tree) → HaveOneNormalForm rules s t → IsJoinable rules s t
 joined rules s t (u, m, n, c, d) = (u, (c.0, strategy_path rules c.0 s u c.1.0), (d.0, strategy_path rules d.0 t u d.1.0))

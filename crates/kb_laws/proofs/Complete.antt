@@ -1,6 +1,7 @@
 -- What a complete state of a run gives: a terminating, confluent system that proves what the problem proves.
 use Rattle.std.proofs.Common.{ℕ, ◌≡◌, ◌↔◌, inl, inr, refl, sym, ◌∙◌, subst, arith, List, [], ◌∷◌, ◌++◌, All, Contains, ⊎_elim}
 use Rattle.std.proofs.lemmas.List.Elements.{All-contains, All-head, All-cons}
+use Rattle.kb_lemmas.proofs.Membership.{contains_cases}
 use Rattle.kb_term.specs.Tree.{Tree, variable, apply, Trees, no_trees, more_trees}
 use Rattle.kb_term.specs.Substitution.{instance, instances, rename}
 use Rattle.kb_term.specs.Rule.{Rule, IsRule, IsVariantRule}
@@ -13,7 +14,7 @@ use Rattle.kb_term.specs.Pair.{IsSameEquation}
 use Rattle.kb_laws.specs.Complete.{IsCompleteSystem}
 use Rattle.kb_laws.specs.Completion.{KbState, KbStep, deduce, orient, delete, simplify, compose, collapse, IsSameState, Has, Keeps, Gains, KbFollows, kb_start, IsKbRun}
 use Rattle.kb_term.proofs.Relation.{Reaches}
-use Rattle.kb_term.proofs.Steps.{Occurs, OccursIn, occurs_from, occurs_to, Step, StepIn, at_root, inside, here, there, contains_cases}
+use Rattle.kb_term.proofs.Steps.{Occurs, OccursIn, occurs_from, occurs_to, Step, StepIn, at_root, inside, here, there}
 use Rattle.kb_term.proofs.Bridge.{step_from_position, joinable_from}
 use Rattle.kb_laws.proofs.Cleaning.{length-instances}
 use Rattle.kb_laws.proofs.Conversion.{Equal, Either, equal_trans, equal_sym, reaches_made_up, equal_rule}

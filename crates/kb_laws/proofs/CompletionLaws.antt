@@ -1,6 +1,7 @@
 -- Each step of completion keeps what the equations and the rules together prove.
 use Rattle.std.proofs.Common.{ℕ, ◌≡◌, ◌⊎◌, inl, inr, refl, ap, subst, arith, List, [], ◌∷◌, ◌++◌, Contains, ⊎_elim, ◌↔◌, append-nil}
 use Rattle.std.proofs.lemmas.List.Elements.{Contains-append_cases, Contains-append_left, Contains-append_right}
+use Rattle.kb_lemmas.proofs.Membership.{contains_cases, contains_behind, contains_first}
 use Rattle.kb_term.specs.Tree.{Tree}
 use Rattle.kb_term.specs.Rule.{Rule, IsVariantRule}
 use Rattle.kb_term.specs.Substitution.{IsRenaming}
@@ -10,7 +11,7 @@ use Rattle.kb_term.specs.Proving as Proving
 use Rattle.kb_term.specs.Pair.{IsSameEquation}
 use Rattle.kb_laws.specs.Runs.{all_of}
 use Rattle.kb_laws.specs.Completion.{KbState, KbStep, deduce, orient, delete, simplify, compose, collapse, IsSameState, Has, Keeps, Gains, KbReaches, KbFollows, kb_start, IsKbRun}
-use Rattle.kb_term.proofs.Steps.{Step, contains_cases, contains_behind, contains_first}
+use Rattle.kb_term.proofs.Steps.{Step}
 use Rattle.kb_term.proofs.Bridge.{step_from_position, step_to_position, steps_from_path, path_from_steps}
 use Rattle.kb_term.proofs.Chains.{reaches_refl}
 use Rattle.kb_laws.proofs.Conversion.{Either, Equal, equal_sym, equal_trans, equal_step, equal_rule, equal_made_up, equal_same, equal_variant}

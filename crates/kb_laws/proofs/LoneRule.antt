@@ -1,6 +1,7 @@
 -- One rule that doesn't overlap itself is a complete system for its equation.
 use Rattle.std.proofs.Common.{ℕ, zero, suc, ◌≡◌, ◌∙◌, inl, inr, refl, sym, subst, subst₂, arith, List, [], ◌∷◌, All, Some, None, slice_get, Bool, true, false, cond, ⊎_elim}
 use Rattle.std.proofs.lemmas.List.Elements.{All-head}
+use Rattle.kb_lemmas.proofs.Membership.{contains_cases, contains_first}
 use Rattle.kb_term.specs.Tree.{Tree, tree_eq}
 use Rattle.kb_term.specs.Substitution.{IsRenaming}
 use Rattle.kb_term.specs.Pair.{Pair, numbered, canonical, place_in, variables_of_pair, IsVariantEquation, IsSameEquation}
@@ -10,7 +11,6 @@ use Rattle.kb_term.proofs.CanonicalPairs.{lesser_cases, canonical_from_same, sam
 use Rattle.kb_term.specs.Rule.{Rule, IsRule, rule_of}
 use Rattle.kb_term.specs.Signature.{Signature, IsWellFormed, IsRuleOver}
 use Rattle.kb_term.specs.Proving.{Proves, equations_of}
-use Rattle.kb_term.proofs.Steps.{contains_cases, contains_first}
 use Rattle.kb_cert.specs.declared.certificate.Certificate.{Certificate}
 use Rattle.kb_cert.proofs.FamilyLaws.{terminating_by_member, ordered_rules}
 use Rattle.kb_overlap.specs.Overlap.{IsOverlapList}

@@ -1,11 +1,11 @@
 -- Each signature has a precedence, and the constraint rules of a run stay orderable.
 use Rattle.std.proofs.Common.{subst, arith, List, [], ◌∷◌, Contains, ⊎_elim}
+use Rattle.kb_lemmas.proofs.Membership.{contains_cases, contains_behind, contains_first}
 use Rattle.kb_term.specs.Rule.{Rule, IsVariantRule}
 use Rattle.kb_term.specs.Signature.{Signature, Problem}
 use Rattle.kb_term.specs.Proving.{IsPath}
 use Rattle.kb_cert.specs.Family.{IsOrderable}
 use Rattle.kb_laws.specs.Completion.{KbState, KbStep, deduce, orient, delete, simplify, compose, collapse, Has, Keeps, KbFollows, kb_start, IsKbRun}
-use Rattle.kb_term.proofs.Steps.{contains_cases, contains_behind, contains_first}
 use Rattle.kb_laws.proofs.CompletionLaws.{has_rule}
 use Rattle.kb_cert.proofs.FamilyLaws.{nothing_orderable}
 use Rattle.kb_cert.proofs.Ordering.{IsRenamedOf, orders_renamed}

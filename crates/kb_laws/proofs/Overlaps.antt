@@ -1,6 +1,8 @@
 -- Joinable overlaps give joinable peaks: the critical pair lemma.
 use Rattle.std.proofs.Common.{ℕ, zero, suc, ◌+◌, ◌-◌, ◌≡◌, ◌≤◌, ◌<◌, ◌⊎◌, inl, inr, refl, sym, ap, ap₂, ◌∙◌, subst, subst₂, arith, List, [], ◌∷◌, ◌++◌, map, drop, Contains, Option, Some, None, option_map, option_and_then, Ok, ◌==◌, Bool, true, false, slice_get, ⊎_elim, eqb-true}
 use Rattle.std.proofs.lemmas.List.Elements.{Contains-append_cases, Contains-append_left, Contains-append_right}
+use Rattle.std.proofs.lemmas.Option.{same_Some}
+use Rattle.kb_lemmas.proofs.Membership.{contains_cases, contains_behind, contains_first, contains_map}
 use Rattle.kb_term.specs.Tree.{Tree, variable, apply, Trees, no_trees, more_trees, variables_of}
 use Rattle.kb_term.specs.Substitution.{instance, instances, rename, IsRenaming}
 use Rattle.kb_term.specs.Rule.{Rule, rename_rule}
@@ -11,14 +13,13 @@ use Rattle.kb_overlap.specs.Overlap.{IsRenamedApart, pair_or_limit, overlap_limi
 use Rattle.kb_term.specs.declared.limit.Limit.{Limit}
 use Rattle.kb_term.specs.Proving as Proving
 use Rattle.kb_term.proofs.Relation.{IsJoinable}
-use Rattle.kb_term.proofs.Steps.{Occurs, OccursIn, occurs_from, occurs_to, Step, contains_cases, contains_behind, contains_first}
+use Rattle.kb_term.proofs.Steps.{Occurs, OccursIn, occurs_from, occurs_to, Step}
 use Rattle.kb_term.proofs.Subterms.{subterm_at, argument_at, replace_at, replace_in, IsApplied, occurs_at}
 use Rattle.kb_term.proofs.Instances.{instance-agree, instance-instance, instance-variable}
 use Rattle.kb_laws.specs.Overlaps.{OverlapsJoin}
 use Rattle.kb_laws.proofs.Peaks.{PeaksJoin}
 use Rattle.kb_term.proofs.StepsInside.{joinable_instance}
-use Rattle.kb_laws.proofs.ReplacedInstances.{replace-instance, some_same}
-use Rattle.kb_linear.proofs.Sorted.{contains_map}
+use Rattle.kb_laws.proofs.ReplacedInstances.{replace-instance}
 use Rattle.kb_unify.proofs.Instances.{contains_decides}
 use Rattle.kb_term.proofs.Bridge.{joinable_from}
 
@@ -217,14 +218,14 @@ peak_of rules A B C h p w m k t e d q un mgu s u first second joins =
     let r = replace-instance j (instance un A.left) p (instance un C.right) u second in
     let l : instance j (instance un A.left) ≡ instance m A.left = sym (along A.left) ∙ x.2 in
     let b : instance j (instance un C.right) ≡ instance k B.right = sym (along C.right) ∙ x.4 in
-    let t' : instance j u ≡ t = some_same (instance j u) t (sym r ∙ ap₂ (λ a c. replace_at a p c) l b ∙ q) in
+    let t' : instance j u ≡ t = same_Some (instance j u) t (sym r ∙ ap₂ (λ a c. replace_at a p c) l b ∙ q) in
     let s' : instance j s ≡ instance m A.right = ap (instance j) first ∙ sym (along A.right) ∙ x.3 in
     subst₂ (λ a c. IsJoinable (Step (Contains rules)) a c) s' t' (joinable_instance (Contains rules) j s u joins)
 
 pub peaks_join : (rules : List Rule) → OverlapsJoin rules → PeaksJoin (Contains rules)
 peaks_join rules over A B p w m k t a b e i d q other =
     let o = over a.0 b.0 A B (contains_slice rules A a) (contains_slice rules B b) in
-    let c : Contains (overlap_positions A (a.0 == b.0)) p = in_positions A (a.0 == b.0) p w e i (λ z f. other z (some_same A B (sym (contains_slice rules A a) ∙ ap (slice_get rules) (eqb-true a.0 b.0 f) ∙ contains_slice rules B b))) in
+    let c : Contains (overlap_positions A (a.0 == b.0)) p = in_positions A (a.0 == b.0) p w e i (λ z f. other z (same_Some A B (sym (contains_slice rules A a) ∙ ap (slice_get rules) (eqb-true a.0 b.0 f) ∙ contains_slice rules B b))) in
     go o.0 o.2 (at_listed A B (overlap_positions A (a.0 == b.0)) o.0 o.1 p c)
   where
     go : (os : List Overlap) → ((o : Overlap) → Contains os o → (s : Tree) × (t : Tree) × (o.sides ≡ Ok (s, t)) × Proving.IsJoinable rules s t)
@@ -236,7 +237,7 @@ peaks_join rules over A B p w m k t a b e i d q other =
     go os joins (inr (o, c, f, h)) =
         let j = joins o c in
         let sides = ok_sides (overlap_limit A h.renamed h.m h.s h.t) h.s h.t j.0 j.1 (sym h.sides ∙ j.2) in
-        let w' : h.overlaps.subterm ≡ w = some_same h.overlaps.subterm w (sym h.overlaps.there ∙ ap (subtree_at A.left) f ∙ sym (subterm_same A.left p) ∙ e) in
+        let w' : h.overlaps.subterm ≡ w = same_Some h.overlaps.subterm w (sym h.overlaps.there ∙ ap (subtree_at A.left) f ∙ sym (subterm_same A.left p) ∙ e) in
         peak_of rules A B h.renamed h.renamed_apart p w m k t e d q h.m (subst (λ y. IsMostGeneralUnifier h.m y h.renamed.left) w' h.overlaps.unifier) h.s h.t h.pair.by_outer
         (replace_same (instance h.m A.left) p (instance h.m h.renamed.right) ∙ subst (λ y. Position.replace_at (instance h.m A.left) y (instance h.m h.renamed.right) ≡ Some h.t) f h.pair.by_inner)
         (joinable_from rules h.s h.t (subst₂ (Proving.IsJoinable rules) (sym sides.0) (sym sides.1) j.3))

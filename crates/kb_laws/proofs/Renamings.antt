@@ -3,6 +3,8 @@ use Rattle.std.proofs.Common.{ℕ, zero, suc, ◌<◌, ◌≡◌, arith, refl, s
 use Rattle.std.specs.Prelude.{slice_get}
 use Rattle.std.proofs.lemmas.List.{length-map}
 use Rattle.std.proofs.lemmas.List.Elements.{All-nil, All-cons, All-head, All-tail}
+use Rattle.std.proofs.lemmas.Option.{same_Some}
+use Rattle.kb_lemmas.proofs.Membership.{contains_behind}
 use Rattle.kb_term.specs.Tree.{Tree, variable, apply, Trees, no_trees, more_trees, variables_of}
 use Rattle.kb_term.specs.Position.{subtree_at, replace_at, positions_of, positions_in}
 use Rattle.kb_term.specs.Substitution.{instance, instances}
@@ -10,8 +12,8 @@ use Rattle.kb_term.specs.Pair.{canonical_pair, term_limit}
 use Rattle.kb_term.specs.Rule.{Rule}
 use Rattle.kb_term.specs.Proving.{IsPath, RewritesAt}
 use Rattle.kb_term.proofs.Instances.{instance-instance, instance-agree, agree_at}
-use Rattle.kb_term.proofs.Steps.{contains_behind, occurs_from, occurs_to}
-use Rattle.kb_term.proofs.Subtrees.{some_same, subtree-instance, replace-instance}
+use Rattle.kb_term.proofs.Steps.{occurs_from, occurs_to}
+use Rattle.kb_term.proofs.Subtrees.{subtree-instance, replace-instance}
 use Rattle.kb_overlap.proofs.Extents.{same_term_limit}
 use Rattle.kb_overlap.proofs.Uniqueness.{same_canonical_pair}
 use Rattle.kb_rewrite.specs.NormalForm.{IsRedex, IsFirstRedex, HasRedex, IsNormal, StrategyStep, HoldVariables, Normalised, form, long, large, NormalisesTo}
@@ -99,10 +101,10 @@ pub rewrites_back : (d e : ℕ → Tree) (rule : Rule) (p : List ℕ) (s u : Tre
 rewrites_back d e rule p s u held h (m, r) =
     let k : ℕ → Tree = λ x. instance e (d x) in
     let fixed : instance k s ≡ s = sym (instance-instance e d s) ∙ h in
-    let left : instance k (instance m rule.left) ≡ instance m rule.left = some_same _ _ (sym (subtree-instance k p s (instance m rule.left) r.redex) ∙ ap (λ z. subtree_at z p) fixed ∙ r.redex) in
+    let left : instance k (instance m rule.left) ≡ instance m rule.left = same_Some _ _ (sym (subtree-instance k p s (instance m rule.left) r.redex) ∙ ap (λ z. subtree_at z p) fixed ∙ r.redex) in
     let right : instance k (instance m rule.right) ≡ instance m rule.right = instance-instance k m rule.right
     ∙ instance-agree (λ x. instance k (m x)) m rule.right (λ n o. agree_at (λ x. instance k (m x)) m rule.left (sym (instance-instance k m rule.left) ∙ left) n (occurs_from n rule.left (held n (occurs_to n rule.right o)))) in
-    instance-instance e d u ∙ some_same _ _ (sym (replace-instance k p s (instance m rule.right) u r.result) ∙ ap₂ (λ y z. replace_at y p z) fixed right ∙ r.result)
+    instance-instance e d u ∙ same_Some _ _ (sym (replace-instance k p s (instance m rule.right) u r.result) ∙ ap₂ (λ y z. replace_at y p z) fixed right ∙ r.result)
 
 step_back : (d e : ℕ → Tree) (rules : List Rule) (s u : Tree) → HoldVariables rules → Back d e s → StrategyStep rules s u → Back d e u
 step_back d e rules s u held h (p, i, f, r) = rewrites_back d e f.redex.rule p s u (held f.redex.rule (rule_among rules i f.redex.rule f.redex.there)) h r

@@ -1,5 +1,6 @@
 -- What each state of a run of completion has: well-formed equations, rules over the signature, and rules that are chains of constraint rules.
 use Rattle.std.proofs.Common.{ℕ, ◌≡◌, inl, inr, refl, sym, ap, ◌∙◌, subst, subst₂, arith, List, [], ◌∷◌, Contains, ⊎_elim}
+use Rattle.kb_lemmas.proofs.Membership.{contains_cases}
 use Rattle.kb_term.specs.Tree.{Tree, variable, apply, Trees, more_trees}
 use Rattle.kb_term.specs.Substitution.{instance}
 use Rattle.kb_term.specs.Rule.{Rule, IsVariantRule}
@@ -7,7 +8,7 @@ use Rattle.kb_term.specs.Signature.{Signature, Problem}
 use Rattle.kb_term.specs.Proving.{IsPath}
 use Rattle.kb_laws.specs.Completion.{KbState, KbStep, deduce, orient, delete, simplify, compose, collapse, IsSameState, Has, Keeps, KbFollows, kb_start, IsKbRun}
 use Rattle.kb_term.proofs.Relation.{Reaches}
-use Rattle.kb_term.proofs.Steps.{Step, StepIn, at_root, inside, here, there, contains_cases}
+use Rattle.kb_term.proofs.Steps.{Step, StepIn, at_root, inside, here, there}
 use Rattle.kb_term.proofs.Chains.{reaches_refl, reaches_one, reaches_step, reaches_trans, reaches_map}
 use Rattle.kb_term.proofs.Bridge.{step_from_position}
 use Rattle.kb_term.proofs.Instances.{instance-instance, instance-variable}

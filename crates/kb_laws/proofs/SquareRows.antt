@@ -1,5 +1,7 @@
 -- What the laws ask can be met where rules overlap: the completion of f(f(x)) = a to f(f(x)) -> a and f(a) -> a.
 use Rattle.std.proofs.Common.{ℕ, zero, suc, ◌≡◌, ◌⊎◌, ⊎_elim, inl, inr, refl, sym, subst, subst₂, ◌∙◌, ap, arith, List, [], ◌∷◌, Contains, All, Some, Ok, Bool, true, false}
+use Rattle.std.proofs.lemmas.Option.{same_Some}
+use Rattle.kb_lemmas.proofs.Membership.{contains_cases, contains_first, contains_behind, all_one}
 use Rattle.kb_term.specs.Tree.{Tree, variable}
 use Rattle.kb_term.specs.Substitution.{instance, rename}
 use Rattle.kb_term.specs.Position.{subtree_at}
@@ -7,7 +9,6 @@ use Rattle.kb_term.specs.Pair.{IsSameEquation}
 use Rattle.kb_term.specs.Rule.{Rule, IsVariantRule}
 use Rattle.kb_term.specs.Proving.{IsJoinable}
 use Rattle.kb_term.proofs.PairRows.{one, none}
-use Rattle.kb_term.proofs.Steps.{contains_cases, contains_first, contains_behind}
 use Rattle.kb_term.proofs.Trees.{apply-inj, more_trees-inj}
 use Rattle.kb_unify.specs.Unifier.{IsUnifier, IsUnifiable, IsInstanceOfSubstitution}
 use Rattle.kb_overlap.specs.Overlap.{Overlap, IsOverlapList, IsRenamedApart, HasNoOverlapAt}
@@ -21,8 +22,7 @@ use Rattle.kb_laws.specs.Runs.{IsEquationOver}
 use Rattle.kb_laws.specs.Complete.{IsCompleteSystem}
 use Rattle.kb_laws.specs.Square.{square_signature, square_problem, square_order, square_rules}
 use Rattle.kb_laws.proofs.Complete.{all_from}
-use Rattle.kb_laws.proofs.ReplacedInstances.{some_same}
-use Rattle.kb_laws.proofs.SystemRows.{all_one, gains_one}
+use Rattle.kb_laws.proofs.SystemRows.{gains_one}
 use Rattle.kb_laws.proofs.Stated.{complete_state_is_system}
 
 -- f(f(x)) = a
@@ -121,7 +121,7 @@ fa-apart = record { variant = ((λ n. n), (λ n. n), record { there = refl; back
 apart_shapes : (outer inner : Rule) (p : List ℕ) (w : Tree) → subtree_at outer.left p ≡ Some w → ((r : ℕ → ℕ) → ¬ IsUnifiable w (rename r inner.left)) → HasNoOverlapAt outer inner p
 apart_shapes outer inner p w there differs renamed u ren at =
     let (r, back, left, right) = ren.variant in
-    subst₂ (λ a b. ¬ IsUnifiable a b) (some_same w u (sym there ∙ at)) left.there (differs r)
+    subst₂ (λ a b. ¬ IsUnifiable a b) (same_Some w u (sym there ∙ at)) left.there (differs r)
 
 -- f(s) and a, s and t where s and t can't be made equal
 a-ff : (r : ℕ → ℕ) → ¬ IsUnifiable (none 1) (rename r ff-a.left)
@@ -179,10 +179,10 @@ none_joined : (outer inner : Rule) (same : Bool) → IsOverlapList outer inner s
 none_joined outer inner same list = ([], list, λ o c. absurd (omega arith))
 
 joins : OverlapsJoin square_rules
-joins zero zero A B e d = subst₂ (λ a b. Joined a b true) (some_same ff-a A e) (some_same ff-a B d) (one_joined ff-a ff-a true ff-overlaps)
-joins zero (suc zero) A B e d = subst₂ (λ a b. Joined a b false) (some_same ff-a A e) (some_same fa-a B d) (one_joined ff-a fa-a false ff-fa-overlaps)
-joins (suc zero) zero A B e d = subst₂ (λ a b. Joined a b false) (some_same fa-a A e) (some_same ff-a B d) (none_joined fa-a ff-a false fa-ff-overlaps)
-joins (suc zero) (suc zero) A B e d = subst₂ (λ a b. Joined a b true) (some_same fa-a A e) (some_same fa-a B d) (none_joined fa-a fa-a true fa-overlaps)
+joins zero zero A B e d = subst₂ (λ a b. Joined a b true) (same_Some ff-a A e) (same_Some ff-a B d) (one_joined ff-a ff-a true ff-overlaps)
+joins zero (suc zero) A B e d = subst₂ (λ a b. Joined a b false) (same_Some ff-a A e) (same_Some fa-a B d) (one_joined ff-a fa-a false ff-fa-overlaps)
+joins (suc zero) zero A B e d = subst₂ (λ a b. Joined a b false) (same_Some fa-a A e) (same_Some ff-a B d) (none_joined fa-a ff-a false fa-ff-overlaps)
+joins (suc zero) (suc zero) A B e d = subst₂ (λ a b. Joined a b true) (same_Some fa-a A e) (same_Some fa-a B d) (none_joined fa-a fa-a true fa-overlaps)
 joins (suc (suc i)) j A B e d = absurd (cc)
 joins zero (suc (suc j)) A B e d = absurd (cc)
 joins (suc zero) (suc (suc j)) A B e d = absurd (cc)

@@ -1,11 +1,11 @@
 -- What the laws ask can be met: f(x) -> x over the signature of f, as one rule and as a state of a run.
-use Rattle.std.proofs.Common.{◌⊎◌, ⊎_elim, inl, inr, refl, sym, subst, arith, [], ◌∷◌, All}
+use Rattle.std.proofs.Common.{◌⊎◌, ⊎_elim, inl, inr, refl, sym, subst, arith, [], ◌∷◌}
+use Rattle.kb_lemmas.proofs.Membership.{all_one, contains_cases, contains_first}
 use Rattle.kb_term.specs.Tree.{Tree, variable}
 use Rattle.kb_term.specs.Pair.{IsSameEquation}
 use Rattle.kb_term.specs.Rule.{Rule, IsVariantRule}
 use Rattle.kb_term.specs.Signature.{Signature}
 use Rattle.kb_term.proofs.PairRows.{one}
-use Rattle.kb_term.proofs.Steps.{contains_cases, contains_first}
 use Rattle.kb_lpo.specs.PathOrder.{LpoGreater, argument_equal}
 use Rattle.kb_cert.specs.declared.certificate.Certificate.{Certificate}
 use Rattle.kb_cert.specs.declared.certificate.Certificate.TheVariants.{Lpo}
@@ -14,7 +14,6 @@ use Rattle.kb_cert.proofs.FamilyLaws.{first_member}
 use Rattle.kb_laws.specs.Completion.{KbState, KbStep, orient, Has, Gains, IsKbRun, kb_start}
 use Rattle.kb_laws.specs.Runs.{IsEquationOver}
 use Rattle.kb_laws.specs.Complete.{IsCompleteSystem, IsLoneRule, problem_of}
-use Rattle.kb_laws.proofs.Complete.{all_from}
 use Rattle.kb_laws.proofs.LoneRule.{lone_joins, lone_rule_is_system}
 use Rattle.kb_laws.proofs.Stated.{complete_state_is_system}
 
@@ -29,10 +28,6 @@ f-equation = (one 0 (variable 0), variable 0)
 
 abbrev f-order : Certificate
 f-order = Lpo (0 ∷ [])
-
--- what holds of the member holds of the list
-pub all_one : {X : Type 0} (P : X → Type 0) (x : X) → P x → All P (x ∷ [])
-all_one P x h = all_from P (x ∷ []) (λ y i. ⊎_elim (λ q. subst P q h) (λ k. absurd (omega arith)) (contains_cases x [] y i))
 
 f-ordered : Orders f-order (f-rule ∷ [])
 f-ordered = all_one (λ (r : Rule). LpoGreater (0 ∷ []) r.left r.right) f-rule (argument_equal (contains_first (variable 0) []))

@@ -1,12 +1,12 @@
 -- Two lists of the overlaps of two rules are alike, whichever variants and unifiers were taken.
 use Rattle.std.proofs.Common.{ℕ, ◌≡◌, ◌⊎◌, inl, inr, refl, sym, ap, ◌∙◌, subst, arith, List, [], ◌∷◌, ◌++◌, map, Contains, Option, Some, None, Result, Ok, Err}
 use Rattle.std.specs.Prelude.{⊤}
+use Rattle.kb_lemmas.proofs.Membership.{contains_cases, contains_behind, contains_first}
 use Rattle.kb_term.specs.Tree.{Tree}
 use Rattle.kb_term.specs.Substitution.{instance}
 use Rattle.kb_term.specs.Rule.{Rule}
 use Rattle.kb_term.specs.declared.limit.Limit.{Limit as TermLimit}
 use Rattle.kb_overlap.specs.Overlap.{IsOverlapOrLimit, ListsOverlaps, OverlapsAt, IsCriticalPair, HasNoOverlapAt, Overlap as Listed, overlap_limit, pair_or_limit, canonical_sides}
-use Rattle.kb_term.proofs.Steps.{contains_cases, contains_behind, contains_first}
 use Rattle.kb_overlap.proofs.Uniqueness.{overlap_alike, transfer, first_made, second_made}
 use Rattle.kb_laws.proofs.Renamings.{Back}
 

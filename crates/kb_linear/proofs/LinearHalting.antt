@@ -1,5 +1,6 @@
 -- What a linear interpretation orders halts, with the value as the bound.
-use Rattle.std.proofs.Common.{ℕ, zero, suc, ◌+◌, ◌*◌, ◌≡◌, ◌≤◌, ◌<◌, refl, ap, ap₂, ◌∙◌, suc-le-suc, zero-lt-suc, arith, List, [], ◌∷◌, All, length, slice_index_or}
+use Rattle.std.proofs.Common.{ℕ, zero, suc, ◌+◌, ◌*◌, ◌≡◌, ◌≤◌, ◌<◌, refl, ap, ap₂, ◌∙◌, zero-lt-suc, arith, List, [], ◌∷◌, All, length, slice_index_or}
+use Rattle.kb_lemmas.proofs.Membership.{all_rest}
 use Rattle.kb_term.specs.Tree.{Tree, variable, apply, Trees, no_trees, more_trees, list_of}
 use Rattle.kb_term.proofs.Relation.{Steps, Halts}
 use Rattle.kb_term.specs.Substitution.{instance, instances}
@@ -10,9 +11,6 @@ use Rattle.kb_linear.specs.LinearOrder.{Interpretation, linear_value, weighted_s
 
 scaled : (c x y z : ℕ) → 1 ≤ c → x < y → c * x + z < c * y + z
 scaled c x y z p h = grind arith
-
-All-tail : {X : Type 0} (P : X → Type 0) (x : X) (xs : List X) → All P (x ∷ xs) → All P xs
-All-tail P x xs p = λ k d h. p (suc k) d (suc-le-suc h)
 
 abbrev pub row_of : Interpretation → ℕ → ℕ × List ℕ
 row_of i f = slice_index_or i f (0, [])
@@ -55,7 +53,7 @@ mutual
   step_in_falls g i rules a fit all [] p (here h) w e = absurd (omega arith)
   step_in_falls g i rules a fit all (c ∷ cs) p (here {t = t} {u = u} {ts = ts} h) w e = scaled c (linear_value i a u) (linear_value i a t) (weighted_sum i a ts cs) (p 0 0 (zero-lt-suc _)) (step_falls g i rules a fit all h w.0)
   step_in_falls g i rules a fit all [] p (there h) w e = absurd (omega arith)
-  step_in_falls g i rules a fit all (c ∷ cs) p (there h) w e = let q = step_in_falls g i rules a fit all cs (All-tail (λ x. 1 ≤ x) c cs p) h w.1 (omega arith) in omega arith
+  step_in_falls g i rules a fit all (c ∷ cs) p (there h) w e = let q = step_in_falls g i rules a fit all cs (all_rest (λ x. 1 ≤ x) c cs p) h w.1 (omega arith) in omega arith
 
 steps_bounded : (g : Signature) (i : Interpretation) (rules : Rule → Type 0) (a : ℕ → ℕ) → IsInterpretationOf g i → ((r : Rule) → rules r → LinearGreater i r.left r.right)
     → ((s t : Tree) → IsWellFormed g s → Step rules s t → IsWellFormed g t) → (k : ℕ) (s t : Tree) → IsWellFormed g s → Steps (Step rules) k s t → linear_value i a t + k ≤ linear_value i a s

@@ -4,16 +4,17 @@ use Rattle.std.specs.Prelude.{replicate, Some, None}
 use Rattle.std.specs.List.{AllZip, range_with_len}
 use Rattle.std.proofs.lemmas.Bool.{cases_lt}
 use Rattle.std.proofs.lemmas.List.Elements.{Contains-append_cases}
+use Rattle.std.proofs.lemmas.List.{length-replicate}
+use Rattle.kb_lemmas.proofs.Membership.{contains_cases, contains_behind, split_at, contains_map, contains_flat_map, contains_flat_map_back}
 use Rattle.kb_term.specs.First.{IsFirst}
 use Rattle.kb_term.specs.Rule.{Rule}
 use Rattle.kb_term.specs.Signature.{Signature, SymbolEntry}
-use Rattle.kb_term.proofs.Steps.{contains_cases, contains_behind}
 use Rattle.kb_linear.specs.LinearOrder.{Interpretation, IsInterpretationOf}
 use Rattle.kb_linear.specs.Interpretations.{choices, rows, interpretations_to, LinearOrients}
 use Rattle.kb_linear.specs.Limits.{IsSmall}
 use Rattle.kb_linear.specs.Numbers.{numbers_of, shape_of, uniform, IsWithin, IsLess}
 use Rattle.kb_linear.proofs.Within.{within_lengths, tail_of, less_both, less_self}
-use Rattle.kb_linear.proofs.Sorted.{IsSorted, IsListLess, AreSorted, sorted_flat_map, sorted_map, sorted_range, sorted_choices, sorted_before, sorted_after, split_at, contains_at, contains_map, contains_map_back, contains_flat_map, contains_flat_map_back, contains_range, in_range, choices_from, choices_to}
+use Rattle.kb_linear.proofs.Sorted.{IsSorted, IsListLess, AreSorted, sorted_flat_map, sorted_map, sorted_range, sorted_choices, sorted_before, sorted_after, contains_at, contains_map_back, contains_range, in_range, choices_from, choices_to}
 
 -- the order of rows: by the constant, then by the coefficients
 abbrev IsRowLess : ℕ × List ℕ → ℕ × List ℕ → Type 0
@@ -122,10 +123,6 @@ within_behind (k ∷ ls) [] (x ∷ xs) zs bs ys l m h = absurd (omega arith)
 within_behind (k ∷ ls) (n ∷ ms) [] zs bs ys l m h = absurd (omega arith)
 within_behind (k ∷ ls) (n ∷ ms) (x ∷ xs) zs bs ys l m h = within_behind ls ms xs zs bs ys (omega arith) (omega arith) h.2
 
-pub length-replicate : (n x : ℕ) → length (replicate n x) ≡ n
-length-replicate zero x = refl
-length-replicate (suc n) x = ap suc (length-replicate n x)
-
 -- what is tried: the shape of the signature, and numbers within the bounds
 pub record IsTried (sig : Signature) (top : ℕ) (i : Interpretation) : Type 0 where
   pub shape_is : shape_of i ≡ shape_of (uniform sig 0 1)
@@ -153,7 +150,7 @@ head_of (x ∷ xs) = x
 
 -- the first row of what is tried, and the others
 head_length : (f : SymbolEntry) (sig : Signature) (row : ℕ × List ℕ) (i : Interpretation) (x : ℕ) → shape_of (row ∷ i) ≡ shape_of (uniform (f ∷ sig) 0 1) → length (replicate f.arity x) ≡ length row.1
-head_length f sig row i x s = let e : length row.1 ≡ length (replicate {A = ℕ} f.arity 1) = ap head_of s in omega (arith, length-replicate f.arity 1, length-replicate f.arity x)
+head_length f sig row i x s = let e : length row.1 ≡ length (replicate {A = ℕ} f.arity 1) = ap head_of s in omega (arith, length-replicate {A = ℕ} f.arity 1, length-replicate f.arity x)
 
 pub first_tried : (f : SymbolEntry) (sig : Signature) (top : ℕ) (row : ℕ × List ℕ) (i : Interpretation) → IsTried (f ∷ sig) top (row ∷ i) → IsTriedRow top f.arity row
 first_tried f sig top row i t = record {

@@ -1,37 +1,24 @@
 -- The numbers of an interpretation by their places.
-use Rattle.std.proofs.Common.{ℕ, zero, suc, ◌+◌, ◌-◌, ◌≤◌, ◌<◌, ◌≡◌, refl, sym, ap, ap₂, ◌∙◌, arith, List, [], ◌∷◌, ◌++◌, length, get_or, set, take, map, append_assoc}
+use Rattle.std.proofs.Common.{ℕ, zero, suc, ◌+◌, ◌-◌, ◌≤◌, ◌<◌, ◌≡◌, refl, sym, ap, ap₂, ◌∙◌, arith, List, [], ◌∷◌, ◌++◌, length, get_or, set, take, append_assoc}
 use Rattle.std.specs.Prelude.{Vec, replicate}
 use Rattle.std.specs.declared.alloc.Global.{Global}
-use Rattle.std.proofs.lemmas.List.{length-append}
+use Rattle.std.proofs.lemmas.List.{length-append, map-append, append-nil}
+use Rattle.kb_lemmas.proofs.Lists.{take_next}
 use Rattle.kb_term.specs.Signature.{Signature, HasArity}
 use Rattle.kb_linear.specs.LinearOrder.{Interpretation}
 use Rattle.kb_linear.specs.Limits.{interpretation_of}
 use Rattle.kb_linear.specs.Numbers.{numbers_of, shape_of, uniform}
 
-pub append_nil : {X : Type 0} (xs : List X) → xs ++ [] ≡ xs
-append_nil [] = refl
-append_nil (x ∷ xs) = ap (x ∷◌) (append_nil xs)
-
-pub map_append : {X Y : Type 0} (f : X → Y) (xs ys : List X) → map f (xs ++ ys) ≡ map f xs ++ map f ys
-map_append f [] ys = refl
-map_append f (x ∷ xs) ys = ap (f x ∷◌) (map_append f xs ys)
-
 pub numbers_of-append : (i j : Interpretation) → numbers_of (i ++ j) ≡ numbers_of i ++ numbers_of j
 numbers_of-append [] j = refl
 numbers_of-append (row ∷ i) j = ap (λ ns. row.0 ∷ (row.1 ++ ns)) (numbers_of-append i j) ∙ ap (row.0 ∷◌) (sym (append_assoc row.1 (numbers_of i) (numbers_of j)))
 
--- the first numbers, with those of one more row
-pub take_more : {X : Type 0} (xs : List X) (k : ℕ) (x : X) → k < length xs → x ≡ get_or xs k x → take (k + 1) xs ≡ take k xs ++ x ∷ []
-take_more [] k x h e = absurd (omega arith)
-take_more (y ∷ ys) zero x h e = ap (λ z. z ∷ []) (sym e)
-take_more (y ∷ ys) (suc k) x h e = let n : suc k + 1 ≡ suc (k + 1) = omega arith in ap (λ z. take z (y ∷ ys)) n ∙ ap (y ∷◌) (take_more ys k x (omega arith) e)
-
 pub numbers_more : (rows : List (ℕ × Vec ℕ Global)) (k : ℕ) (row : ℕ × Vec ℕ Global) → k < length rows → row ≡ get_or rows k row → numbers_of (interpretation_of (take (k + 1) rows)) ≡ (numbers_of (interpretation_of (take k rows)) ++ row.0 ∷ []) ++ row.1.items
 numbers_more rows k row h e =
-    ap (λ z. numbers_of (interpretation_of z)) (take_more rows k row h e)
-    ∙ ap numbers_of (map_append (λ (r : ℕ × Vec ℕ Global). (r.0, r.1.items)) (take k rows) (row ∷ []))
+    ap (λ z. numbers_of (interpretation_of z)) (take_next rows k row h e)
+    ∙ ap numbers_of (map-append (λ (r : ℕ × Vec ℕ Global). (r.0, r.1.items)) (take k rows) (row ∷ []))
     ∙ numbers_of-append (interpretation_of (take k rows)) ((row.0, row.1.items) ∷ [])
-    ∙ ap (λ z. numbers_of (interpretation_of (take k rows)) ++ row.0 ∷ z) (append_nil row.1.items)
+    ∙ ap (λ z. numbers_of (interpretation_of (take k rows)) ++ row.0 ∷ z) (append-nil row.1.items)
     ∙ sym (append_assoc (numbers_of (interpretation_of (take k rows))) (row.0 ∷ []) row.1.items)
 
 -- the place at which the numbers of the f-th row begin
@@ -107,7 +94,7 @@ length-interpretation (r ∷ rows) = omega (arith, length-interpretation rows)
 pub uniform_more : (rows : List (ℕ × Vec ℕ Global)) (now : List (ℕ × Vec ℕ Global)) (sig : Signature) (f arity constant coefficient : ℕ) (cs : Vec ℕ Global) → now ≡ rows ++ (constant, cs) ∷ [] → HasArity sig f arity → cs.items ≡ replicate arity coefficient
     → interpretation_of rows ≡ uniform (take f sig) constant coefficient → interpretation_of now ≡ uniform (take (f + 1) sig) constant coefficient
 uniform_more rows now sig f arity constant coefficient cs e h c r =
-    ap interpretation_of e ∙ map_append (λ (r : ℕ × Vec ℕ Global). (r.0, r.1.items)) rows ((constant, cs) ∷ []) ∙ ap₂ (λ i ns. i ++ (constant, ns) ∷ []) r c ∙ sym (taken sig f h)
+    ap interpretation_of e ∙ map-append (λ (r : ℕ × Vec ℕ Global). (r.0, r.1.items)) rows ((constant, cs) ∷ []) ∙ ap₂ (λ i ns. i ++ (constant, ns) ∷ []) r c ∙ sym (taken sig f h)
   where
     taken : (sig : Signature) (f : ℕ) → HasArity sig f arity → uniform (take (f + 1) sig) constant coefficient ≡ uniform (take f sig) constant coefficient ++ (constant, replicate arity coefficient) ∷ []
     taken [] f h = absurd (cc)

@@ -7,22 +7,22 @@ use Rattle.std.proofs.lemmas.Nat.{pow_below}
 use Rattle.std.proofs.lemmas.Bool.{le-leb}
 use Rattle.std.proofs.lemmas.Bool.Decides.{leb_tells}
 use Rattle.std.proofs.Math.Nat.{pow-le-pow_right}
-use Rattle.std.proofs.lemmas.List.{length-append}
+use Rattle.std.proofs.lemmas.List.{length-append, length-replicate}
 use Rattle.std.proofs.lemmas.List.Elements.{All-append, Contains-append_right}
 use Rattle.kb_term.specs.First.{IsFirst}
 use Rattle.kb_term.specs.Rule.{Rule}
 use Rattle.kb_term.specs.Signature.{Signature, SymbolEntry}
 use Rattle.std.specs.Prelude.{Vec}
 use Rattle.std.specs.declared.alloc.Global.{Global}
+use Rattle.kb_lemmas.proofs.Membership.{contains_first}
 use Rattle.kb_linear.specs.Limits.{interpretation_of}
 use Rattle.kb_linear.specs.LinearOrder.{Interpretation, IsInterpretationOf}
 use Rattle.kb_linear.specs.Interpretations.{interpretations_to, LinearOrients, IsLowerBound, top_constant, interpretations, interpretations_up_to}
 use Rattle.kb_linear.specs.Numbers.{numbers_of, shape_of, uniform, IsWithin, IsMember, AreBounds, low_of, high_of, IsAt, IsStartAt, IsSearched, NoneLess}
 use Rattle.kb_linear.specs.declared.search.Bounds.{Bounds}
 use Rattle.kb_linear.specs.declared.search.Space.{Space}
-use Rattle.kb_linear.proofs.Members.{IsTried, length-replicate, within_append, tried_to, tried_small, first_tried_of, none_tried_of, tried_from, none_less, tried_fits}
+use Rattle.kb_linear.proofs.Members.{IsTried, within_append, tried_to, tried_small, first_tried_of, none_tried_of, tried_from, none_less, tried_fits}
 use Rattle.kb_linear.proofs.Within.{within_lengths}
-use Rattle.kb_term.proofs.Steps.{contains_first}
 
 -- the search is for the interpretations of the signature up to a constant, and nothing is fixed yet
 pub record IsFor (sig : Signature) (top : ℕ) (bounds : Bounds) (space : Space) : Type 0 where

@@ -1,9 +1,9 @@
 -- Sorted lists, and the lexicographic order of choices.
-use Rattle.std.proofs.Common.{ℕ, zero, suc, ◌+◌, ◌≤◌, ◌<◌, ◌≡◌, ◌⊎◌, inl, inr, ⊎_elim, refl, sym, ap, subst, arith, List, [], ◌∷◌, ◌++◌, length, map, Contains, get_or, flat_map}
+use Rattle.std.proofs.Common.{ℕ, zero, suc, ◌+◌, ◌≤◌, ◌<◌, ◌≡◌, ◌⊎◌, inl, inr, ⊎_elim, refl, subst, arith, List, [], ◌∷◌, ◌++◌, length, map, Contains, get_or, flat_map}
 use Rattle.std.specs.List.{AllZip, range_with_len}
 use Rattle.std.proofs.lemmas.Bool.{cases_lt}
-use Rattle.std.proofs.lemmas.List.Elements.{Contains-append_cases, Contains-append_left, Contains-append_right}
-use Rattle.kb_term.proofs.Steps.{contains_cases, contains_behind, contains_first}
+use Rattle.std.proofs.lemmas.List.Elements.{Contains-append_cases, Contains-append_right}
+use Rattle.kb_lemmas.proofs.Membership.{contains_map, contains_flat_map, contains_flat_map_back, contains_cases, contains_behind, contains_first}
 use Rattle.kb_linear.specs.Interpretations.{choices}
 
 pub contains_at : {X : Type 0} (xs : List X) (k : ℕ) (d : X) → k < length xs → Contains xs (get_or xs k d)
@@ -11,21 +11,9 @@ contains_at [] k d h = absurd (omega arith)
 contains_at (x ∷ xs) zero d h = contains_first x xs
 contains_at (x ∷ xs) (suc k) d h = contains_behind x xs (get_or xs k d) (contains_at xs k d (omega arith))
 
-pub contains_map : {X Y : Type 0} (f : X → Y) (xs : List X) (x : X) → Contains xs x → Contains (map f xs) (f x)
-contains_map f [] x c = absurd (omega arith)
-contains_map f (y ∷ xs) x c = ⊎_elim (λ e. (0, omega arith, ap f e)) (λ d. contains_behind (f y) (map f xs) (f x) (contains_map f xs x d)) (contains_cases y xs x c)
-
 pub contains_map_back : {X Y : Type 0} (f : X → Y) (xs : List X) (y : Y) → Contains (map f xs) y → (x : X) × Contains xs x × f x ≡ y
 contains_map_back f [] y c = absurd (omega arith)
 contains_map_back f (x ∷ xs) y c = ⊎_elim (λ e. (x, contains_first x xs, e)) (λ d. let r = contains_map_back f xs y d in (r.0, contains_behind x xs r.0 r.1, r.2)) (contains_cases (f x) (map f xs) y c)
-
-pub contains_flat_map : {X Y : Type 0} (f : X → List Y) (xs : List X) (x : X) (y : Y) → Contains xs x → Contains (f x) y → Contains (flat_map f xs) y
-contains_flat_map f [] x y c d = absurd (omega arith)
-contains_flat_map f (z ∷ xs) x y c d = ⊎_elim (λ e. Contains-append_left (f z) (flat_map f xs) y (subst (λ w. Contains (f w) y) (sym e) d)) (λ b. Contains-append_right (f z) (flat_map f xs) y (contains_flat_map f xs x y b d)) (contains_cases z xs x c)
-
-pub contains_flat_map_back : {X Y : Type 0} (f : X → List Y) (xs : List X) (y : Y) → Contains (flat_map f xs) y → (x : X) × Contains xs x × Contains (f x) y
-contains_flat_map_back f [] y c = absurd (omega arith)
-contains_flat_map_back f (x ∷ xs) y c = ⊎_elim (λ d. (x, contains_first x xs, d)) (λ d. let r = contains_flat_map_back f xs y d in (r.0, contains_behind x xs r.0 r.1, r.2)) (Contains-append_cases (f x) (flat_map f xs) y c)
 
 pub contains_range : (a n y : ℕ) → Contains (range_with_len a n) y → (a ≤ y) × (y < a + n)
 contains_range a zero y c = absurd (omega arith)
@@ -37,10 +25,6 @@ in_range a (suc n) y h l = ⊎_elim (λ e. (0, omega arith, e)) (λ d. contains_
   where
     meet : (a y : ℕ) → a ≤ y → (a ≡ y) ⊎ (a < y)
     meet a y h = ⊎_elim (λ l. inr l) (λ l. inl (omega arith)) (cases_lt a y)
-
-pub split_at : {X : Type 0} (xs : List X) (x : X) → Contains xs x → (before : List X) × (after : List X) × (xs ≡ before ++ x ∷ after)
-split_at [] x c = absurd (omega arith)
-split_at {X} (y ∷ xs) x c = ⊎_elim (λ e. ([], xs, ap (λ (z : X). z ∷ xs) e)) (λ d. let r = split_at xs x d in (y ∷ r.0, r.1, ap (y ∷◌) r.2)) (contains_cases y xs x c)
 
 -- each member is related to each one behind it
 abbrev pub IsSorted : {X : Type 0} → (X → X → Type 0) → List X → Type 0

@@ -1,8 +1,10 @@
 -- f and g, which take one argument each, are the names of a signature.
-use Rattle.std.proofs.Common.{ℕ, zero, suc, ◌≡◌, ◌<◌, ◌≤◌, refl, sym, ap, ◌∙◌, subst, arith, List, [], ◌∷◌, ◌++◌, length, Vec, All}
-use Rattle.std.specs.Prelude.{AllPairs, slice_index_or}
+use Rattle.std.proofs.Common.{ℕ, ◌≡◌, ◌<◌, ◌≤◌, refl, sym, ap, ◌∙◌, subst, arith, List, [], ◌∷◌, ◌++◌, length, Vec}
+use Rattle.std.specs.Prelude.{slice_index_or}
 use Rattle.std.specs.declared.alloc.Global.{Global}
 use Rattle.std.proofs.lemmas.List.Kept.{AllPairs-cons}
+use Rattle.kb_lemmas.proofs.Membership.{all_more, all_none, no_pairs}
+use Rattle.kb_lemmas.proofs.Lists.{other_single}
 use Rattle.kb_term.specs.Identifier.{IsIdentifier}
 use Rattle.kb_term.specs.Signature.{SymbolEntry, IsSignature, symbols_of_list}
 
@@ -20,19 +22,6 @@ identifier-g : IsIdentifier (103 ∷ [])
 unfolding lib.Utf8.encode
 identifier-g = record { some = omega arith; utf8 = (103 ∷ [], (refl, refl)); unbroken = refl }
 
-other_name : (a b : ℕ) → ¬ (a ≡ b) → ¬ (a ∷ [] ≡ b ∷ [])
-other_name a b d e = d (cc)
-
-nothing_more : {X : Type 0} (P : X → Type 0) → All P []
-nothing_more P k d h = absurd (omega arith)
-
-one_more : {X : Type 0} (P : X → Type 0) (x : X) (xs : List X) → P x → All P xs → All P (x ∷ xs)
-one_more P x xs p h zero d i = p
-one_more P x xs p h (suc k) d i = h k d (omega arith)
-
-no_pairs : {X : Type 0} (R : X → X → Type 0) → AllPairs R []
-no_pairs R i j d h k = absurd (omega arith)
-
 signature-letters : IsSignature letters
 signature-letters =
     let N : SymbolEntry → Type 0 = λ f. IsIdentifier f.name × (length f.name ≤ 64) in
@@ -40,8 +29,8 @@ signature-letters =
     let f : SymbolEntry = entry 102 in
     let g : SymbolEntry = entry 103 in
     record {
-      names = one_more N f (g ∷ []) (identifier-f, omega arith) (one_more N g [] (identifier-g, omega arith) (nothing_more N));
-      differ = AllPairs-cons R f (g ∷ []) (one_more (R f) g [] (other_name 102 103 (λ e. omega arith)) (nothing_more (R f))) (AllPairs-cons R g [] (nothing_more (R g)) (no_pairs R));
+      names = all_more N f (g ∷ []) (identifier-f, omega arith) (all_more N g [] (identifier-g, omega arith) (all_none N));
+      differ = AllPairs-cons R f (g ∷ []) (all_more (R f) g [] (other_single 102 103 (λ e. omega arith)) (all_none (R f))) (AllPairs-cons R g [] (all_none (R g)) (no_pairs R));
     }
 
 pub signature_from : (f g : Vec ℕ Global) (items : List (Vec ℕ Global × ℕ)) → f.items ≡ 102 ∷ [] → g.items ≡ 103 ∷ [] → items ≡ (f, 1) ∷ (g, 1) ∷ [] → IsSignature (symbols_of_list items)

@@ -1,11 +1,12 @@
 -- How large values are, and a term's value argument by argument.
-use Rattle.std.proofs.Common.{ℕ, zero, suc, ◌+◌, ◌*◌, ◌^◌, ◌≤◌, ◌<◌, ◌≡◌, refl, sym, ap, ◌∙◌, subst, arith, List, [], ◌∷◌, ◌++◌, length, get_or, drop, map, All, suc-le-suc, zero-lt-suc, slice_index_or, ap₂, ◌⊎◌, inl, inr}
+use Rattle.std.proofs.Common.{ℕ, zero, suc, ◌+◌, ◌*◌, ◌^◌, ◌≤◌, ◌<◌, ◌≡◌, refl, sym, ap, ◌∙◌, subst, arith, List, [], ◌∷◌, length, get_or, drop, map, All, suc-le-suc, zero-lt-suc, slice_index_or, ap₂, ◌⊎◌, inl, inr}
 use Rattle.std.proofs.Math.Nat.{mul-le-mul, mul-le-mul_left, mul_assoc, pow-succ', pow-le-pow_right, one-le-pow}
 use Rattle.std.proofs.Math.Seq.{drop-cons}
 use Rattle.kb_term.specs.Tree.{Tree, Trees, variable, apply, no_trees, more_trees, trees_of, tree_size, trees_size, tree_depth, trees_depth, variables_of, variables_in}
 use Rattle.kb_term.specs.View.{tree_of}
 use Rattle.std.specs.Prelude.{Vec}
 use Rattle.std.specs.declared.alloc.Global.{Global}
+use Rattle.kb_lemmas.proofs.Membership.{all_rest, all_front, all_behind}
 use Rattle.kb_term.specs.declared.term.Symbol.{Symbol}
 use Rattle.kb_term.specs.declared.term.Term.{Term}
 use Rattle.kb_term.specs.declared.term.Term.TheVariants.{App}
@@ -50,9 +51,6 @@ small_row [] h f = record { constant = omega arith; coefficients = λ k d p. abs
 small_row (row ∷ i) h zero = h 0 row (zero-lt-suc _)
 small_row (row ∷ i) h (suc f) = small_row i (λ k d p. h (suc k) d (suc-le-suc p)) f
 
-All-rest : {X : Type 0} (P : X → Type 0) (x : X) (xs : List X) → All P (x ∷ xs) → All P xs
-All-rest P x xs h k d p = h (suc k) d (suc-le-suc p)
-
 -- a scaled value, where each variable has the value 1
 mutual
   pub scaled_value : (i : Interpretation) → IsSmall i → (n scale : ℕ) (t : Tree) → scale * 3 ^ tree_depth t ≤ n → scale * linear_value i (λ _. 1) t ≤ 16 * n * tree_size t
@@ -72,7 +70,7 @@ mutual
   scaled_sum i small n scale (more_trees t ts) (c ∷ cs) s p =
       let first = s 0 0 (zero-lt-suc _) in
       let v = scaled_value i small n (scale * c) t (scale_first scale c (tree_depth t) (trees_depth (more_trees t ts)) n first.1 (omega arith) p) in
-      let w = scaled_sum i small n scale ts cs (All-rest (λ c. (1 ≤ c) × (c ≤ 3)) c cs s) (scale_rest scale (trees_depth ts) (trees_depth (more_trees t ts)) n (omega arith) p) in
+      let w = scaled_sum i small n scale ts cs (all_rest (λ c. (1 ≤ c) × (c ≤ 3)) c cs s) (scale_rest scale (trees_depth ts) (trees_depth (more_trees t ts)) n (omega arith) p) in
       omega arith
 
 -- the first argument has room, and the others where it is added
@@ -81,25 +79,16 @@ pub record FirstHasRoom (scale value c : ℕ) (t : Tree) : Type 0 where
   pub scale_fits : scale * c * 3 ^ tree_depth t ≤ 3 ^ 64
   pub sum_fits : value + 16 * 3 ^ 64 * tree_size t ≤ 16 * 3 ^ 64 * 512
 
-All-left : {X : Type 0} (P : X → Type 0) (xs ys : List X) → All P (xs ++ ys) → All P xs
-All-left P [] ys h k d p = absurd (omega arith)
-All-left P (x ∷ xs) ys h zero d p = h 0 d (zero-lt-suc _)
-All-left P (x ∷ xs) ys h (suc k) d p = All-left P xs ys (All-rest P x (xs ++ ys) h) k d (omega arith)
-
-All-right : {X : Type 0} (P : X → Type 0) (xs ys : List X) → All P (xs ++ ys) → All P ys
-All-right P [] ys h = h
-All-right P (x ∷ xs) ys h = All-right P xs ys (All-rest P x (xs ++ ys) h)
-
 pub room_first : (scale value c : ℕ) (t : Tree) (ts : Trees) → c ≤ 3 → HasRoom scale value (more_trees t ts) → FirstHasRoom scale value c t
 room_first scale value c t ts h r = record {
-  variables = All-left (λ n. n < 64) (variables_of t) (variables_in ts) r.variables;
+  variables = all_front (λ n. n < 64) (variables_of t) (variables_in ts) r.variables;
   scale_fits = scale_first scale c (tree_depth t) (trees_depth (more_trees t ts)) (3 ^ 64) h (omega arith) r.scale_fits;
   sum_fits = let q = r.sum_fits in omega arith;
 }
 
 pub room_rest : (scale value more : ℕ) (t : Tree) (ts : Trees) → more ≤ value + 16 * 3 ^ 64 * tree_size t → HasRoom scale value (more_trees t ts) → HasRoom scale more ts
 room_rest scale value more t ts h r = record {
-  variables = All-right (λ n. n < 64) (variables_of t) (variables_in ts) r.variables;
+  variables = all_behind (λ n. n < 64) (variables_of t) (variables_in ts) r.variables;
   scale_fits = scale_rest scale (trees_depth ts) (trees_depth (more_trees t ts)) (3 ^ 64) (omega arith) r.scale_fits;
   sum_fits = let q = r.sum_fits in omega arith;
 }

@@ -1,6 +1,6 @@
 -- From what tests answer to what holds, and from terms to their arguments.
-use Rattle.std.proofs.Common.{ap₂, ◌+◌, Contains, ◌&&◌, ◌==◌, ℕ, zero, suc, [], ◌∷◌, ◌≤◌, ◌⊎◌, inl, inr, ⊎_elim, ◌≡◌, ◌<◌, refl, sym, ap, ◌∙◌, arith, List, length, get_or, map, Bool, true, false, IsTrue}
-use Rattle.std.proofs.lemmas.Bool.{false≢true, cases_lt}
+use Rattle.std.proofs.Common.{ap₂, ◌+◌, Contains, ◌==◌, ℕ, zero, suc, [], ◌∷◌, ◌≤◌, ◌⊎◌, inl, inr, ⊎_elim, ◌≡◌, ◌<◌, refl, sym, ap, ◌∙◌, arith, List, length, get_or, map, Bool, true, false, IsTrue}
+use Rattle.std.proofs.lemmas.Bool.{false≢true, cases_lt, and_parts}
 use Rattle.std.proofs.lemmas.List.{length-map}
 use Rattle.kb_term.specs.Tree.{Tree, Trees, variable, apply, no_trees, more_trees, trees_of, tree_size, trees_size, variables_of, tree_eq, trees_eq}
 use Rattle.kb_term.specs.Pair.{place_in}
@@ -23,9 +23,6 @@ no h e p = false≢true (sym e ∙ h.1 p)
 pub holds : {P : Type 0} → P → (IsTrue true → P) × (P → IsTrue true)
 holds h = (λ x. h, λ x. refl)
 
-pub fails : {P : Type 0} → ¬ P → (IsTrue false → P) × (P → IsTrue false)
-fails h = (λ x. absurd (false≢true x), λ x. absurd (h x))
-
 -- an application with its arguments as terms
 pub form : (t : Term) (f : Symbol) (ts : List Tree) (items : List Term) → t ≡ App f ts → map tree_of items ≡ ts → tree_of t ≡ apply f.0 (trees_of (map tree_of items))
 form t f ts items e d = ap tree_of e ∙ ap (λ us. apply f.0 (trees_of us)) (sym d)
@@ -45,18 +42,12 @@ same_index (x ∷ xs) (suc k) d e h a b = same_index xs k d e (omega arith) a b
 pub ends : (ss ts : List Term) (n : ℕ) → (n < length ss → n < length ts → ⊥) → (length (map tree_of ss) ≤ n) ⊎ (length (map tree_of ts) ≤ n)
 ends ss ts n h = ⊎_elim (λ j. ⊎_elim (λ i. absurd (h j i)) (λ i. let q = length-map ts tree_of in inr (omega arith)) (cases_lt n (length ts))) (λ j. let q = length-map ss tree_of in inl (omega arith)) (cases_lt n (length ss))
 
--- the test of equality
-both_true : (a b : Bool) → a && b ≡ true → (a ≡ true) × (b ≡ true)
-both_true true true e = (refl, refl)
-both_true true false e = absurd (false≢true e)
-both_true false b e = absurd (false≢true e)
-
 mutual
   pub same_tree : (t u : Tree) → tree_eq t u ≡ true → t ≡ u
   same_tree (variable m) (variable n) e = ap variable (grind (arith, e))
   same_tree (variable m) (apply g us) e = absurd (false≢true e)
   same_tree (apply f ts) (variable n) e = absurd (false≢true e)
-  same_tree (apply f ts) (apply g us) e = let h = both_true (f == g) (trees_eq ts us) e in ap₂ apply (number h.0) (same_trees ts us h.1)
+  same_tree (apply f ts) (apply g us) e = let h = and_parts (f == g) (trees_eq ts us) e in ap₂ apply (number h.0) (same_trees ts us h.1)
     where
       number : (f == g) ≡ true → f ≡ g
       number h = grind (arith, h)
@@ -65,7 +56,7 @@ mutual
   same_trees no_trees no_trees e = refl
   same_trees no_trees (more_trees u us) e = absurd (false≢true e)
   same_trees (more_trees t ts) no_trees e = absurd (false≢true e)
-  same_trees (more_trees t ts) (more_trees u us) e = let h = both_true (tree_eq t u) (trees_eq ts us) e in ap₂ more_trees (same_tree t u h.0) (same_trees ts us h.1)
+  same_trees (more_trees t ts) (more_trees u us) e = let h = and_parts (tree_eq t u) (trees_eq ts us) e in ap₂ more_trees (same_tree t u h.0) (same_trees ts us h.1)
 
 mutual
   pub tree_eq-refl : (t : Tree) → tree_eq t t ≡ true

@@ -2,11 +2,12 @@
 use Rattle.std.proofs.Common.{ℕ, zero, suc, ◌≡◌, ◌<◌, refl, sym, ap, ◌∙◌, subst, arith, List, [], ◌∷◌, All, Contains, length, ⊎_elim}
 use Rattle.std.proofs.lemmas.List.Elements.{All-contains}
 use Rattle.std.proofs.lemmas.Bool.{cases_lt}
+use Rattle.kb_lemmas.proofs.Membership.{contains_cases, contains_behind}
 use Rattle.kb_term.specs.Tree.{Tree, variable, apply, Trees, no_trees, more_trees, list_of}
 use Rattle.kb_term.specs.Rule.{Rule}
 use Rattle.kb_term.specs.Signature.{Signature, HasArity, IsWellFormed, AreWellFormed, IsRuleOver}
 use Rattle.kb_term.proofs.Steps as Steps
-use Rattle.kb_term.proofs.Steps.{Step, contains_cases, contains_behind, occurs_from, occurs_to}
+use Rattle.kb_term.proofs.Steps.{Step, occurs_from, occurs_to}
 use Rattle.kb_lpo.proofs.WellFormed.{IsSound, step_well}
 
 -- the arity of a symbol of the signature

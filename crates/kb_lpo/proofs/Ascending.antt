@@ -6,10 +6,10 @@ use Rattle.kb_term.specs.Rule.{Rule}
 use Rattle.kb_lpo.specs.Precedences.{arrangements, precedences, LpoOrients, IsLowerBound}
 use Rattle.kb_lpo.specs.Search.{IsEarlier, IsFloor, outside, lowest_of, floor_behind}
 use Rattle.kb_term.specs.First.{IsFirst}
-use Rattle.kb_term.proofs.Steps.{contains_cases, contains_behind, contains_first}
 use Rattle.std.proofs.lemmas.List.Elements.{All-contains, All-contains_itself, Contains-append_left, Contains-append_right, filter-append}
 use Rattle.std.proofs.lemmas.List.{append_assoc}
 use Rattle.std.proofs.lemmas.Grind.{flat_map-append}
+use Rattle.kb_lemmas.proofs.Membership.{contains_cases, contains_behind, contains_first}
 use Rattle.kb_lpo.proofs.First.{outside_all, outside_next, all_blocks, range_split, test, tried, block}
 
 -- each member has the property

@@ -2,11 +2,13 @@
 use Rattle.std.proofs.Common.{ℕ, zero, suc, ◌≡◌, ◌<◌, ◌+◌, ◌++◌, ◌⊎◌, inl, inr, ⊎_elim, List, [], ◌∷◌, length, take, drop, refl, sym, ap, ◌∙◌, subst, arith, map, filter, Bool, true, false, ◌==◌, Contains, cond, IsTrue, ap₂}
 use Rattle.std.specs.Prelude.{not, ◌&&◌, ◌||◌, slice_index_or, Some, None, Option}
 use Rattle.std.specs.List.{range_with_len, list_any, flat_map}
-use Rattle.std.proofs.lemmas.Bool.{false≢true, cases_eq}
-use Rattle.std.proofs.lemmas.List.{append_assoc, length-append, length-map}
+use Rattle.std.proofs.lemmas.Bool.{false≢true}
+use Rattle.std.proofs.lemmas.List.{append_assoc, length-append, length-map, map-append, append-nil}
 use Rattle.std.specs.Option.{option_to_list, IsSome}
 use Rattle.std.proofs.lemmas.List.Elements.{filter-append, All-append, All-take, All-drop}
 use Rattle.std.proofs.lemmas.Grind.{flat_map-append}
+use Rattle.kb_lemmas.proofs.Numbers.{eq_turn}
+use Rattle.kb_lemmas.proofs.Membership.{contains_cases, contains_behind, contains_first}
 use Rattle.kb_lpo.specs.PathOrder.{IsAbove, LpoGreater}
 use Rattle.kb_lpo.specs.Precedences.{arrangements, precedences}
 use Rattle.kb_term.specs.First.{IsFirst}
@@ -14,7 +16,6 @@ use Rattle.kb_lpo.specs.Search.{outside, numbers, IsSearched}
 use Rattle.kb_lpo.specs.Precedences.{LpoOrients}
 use Rattle.kb_term.specs.Rule.{Rule}
 use Rattle.kb_term.specs.declared.term.Symbol.{Symbol}
-use Rattle.kb_term.proofs.Steps.{contains_cases, contains_behind, contains_first}
 
 -- the arrangements of the n + 1 symbols outside that begin with x
 abbrev pub block : ℕ → List ℕ → ℕ → ℕ → List (List ℕ)
@@ -23,10 +24,6 @@ block n prefix count x = map (x ∷◌) (arrangements n (filter (λ y. not (y ==
 -- those that begin with a symbol below y
 abbrev pub tried : ℕ → List ℕ → ℕ → ℕ → List (List ℕ)
 tried n prefix count y = flat_map (block n prefix count) (outside y prefix)
-
-append_nil : {X : Type 0} (xs : List X) → xs ++ [] ≡ xs
-append_nil [] = refl
-append_nil (x ∷ xs) = ap (x ∷◌) (append_nil xs)
 
 -- a listed number, and one that isn't
 listed : (xs : List ℕ) (y : ℕ) → Contains xs y → list_any (λ z. z == y) xs ≡ true
@@ -76,10 +73,10 @@ tried_more n xs count y zs e = ap (flat_map (block n xs count)) (outside_more xs
 
 -- one more number outside, or not
 pub tried_listed : (n : ℕ) (xs : List ℕ) (count y : ℕ) → Contains xs y → tried n xs count (y + 1) ≡ tried n xs count y
-tried_listed n xs count y c = tried_more n xs count y [] (drop_one (test xs) y [] (ap not (listed xs y c))) ∙ append_nil (tried n xs count y)
+tried_listed n xs count y c = tried_more n xs count y [] (drop_one (test xs) y [] (ap not (listed xs y c))) ∙ append-nil (tried n xs count y)
 
 pub tried_unlisted : (n : ℕ) (xs : List ℕ) (count y : ℕ) → ¬ Contains xs y → tried n xs count (y + 1) ≡ tried n xs count y ++ block n xs count y
-tried_unlisted n xs count y c = tried_more n xs count y (y ∷ []) (keep_one (test xs) y [] (ap not (unlisted xs y c))) ∙ ap (λ z. tried n xs count y ++ z) (append_nil (block n xs count y))
+tried_unlisted n xs count y c = tried_more n xs count y (y ∷ []) (keep_one (test xs) y [] (ap not (unlisted xs y c))) ∙ ap (λ z. tried n xs count y ++ z) (append-nil (block n xs count y))
 
 -- all blocks: those before y, that of y, and more
 pub all_blocks : (n : ℕ) (xs : List ℕ) (count y : ℕ) → y < count → ¬ Contains xs y → (more : List (List ℕ)) × arrangements (suc n) (outside count xs) ≡ tried n xs count y ++ (block n xs count y ++ more)
@@ -97,9 +94,6 @@ any_append (z ∷ xs) x y = grind (arith, any_append xs x y)
 not_or : (a b c : Bool) → b ≡ c → not (a || b) ≡ (not a && not c)
 not_or true b c e = refl
 not_or false b c e = ap not e
-
-eq_turn : (x y : ℕ) → (x == y) ≡ (y == x)
-eq_turn x y = grind arith
 
 filter_both : (p q r : ℕ → Bool) → ((y : ℕ) → r y ≡ (p y && q y)) → (ys : List ℕ) → filter q (filter p ys) ≡ filter r ys
 filter_both p q r h [] = refl
@@ -119,12 +113,8 @@ none_map Q f [] h k d i = absurd (omega arith)
 none_map Q f (x ∷ xs) h zero d i = h 0 x (omega arith)
 none_map Q f (x ∷ xs) h (suc k) d i = none_map Q f xs (λ j e q. h (suc j) e (omega arith)) k d (omega arith)
 
-map_append : {X Y : Type 0} (f : X → Y) (xs ys : List X) → map f (xs ++ ys) ≡ map f xs ++ map f ys
-map_append f [] ys = refl
-map_append f (x ∷ xs) ys = ap (f x ∷◌) (map_append f xs ys)
-
 some_map : {X Y : Type 0} (Q : Y → Type 0) (f : X → Y) (xs : List X) (x : X) → IsFirst (λ x. Q (f x)) xs (Some x) → IsFirst Q (map f xs) (Some (f x))
-some_map Q f xs x (h, before, after, e, n) = (h, map f before, map f after, ap (map f) e ∙ map_append f before (x ∷ after), none_map Q f before n)
+some_map Q f xs x (h, before, after, e, n) = (h, map f before, map f after, ap (map f) e ∙ map-append f before (x ∷ after), none_map Q f before n)
 
 pub none_append : {X : Type 0} (Q : X → Type 0) (xs ys : List X) → IsFirst Q xs None → IsFirst Q ys None → IsFirst Q (xs ++ ys) None
 none_append Q xs ys h k = All-append (λ y. ¬ Q y) xs ys h k
@@ -170,13 +160,13 @@ none_one Q h (suc k) d i q = omega arith
 -- with no symbol left, the prefix is the only candidate
 pub leaf : (rules : List Rule) (count left : ℕ) (xs : List ℕ) (b : Bool) → left ≡ 0 → (IsTrue b → LpoOrients xs rules) × (LpoOrients xs rules → IsTrue b) → IsSearched rules count left xs xs b
 leaf rules count left xs true e h =
-    let o : LpoOrients (xs ++ []) rules = subst (λ z. LpoOrients z rules) (sym (append_nil xs)) (h.0 refl) in
-    ([], sym (append_nil xs), subst (λ n. IsFirst (λ r. LpoOrients (xs ++ r) rules) (arrangements n (outside count xs)) (Some [])) (sym e) (o, [], [], refl, λ k d i. absurd (omega arith)))
+    let o : LpoOrients (xs ++ []) rules = subst (λ z. LpoOrients z rules) (sym (append-nil xs)) (h.0 refl) in
+    ([], sym (append-nil xs), subst (λ n. IsFirst (λ r. LpoOrients (xs ++ r) rules) (arrangements n (outside count xs)) (Some [])) (sym e) (o, [], [], refl, λ k d i. absurd (omega arith)))
 leaf rules count left xs false e h =
-    (refl, subst (λ n. IsFirst (λ r. LpoOrients (xs ++ r) rules) (arrangements n (outside count xs)) None) (sym e) (none_one (λ r. LpoOrients (xs ++ r) rules) (λ o. false≢true (h.1 (subst (λ z. LpoOrients z rules) (append_nil xs) o)))))
+    (refl, subst (λ n. IsFirst (λ r. LpoOrients (xs ++ r) rules) (arrangements n (outside count xs)) None) (sym e) (none_one (λ r. LpoOrients (xs ++ r) rules) (λ o. false≢true (h.1 (subst (λ z. LpoOrients z rules) (append-nil xs) o)))))
 
 pub numbers_push : (xs : List Symbol) (y : Symbol) → numbers (xs ++ y ∷ []) ≡ numbers xs ++ y.0 ∷ []
-numbers_push xs y = map_append (λ (f : Symbol). f.0) xs (y ∷ [])
+numbers_push xs y = map-append (λ (f : Symbol). f.0) xs (y ∷ [])
 
 -- what the search behind one more symbol found
 pub found_next : (rules : List Rule) (count n left y : ℕ) (xs ys now : List ℕ) → suc n ≡ left → ys ≡ xs ++ y ∷ [] → y < count → ¬ Contains xs y
@@ -197,10 +187,6 @@ pub none_refused : (rules : List Rule) (count n y : ℕ) (xs : List ℕ) → Con
 none_refused rules count n y xs (inl c) h t = subst (λ z. IsFirst (λ r. LpoOrients (xs ++ r) rules) z None) (sym (tried_listed n xs count y c)) t
 none_refused rules count n y xs (inr c) h t =
     subst (λ z. IsFirst (λ r. LpoOrients (xs ++ r) rules) z None) (sym (tried_unlisted n xs count y c)) (none_append (λ r. LpoOrients (xs ++ r) rules) (tried n xs count y) (block n xs count y) t (none_where n xs count y (λ z. LpoOrients z rules) (λ r. h r c)))
-
-pub listed_or_not : (xs : List ℕ) (y : ℕ) → Contains xs y ⊎ (Contains xs y → ⊥)
-listed_or_not [] y = inr (λ c. omega arith)
-listed_or_not (x ∷ xs) y = ⊎_elim (λ e. inl (subst (Contains (x ∷ xs)) e (contains_first x xs))) (λ n. ⊎_elim (λ c. inl (contains_behind x xs y c)) (λ m. inr (λ c. ⊎_elim n m (contains_cases x xs y c))) (listed_or_not xs y)) (cases_eq x y)
 
 pub outside_all : (ys : List ℕ) → filter (test []) ys ≡ ys
 outside_all [] = refl

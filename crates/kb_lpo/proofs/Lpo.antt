@@ -1,8 +1,8 @@
 -- The lexicographic path order by recursion on argument lists, in which the laws are proved.
 use Rattle.std.proofs.Common.{ℕ, ◌≡◌, ◌≢◌, ◌⊎◌, inl, inr, sym, ap, ◌∙◌, subst, List, [], ◌∷◌, ◌++◌, Contains, arith, ⊎_elim}
+use Rattle.kb_lemmas.proofs.Membership.{contains_cases, contains_behind, contains_first}
 use Rattle.kb_term.specs.Tree.{Tree, variable, apply, Trees, no_trees, more_trees, list_of, variables_of}
 use Rattle.kb_lpo.specs.PathOrder.{IsAbove, LpoGreater, variable_within, argument_equal, argument_greater, symbol_greater, arguments_greater}
-use Rattle.kb_term.proofs.Steps.{contains_cases, contains_behind, contains_first}
 
 -- t is one of the arguments
 abbrev pub IsArgument : Tree → Trees → Type 0

@@ -1,8 +1,10 @@
 -- Every chain of the bounded path order has a bound.
-use Rattle.std.proofs.Common.{ℕ, zero, suc, ◌+◌, ◌≡◌, ◌≤◌, ◌<◌, ◌⊎◌, inl, inr, refl, sym, ap, ◌∙◌, subst, arith, List, [], ◌∷◌, Contains, length, not, ◌==◌, lt-suc_self}
-use Rattle.std.proofs.lemmas.Bool.{cases_lt, cond_both}
+use Rattle.std.proofs.Common.{ℕ, zero, suc, ◌+◌, ◌≡◌, ◌≤◌, ◌<◌, ◌⊎◌, inl, inr, refl, sym, ap, ◌∙◌, subst, arith, List, [], ◌∷◌, Contains, length, lt-suc_self}
+use Rattle.std.proofs.lemmas.Bool.{cases_lt}
+use Rattle.kb_term.proofs.Numbered.{place_in-le-length}
+use Rattle.kb_lemmas.proofs.Membership.{contains_cases}
 use Rattle.kb_term.specs.Tree.{Tree, variable, apply, Trees, no_trees, more_trees}
-use Rattle.kb_term.proofs.Steps.{trees_length, IsWellFormed, AreWellFormed, contains_cases}
+use Rattle.kb_term.proofs.Steps.{trees_length, IsWellFormed, AreWellFormed}
 use Rattle.kb_term.specs.Pair.{place_in}
 use Rattle.kb_lpo.specs.PathOrder.{IsAbove}
 use Rattle.kb_lpo.proofs.Lpo.{IsArgument, DifferFirst}
@@ -58,10 +60,6 @@ length-copies : (k n : ℕ) → length (copies k n) ≡ k
 unfolding copies
 length-copies zero n = refl
 length-copies (suc k) n = ap suc (length-copies k n)
-
-place_le : (p : List ℕ) (f : ℕ) → place_in p f ≤ length p
-place_le [] f = omega arith
-place_le (g ∷ gs) f = let h = place_le gs f in cond_both (not (g == f)) (1 + place_in gs f) 0 (λ x. x ≤ length (g ∷ gs)) (λ e. omega arith) (λ e. omega arith)
 
 abbrev IsApplied : Tree → Type 0
 IsApplied (variable x) = ⊥
@@ -217,7 +215,7 @@ module _ (a : ℕ → ℕ) (fs p : List ℕ) (K : ℕ) where
 
   -- each symbol, by its place from the end of the precedence
   symbol_bound : (d f : ℕ) → length p ≤ place_in p f + d → (ns : List ℕ) → length ns ≡ a f → HasBound f ns
-  symbol_bound zero f h ns e = symbol_step f (λ g up qs q. absurd (omega (arith, place_le p g))) ns e
+  symbol_bound zero f h ns e = symbol_step f (λ g up qs q. absurd (omega (arith, place_in-le-length p g))) ns e
   symbol_bound (suc d) f h ns e = symbol_step f (λ g up qs q. symbol_bound d g (omega arith) qs q) ns e
 
   no_variable : (k x : ℕ) (t : Tree) → Below p K k (variable x) t → ⊥

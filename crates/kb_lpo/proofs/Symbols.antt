@@ -1,8 +1,8 @@
 -- The symbols of an application are its own and those of its arguments.
 use Rattle.std.proofs.Common.{ℕ, ◌≡◌, ◌≤◌, inl, inr, ⊎_elim, refl, sym, subst, arith, List, Contains, length}
 use Rattle.std.proofs.lemmas.List.Elements.{Contains-append_left, Contains-append_right, Contains-append_cases}
+use Rattle.kb_lemmas.proofs.Membership.{contains_cases, contains_behind}
 use Rattle.kb_term.specs.Tree.{Tree, Trees, apply, no_trees, more_trees, trees_of, symbols_of, symbols_in}
-use Rattle.kb_term.proofs.Steps.{contains_cases, contains_behind}
 use Rattle.kb_lpo.specs.Agreeing.{At, Between}
 use Rattle.kb_lpo.proofs.Lpo.{IsArgument}
 use Rattle.kb_lpo.proofs.Places.{at_argument, between_all}

@@ -4,10 +4,12 @@ use Rattle.std.specs.Prelude.{slice_get}
 use Rattle.std.specs.List.{list_any}
 use Rattle.std.proofs.lemmas.List.{length_push, length-take-le, take-take, take-append-le, take-append-drop, take_all}
 use Rattle.std.proofs.lemmas.Option.{slice_get_within, same_Some, none-some}
+use Rattle.kb_lemmas.proofs.Numbers.{below_or_at}
+use Rattle.kb_lemmas.proofs.Lists.{get_take}
 use Rattle.kb_term.specs.Tree.{Tree, tree_size, tree_eq}
 use Rattle.kb_term.specs.Pair.{Pair}
 use Rattle.term_bank.specs.Terms.{HasTerm, AreDistinct, subterms, with_term, with_missing}
-use Rattle.term_bank.proofs.Places.{get_left, get_end, get_take, below_or_at}
+use Rattle.term_bank.proofs.Places.{get_left, get_end}
 use Rattle.term_bank.proofs.Missing.{IsFront, missing_front, missing_most, front_then, front_has, subterms_length, with_term-has}
 use Rattle.kb_node.specs.Banked.{AreSides, IsPairWithin, IsBanked, with_sides, with_pairs, first_cells}
 use Rattle.kb_node.specs.declared.sides.Sides.{Sides}

@@ -9,12 +9,13 @@ use Rattle.std.proofs.lemmas.List.Folds.{list_any_none}
 use Rattle.std.proofs.lemmas.Option.{slice_get-get_or, slice_get_read, slice_get_within, get_or_from_slice_get, same_Some}
 use mathlib.Core.Bool.{true≢false}
 use Rattle.indexmap.specs.IndexSet.{insert_key}
-use Rattle.std.specs.Ordering.{is_eq, ordering_then}
-use Rattle.std.specs.declared.cmp.Ordering.{Ordering}
-use Rattle.std.specs.declared.cmp.Ordering.TheVariants.{Less, Equal, Greater}
+use Rattle.std.specs.Ordering.{is_eq}
 use Rattle.kb_term.specs.Tree.{Tree, variable, tree_cmp, tree_size}
 use Rattle.kb_term.specs.TermOrder.{pair_eq, tree_cmp-equal, pair_cmp-total}
 use Rattle.std.specs.Cmp.{tied_itself}
+use Rattle.std.proofs.lemmas.Bool.{false_from_ne_true, eqb-true, and_parts}
+use Rattle.kb_lemmas.proofs.Booleans.{then_equal, is_equal}
+use Rattle.kb_lemmas.proofs.Numbers.{eq_itself}
 use Rattle.kb_term.specs.Pair.{Pair, pair_cmp}
 use Rattle.term_bank.specs.Terms.{term_at}
 use Rattle.term_bank.proofs.Missing.{IsFront}
@@ -26,45 +27,21 @@ use Rattle.kb_node.proofs.Banking.{sides_at, sides-front, distinct, start_low, b
 
 -- ---- tests of pairs and sides
 
-then_equal : (a b : Ordering) → ordering_then a b ≡ Equal → (a ≡ Equal) × (b ≡ Equal)
-then_equal Less b e = absurd (cc)
-then_equal Equal b e = (refl, e)
-then_equal Greater b e = absurd (cc)
-
-is_eq-equal : (o : Ordering) → is_eq o ≡ true → o ≡ Equal
-is_eq-equal Less e = absurd (cc)
-is_eq-equal Equal e = refl
-is_eq-equal Greater e = absurd (cc)
-
 pub pair_eq-same : (d e : Pair) → pair_eq d e ≡ true → d ≡ e
 pair_eq-same d e h =
-    let both = then_equal (tree_cmp d.first e.first) (tree_cmp d.second e.second) (is_eq-equal (pair_cmp d e) h) in
+    let both = then_equal (tree_cmp d.first e.first) (tree_cmp d.second e.second) (is_equal (pair_cmp d e) h) in
     λ i. record { first = tree_cmp-equal d.first e.first both.0 i; second = tree_cmp-equal d.second e.second both.1 i }
 
 pub pair_eq-refl : (d : Pair) → pair_eq d d ≡ true
 pair_eq-refl d = ap is_eq (tied_itself pair_cmp-total d)
 
-eq-nat : (m n : ℕ) → (m == n) ≡ true → m ≡ n
-eq-nat m n h = grind (arith, nat_tests)
-
-nat-eq : (m : ℕ) → (m == m) ≡ true
-nat-eq m = grind (arith, nat_tests)
-
-and_both : (a b : Bool) → (a && b) ≡ true → (a ≡ true) × (b ≡ true)
-and_both true b h = (refl, h)
-and_both false b h = absurd (true≢false (sym h))
-
 sides_eq-same : (s t : Sides) → sides_eq s t ≡ true → s ≡ t
 sides_eq-same s t h =
-    let both = and_both (s.first.0 == t.first.0) (s.second.0 == t.second.0) h in
-    λ i. record { first = record { 0 = eq-nat s.first.0 t.first.0 both.0 i }; second = record { 0 = eq-nat s.second.0 t.second.0 both.1 i } }
+    let both = and_parts (s.first.0 == t.first.0) (s.second.0 == t.second.0) h in
+    λ i. record { first = record { 0 = eqb-true s.first.0 t.first.0 both.0 i }; second = record { 0 = eqb-true s.second.0 t.second.0 both.1 i } }
 
 sides_eq-refl : (s : Sides) → sides_eq s s ≡ true
-sides_eq-refl s = ap₂ ◌&&◌ (nat-eq s.first.0) (nat-eq s.second.0)
-
-not_true : (b : Bool) → (b ≡ true → ⊥) → b ≡ false
-not_true true h = absurd (h refl)
-not_true false h = refl
+sides_eq-refl s = ap₂ ◌&&◌ (eq_itself s.first.0) (eq_itself s.second.0)
 
 -- ---- where no key is found
 
@@ -198,11 +175,11 @@ module _ {L : Type 0} (terms : List Tree) (sides : List Sides) (starts : List �
           let first = apart s.first.0 t.first.0 pair.first has.first k.first in
           let second = apart s.second.0 t.second.0 pair.second has.second k.second in
           let differs = position-None (sides_eq s) sides (sym h) i no_sides (slice_get_within sides i t (key_at i pair g)) in
-          true≢false (sym (ap₂ ◌&&◌ (ap (λ n. s.first.0 == n) (sym first) ∙ nat-eq s.first.0) (ap (λ n. s.second.0 == n) (sym second) ∙ nat-eq s.second.0)) ∙ differs))
+          true≢false (sym (ap₂ ◌&&◌ (ap (λ n. s.first.0 == n) (sym first) ∙ eq_itself s.first.0) (ap (λ n. s.second.0 == n) (sym second) ∙ eq_itself s.second.0)) ∙ differs))
 
     -- the sides of a pair that no node has are a new key
     pub new_key : (s : Sides) (new : List Tree) → IsFront terms new → AreSides new s pair → ((i : ℕ) → slice_get (pairs_of nodes) i ≡ Some pair → ⊥) → insert_key sides_eq sides s ≡ sides ++ s ∷ []
-    new_key s new front has lacks = ap (λ b. cond b sides (sides ++ s ∷ [])) (list_any_none (sides_eq s) sides (λ i d l. not_true (sides_eq s (get_or sides i d)) (λ h.
+    new_key s new front has lacks = ap (λ b. cond b sides (sides ++ s ∷ [])) (list_any_none (sides_eq s) sides (λ i d l. false_from_ne_true (sides_eq s (get_or sides i d)) (λ h.
         let e = get_or (pairs_of nodes) i pair in
         let there : slice_get (pairs_of nodes) i ≡ Some e = slice_get-get_or (pairs_of nodes) i pair (omega (arith, f.side_count)) in
         let old = sides_at terms sides starts (pairs_of nodes) f i (get_or sides i d) e (slice_get-get_or sides i d l) there in

@@ -3,12 +3,12 @@ use Rattle.std.proofs.Common.{◌≡◌, ℕ, ◌+◌, ◌<◌, ◌≤◌, List,
 use Rattle.std.specs.Prelude.{slice_get}
 use Rattle.std.proofs.lemmas.Option.{slice_get-get_or, slice_get_read, slice_get_within, get_or_from_slice_get}
 use Rattle.std.proofs.lemmas.List.{take-map, length-take-le, length_push, length-set, map_push}
+use Rattle.kb_lemmas.proofs.Lists.{get_take}
 use Rattle.indexmap.specs.IndexSet.{insert_key}
 use Rattle.kb_term.specs.Tree.{Tree}
 use Rattle.kb_term.specs.Pair.{Pair, IsCanonicalPair}
 use Rattle.term_bank.specs.Terms.{term_at}
 use Rattle.term_bank.proofs.Missing.{IsFront}
-use Rattle.term_bank.proofs.Places.{get_take}
 use Rattle.kb_node.specs.Banked.{AreSides, IsBanked, IsPairWithin, with_sides, sides_eq}
 use Rattle.kb_node.specs.Labelled.{Node, pairs_of, HasPair, LacksPair, with_label}
 use Rattle.kb_node.specs.Stored.{node_of, pair_in, nodes_in, IsStored}

@@ -3,6 +3,8 @@ use Rattle.std.proofs.Common.{ℕ, ◌+◌, ◌-◌, ◌≤◌, ◌<◌, ◌≡�
 use Rattle.std.proofs.lemmas.List.Elements.{Contains-append_left, Contains-append_right, Contains-append_cases}
 use Rattle.std.specs.Prelude.{◌||◌}
 use Rattle.std.specs.List.{list_any}
+use Rattle.std.proofs.lemmas.Option.{same_Some}
+use Rattle.kb_lemmas.proofs.Membership.{contains_first, contains_behind, contains_mapped}
 use Rattle.kb_term.specs.Tree.{Tree, variable, variables_of, tree_size, tree_depth}
 use Rattle.kb_term.specs.Substitution.{instance, rename}
 use Rattle.kb_term.specs.Position.{subtree_at, replace_at, function_positions_of}
@@ -12,7 +14,6 @@ use Rattle.kb_term.specs.declared.limit.Limit.{Limit}
 use Rattle.kb_term.specs.declared.limit.Limit.TheVariants.{Size, Depth}
 use Rattle.kb_unify.specs.Unifier.{IsUnifier, IsUnifiable, IsMostGeneralUnifier}
 use Rattle.kb_unify.specs.Answer.{terms_limit, unifier_limit, IsUnifierWith}
-use Rattle.kb_term.proofs.Steps.{contains_first, contains_behind}
 use Rattle.kb_unify.proofs.Instances.{contains_decides}
 use Rattle.kb_unify.proofs.Applied.{outside_variable}
 use Rattle.kb_unify.proofs.Limits.{any_true}
@@ -22,7 +23,7 @@ use Rattle.kb_overlap.specs.Found.{built_limit, IsPairAnswer, AreVariablesBelow}
 use Rattle.kb_overlap.specs.Instance.{IsSmall}
 use Rattle.kb_overlap.specs.View.{sides_of}
 use Rattle.kb_term.proofs.Variants.{rename-rename, rename_same, variables_renamed}
-use Rattle.kb_term.proofs.Subtrees.{some_same, subtree-instance, replace-there, subtree_variables, contains_mapped}
+use Rattle.kb_term.proofs.Subtrees.{subtree-instance, replace-there, subtree_variables}
 use Rattle.kb_overlap.proofs.Uniqueness.{variables_of_rule, shift, shifted_unifies}
 
 -- 64 added to each variable, and taken off
@@ -54,7 +55,7 @@ apart_is A B below = record {
 -- where one variant has no unifier none has
 pub none_there : (A B R : Rule) → IsRenamedApart A B R → (p : List ℕ) (u : Tree) → subtree_at A.left p ≡ Some u → ¬ IsUnifiable u R.left → HasNoOverlapAt A B p
 none_there A B R a p u at none S v b there (k, unifies) =
-    let same : v ≡ u = some_same v u (sym there ∙ at) in
+    let same : v ≡ u = same_Some v u (sym there ∙ at) in
     none ((λ x. k (shift A B R S a b x)), shifted_unifies A B R S a b u (λ x c. Contains-append_left (variables_of A.left) (variables_of A.right) x (subtree_variables p A.left u at x c)) k (subst (λ t. IsUnifier k t S.left) same unifies))
 
 any_witness : (p : Tree → Bool) (m : ℕ → Tree) (xs : List ℕ) → list_any p (map m xs) ≡ true → (x : ℕ) × Contains xs x × (p (m x) ≡ true)

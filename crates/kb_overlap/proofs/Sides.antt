@@ -1,6 +1,7 @@
 -- The limit that the two sides of an overlap pass, from sizes and depths of their parts.
 use Rattle.std.proofs.Common.{ℕ, zero, suc, ◌+◌, ◌≤◌, ◌≡◌, refl, sym, ap, ap₂, ◌∙◌, arith, List, [], ◌∷◌, length, Option, Some, None, option_map, option_and_then, Bool, true, false}
 use Rattle.std.specs.Prelude.{min, nat_lt, ◌||◌}
+use Rattle.std.proofs.lemmas.Option.{same_Some}
 use Rattle.kb_term.specs.Tree.{Tree, Trees, variable, apply, no_trees, more_trees, tree_size, trees_size, tree_depth, trees_depth}
 use Rattle.kb_term.specs.Position.{argument, with_argument, subtree_at, replace_at}
 use Rattle.kb_term.specs.Pair.{first_limit, limit_if, term_limit, pair_limit, variables_of_pair}
@@ -9,13 +10,12 @@ use Rattle.kb_term.specs.declared.limit.Limit.TheVariants.{Size, Depth, Variable
 use Rattle.kb_unify.specs.Extent.{IsExtent}
 use Rattle.kb_unify.specs.declared.extent.Extent.{Extent}
 use Rattle.kb_overlap.specs.Found.{parts_limit}
-use Rattle.kb_term.proofs.Subtrees.{some_same}
 
 size-with_argument : (ts : Trees) (i : ℕ) (a x : Tree) → argument ts i ≡ Some a → trees_size (with_argument ts i x) + tree_size a ≡ trees_size ts + tree_size x
 size-with_argument no_trees zero a x e = absurd (cc)
 size-with_argument no_trees (suc i) a x e = absurd (cc)
 size-with_argument (more_trees t ts) zero a x e = absurd (cc)
-size-with_argument (more_trees t ts) (suc zero) a x e = omega (arith, ap tree_size (some_same t a e))
+size-with_argument (more_trees t ts) (suc zero) a x e = omega (arith, ap tree_size (same_Some t a e))
 size-with_argument (more_trees t ts) (suc (suc i)) a x e = omega (arith, size-with_argument ts (suc i) a x e)
 
 depth-with_argument : (ts : Trees) (i : ℕ) (a x : Tree) → argument ts i ≡ Some a → tree_depth x ≤ trees_depth (with_argument ts i x)
@@ -27,13 +27,13 @@ depth-with_argument (more_trees t ts) (suc (suc i)) a x e = omega (arith, depth-
 
 -- what a replacement adds to the size is what its subterm had less
 pub size-replace : (p : List ℕ) (t u v w : Tree) → subtree_at t p ≡ Some u → replace_at t p v ≡ Some w → tree_size w + tree_size u ≡ tree_size t + tree_size v
-size-replace [] t u v w e r = omega (arith, ap tree_size (some_same t u e), ap tree_size (some_same v w r))
+size-replace [] t u v w e r = omega (arith, ap tree_size (same_Some t u e), ap tree_size (same_Some v w r))
 size-replace (i ∷ p) (variable n) u v w e r = absurd (cc)
 size-replace (i ∷ p) (apply f ts) u v w e r = go (argument ts i) refl (λ a b h k. size-replace p a u v b h k) e r
   where
     inner : (a : Tree) → argument ts i ≡ Some a → (o : Option Tree) → ((b : Tree) → o ≡ Some b → tree_size b + tree_size u ≡ tree_size a + tree_size v) → option_map (λ x. apply f (with_argument ts i x)) o ≡ Some w → tree_size w + tree_size u ≡ trees_size ts + 1 + tree_size v
     inner a q None back r = absurd (cc)
-    inner a q (Some b) back r = omega (arith, back b refl, size-with_argument ts i a b q, ap tree_size (some_same (apply f (with_argument ts i b)) w r))
+    inner a q (Some b) back r = omega (arith, back b refl, size-with_argument ts i a b q, ap tree_size (same_Some (apply f (with_argument ts i b)) w r))
 
     go : (o : Option Tree) → argument ts i ≡ o → ((a b : Tree) → subtree_at a p ≡ Some u → replace_at a p v ≡ Some b → tree_size b + tree_size u ≡ tree_size a + tree_size v) → option_and_then (λ t. subtree_at t p) o ≡ Some u
         → option_and_then (λ t. option_map (λ x. apply f (with_argument ts i x)) (replace_at t p v)) o ≡ Some w → tree_size w + tree_size u ≡ trees_size ts + 1 + tree_size v
@@ -42,13 +42,13 @@ size-replace (i ∷ p) (apply f ts) u v w e r = go (argument ts i) refl (λ a b 
 
 -- a term with a replacement is at least as deep as what was put in
 pub depth-replace : (p : List ℕ) (t v w : Tree) → replace_at t p v ≡ Some w → tree_depth v ≤ tree_depth w
-depth-replace [] t v w r = omega (arith, ap tree_depth (some_same v w r))
+depth-replace [] t v w r = omega (arith, ap tree_depth (same_Some v w r))
 depth-replace (i ∷ p) (variable n) v w r = absurd (cc)
 depth-replace (i ∷ p) (apply f ts) v w r = go (argument ts i) refl (λ a b k. depth-replace p a v b k) r
   where
     inner : (a : Tree) → argument ts i ≡ Some a → (o : Option Tree) → ((b : Tree) → o ≡ Some b → tree_depth v ≤ tree_depth b) → option_map (λ x. apply f (with_argument ts i x)) o ≡ Some w → tree_depth v ≤ tree_depth w
     inner a q None back r = absurd (cc)
-    inner a q (Some b) back r = omega (arith, back b refl, depth-with_argument ts i a b q, ap tree_depth (some_same (apply f (with_argument ts i b)) w r))
+    inner a q (Some b) back r = omega (arith, back b refl, depth-with_argument ts i a b q, ap tree_depth (same_Some (apply f (with_argument ts i b)) w r))
 
     go : (o : Option Tree) → argument ts i ≡ o → ((a b : Tree) → replace_at a p v ≡ Some b → tree_depth v ≤ tree_depth b) → option_and_then (λ t. option_map (λ x. apply f (with_argument ts i x)) (replace_at t p v)) o ≡ Some w → tree_depth v ≤ tree_depth w
     go None q back r = absurd (cc)
@@ -59,11 +59,11 @@ size-argument : (ts : Trees) (i : ℕ) (a : Tree) → argument ts i ≡ Some a �
 size-argument no_trees zero a e = absurd (cc)
 size-argument no_trees (suc i) a e = absurd (cc)
 size-argument (more_trees t ts) zero a e = absurd (cc)
-size-argument (more_trees t ts) (suc zero) a e = omega (arith, ap tree_size (some_same t a e))
+size-argument (more_trees t ts) (suc zero) a e = omega (arith, ap tree_size (same_Some t a e))
 size-argument (more_trees t ts) (suc (suc i)) a e = omega (arith, size-argument ts (suc i) a e)
 
 pub size-subtree : (p : List ℕ) (t u : Tree) → subtree_at t p ≡ Some u → tree_size u ≤ tree_size t
-size-subtree [] t u e = omega (arith, ap tree_size (some_same t u e))
+size-subtree [] t u e = omega (arith, ap tree_size (same_Some t u e))
 size-subtree (i ∷ p) (variable n) u e = absurd (cc)
 size-subtree (i ∷ p) (apply f ts) u e = go (argument ts i) refl (λ a h. size-subtree p a u h) e
   where

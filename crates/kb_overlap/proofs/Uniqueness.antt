@@ -1,8 +1,9 @@
 -- The overlaps of two rules are one up to renaming, whichever variant of the inner rule and whichever most general unifier is taken.
 use Rattle.std.proofs.Common.{ℕ, ◌≡◌, ◌⊎◌, inl, inr, refl, sym, ap, ap₂, ◌∙◌, subst, List, [], ◌∷◌, ◌++◌, map, Contains, Option, Some, None, Ok, Bool, true, false, cond, ◌==◌, eqb-true}
 use Rattle.std.specs.Prelude.{◌&&◌}
-use Rattle.std.proofs.lemmas.Bool.{eq-eqb}
+use Rattle.std.proofs.lemmas.Bool.{eq-eqb, and_parts}
 use Rattle.std.proofs.lemmas.List.Elements.{Contains-append_left, Contains-append_right, Contains-append_cases}
+use Rattle.std.proofs.lemmas.Option.{same_Some}
 use Rattle.kb_term.specs.Tree.{Tree, Trees, variable, apply, no_trees, more_trees, variables_of, tree_eq, trees_eq}
 use Rattle.kb_term.specs.Substitution.{instance, rename}
 use Rattle.kb_term.specs.Position.{replace_at}
@@ -17,7 +18,7 @@ use Rattle.kb_unify.proofs.Similar.{similar_map, similar_limit}
 use Rattle.kb_overlap.specs.Overlap.{IsRenamedApart, OverlapsAt, IsCriticalPair, overlap_limit, pair_or_limit, Overlap, IsOverlapOrLimit, HasNoOverlapAt, ListsOverlaps, canonical_sides, canonical_overlap}
 use Rattle.kb_term.proofs.Variants.{rename-rename, rename_agree, rename_same, turned_back, map_append, variables_renamed}
 use Rattle.kb_overlap.proofs.Extents.{same_canonical, same_pair_limit, same_term_limit}
-use Rattle.kb_term.proofs.Subtrees.{some_same, replace-instance, subtree_variables}
+use Rattle.kb_term.proofs.Subtrees.{replace-instance, subtree_variables}
 
 abbrev pub variables_of_rule : Rule → List ℕ
 variables_of_rule A = variables_of A.left ++ variables_of A.right
@@ -82,7 +83,7 @@ module _ (A B R S : Rule) (a : IsRenamedApart A B R) (b : IsRenamedApart A B S) 
 
   pub transfer : (d : ℕ → Tree) × ((x : ℕ) → n (shift A B R S a b x) ≡ instance d (m x))
   transfer =
-      let same : g.subterm ≡ h.subterm = some_same g.subterm h.subterm (sym g.there ∙ h.there) in
+      let same : g.subterm ≡ h.subterm = same_Some g.subterm h.subterm (sym g.there ∙ h.there) in
       let unifies : IsUnifier n g.subterm S.left = subst (λ u. IsUnifier n u S.left) (sym same) (h.unifier).unifies in
       (g.unifier).most_general (λ x. n (shift A B R S a b x)) (shifted_unifies A B R S a b g.subterm (λ x c. in_left x (subtree_variables p A.left g.subterm g.there x c)) n unifies)
 
@@ -97,7 +98,7 @@ module _ (A B R S : Rule) (a : IsRenamedApart A B R) (b : IsRenamedApart A B S) 
       pub second_made : instance d t ≡ w
       second_made =
           let right : instance d (instance m R.right) ≡ instance n S.right = made A B R S a b m n d takes R.right S.right (right_shifted A B R S a b) in
-          some_same (instance d t) w (sym (replace-instance d p (instance m A.left) (instance m R.right) t one.by_inner) ∙ ap₂ (λ x y. replace_at x p y) peak_made right ∙ two.by_inner)
+          same_Some (instance d t) w (sym (replace-instance d p (instance m A.left) (instance m R.right) t one.by_inner) ∙ ap₂ (λ x y. replace_at x p y) peak_made right ∙ two.by_inner)
 
 -- the variables that count for the limit
 left_variables : (A B R S : Rule) (a : IsRenamedApart A B R) (b : IsRenamedApart A B S) → map (shift A B R S a b) (variables_of A.left ++ variables_of R.left) ≡ variables_of A.left ++ variables_of S.left
@@ -125,22 +126,18 @@ same_sides s t v w None (Some l) e h = absurd (cc)
 same_sides s t v w (Some k) None e h = absurd (cc)
 same_sides s t v w (Some k) (Some l) e h = cc
 
-both_true : (x y : Bool) → (x && y) ≡ true → (x ≡ true) × (y ≡ true)
-both_true true y e = (refl, e)
-both_true false y e = absurd (cc)
-
 mutual
   equal_tree : (s t : Tree) → tree_eq s t ≡ true → s ≡ t
   equal_tree (variable m) (variable n) e = ap variable (eqb-true m n e)
   equal_tree (variable m) (apply g us) e = absurd (cc)
   equal_tree (apply f ts) (variable n) e = absurd (cc)
-  equal_tree (apply f ts) (apply g us) e = let h = both_true (f == g) (trees_eq ts us) e in ap₂ apply (eqb-true f g h.0) (equal_trees ts us h.1)
+  equal_tree (apply f ts) (apply g us) e = let h = and_parts (f == g) (trees_eq ts us) e in ap₂ apply (eqb-true f g h.0) (equal_trees ts us h.1)
 
   equal_trees : (ss ts : Trees) → trees_eq ss ts ≡ true → ss ≡ ts
   equal_trees no_trees no_trees e = refl
   equal_trees no_trees (more_trees t ts) e = absurd (cc)
   equal_trees (more_trees s ss) no_trees e = absurd (cc)
-  equal_trees (more_trees s ss) (more_trees t ts) e = let h = both_true (tree_eq s t) (trees_eq ss ts) e in ap₂ more_trees (equal_tree s t h.0) (equal_trees ss ts h.1)
+  equal_trees (more_trees s ss) (more_trees t ts) e = let h = and_parts (tree_eq s t) (trees_eq ss ts) e in ap₂ more_trees (equal_tree s t h.0) (equal_trees ss ts h.1)
 
 mutual
   same_tree : (t : Tree) → tree_eq t t ≡ true

@@ -5,15 +5,12 @@ use Rattle.std.proofs.lemmas.Bool.{false≢true}
 use Rattle.std.proofs.lemmas.List.{take_more}
 use Rattle.std.proofs.lemmas.List.Elements.{Contains-append_cases, Contains-append_left, Contains-append_right}
 use Rattle.std.proofs.lemmas.Option.{slice_get-map, slice_get-get_or}
+use Rattle.kb_lemmas.proofs.Membership.{contains_cases, contains_mapped, contains_map, slice_contains}
 use Rattle.kb_term.specs.Tree.{Tree, variable}
 use Rattle.kb_term.specs.Rule.{Rule}
 use Rattle.kb_term.specs.Substitution.{IsVariant}
 use Rattle.kb_term.specs.declared.origin.Found.{Found}
 use Rattle.kb_term.specs.declared.origin.Found.TheVariants.{Variant, Strict}
-use Rattle.kb_term.proofs.Steps.{contains_cases}
-use Rattle.kb_term.proofs.Subtrees.{contains_mapped}
-use Rattle.kb_linear.proofs.Sorted.{contains_map}
-use Rattle.kb_laws.proofs.Closing.{slice_contains}
 use Rattle.kb_rewrite.specs.NormalForm.{MatchesAt, Encompasses, IsFound, HasRedex}
 use Rattle.kb_checker.specs.Answers.{rules_of}
 use Rattle.kb_reduce.specs.Reducing.{IsCovered}

@@ -1,11 +1,9 @@
 -- The direction in which a rule reads its canonical pair, and how its right side is rewritten there.
 use Rattle.std.proofs.Common.{ℕ, zero, suc, ◌-◌, ◌≡◌, ◌≤◌, ◌⊎◌, inl, inr, refl, sym, ap, ◌∙◌, subst, arith, List, ◌++◌, length, get_or, Contains, Bool, true, false, cond, Some, None, ⊎_elim}
 use Rattle.std.proofs.lemmas.List.{length-map}
-use Rattle.std.proofs.lemmas.Option.{slice_get_within}
+use Rattle.std.proofs.lemmas.Option.{slice_get_within, same_Some}
 use Rattle.std.proofs.lemmas.List.Elements.{Contains-append_cases, Contains-append_left, Contains-append_right}
-use Rattle.std.specs.declared.cmp.Ordering.{Ordering}
-use Rattle.std.specs.declared.cmp.Ordering.TheVariants.{Less, Equal, Greater}
-use Rattle.std.specs.Ordering.{is_eq}
+use Rattle.kb_lemmas.proofs.Booleans.{is_equal}
 use Rattle.kb_term.specs.Tree.{Tree, variable, variables_of, tree_eq}
 use Rattle.kb_term.specs.Substitution.{rename}
 use Rattle.kb_term.specs.Pair.{Pair, pair_cmp, place_in, variables_of_pair, numbered, canonical, canonical_pair}
@@ -14,7 +12,6 @@ use Rattle.kb_term.specs.Proving.{RewritesAt}
 use Rattle.kb_term.specs.TermOrder.{pair_eq, tree_cmp-same}
 use Rattle.kb_term.proofs.CanonicalPairs.{pair_equal, lesser_cases, lesser_comm, canonical_from_same}
 use Rattle.kb_term.proofs.OwnPair.{numbered_apart, tree_eq-true}
-use Rattle.kb_term.proofs.Subtrees.{some_same}
 use Rattle.kb_term.proofs.Variants.{numbered_renamed, unnumbered}
 use Rattle.kb_overlap.specs.Trace.{TraceStep, item, IsRightRewrite}
 use Rattle.kb_trace.specs.Steps.{pairs_of}
@@ -23,11 +20,6 @@ use Rattle.kb_checker.proofs.Citing.{cited_pair}
 use Rattle.kb_laws.proofs.Renamings.{rewrites_instance}
 use Rattle.kb_reduce.specs.Reducing.{direction_of}
 use Rattle.kb_reduce.proofs.Numbering.{Holds}
-
-is_equal : (o : Ordering) → is_eq o ≡ true → o ≡ Equal
-is_equal Less e = absurd (cc)
-is_equal Equal e = refl
-is_equal Greater e = absurd (cc)
 
 pub pair_eq-same : (d e : Pair) → pair_eq d e ≡ true → d ≡ e
 pair_eq-same d e h = pair_equal d e (is_equal (pair_cmp d e) h)
@@ -145,7 +137,7 @@ pub cited_is : (steps : List TraceStep) (r : Rule × ℕ) (step : TraceStep) →
 cited_is steps r step h is =
     let k = item_within (pairs_of steps) r.1 (pair_of_rule r.0) h in
     let some : ¬ (r.1 ≡ 0) = λ e. omega (arith, e, k.0) in
-    some_same (pair_of_rule r.0) step.pair (sym h ∙ cited_pair steps r.1 step some (omega (arith, k.1, length-map steps (λ (s : TraceStep). s.pair))) is)
+    same_Some (pair_of_rule r.0) step.pair (sym h ∙ cited_pair steps r.1 step some (omega (arith, k.1, length-map steps (λ (s : TraceStep). s.pair))) is)
 
 -- what the pair of the step that a rule cites says of its direction
 pub cited_forth : (steps : List TraceStep) (r : Rule × ℕ) (step : TraceStep) → IsTraced steps r → step ≡ get_or steps (r.1 - 1) step → step.pair ≡ pair_with r.0 → 0 ≡ direction_of r.0

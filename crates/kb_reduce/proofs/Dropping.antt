@@ -2,9 +2,8 @@
 use Rattle.std.proofs.Common.{ℕ, ◌+◌, ◌<◌, ◌≤◌, ◌≡◌, inl, inr, refl, sym, ap, ◌∙◌, subst, subst₂, arith, List, [], ◌∷◌, ◌++◌, length, get_or, take, drop, Some}
 use Rattle.std.specs.Prelude.{slice_get}
 use Rattle.std.proofs.lemmas.List.{take_more, take_all, length-take-le, drop_more, drop_all}
-use Rattle.std.proofs.lemmas.Option.{slice_get-get_or}
+use Rattle.std.proofs.lemmas.Option.{slice_get-get_or, same_Some}
 use Rattle.kb_term.specs.Rule.{Rule}
-use Rattle.kb_term.proofs.Subtrees.{some_same}
 use Rattle.kb_reduce.specs.Reducing.{IsCovered, IsThinned}
 
 abbrev Cited : Type 0
@@ -21,7 +20,7 @@ drop_append k (x ∷ xs) ys e = subst (λ n. drop n (x ∷ (xs ++ ys)) ≡ ys) e
 -- a rule that the others cover goes
 pub left_out : (rules : List Cited) (k : ℕ) (r : Cited) (left : List Cited) → k < length rules → slice_get rules k ≡ Some r → IsCovered (take k rules ++ drop (k + 1) rules) r → IsThinned (take k (take k rules ++ drop (k + 1) rules)) (drop k (take k rules ++ drop (k + 1) rules)) left → IsThinned (take k rules) (drop k rules) left
 left_out rules k r left room at covered h =
-    let is : r ≡ get_or rules k r = some_same _ _ (sym at ∙ slice_get-get_or rules k r room) in
+    let is : r ≡ get_or rules k r = same_Some _ _ (sym at ∙ slice_get-get_or rules k r room) in
     let count : length (take k rules) ≡ k = length-take-le k rules (omega (arith, room)) in
     let front : take k (take k rules ++ drop (k + 1) rules) ≡ take k rules = take_append k (take k rules) (drop (k + 1) rules) count in
     let back : drop k (take k rules ++ drop (k + 1) rules) ≡ drop (k + 1) rules = drop_append k (take k rules) (drop (k + 1) rules) count in
@@ -31,7 +30,7 @@ left_out rules k r left room at covered h =
 -- one that they don't stays
 pub stays : (rules : List Cited) (k : ℕ) (r : Cited) (left : List Cited) → k < length rules → slice_get rules k ≡ Some r → ¬ IsCovered (take k rules ++ drop (k + 1) rules) r → IsThinned (take (k + 1) rules) (drop (k + 1) rules) left → IsThinned (take k rules) (drop k rules) left
 stays rules k r left room at not h =
-    let is : r ≡ get_or rules k r = some_same _ _ (sym at ∙ slice_get-get_or rules k r room) in
+    let is : r ≡ get_or rules k r = same_Some _ _ (sym at ∙ slice_get-get_or rules k r room) in
     let front : take (k + 1) rules ≡ take k rules ++ r ∷ [] = take_more rules k r room ∙ ap (λ y. take k rules ++ y ∷ []) (sym is) in
     let here : r ∷ drop (k + 1) rules ≡ drop k rules = ap (λ y. y ∷ drop (k + 1) rules) is ∙ sym (drop_more rules k r room) in
     subst (λ xs. IsThinned (take k rules) xs left) here (inr (not, subst (λ xs. IsThinned xs (drop (k + 1) rules) left) front h))

@@ -1,8 +1,11 @@
 -- The forms of positions and pairs that a step of a trace has.
-use Rattle.std.proofs.Common.{ℕ, zero, suc, ◌+◌, ◌≤◌, ◌≡◌, ◌⊎◌, ◌∙◌, refl, sym, ap, subst, arith, ◌&&◌, List, [], ◌∷◌, length, get_or, All, Bool, true, false, cond, Option, Some, None, slice_get, ⊎_elim}
+use Rattle.std.proofs.Common.{ℕ, zero, suc, ◌+◌, ◌≤◌, ◌≡◌, ◌⊎◌, ◌∙◌, refl, sym, ap, subst, arith, List, [], ◌∷◌, length, get_or, All, Bool, true, false, cond, Option, Some, None, slice_get, ⊎_elim}
 use Rattle.std.specs.Prelude.{option_map, option_and_then}
 use Rattle.std.specs.List.{list_all}
 use Rattle.std.proofs.lemmas.List.Elements.{All-contains, Contains-append_left, Contains-append_right}
+use Rattle.std.proofs.lemmas.Bool.{and_from}
+use Rattle.kb_lemmas.proofs.Options.{none_some, some_is}
+use Rattle.kb_lemmas.proofs.Membership.{contains_cases, contains_first, slice_contains}
 use Rattle.kb_term.specs.Tree.{Tree, Trees, variable, apply, no_trees, more_trees, list_of, variables_of, tree_eq, tree_depth, trees_depth}
 use Rattle.kb_term.specs.Position.{argument, subtree_at}
 use Rattle.kb_term.specs.Substitution.{instance, rename}
@@ -12,21 +15,15 @@ use Rattle.kb_term.specs.Signature.{SymbolEntry, Signature, HasArity, IsWellForm
 use Rattle.kb_term.proofs.Limited.{limit-none}
 use Rattle.kb_term.proofs.CanonicalPairs.{lesser_cases}
 use Rattle.kb_term.proofs.OwnPair.{tree_eq-true, canonical_own}
-use Rattle.kb_term.proofs.Steps.{contains_cases, contains_first}
 use Rattle.kb_term.proofs.Variants.{unnumbered}
 use Rattle.kb_overlap.proofs.Extents.{same_term_limit}
 use Rattle.kb_text.specs.Terms.{IsPairForm}
 use Rattle.kb_trace.specs.TraceText.{is_up_to, is_position}
 use Rattle.kb_trace.proofs.StepForms.{is_up_to-true, is_position-true}
-use Rattle.kb_laws.proofs.Closing.{slice_contains}
 use Rattle.kb_laws.proofs.Complete.{has_over}
 use Rattle.kb_reduce.proofs.Numbering.{within_term}
 
 -- ---- positions
-
-pub and_both : (x y : Bool) → x ≡ true → y ≡ true → (x && y) ≡ true
-and_both true y h k = k
-and_both false y h k = absurd (cc)
 
 arity_is : (o : Option SymbolEntry) (n : ℕ) → option_map (λ (f : SymbolEntry). f.arity) o ≡ Some n → (f : SymbolEntry) × (o ≡ Some f) × (f.arity ≡ n)
 arity_is None n e = absurd (cc)
@@ -37,12 +34,6 @@ arity_most g h f n a =
     let e = arity_is (slice_get g f) n a in
     let most : e.0.arity ≤ 8 = All-contains (λ (s : SymbolEntry). s.arity ≤ 8) g e.0 h (slice_contains g f e.0 e.1) in
     omega (arith, most, e.2)
-
-none_some : {X : Type 0} {x : X} {P : Type 0} → None ≡ Some x → P
-none_some e = absurd (cc)
-
-some_is : {X : Type 0} {x y : X} → Some x ≡ Some y → x ≡ y
-some_is e = cc
 
 argument_is : (g : Signature) (ts : Trees) (i : ℕ) (t : Tree) → argument ts i ≡ Some t → (1 ≤ i) × (i ≤ length (list_of ts)) × (tree_depth t ≤ trees_depth ts) × (AreWellFormed g ts → IsWellFormed g t)
 argument_is g ts zero t e = none_some e
@@ -66,7 +57,7 @@ position_is g h (i ∷ p) (apply f ts) u w e = go (λ v k. position_is g h p v u
         let r = argument_is g ts i v a in
         let m = arity_most g h f (length (list_of ts)) w.0 in
         let s = ih v (r.3 w.1) k in
-        (omega (arith, s.0, r.2), and_both (is_up_to 8 i) (list_all (is_up_to 8) p) (is_up_to-true 8 i r.0 (omega (arith, r.1, m))) s.1)
+        (omega (arith, s.0, r.2), and_from (is_up_to 8 i) (list_all (is_up_to 8) p) (is_up_to-true 8 i r.0 (omega (arith, r.1, m))) s.1)
 
 -- a position of a term within the limits has at most 63 argument numbers, from 1 to 8
 pub position_form : (g : Signature) → All (λ (f : SymbolEntry). f.arity ≤ 8) g → (p : List ℕ) (t u : Tree) → IsTermWithinLimits g t → subtree_at t p ≡ Some u → is_position p ≡ true

@@ -2,18 +2,15 @@
 use Rattle.std.proofs.Common.{ℕ, ◌+◌, ◌≤◌, ◌≡◌, ◌∙◌, sym, ap, subst, arith, List, [], ◌∷◌, ◌++◌, length, length-append, Contains, ⊎_elim}
 use Rattle.std.proofs.lemmas.List.{length-map}
 use Rattle.std.proofs.lemmas.List.Elements.{All-append, All-weaker}
+use Rattle.kb_lemmas.proofs.Membership.{contains_cases, contains_first, contains_behind, contains_mapped, contains_map, slice_contains}
 use Rattle.kb_term.specs.Rule.{Rule, pair_of_rule}
 use Rattle.kb_term.specs.Proving as Proving
-use Rattle.kb_term.proofs.Steps.{contains_cases, contains_first, contains_behind}
-use Rattle.kb_term.proofs.Subtrees.{contains_mapped}
-use Rattle.kb_linear.proofs.Sorted.{contains_map}
 use Rattle.kb_cert.proofs.Ordering.{all_from}
 use Rattle.kb_rewrite.specs.NormalForm.{IsNormal}
 use Rattle.kb_overlap.specs.Trace.{TraceStep, item}
 use Rattle.kb_trace.specs.Steps.{pairs_of}
 use Rattle.kb_trace.specs.TraceText.{IsStepForm}
 use Rattle.kb_trace.proofs.StepForms.{is_up_to-true}
-use Rattle.kb_laws.proofs.Closing.{slice_contains}
 use Rattle.kb_checker.specs.Answers.{Answer, rules_of, IsAnswer, IsRuleForm, IsTraced, IsGoodAnswer}
 use Rattle.kb_reduce.specs.Reducing.{with_right, AreRewritings, AreComposed, IsThinned, IsReducedSystem}
 use Rattle.kb_reduce.proofs.System.{IsReducing, reduced_is_complete, normal_stays}

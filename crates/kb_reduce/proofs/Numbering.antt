@@ -4,11 +4,12 @@ use Rattle.std.specs.Prelude.{◌==◌, ◌||◌}
 use Rattle.std.proofs.lemmas.Bool.{eq-eqb}
 use Rattle.std.proofs.lemmas.Bool.Decides.{nat_tests}
 use Rattle.std.proofs.lemmas.List.Elements.{Contains-append_left}
+use Rattle.kb_lemmas.proofs.Membership.{contains_cases, contains_behind, contains_first}
 use Rattle.kb_term.specs.Tree.{Tree, variable, variables_of}
 use Rattle.kb_term.specs.Substitution.{rename}
 use Rattle.kb_term.specs.Pair.{Pair, distinct, place_in, variables_of_pair, numbered, term_limit, IsWithin}
 use Rattle.kb_term.specs.Signature.{Signature, IsWellFormed, IsEquationWithinLimits}
-use Rattle.kb_term.proofs.Steps.{contains_cases, contains_behind, contains_first, occurs_from}
+use Rattle.kb_term.proofs.Steps.{occurs_from}
 use Rattle.kb_term.proofs.Distinct.{has, distinct-old}
 use Rattle.kb_term.proofs.Instances.{agree_at, instance-variable}
 use Rattle.kb_term.proofs.Variants.{in_distinct, rename_same, same_variable}

@@ -4,15 +4,14 @@ use Rattle.std.specs.Prelude.{false}
 use Rattle.std.proofs.lemmas.Bool.{false≢true}
 use Rattle.std.proofs.lemmas.Option.{slice_get-get_or}
 use Rattle.std.proofs.lemmas.List.Elements.{Contains-append_cases, Contains-append_left, Contains-append_right}
+use Rattle.kb_lemmas.proofs.Membership.{here_or_elsewhere, contains_behind, contains_mapped, contains_map, slice_contains}
 use Rattle.kb_term.specs.Tree.{Tree, variable}
 use Rattle.kb_term.specs.Rule.{Rule}
 use Rattle.kb_term.specs.Substitution.{instance}
-use Rattle.kb_term.proofs.Steps.{Step, at_root, contains_cases, contains_behind}
-use Rattle.kb_term.proofs.Subtrees.{contains_mapped, replace-there}
+use Rattle.kb_term.proofs.Steps.{Step, at_root}
+use Rattle.kb_term.proofs.Subtrees.{replace-there}
 use Rattle.kb_term.proofs.Instances.{instance-variable}
 use Rattle.kb_term.proofs.Bridge.{step_from_position}
-use Rattle.kb_linear.proofs.Sorted.{contains_map}
-use Rattle.kb_laws.proofs.Closing.{slice_contains}
 use Rattle.kb_rewrite.specs.NormalForm.{IsRedex, HasRedex, IsNormal}
 use Rattle.kb_rewrite.proofs.Irreducible.{normal_from}
 use Rattle.kb_checker.specs.Answers.{rules_of}
@@ -43,14 +42,6 @@ pub no_redex_normal : (rules : List Rule) (t : Tree) → ¬ HasRedex rules t →
 no_redex_normal rules t n = normal_from rules t (λ p i r. n (p, i, r))
 
 -- ---- lists
-
--- a list without one member
-pub without_cases : {X : Type 0} (kept rules : List X) (r x : X) → Contains (kept ++ r ∷ rules) x → (r ≡ x) ⊎ Contains (kept ++ rules) x
-without_cases kept rules r x c =
-    ⊎_elim
-    (λ i. inr (Contains-append_left kept rules x i))
-    (λ i. ⊎_elim (λ e. inl e) (λ j. inr (Contains-append_right kept rules x j)) (contains_cases r rules x i))
-    (Contains-append_cases kept (r ∷ rules) x c)
 
 pub with_one : {X : Type 0} (kept rules : List X) (r x : X) → Contains (kept ++ rules) x → Contains (kept ++ r ∷ rules) x
 with_one kept rules r x c =
@@ -112,7 +103,7 @@ thinned_has kept (r ∷ rules) left (inl (covered, more)) t h = thinned_has kept
         ⊎_elim
         (λ e. subst (λ (x : Rule). HasStep (kept ++ rules) x.left) (ap (λ (x : Cited). x.0) e ∙ m.2) (redex_step (rules_of (kept ++ rules)) r.0.left covered))
         (λ i. subst (λ (x : Rule). HasStep (kept ++ rules) x.left) m.2 (own_step (kept ++ rules) m.0 i))
-        (without_cases kept rules r m.0 m.1)
+        (here_or_elsewhere kept rules r m.0 m.1)
 thinned_has kept (r ∷ rules) left (inr (h, more)) t s = thinned_has (kept ++ r ∷ []) rules left more t (subst (λ xs. HasStep xs t) (sym (append_assoc kept (r ∷ []) rules)) s)
 
 -- no other rule covers a rule of the first list, where those of the second are there too

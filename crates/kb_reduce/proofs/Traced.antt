@@ -3,23 +3,24 @@ use Rattle.std.proofs.Common.{ℕ, zero, suc, ◌+◌, ◌-◌, ◌≤◌, ◌�
 use Rattle.std.specs.Prelude.{nat_le, slice_get}
 use Rattle.std.proofs.lemmas.List.{length-map}
 use Rattle.std.proofs.lemmas.List.Elements.{All-contains, All-append, All-cons, All-nil}
+use Rattle.std.proofs.lemmas.Bool.{le-leb, and_from}
+use Rattle.kb_lemmas.proofs.Membership.{only_member, contains_cases, contains_first, contains_behind, contains_map, slice_contains}
+use Rattle.kb_lemmas.proofs.Lists.{last_at}
 use Rattle.kb_term.specs.Tree.{Tree, variable}
 use Rattle.kb_term.specs.Pair.{Pair, canonical}
 use Rattle.kb_term.specs.Rule.{Rule, IsRule, rule_between, pair_of_rule}
 use Rattle.kb_term.specs.Signature.{Signature, IsWellFormed, IsRuleOver, IsEquationWithinLimits}
 use Rattle.kb_term.proofs.Chains.{Bounded, bounded_from, reaches_refl, reaches_one, reaches_trans, steps_keep}
 use Rattle.kb_term.proofs.Relation.{Steps}
-use Rattle.kb_term.proofs.Steps.{Step, at_root, contains_cases, contains_first, contains_behind}
+use Rattle.kb_term.proofs.Steps.{Step, at_root}
 use Rattle.kb_term.proofs.Instances.{instance-variable}
 use Rattle.kb_term.proofs.Bridge.{step_from_position, halts_from}
 use Rattle.kb_lpo.proofs.Arities.{keeps_well}
-use Rattle.kb_linear.proofs.Sorted.{contains_map}
 use Rattle.kb_overlap.specs.Trace.{TraceStep, item, IsRightRewrite, IsRightOrigin, IsRightAfter}
 use Rattle.kb_trace.specs.Steps.{pairs_of}
 use Rattle.kb_trace.specs.TraceText.{is_up_to, is_position, is_cited, is_origin, IsStepForm}
 use Rattle.kb_trace.proofs.Cited.{item_before}
-use Rattle.kb_trace.proofs.StepForms.{is_up_to-true, true_le}
-use Rattle.kb_laws.proofs.Closing.{slice_contains}
+use Rattle.kb_trace.proofs.StepForms.{is_up_to-true}
 use Rattle.kb_laws.proofs.RunLaws.{Chain}
 use Rattle.kb_checker.specs.Answers.{Answer, rules_of, IsAnswer, IsRuleForm, IsTraced, IsGoodAnswer}
 use Rattle.kb_checker.proofs.Sound.{oriented_rules}
@@ -28,19 +29,15 @@ use Rattle.kb_reduce.proofs.Below.{bounded_chain}
 use Rattle.kb_reduce.proofs.Certified.{chains_certified}
 use Rattle.kb_reduce.proofs.Numbering.{with_right_within}
 use Rattle.kb_reduce.proofs.Directions.{item_within, direction_small, rule_back, right_rewrite}
-use Rattle.kb_reduce.proofs.Forms.{and_both, position_form, pair_form}
+use Rattle.kb_reduce.proofs.Forms.{position_form, pair_form}
 
 -- ---- lists of pairs
-
-last_get : {X : Type 0} (xs : List X) (x : X) → slice_get (xs ++ x ∷ []) (length xs) ≡ Some x
-last_get [] x = refl
-last_get (y ∷ xs) x = last_get xs x
 
 item_last : {X : Type 0} (xs : List X) (x : X) → item (xs ++ x ∷ []) (length xs + 1) ≡ Some x
 item_last xs x =
     let some : ¬ (length xs + 1 ≡ 0) = λ e. omega (arith, e) in
     let at : length xs + 1 - 1 ≡ length xs = omega arith in
-    item_before (xs ++ x ∷ []) (length xs + 1) some ∙ ap (slice_get (xs ++ x ∷ [])) at ∙ last_get xs x
+    item_before (xs ++ x ∷ []) (length xs + 1) some ∙ ap (slice_get (xs ++ x ∷ [])) at ∙ last_at xs x
 
 more_get : {X : Type 0} (xs ys : List X) (i : ℕ) (x : X) → slice_get xs i ≡ Some x → slice_get (xs ++ ys) i ≡ Some x
 more_get [] ys i x e = absurd (cc)
@@ -58,9 +55,6 @@ pairs_append (x ∷ xs) ys = ap (x.pair ∷◌) (pairs_append xs ys)
 pub right_append : (es : List (Tree × Tree)) (before : List Pair) (xs ys : List TraceStep) → IsRightAfter es before xs → IsRightAfter es (before ++ pairs_of xs) ys → IsRightAfter es before (xs ++ ys)
 right_append es before [] ys r h = subst (λ ps. IsRightAfter es ps ys) (append-nil before) h
 right_append es before (x ∷ xs) ys r h = (r.0, right_append es (before ++ x.pair ∷ []) xs ys r.1 (subst (λ ps. IsRightAfter es ps ys) (sym (append_assoc before (x.pair ∷ []) (pairs_of xs))) h))
-
-only : {X : Type 0} (x y : X) → Contains (x ∷ []) y → x ≡ y
-only x y c = ⊎_elim (λ e. e) (λ k. absurd (omega (arith, k.1))) (contains_cases x [] y c)
 
 -- ---- loops
 
@@ -109,7 +103,7 @@ module _ (a : Answer) (form : IsAnswer a) (good : IsGoodAnswer a) where
       let one = rule_between l u ∷ [] in
       let right : IsWellFormed g u = steps_keep R (IsWellFormed g) kept c.2.0 c.0 u (kept l c.0 well c.1) c.2.1 in
       let all : (P : Rule → Type 0) → P (rule_between l u) → All P one = λ P h. All-cons P (rule_between l u) [] h (All-nil P) in
-      let ordered = chains_certified g a.cert form.cert (rules_of a.rules) one good.system.over (λ r i. subst (λ (x : Rule). IsWellFormed g x.left × ((n : ℕ) × Steps R (suc n) x.left x.right)) (only (rule_between l u) r i) (well, (c.2.0, (c.0, c.1, c.2.1)))) good.system.ordered in
+      let ordered = chains_certified g a.cert form.cert (rules_of a.rules) one good.system.over (λ r i. subst (λ (x : Rule). IsWellFormed g x.left × ((n : ℕ) × Steps R (suc n) x.left x.right)) (only_member (rule_between l u) r i) (well, (c.2.0, (c.0, c.1, c.2.1)))) good.system.ordered in
       let rules : All IsRule one = oriented_rules g a.cert form.cert one (all (λ (r : Rule). IsWellFormed g r.right) right) ordered in
       record { is_rule = All-contains IsRule one (rule_between l u) rules (contains_first (rule_between l u) []); left = well; right = right }
 
@@ -175,9 +169,9 @@ module _ (a : Answer) (form : IsAnswer a) (good : IsGoodAnswer a) where
           let k = item_within pairs from.1 (pair_of_rule from.0) h.cited in
           let m = item_within pairs by.1 (pair_of_rule by.0) by_at.cited in
           let place : is_position w.position ≡ true = position_form a.problem.signature form.problem.arities w.position from.0.right w.first.redex.matches.0 h.sides.right w.first.redex.matches.1 in
-          and_both (is_up_to 4096 from.1 && nat_le (1 - direction_of from.0) 1 && is_position w.position) (is_cited (record { node = by.1; dir = direction_of by.0 }))
-          (and_both (is_up_to 4096 from.1 && nat_le (1 - direction_of from.0) 1) (is_position w.position) (and_both (is_up_to 4096 from.1) (nat_le (1 - direction_of from.0) 1) (is_up_to-true 4096 from.1 k.0 (omega (arith, k.1, room))) (true_le (1 - direction_of from.0) 1 small)) place)
-          (and_both (is_up_to 4096 by.1) (nat_le (direction_of by.0) 1) (is_up_to-true 4096 by.1 m.0 (omega (arith, m.1, room))) (true_le (direction_of by.0) 1 (direction_small by.0)))
+          and_from (is_up_to 4096 from.1 && nat_le (1 - direction_of from.0) 1 && is_position w.position) (is_cited (record { node = by.1; dir = direction_of by.0 }))
+          (and_from (is_up_to 4096 from.1 && nat_le (1 - direction_of from.0) 1) (is_position w.position) (and_from (is_up_to 4096 from.1) (nat_le (1 - direction_of from.0) 1) (is_up_to-true 4096 from.1 k.0 (omega (arith, k.1, room))) (le-leb (1 - direction_of from.0) 1 small)) place)
+          (and_from (is_up_to 4096 by.1) (nat_le (direction_of by.0) 1) (is_up_to-true 4096 by.1 m.0 (omega (arith, m.1, room))) (le-leb (direction_of by.0) 1 (direction_small by.0)))
 
   -- what rewritings of a rule that is there make of it
   pub record AreRight (pairs : List Pair) (steps : List TraceStep) (tos : List (Rule × ℕ)) : Type 0 where
@@ -188,7 +182,7 @@ module _ (a : Answer) (form : IsAnswer a) (good : IsGoodAnswer a) where
   pub rewritings_right : (pairs : List Pair) → Begins a pairs → (steps : List TraceStep) (from to : Rule × ℕ) → IsAt a pairs from → AreRewritings a.rules (length pairs) steps from to → AreRight pairs steps (to ∷ [])
   rewritings_right pairs begins [] from to h e = record {
     right = tt;
-    at = λ t i. subst (IsAt a (pairs ++ [])) (e ∙ only to t i) (at_more a pairs [] from h);
+    at = λ t i. subst (IsAt a (pairs ++ [])) (e ∙ only_member to t i) (at_more a pairs [] from h);
     written = λ room. All-nil (IsStepForm a.problem.signature);
   }
   rewritings_right pairs begins (step ∷ steps) from to h (u, w, more) =

@@ -2,7 +2,7 @@
 use Rattle.std.proofs.Common.{ℕ, ◌+◌, ◌<◌, ◌≤◌, ◌≡◌, ◌∙◌, refl, sym, ap, subst, subst₂, arith, List, [], ◌∷◌, ◌++◌, length, get_or, Contains, Option, Some, None, Ok, Err}
 use Rattle.std.specs.Prelude.{false, slice_get, option_map}
 use Rattle.std.proofs.lemmas.List.{length-map}
-use Rattle.std.proofs.lemmas.Option.{slice_get-map, slice_get-get_or}
+use Rattle.std.proofs.lemmas.Option.{slice_get-map, slice_get-get_or, same_Some}
 use Rattle.kb_term.specs.Tree.{Tree}
 use Rattle.kb_term.specs.View.{tree_of}
 use Rattle.kb_term.specs.FewArguments.{HasFewArguments}
@@ -13,8 +13,6 @@ use Rattle.kb_term.specs.declared.limit.Limit.{Limit}
 use Rattle.kb_term.specs.declared.fault.TermFault.TheVariants.{Large}
 use Rattle.kb_term.specs.Proving.{RewritesAt}
 use Rattle.kb_term.proofs.FewArguments.{few_from_arities}
-use Rattle.kb_term.proofs.Steps.{contains_first}
-use Rattle.kb_term.proofs.Subtrees.{some_same}
 use Rattle.kb_rewrite.specs.NormalForm.{IsFirstRedex, NormalisesTo, long, large}
 use Rattle.kb_rewrite.specs.Search.{IsRedexAnswer, IsStepAnswer}
 use Rattle.kb_rewrite.specs.declared.redex.Redex.{Redex}
@@ -22,8 +20,8 @@ use Rattle.kb_rewrite.proofs.FirstRedexes.{rule_inside}
 use Rattle.kb_rewrite.proofs.Runs.{Run, run_none, answers_form, answers_large}
 use Rattle.kb_overlap.specs.Trace.{TraceStep, item}
 use Rattle.kb_trace.specs.Steps.{pairs_of}
-use Rattle.kb_laws.proofs.Closing.{slice_contains}
 use Rattle.std.proofs.lemmas.List.Elements.{All-cons}
+use Rattle.kb_lemmas.proofs.Membership.{contains_first, slice_contains}
 use Rattle.kb_checker.specs.Answers.{Answer, rules_of, IsAnswer, IsGoodAnswer, IsTraced}
 use Rattle.kb_reduce.specs.Reducing.{rewriting, with_right, IsRewriting, AreRewritings, IsComposed}
 use Rattle.kb_reduce.specs.Running.{IsBehind}
@@ -46,7 +44,7 @@ pub run_of : (rules : List (Rule × ℕ)) (n : ℕ) (steps : List TraceStep) (fr
 run_of rules n [] from to e = run_none (rules_of rules) from.0.right to.0.right (ap (λ (x : Rule × ℕ). x.0.right) e)
 run_of rules n (step ∷ steps) from to (u, w, more) =
     let r = run_of rules (n + 1) steps (with_right from u (n + 1)) to more in
-    let same : w.by.0 ≡ w.first.redex.rule = some_same _ _ (sym (slice_get-map (λ (x : Rule × ℕ). x.0) rules w.index ∙ ap (option_map (λ (x : Rule × ℕ). x.0)) w.there) ∙ w.first.redex.there) in
+    let same : w.by.0 ≡ w.first.redex.rule = same_Some _ _ (sym (slice_get-map (λ (x : Rule × ℕ). x.0) rules w.index ∙ ap (option_map (λ (x : Rule × ℕ). x.0)) w.there) ∙ w.first.redex.there) in
     (u ∷ r.0, (((w.position, w.index, w.first, subst (λ (x : Rule). RewritesAt x w.position from.0.right u) same w.rewrites), r.1.0), All-cons (λ v. term_limit v ≡ None) u r.0 w.within r.1.1), omega (arith, r.2))
 
 -- ---- a turn

@@ -2,10 +2,9 @@
 use Rattle.std.proofs.Common.{ℕ, ◌+◌, ◌<◌, ◌≤◌, ◌≡◌, ◌∙◌, refl, sym, ap, subst, arith, List, [], ◌∷◌, ◌++◌, append-nil, append_assoc, length, length-append, get_or, take, drop, Some}
 use Rattle.std.specs.Prelude.{slice_get}
 use Rattle.std.proofs.lemmas.List.{take_more, take_all, take-append-drop, length-take-le, drop_more}
-use Rattle.std.proofs.lemmas.Option.{slice_get-get_or}
+use Rattle.std.proofs.lemmas.Option.{slice_get-get_or, same_Some}
 use Rattle.kb_term.specs.Tree.{variable}
 use Rattle.kb_term.specs.Rule.{Rule, rule_between}
-use Rattle.kb_term.proofs.Subtrees.{some_same}
 use Rattle.kb_rewrite.specs.NormalForm.{Normalised, form, long, large}
 use Rattle.kb_overlap.specs.Trace.{TraceStep}
 use Rattle.kb_checker.specs.Answers.{Answer, IsAnswer, IsGoodAnswer}
@@ -33,7 +32,7 @@ pub rule_at : (rules : List (Rule × ℕ)) (k : ℕ) → k < length rules → (r
 rule_at rules k room = let d : Rule × ℕ = (rule_between (variable 0) (variable 0), 0) in (get_or rules k d, slice_get-get_or rules k d room)
 
 rule_is : (rules : List (Rule × ℕ)) (k : ℕ) (r : Rule × ℕ) → k < length rules → slice_get rules k ≡ Some r → r ≡ get_or rules k r
-rule_is rules k r room at = some_same _ _ (sym at ∙ slice_get-get_or rules k r room)
+rule_is rules k r room at = same_Some _ _ (sym at ∙ slice_get-get_or rules k r room)
 
 -- the rules up to it, and behind it
 parts_at : (rules : List (Rule × ℕ)) (k : ℕ) (r : Rule × ℕ) → k < length rules → slice_get rules k ≡ Some r → rules ≡ take k rules ++ r ∷ drop (k + 1) rules

@@ -1,12 +1,12 @@
 -- A section and another one behind it.
 use Rattle.std.proofs.Common.{append_assoc, ◌≡◌, refl, ap, ap₂, sym, ◌∙◌, subst, arith, ℕ, ◌+◌, List, ◌∷◌, ◌++◌, length-append, drop}
-use Rattle.std.proofs.lemmas.List.{drop-drop}
+use Rattle.std.proofs.lemmas.List.{drop-drop, append_cancel_left}
 use Rattle.kb_text.specs.declared.fault.TextFault.{TextFault}
 use Rattle.kb_text.specs.declared.fault.TextFault.TheVariants.{BadText, Memory}
 use Rattle.kb_text.proofs.Cuts.{AreWithout, are_without-append}
 use Rattle.kb_report.specs.Sections.{Lines, text_of, Section, Both, BeginsWith, IsSectionFault}
 use Rattle.kb_report.proofs.LinesOfTexts.{text_of-append}
-use Rattle.kb_report.proofs.Fronts.{IsSection, Then, IsReadTo, cut, none_ends, same_back}
+use Rattle.kb_report.proofs.Fronts.{IsSection, Then, IsReadTo, cut, none_ends}
 
 pub both_section : {X Y : Type 0} (S : Section X) (Next : X → Section Y) → IsSection S → ((x : X) (xs : Lines) → S x xs → IsSection (Next x)) → IsSection (Both S Next)
 both_section {X} {Y} S Next i j = record {
@@ -18,7 +18,7 @@ both_section {X} {Y} S Next i j = record {
     same (x, y) (u, v) xs ys zs ws (f, b, s, t, e) (g, c, k, l, h) m =
         let whole : f ++ (b ++ zs) ≡ g ++ (c ++ ws) = sym (append_assoc f b zs) ∙ ap (λ (ls : Lines). ls ++ zs) (sym e) ∙ m ∙ ap (λ (ls : Lines). ls ++ ws) h ∙ append_assoc g c ws in
         let o = i.one x u f g (b ++ zs) (c ++ ws) s k whole in
-        let rest : b ++ zs ≡ c ++ ws = same_back f (b ++ zs) (c ++ ws) (whole ∙ ap (λ (ls : Lines). ls ++ (c ++ ws)) (sym o.1)) in
+        let rest : b ++ zs ≡ c ++ ws = append_cancel_left f (b ++ zs) (c ++ ws) (whole ∙ ap (λ (ls : Lines). ls ++ (c ++ ws)) (sym o.1)) in
         let r = (j u g k).one y v b c zs ws (subst (λ (z : X). Next z y b) o.0 t) l rest in
         (ap₂ (λ (z : X) (w : Y). (z, w)) o.0 r.0, e ∙ ap₂ (λ (ls ms : Lines). ls ++ ms) o.1 r.1 ∙ sym h)
 
@@ -83,7 +83,7 @@ second_fault {X} {Y} S Next text tail x m line first second i e n b (BadText num
     behind : (v : X × Y) {lines : Lines} → Both S Next v lines → (more : Lines) → lines ≡ b.lines ++ more → Next x v.1 more
     behind v {lines} s more h =
         let o = i.one x v.0 b.lines s.0 more s.1 b.section s.2 (sym h ∙ s.4) in
-        let rest : s.1 ≡ more = same_back b.lines s.1 more (ap (λ (ls : Lines). ls ++ s.1) o.1 ∙ sym s.4 ∙ h) in
+        let rest : s.1 ≡ more = append_cancel_left b.lines s.1 more (ap (λ (ls : Lines). ls ++ s.1) o.1 ∙ sym s.4 ∙ h) in
         subst (λ (z : X). Next z v.1 more) (sym o.0) (subst (Next v.0 v.1) rest s.3)
 
 -- ---- in a text of sections

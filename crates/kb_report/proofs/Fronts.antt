@@ -2,6 +2,7 @@
 use Rattle.std.proofs.Common.{append-nil, append_assoc, ◌≡◌, refl, ap, ap₂, sym, ◌∙◌, subst, arith, ℕ, zero, suc, ◌+◌, ◌-◌, ◌<◌, ◌==◌, Bool, true, false, cond, List, [], ◌∷◌, ◌++◌, length, length-append, Option, Some, None}
 use Rattle.std.specs.Prelude.{option_map}
 use Rattle.std.proofs.lemmas.Bool.{eqb-true}
+use Rattle.std.proofs.lemmas.List.{append_cancel_left}
 use Rattle.kb_text.specs.Fields.{IsWithout}
 use Rattle.kb_text.specs.Lines.{first_lines, Begins, IsBadLine}
 use Rattle.kb_text.proofs.Cuts.{AreWithout, are_without-append}
@@ -25,15 +26,11 @@ Goes Rest = (more : Lines) × Rest more
 pub then_goes : {X : Type 0} (S : Section X) (Next : X → Lines → Type 0) (x : X) (xs : Lines) → S x xs → Goes (Next x) → Goes (Then S Next)
 then_goes S Next x xs s n = (xs ++ n.0, (x, xs, n.0, s, n.1, refl))
 
-pub same_back : (xs ys zs : Lines) → xs ++ ys ≡ xs ++ zs → ys ≡ zs
-same_back [] ys zs e = e
-same_back (x ∷ xs) ys zs e = let f : xs ++ ys ≡ xs ++ zs = cc in same_back xs ys zs f
-
 -- what follows a section that was read
 pub behind_section : {X : Type 0} (S : Section X) (Next : X → Lines → Type 0) → IsSection S → (x : X) (xs more : Lines) → S x xs → Then S Next (xs ++ more) → Next x more
 behind_section {X} S Next i x xs more s t =
     let o = i.one x t.0 xs t.1 more t.2 s t.3 t.5 in
-    let same : t.2 ≡ more = same_back xs t.2 more (ap (λ (zs : Lines). zs ++ t.2) o.1 ∙ sym t.5) in
+    let same : t.2 ≡ more = append_cancel_left xs t.2 more (ap (λ (zs : Lines). zs ++ t.2) o.1 ∙ sym t.5) in
     subst (λ (z : X). Next z more) (sym o.0) (subst (Next t.0) same t.4)
 
 -- ---- what was read so far

@@ -6,11 +6,12 @@ use Rattle.std.proofs.lemmas.Bool.{cases_lt, eq-eqb}
 use Rattle.std.proofs.lemmas.Fmt.{decimal_injective}
 use Rattle.std.proofs.lemmas.List.{length-replicate}
 use Rattle.std.proofs.lemmas.List.Elements.{All-head, All-tail, All-cons, All-weaker}
+use Rattle.kb_lemmas.proofs.Numbers.{eq_above}
 use Rattle.kb_term.specs.Signature.{Signature, SymbolEntry, IsSignature}
 use Rattle.kb_linear.specs.Limits.{IsSmallRow}
 use Rattle.kb_text.specs.Fields.{IsWithout}
 use Rattle.kb_text.proofs.Cuts.{AreWithout, are_without-append, fields_cut}
-use Rattle.kb_text.proofs.PlainTexts.{IsBlank, space_blank, feed_blank, high_byte, word_without, decimal_without, join_without}
+use Rattle.kb_text.proofs.PlainTexts.{IsBlank, space_blank, feed_blank, word_without, decimal_without, join_without}
 use Rattle.kb_cert.specs.CertificateText.{names_of, name_at, interp_text, weight_fields, cert_fields, is_between, are_rows, is_certificate}
 use Rattle.kb_cert.specs.declared.certificate.Certificate.{Certificate}
 use Rattle.kb_cert.specs.declared.certificate.Certificate.TheVariants.{Lpo, Linear, Kbo}
@@ -72,7 +73,7 @@ row_numbers row s = All-cons IsNumber row.0 row.1 s.constant (coefficients_numbe
 rows_without : (c : ℕ) → c < 40 → (rows : List (ℕ × List ℕ)) → All IsSmallRow rows → AreWithout c (map interp_text rows)
 rows_without c h [] a = tt
 rows_without c h (row ∷ rows) a =
-    (join_without c 44 (decimal row.0 ∷ map decimal row.1) (high_byte 44 c (omega arith)) (numbers_without c (omega arith) (row.0 ∷ row.1) (row_numbers row (All-head IsSmallRow row rows a))), rows_without c h rows (All-tail IsSmallRow row rows a))
+    (join_without c 44 (decimal row.0 ∷ map decimal row.1) (eq_above 44 c (omega arith)) (numbers_without c (omega arith) (row.0 ∷ row.1) (row_numbers row (All-head IsSmallRow row rows a))), rows_without c h rows (All-tail IsSmallRow row rows a))
 
 one_numbers : (ns ms : List ℕ) → All IsNumber ns → All IsNumber ms → map decimal ns ≡ map decimal ms → ns ≡ ms
 one_numbers [] [] a b e = refl
@@ -113,7 +114,7 @@ one_rows (r ∷ rs) (s ∷ ss) a b e =
 
 weights_without : (c : ℕ) → c < 40 → (ws : List ℕ) → All IsNumber ws → AreWithout c (weight_fields ws)
 weights_without c h [] a = tt
-weights_without c h (w ∷ ws) a = (join_without c 44 (decimal w ∷ map decimal ws) (high_byte 44 c (omega arith)) (numbers_without c (omega arith) (w ∷ ws) a), tt)
+weights_without c h (w ∷ ws) a = (join_without c 44 (decimal w ∷ map decimal ws) (eq_above 44 c (omega arith)) (numbers_without c (omega arith) (w ∷ ws) a), tt)
 
 order_numbers : (sig : Signature) (o : KboOrder) → IsTrue (is_certificate sig (Kbo o)) → All IsNumber o.weights
 order_numbers sig o h = All-weaker (λ n. (1 ≤ n) × (n ≤ 15)) IsNumber (λ n w. w.1) o.weights (tested sig o.weights o.precedence h).1
@@ -149,7 +150,7 @@ cert_without c k sig i (Kbo order) h = (
 )
 
 pub order_without : (sig : Signature) → IsSignature sig → (cert : Certificate) → IsTrue (is_certificate sig cert) → IsWithout 10 (order_body (names_of sig) cert)
-order_without sig i cert h = join_without 10 32 (codes "ORDER" ∷ cert_fields (names_of sig) cert) (high_byte 32 10 (omega arith)) (cert_without 10 feed_blank sig i cert h)
+order_without sig i cert h = join_without 10 32 (codes "ORDER" ∷ cert_fields (names_of sig) cert) (eq_above 32 10 (omega arith)) (cert_without 10 feed_blank sig i cert h)
 
 one_cert : (sig : Signature) → IsSignature sig → (a b : Certificate) → IsTrue (is_certificate sig a) → IsTrue (is_certificate sig b) → cert_fields (names_of sig) a ≡ cert_fields (names_of sig) b → a ≡ b
 one_cert sig i (Lpo fs) (Lpo gs) h k e = ap Lpo (one_symbols sig i fs gs (precedence_from sig fs h).within (precedence_from sig gs k).within (ap tail_of e))

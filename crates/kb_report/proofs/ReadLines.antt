@@ -1,18 +1,16 @@
 -- What a line that was cut off says of the text.
-use Rattle.std.proofs.Common.{◌≡◌, ap, sym, ◌∙◌, subst, arith, ℕ, ◌<◌, ◌≤◌, List, [], ◌∷◌, ◌++◌, length, take, false}
+use Rattle.std.proofs.Common.{◌≡◌, ap, sym, ◌∙◌, subst, arith, ℕ, ◌<◌, ◌≤◌, List, ◌∷◌, ◌++◌, length, take, false}
 use Rattle.std.specs.Prelude.{decimal, nat_eq}
 use Rattle.std.specs.Cmp.Lexicographic.{other_text}
 use lib.Pointwise.{pointwise}
-use Rattle.std.proofs.lemmas.Bool.{false≢true}
 use Rattle.std.proofs.lemmas.Fmt.{decimal_injective}
+use Rattle.std.proofs.lemmas.List.{append_cancel_left}
+use Rattle.kb_trace.proofs.TraceLines.{no_feed}
+use Rattle.kb_lemmas.proofs.Lists.{take_front}
 use Rattle.kb_text.specs.Fields.{IsWithout}
 use Rattle.kb_text.proofs.Cuts.{one_line}
 use Rattle.kb_report.specs.Sections.{OneLine, counted_line, IsLineOf, IsFirstLine, BeginsWithLine, BeginsWith, IsBadFrom}
 use Rattle.kb_report.proofs.SectionLaws.{line_read, line_bad}
-
-pub no_feed : (xs ys : List ℕ) → IsWithout 10 (xs ++ 10 ∷ ys) → ⊥
-no_feed [] ys h = false≢true (sym h.0)
-no_feed (x ∷ xs) ys h = no_feed xs ys h.1
 
 -- a text without a line feed begins with no line
 pub no_line_of : {X : Type 0} (P : X → Type 0) (f : X → List ℕ) (text : List ℕ) → IsWithout 10 text → (x : X) (back : List ℕ) → ¬ BeginsWithLine P f text x back
@@ -38,22 +36,14 @@ line_is_read P f text line rest x l i = line_read P f text x rest (this_line P f
 
 -- ---- words before a text
 
-take_front : (word xs : List ℕ) → take (length word) (word ++ xs) ≡ word
-take_front [] xs = λ i. []
-take_front (w ∷ word) xs = ap (w ∷◌) (take_front word xs)
-
 pub not_begun : (line word xs : List ℕ) → pointwise nat_eq (take (length word) line) word ≡ false → ¬ (line ≡ word ++ xs)
 not_begun line word xs h e = other_text (take (length word) line) word (sym h) (ap (take (length word)) e ∙ take_front word xs)
 
-pub behind_word : (word xs ys : List ℕ) → word ++ xs ≡ word ++ ys → xs ≡ ys
-behind_word [] xs ys e = e
-behind_word (w ∷ word) xs ys e = let f : word ++ xs ≡ word ++ ys = cc in behind_word word xs ys f
-
 pub no_count : (line word digits : List ℕ) (highest : ℕ) → highest ≤ 5000 → line ≡ word ++ digits → ((n : ℕ) → n < 100000 → ¬ (decimal n ≡ digits)) → (n : ℕ) → ¬ IsLineOf (λ n. n ≤ highest) (counted_line word) line n
-no_count line word digits highest l e h n k = let small = k.form in h n (omega arith) (behind_word word (decimal n) digits (sym k.spelling ∙ e))
+no_count line word digits highest l e h n k = let small = k.form in h n (omega arith) (append_cancel_left word (decimal n) digits (sym k.spelling ∙ e))
 
 pub high_count : (line word digits : List ℕ) (highest number : ℕ) → highest ≤ 5000 → line ≡ word ++ digits → number < 100000 → decimal number ≡ digits → highest < number → (n : ℕ) → ¬ IsLineOf (λ n. n ≤ highest) (counted_line word) line n
 high_count line word digits highest number l e b d h n k =
     let small = k.form in
-    let same = decimal_injective n number (omega arith) (omega arith) (behind_word word (decimal n) digits (sym k.spelling ∙ e) ∙ sym d) in
+    let same = decimal_injective n number (omega arith) (omega arith) (append_cancel_left word (decimal n) digits (sym k.spelling ∙ e) ∙ sym d) in
     omega arith

@@ -4,6 +4,8 @@ use Rattle.std.specs.Prelude.{Option, codes, decimal, IfOk, MatchOption}
 use Rattle.std.specs.List.{join_with_byte, slice_split}
 use Rattle.std.proofs.lemmas.List.Splits.{join_with_byte-slice_split}
 use Rattle.std.proofs.lemmas.Fmt.{decimal_injective}
+use Rattle.kb_trace.proofs.OneStep.{again}
+use Rattle.kb_lemmas.proofs.Numbers.{eq_above}
 use Rattle.kb_term.specs.Rule.{Rule}
 use Rattle.kb_term.specs.Signature.{Signature, IsSignature, IsEquationWithinLimits}
 use Rattle.kb_term.specs.Tree.{Tree, variable}
@@ -12,13 +14,13 @@ use Rattle.kb_term.specs.declared.term.Term.{Term}
 use Rattle.kb_text.specs.Fields.{IsWithout}
 use Rattle.kb_text.specs.Terms.{TermSpelled, names_of, term_text, infix_text}
 use Rattle.kb_text.proofs.Cuts.{AreWithout, are_without-append, fields_cut}
-use Rattle.kb_text.proofs.PlainTexts.{IsBlank, space_blank, feed_blank, high_byte, word_without, decimal_without, join_without}
+use Rattle.kb_text.proofs.PlainTexts.{IsBlank, space_blank, feed_blank, word_without, decimal_without, join_without}
 use Rattle.kb_text.proofs.TermParts.{one_spelled}
 use Rattle.kb_trace.proofs.FieldsRead.{said}
 use Rattle.kb_trace.proofs.StepForms.{up_to, is_up_to-true}
 use Rattle.kb_checker.specs.Answers.{IsRuleForm}
 use Rattle.kb_report.specs.SystemSections.{rule_body, AreSidesIn, IsEquationLine, IsRuleLine}
-use Rattle.kb_report.proofs.SystemLines.{field, again, sides_spelled, sides_without, one_sides, equation_cut}
+use Rattle.kb_report.proofs.SystemLines.{field, sides_spelled, sides_without, one_sides, equation_cut}
 
 -- ---- sides
 
@@ -97,7 +99,7 @@ rule_fields c k sig i r f =
     are_without-append c (infix_text (names_of sig) (codes "->") r.0.left r.0.right) (rule_rest r.1) (sides_without c k sig i (codes "->") (word_without c low (codes "->") refl) r.0.left r.0.right f.sides) (rest_without c k r.1 (up_to 4096 r.1 f.cited).high)
 
 pub rule_without : (sig : Signature) → IsSignature sig → (r : Rule × ℕ) → IsRuleForm sig r → IsWithout 10 (rule_body (names_of sig) r)
-rule_without sig i r f = join_without 10 32 (infix_text (names_of sig) (codes "->") r.0.left r.0.right ++ rule_rest r.1) (high_byte 32 10 (omega arith)) (rule_fields 10 feed_blank sig i r f)
+rule_without sig i r f = join_without 10 32 (infix_text (names_of sig) (codes "->") r.0.left r.0.right ++ rule_rest r.1) (eq_above 32 10 (omega arith)) (rule_fields 10 feed_blank sig i r f)
 
 pub rule_cut : (sig : Signature) → IsSignature sig → (r : Rule × ℕ) → IsRuleForm sig r → slice_split (λ b. b == 32) (rule_body (names_of sig) r) ≡ infix_text (names_of sig) (codes "->") r.0.left r.0.right ++ rule_rest r.1
 rule_cut sig i r f = let names = names_of sig in fields_cut 32 (term_text names r.0.left) (codes "->" ∷ term_text names r.0.right ∷ rule_rest r.1) (rule_fields 32 space_blank sig i r f)

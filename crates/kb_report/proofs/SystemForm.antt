@@ -2,8 +2,9 @@
 use Rattle.std.proofs.Common.{append_assoc, ◌≡◌, refl, ap, ap₂, sym, ◌∙◌, subst, arith, ℕ, ◌+◌, ◌-◌, ◌≤◌, List, [], ◌∷◌, ◌++◌, length, drop, get_or, All}
 use Rattle.std.specs.Prelude.{codes, decimal, flat_map, replicate, IsTrue, ⊤}
 use Rattle.std.proofs.lemmas.Fmt.{decimal_injective}
-use Rattle.std.proofs.lemmas.List.{length-replicate}
+use Rattle.std.proofs.lemmas.List.{length-replicate, append_cancel_left}
 use Rattle.std.proofs.lemmas.List.Elements.{All-replicate, All-nil}
+use Rattle.kb_lemmas.proofs.Texts.{line_and}
 use Rattle.kb_term.specs.Rule.{Rule}
 use Rattle.kb_term.specs.Signature.{Signature, IsSignature, IsEquationWithinLimits}
 use Rattle.kb_term.specs.Tree.{Tree, variable}
@@ -69,14 +70,10 @@ trace_without = (refl, (refl, (refl, (refl, (refl, (refl, tt))))))
 pub word_section : (word : List ℕ) → IsWithout 10 word → IsSection (Word word)
 word_section word w = line_section {X = ⊤} (λ u. ⊤) (λ u. word) (λ u v. w) (λ x y p q e. refl)
 
-same_back : (word xs ys : List ℕ) → word ++ xs ≡ word ++ ys → xs ≡ ys
-same_back [] xs ys e = e
-same_back (b ∷ word) xs ys e = let f : word ++ xs ≡ word ++ ys = cc in same_back word xs ys f
-
 pub count_section : (word : List ℕ) (highest : ℕ) → highest ≤ 5000 → IsWithout 10 word → IsSection (Count word highest)
 count_section word highest h w =
     line_section {X = ℕ} (λ n. n ≤ highest) (counted_line word) (λ n l. without-append 10 word (decimal n) w (decimal_without 10 n (omega arith) (omega arith)))
-    (λ m n l k e. decimal_injective m n (omega arith) (omega arith) (same_back word (decimal m) (decimal n) e))
+    (λ m n l k e. decimal_injective m n (omega arith) (omega arith) (append_cancel_left word (decimal m) (decimal n) e))
 
 one_head : (v w : Version) → head_body v ≡ head_body w → v ≡ w
 one_head First First e = refl
@@ -414,10 +411,6 @@ rule_texts : (names : List Name) (k : ℕ) (rs : List (Rule × ℕ)) → flat_ma
 rule_texts names k [] = refl
 rule_texts names k (r ∷ rs) = append_assoc (rule_body names r) (10 ∷ []) (flat_map (rule_line names) rs) ∙ ap (λ (t : List ℕ). rule_body names r ++ 10 ∷ t) (rule_texts names (k + 1) rs)
 
--- a line and what is behind it
-line_and : (body rest more : List ℕ) → rest ≡ more → (body ++ 10 ∷ []) ++ rest ≡ body ++ 10 ∷ more
-line_and body rest more e = append_assoc body (10 ∷ []) rest ∙ ap (λ (t : List ℕ). body ++ 10 ∷ t) e
-
 -- a line, lines of items and what is behind them
 lines_and : (body flat rest : List ℕ) (items more : Lines) → flat ≡ text_of items → rest ≡ text_of more → ((body ++ 10 ∷ []) ++ flat) ++ rest ≡ body ++ 10 ∷ text_of (items ++ more)
 lines_and body flat rest items more f e =
@@ -520,12 +513,8 @@ record AreSame (a b : Answer) : Type 0 where
 abbrev answer_over : Signature → Answer → Answer
 answer_over sig b = record { problem = record { signature = sig; equations = b.problem.equations }; rules = b.rules; constraints = b.constraints; cert = b.cert; trace = b.trace }
 
-behind : (xs ys zs : Lines) → xs ++ ys ≡ xs ++ zs → ys ≡ zs
-behind [] ys zs e = e
-behind (x ∷ xs) ys zs e = let t : xs ++ ys ≡ xs ++ zs = cc in behind xs ys zs t
-
 same_lines_back : (xs ys zs ws : Lines) → xs ≡ ys → xs ++ zs ≡ ys ++ ws → zs ≡ ws
-same_lines_back xs ys zs ws s e = behind xs zs ws (e ∙ ap (λ (l : Lines). l ++ ws) (sym s))
+same_lines_back xs ys zs ws s e = append_cancel_left xs zs ws (e ∙ ap (λ (l : Lines). l ++ ws) (sym s))
 
 -- rules behind how many there are
 same_rules : (word : List ℕ) → IsWithout 10 word → (sig : Signature) → IsSignature sig → (rs qs : List (Rule × ℕ)) (zs ws : Lines) → length rs ≤ 4096 → length qs ≤ 4096 → All (IsRuleForm sig) rs → All (IsRuleForm sig) qs

@@ -2,9 +2,11 @@
 use Rattle.std.proofs.Common.{append_assoc, ◌≡◌, refl, ap, ap₂, sym, ◌∙◌, subst, arith, ℕ, ◌+◌, ◌<◌, ◌≤◌, ◌==◌, List, [], ◌∷◌, ◌++◌, Bool, true, false, not, ◌||◌, length, length-append, get_or, All}
 use Rattle.std.specs.Prelude.{codes, decimal, map}
 use Rattle.std.specs.List.{list_any, starts_with, slice_split}
-use Rattle.std.proofs.lemmas.Bool.{false≢true, ne_eqb}
+use Rattle.std.proofs.lemmas.Bool.{false≢true, ne_eqb, and_parts, not-true}
 use Rattle.std.proofs.lemmas.Fmt.{decimal_digit}
 use Rattle.std.proofs.lemmas.List.Elements.{All-head, All-tail, Contains-get_or}
+use Rattle.kb_trace.proofs.OneStep.{again}
+use Rattle.kb_lemmas.proofs.Numbers.{eq_above}
 use Rattle.kb_term.specs.Identifier.{marks, begins_otherwise, is_unbroken, IsIdentifier}
 use Rattle.kb_term.specs.Signature.{Signature, SymbolEntry, IsSignature, IsEquationWithinLimits}
 use Rattle.kb_term.specs.Tree.{Tree, variables_of, HasVariablesBelow}
@@ -12,8 +14,7 @@ use Rattle.kb_term.proofs.RuleBelow.{numbered-below}
 use Rattle.kb_text.specs.Fields.{IsWithout}
 use Rattle.kb_text.specs.Terms.{TermSpelled, names_of, term_text, infix_text}
 use Rattle.kb_text.proofs.Cuts.{AreWithout, without-append, fields_cut}
-use Rattle.kb_text.proofs.Identifiers.{and_true, not_true}
-use Rattle.kb_text.proofs.PlainTexts.{IsBlank, space_blank, feed_blank, high_byte, word_without, decimal_without, join_without, text_without}
+use Rattle.kb_text.proofs.PlainTexts.{IsBlank, space_blank, feed_blank, word_without, decimal_without, join_without, text_without}
 use Rattle.kb_text.proofs.TermParts.{spelled_bounded, one_spelled}
 use Rattle.kb_report.specs.Answers.{entry_text}
 use Rattle.kb_report.specs.SystemSections.{symbols_body, equation_body, AreSymbols}
@@ -38,8 +39,8 @@ no_white c k b bytes h =
 pub unbroken_without : (c : ℕ) → IsBlank c → (bytes : List ℕ) → is_unbroken bytes ≡ true → IsWithout c bytes
 unbroken_without c k [] h = tt
 unbroken_without c k (b ∷ bytes) h =
-    let r = and_true (not (begins_otherwise (b ∷ bytes))) (is_unbroken bytes) h in
-    (no_white c k b bytes (not_true (begins_otherwise (b ∷ bytes)) r.0), unbroken_without c k bytes r.1)
+    let r = and_parts (not (begins_otherwise (b ∷ bytes))) (is_unbroken bytes) h in
+    (no_white c k b bytes (not-true (begins_otherwise (b ∷ bytes)) r.0), unbroken_without c k bytes r.1)
 
 abbrev pub IsNamed : SymbolEntry → Type 0
 IsNamed e = IsIdentifier e.name × (length e.name ≤ 64)
@@ -88,7 +89,7 @@ symbols_fields : (c : ℕ) → IsBlank c → (s : Signature) → AreSymbols s �
 symbols_fields c k s h = (word_without c k.low (codes "SYMBOLS") refl, entries_without c k s h.names.names h.arities)
 
 pub symbols_without : (s : Signature) → AreSymbols s → IsWithout 10 (symbols_body s)
-symbols_without s h = join_without 10 32 (codes "SYMBOLS" ∷ map entry_text s) (high_byte 32 10 (omega arith)) (symbols_fields 10 feed_blank s h)
+symbols_without s h = join_without 10 32 (codes "SYMBOLS" ∷ map entry_text s) (eq_above 32 10 (omega arith)) (symbols_fields 10 feed_blank s h)
 
 pub symbols_cut : (s : Signature) → AreSymbols s → slice_split (λ b. b == 32) (symbols_body s) ≡ codes "SYMBOLS" ∷ map entry_text s
 symbols_cut s h = fields_cut 32 (codes "SYMBOLS") (map entry_text s) (symbols_fields 32 space_blank s h)
@@ -114,9 +115,6 @@ sides_spelled sig s t f =
       right = record { within = f.right; variables = all_below t (subst (HasVariablesBelow 64) (ap (λ p. p.second) f.by_occurrence) b.right); spelling = refl };
     }
 
-pub again : (sig : Signature) (bytes : List ℕ) (t : Tree) → bytes ≡ term_text (names_of sig) t → TermSpelled sig (term_text (names_of sig) t) t → TermSpelled sig bytes t
-again sig bytes t e h = record { within = h.within; variables = h.variables; spelling = e }
-
 pub sides_without : (c : ℕ) → IsBlank c → (sig : Signature) → IsSignature sig → (sign : List ℕ) → IsWithout c sign → (s t : Tree) → IsEquationWithinLimits sig (s, t) → AreWithout c (infix_text (names_of sig) sign s t)
 sides_without c k sig i sign w s t f =
     let names = names_of sig in
@@ -136,7 +134,7 @@ pub equation_fields : (c : ℕ) → IsBlank c → (sig : Signature) → IsSignat
 equation_fields c k sig i e f = sides_without c k sig i (codes "=") (word_without c k.low (codes "=") refl) e.0 e.1 f
 
 pub equation_without : (sig : Signature) → IsSignature sig → (e : Tree × Tree) → IsEquationWithinLimits sig e → IsWithout 10 (equation_body (names_of sig) e)
-equation_without sig i e f = join_without 10 32 (infix_text (names_of sig) (codes "=") e.0 e.1) (high_byte 32 10 (omega arith)) (equation_fields 10 feed_blank sig i e f)
+equation_without sig i e f = join_without 10 32 (infix_text (names_of sig) (codes "=") e.0 e.1) (eq_above 32 10 (omega arith)) (equation_fields 10 feed_blank sig i e f)
 
 pub equation_cut : (sig : Signature) → IsSignature sig → (e : Tree × Tree) → IsEquationWithinLimits sig e → slice_split (λ b. b == 32) (equation_body (names_of sig) e) ≡ infix_text (names_of sig) (codes "=") e.0 e.1
 equation_cut sig i e f = let names = names_of sig in fields_cut 32 (term_text names e.0) (codes "=" ∷ term_text names e.1 ∷ []) (equation_fields 32 space_blank sig i e f)

@@ -2,7 +2,8 @@
 use Rattle.std.proofs.Common.{ℕ, suc, ◌<◌, ◌≡◌, ◌⊎◌, inl, inr, ⊎_elim, refl, sym, ap, ap₂, ◌∙◌, subst, arith, List, [], ◌∷◌, ◌++◌, length, length-append, Contains, Some, None}
 use Rattle.std.specs.Prelude.{◌≤◌, All, false, slice_get}
 use Rattle.std.proofs.lemmas.Bool.{cases_lt, cases_order}
-use Rattle.std.proofs.lemmas.Option.{slice_get-get_or}
+use Rattle.std.proofs.lemmas.Option.{slice_get-get_or, same_Some}
+use Rattle.kb_lemmas.proofs.Membership.{contains_first, contains_behind}
 use Rattle.kb_term.specs.Tree.{Tree}
 use Rattle.kb_term.specs.Position.{replace_at}
 use Rattle.kb_term.specs.Pair.{term_limit}
@@ -11,8 +12,8 @@ use Rattle.kb_term.specs.Substitution.{instance}
 use Rattle.kb_term.specs.Proving.{IsPath, RewritesAt}
 use Rattle.kb_term.specs.declared.limit.Limit.{Limit}
 use Rattle.kb_term.proofs.Instances.{agree_at, instance-agree}
-use Rattle.kb_term.proofs.Steps.{contains_first, contains_behind, occurs_from, occurs_to}
-use Rattle.kb_term.proofs.Subtrees.{some_same, replace-there}
+use Rattle.kb_term.proofs.Steps.{occurs_from, occurs_to}
+use Rattle.kb_term.proofs.Subtrees.{replace-there}
 use Rattle.kb_rewrite.specs.NormalForm.{IsRedex, IsFirstRedex, IsNormal, HasRedex, StrategyStep, IsRunWithinLimits, HoldVariables, Normalised, form, long, large, NormalisesTo}
 use Rattle.kb_rewrite.proofs.FirstRedexes.{rule_inside}
 use Rattle.kb_rewrite.proofs.Irreducible.{step_from}
@@ -48,18 +49,18 @@ first_once rules t p q i j one other =
 -- a rule that holds its variables rewrites at a position in one way
 rewrites_once : (rules : List Rule) (rule : Rule) (p : List ℕ) (t u v : Tree) → HoldVariables rules → Contains rules rule → RewritesAt rule p t u → RewritesAt rule p t v → u ≡ v
 rewrites_once rules rule p t u v held c (m, w) (k, z) =
-    let same : instance m rule.left ≡ instance k rule.left = some_same _ _ (sym w.redex ∙ z.redex) in
+    let same : instance m rule.left ≡ instance k rule.left = same_Some _ _ (sym w.redex ∙ z.redex) in
     let right = instance-agree m k rule.right (λ n o. agree_at m k rule.left same n (occurs_from n rule.left (held rule c n (occurs_to n rule.right o)))) in
-    some_same _ _ (sym w.result ∙ ap (replace_at t p) right ∙ z.result)
+    same_Some _ _ (sym w.result ∙ ap (replace_at t p) right ∙ z.result)
 
 -- a term has one step of the strategy at most
 step_once : (rules : List Rule) → HoldVariables rules → (t u v : Tree) → StrategyStep rules t u → StrategyStep rules t v → u ≡ v
 step_once rules held t u v (p, i, one, w) (q, j, other, z) =
     let same = first_once rules t p q i j one other in
     let rule = one.redex.rule in
-    let rule_is : other.redex.rule ≡ rule = some_same _ _ (sym other.redex.there ∙ ap (slice_get rules) (sym same.1) ∙ one.redex.there) in
+    let rule_is : other.redex.rule ≡ rule = same_Some _ _ (sym other.redex.there ∙ ap (slice_get rules) (sym same.1) ∙ one.redex.there) in
     let inside = rule_inside rules i rule one.redex.there in
-    let among : Contains rules rule = (i, inside, some_same _ _ (sym (slice_get-get_or rules i rule inside) ∙ one.redex.there)) in
+    let among : Contains rules rule = (i, inside, same_Some _ _ (sym (slice_get-get_or rules i rule inside) ∙ one.redex.there)) in
     rewrites_once rules rule p t u v held among w (subst (λ (r : Rule). RewritesAt r p t v) rule_is (subst (λ r. RewritesAt other.redex.rule r t v) (sym same.0) z))
 
 -- the longer of two paths goes on from the end of the shorter
@@ -102,7 +103,7 @@ not_normal rules u (p, i, redex) normal =
     let at = redex.matches.1 ∙ ap Some (sym redex.matches.2.1) in
     let made = replace-there p u (instance m rule.left) (instance m rule.right) at in
     let inside = rule_inside rules i rule redex.there in
-    normal made.0 (rule, (i, inside, some_same _ _ (sym (slice_get-get_or rules i rule inside) ∙ redex.there)), p, (m, record { redex = at; result = made.1 }))
+    normal made.0 (rule, (i, inside, same_Some _ _ (sym (slice_get-get_or rules i rule inside) ∙ redex.there)), p, (m, record { redex = at; result = made.1 }))
 
 some_none : (l : Limit) → ¬ (None ≡ Some l)
 some_none l e = cc
@@ -117,7 +118,7 @@ stops_once rules held (long n) (long m) k u s z = ap long (s.0 ∙ sym z.0)
 stops_once rules held (long n) (large l) k u s z = absurd (omega (arith, s.1, z.0))
 stops_once rules held (large l) (form x m) k u s z = absurd (z.3 s.1.0 (step_from rules u s.1.0 s.1.1))
 stops_once rules held (large l) (long m) k u s z = absurd (omega (arith, s.0, z.1))
-stops_once rules held (large l) (large m) k u s z = ap large (some_same _ _ (sym s.1.2 ∙ ap term_limit (step_once rules held u s.1.0 z.1.0 s.1.1 z.1.1) ∙ z.1.2))
+stops_once rules held (large l) (large m) k u s z = ap large (same_Some _ _ (sym s.1.2 ∙ ap term_limit (step_once rules held u s.1.0 z.1.0 s.1.1 z.1.1) ∙ z.1.2))
 
 -- no answer stops a run that goes on within the limits
 no_stop : (rules : List Rule) → HoldVariables rules → (a : Normalised) (k : ℕ) (u v : Tree) → Stops rules a k u → StrategyStep rules u v → term_limit v ≡ None → k < 10000 → ⊥

@@ -3,12 +3,12 @@ use Rattle.std.proofs.Common.{ℕ, zero, suc, ◌+◌, ◌<◌, ◌≡◌, ◌�
 use Rattle.std.specs.Prelude.{map, Bool, slice_get, reverse, Option}
 use Rattle.std.proofs.lemmas.List.{map-append, reverse-append}
 use Rattle.std.proofs.lemmas.List.Elements.{Contains-append_cases}
-use Rattle.std.proofs.lemmas.Option.{slice_get-get_or}
+use Rattle.std.proofs.lemmas.Option.{slice_get-get_or, same_Some}
+use Rattle.kb_lemmas.proofs.Membership.{contains_mapped}
 use Rattle.kb_term.specs.Tree.{Tree, variable, apply, trees_of}
 use Rattle.kb_term.specs.Rule.{Rule}
 use Rattle.kb_term.specs.Substitution.{Matches}
 use Rattle.kb_term.specs.Position.{subtree_at, positions_of, positions_in}
-use Rattle.kb_term.proofs.Subtrees.{some_same, contains_mapped}
 use Rattle.kb_rewrite.specs.NormalForm.{IsFirstRedex, HasNoRedex}
 use Rattle.kb_rewrite.specs.Search.{IsRootRedex, IsFirstRule, IsFirstMatch, HasNone, IsFirstAt}
 use Rattle.kb_rewrite.proofs.Positions.{subtree-in, subtree-below}
@@ -30,11 +30,11 @@ first_root P t i h = record {
 }
 
 pub none_variable : (P : Tree → ℕ → Type 0) (n : ℕ) → ((j : ℕ) → ¬ P (variable n) j) → HasNone P (variable n)
-none_variable P n h [] u e j q = h j (subst (λ v. P v j) (sym (some_same _ _ e)) q)
+none_variable P n h [] u e j q = h j (subst (λ v. P v j) (sym (same_Some _ _ e)) q)
 none_variable P n h (i ∷ p) u e j q = absurd (cc)
 
 pub none_apply : (P : Tree → ℕ → Type 0) (f : ℕ) (us : List Tree) → ((j : ℕ) → ¬ P (apply f (trees_of us)) j) → ((k : ℕ) → k < length us → HasNone P (get_or us k (variable 0))) → HasNone P (apply f (trees_of us))
-none_apply P f us h inside [] u e j q = h j (subst (λ v. P v j) (sym (some_same _ _ e)) q)
+none_apply P f us h inside [] u e j q = h j (subst (λ v. P v j) (sym (same_Some _ _ e)) q)
 none_apply P f us h inside (i ∷ p) u e j q =
     let r = subtree-below f us i p u e in
     inside r.0 r.1 p u r.3 j q
@@ -89,7 +89,7 @@ first_in P f us k p i h root earlier at =
     }
   where
     none : (b : List (List ℕ)) (q : List ℕ) → Contains ([] ∷ b) q → (u : Tree) → subtree_at (apply f (trees_of us)) q ≡ Some u → (j : ℕ) → ((q : List ℕ) → Contains b q → (j : ℕ) × (r : List ℕ) × (q ≡ (1 + j) ∷ r) × ((j < k) ⊎ ((j ≡ k) × Contains at.before r))) → ¬ P u j
-    none b q (zero, c, d) u e j s w = root j (subst (λ v. P v j) (sym (some_same _ _ (ap (subtree_at (apply f (trees_of us))) d ∙ e))) w)
+    none b q (zero, c, d) u e j s w = root j (subst (λ v. P v j) (sym (same_Some _ _ (ap (subtree_at (apply f (trees_of us))) d ∙ e))) w)
     none b q (suc m, c, d) u e j s w =
         let r = s q (m, omega (arith, c), d) in
         let number : 1 + r.0 ≡ suc r.0 = omega arith in
@@ -108,7 +108,7 @@ first_redex_from rules strict_only t p i h =
       after = h.after;
       in_preorder = h.in_preorder;
       none_before = λ q j c r. h.none_before q c r.matches.0 r.matches.1 j (r.rule, r.there, (r.matches.2, r.strict));
-      first_rule = λ j d r. h.first.1 j d (r.rule, r.there, (subst (Matches r.rule.left) (some_same _ _ (sym r.matches.1 ∙ h.there)) r.matches.2, r.strict));
+      first_rule = λ j d r. h.first.1 j d (r.rule, r.there, (subst (Matches r.rule.left) (same_Some _ _ (sym r.matches.1 ∙ h.there)) r.matches.2, r.strict));
     }
 
 pub no_redex_from : (rules : List Rule) (strict_only : Bool) (t : Tree) → HasNone (IsRootRedex rules strict_only t) t → HasNoRedex rules strict_only t
@@ -116,7 +116,7 @@ no_redex_from rules strict_only t h p i r = h p r.matches.0 r.matches.1 i (r.rul
 
 -- the rule with a number
 pub rule_at : (rules : List Rule) (i : ℕ) (rule other : Rule) → i < length rules → rule ≡ get_or rules i rule → slice_get rules i ≡ Some other → other ≡ rule
-rule_at rules i rule other h is e = some_same _ _ (sym e ∙ slice_get-get_or rules i rule h) ∙ sym is
+rule_at rules i rule other h is e = same_Some _ _ (sym e ∙ slice_get-get_or rules i rule h) ∙ sym is
 
 pub rule_there : (rules : List Rule) (i : ℕ) (rule : Rule) → i < length rules → rule ≡ get_or rules i rule → slice_get rules i ≡ Some rule
 rule_there rules i rule h is = slice_get-get_or rules i rule h ∙ ap Some (sym is)

@@ -1,15 +1,15 @@
 -- The first rule that applies is among those that an index finds.
-use Rattle.std.proofs.Common.{ℕ, zero, suc, ◌+◌, ◌-◌, ◌<◌, ◌≤◌, ◌≡◌, ◌⊎◌, inl, inr, ⊎_elim, refl, sym, ap, ◌∙◌, arith, subst, List, length, get_or, Option, Some, None, Contains}
+use Rattle.std.proofs.Common.{ℕ, zero, suc, ◌+◌, ◌-◌, ◌<◌, ◌≤◌, ◌≡◌, inl, inr, ⊎_elim, refl, sym, ap, ◌∙◌, arith, subst, List, length, get_or, Option, Some, None, Contains}
 use Rattle.std.specs.Prelude.{Bool, slice_get}
 use Rattle.std.specs.List.Sorted.{IsStrictlyIncreasing}
 use Rattle.std.proofs.lemmas.Bool.{cases_lt}
-use Rattle.std.proofs.lemmas.Option.{slice_get-get_or}
+use Rattle.std.proofs.lemmas.Option.{slice_get-get_or, same_Some}
 use Rattle.std.proofs.lemmas.Grind.{get_or_default_zero}
+use Rattle.kb_lemmas.proofs.Numbers.{below_or_at}
 use Rattle.kb_term.specs.Tree.{Tree, variable}
 use Rattle.kb_term.specs.Rule.{Rule}
 use Rattle.kb_term.specs.Substitution.{Matches, IsVariant}
 use Rattle.kb_term.proofs.Instances.{instance-variable}
-use Rattle.kb_term.proofs.Subtrees.{some_same}
 use Rattle.rule_index.specs.declared.mark.Mark.{Mark}
 use Rattle.rule_index.specs.declared.index.RuleIndex.{RuleIndex}
 use Rattle.rule_index.specs.Marks.{marks_of}
@@ -34,7 +34,7 @@ key_at xs k x h is = (k, h, sym is)
 pub held_candidate : (rules : List Rule) (index : RuleIndex) (t left : Tree) (key : ℕ) (rule : Rule) → IsNumbered rules index → IsCandidate index t key → slice_get rules key ≡ Some rule → rule.left ≡ left → IsHeld rules index left key
 held_candidate rules index t left key rule numbered (l, held, fit) there same =
     let r = numbered key (marks_of l) held in
-    let marks : marks_of l ≡ marks_of left = r.2 ∙ ap (λ (q : Rule). marks_of q.left) (some_same _ _ (sym r.1 ∙ there)) ∙ ap marks_of same in
+    let marks : marks_of l ≡ marks_of left = r.2 ∙ ap (λ (q : Rule). marks_of q.left) (same_Some _ _ (sym r.1 ∙ there)) ∙ ap marks_of same in
     record { rule = rule; there = there; same = same; held = subst (λ (ms : List Mark). Holds index key ms) marks held }
 
 -- what is held is a candidate
@@ -80,15 +80,12 @@ index_none rules index none = record {
   firsts = λ i rule h e. absurd (omega (arith, h));
 }
 
-next_cases : (i n : ℕ) → i < n + 1 → (i < n) ⊎ (i ≡ n)
-next_cases i n h = ⊎_elim inl (λ l. inr (omega (arith, l, h))) (cases_lt i n)
-
 -- the index with one rule more
 pub index_more : (rules : List Rule) (old new : RuleIndex) (n : ℕ) (rule : Rule) → slice_get rules n ≡ Some rule → IsIndexOf n rules old → IsWith n rule.left old new → IsIndexOf (n + 1) rules new
 index_more rules old new n rule there indexed more = record {
   numbered = λ key marks h. ⊎_elim (λ e. (rule, subst (λ k. slice_get rules k ≡ Some rule) (sym e.0) there, e.1)) (λ o. indexed.numbered key marks o) ((more key marks).0 h);
   below = λ key marks h. ⊎_elim (λ e. omega (arith, e.0)) (λ o. omega (arith, indexed.below key marks o)) ((more key marks).0 h);
-  firsts = λ i r h e. ⊎_elim (λ l. kept r (indexed.firsts i r l e)) (λ d. here i r d e) (next_cases i n h);
+  firsts = λ i r h e. ⊎_elim (λ l. kept r (indexed.firsts i r l e)) (λ d. here i r d e) (below_or_at i n h);
 }
   where
     still : (left : Tree) (j : ℕ) → IsHeld rules old left j → IsHeld rules new left j
@@ -99,7 +96,7 @@ index_more rules old new n rule there indexed more = record {
 
     here : (i : ℕ) (r : Rule) → i ≡ n → slice_get rules i ≡ Some r → (j : ℕ) × (j ≤ i) × IsHeld rules new r.left j
     here i r d e =
-        let one : rule ≡ r = some_same _ _ (sym there ∙ subst (λ k. slice_get rules k ≡ Some r) d e) in
+        let one : rule ≡ r = same_Some _ _ (sym there ∙ subst (λ k. slice_get rules k ≡ Some r) d e) in
         let new_here : Holds new n (marks_of r.left) = (more n (marks_of r.left)).1 (inl (refl, ap (λ (q : Rule). marks_of q.left) (sym one))) in
         (n, omega (arith, d), record { rule = rule; there = there; same = ap (λ (q : Rule). q.left) one; held = new_here })
 
@@ -108,12 +105,12 @@ pub index_same : (rules : List Rule) (index : RuleIndex) (n : ℕ) (rule : Rule)
 index_same rules index n rule there indexed (j, held) = record {
   numbered = indexed.numbered;
   below = λ key marks h. omega (arith, indexed.below key marks h);
-  firsts = λ i r h e. ⊎_elim (λ l. indexed.firsts i r l e) (λ d. here i r d e) (next_cases i n h);
+  firsts = λ i r h e. ⊎_elim (λ l. indexed.firsts i r l e) (λ d. here i r d e) (below_or_at i n h);
 }
   where
     here : (i : ℕ) (r : Rule) → i ≡ n → slice_get rules i ≡ Some r → (j : ℕ) × (j ≤ i) × IsHeld rules index r.left j
     here i r d e =
-        let one : rule ≡ r = some_same _ _ (sym there ∙ subst (λ k. slice_get rules k ≡ Some r) d e) in
+        let one : rule ≡ r = same_Some _ _ (sym there ∙ subst (λ k. slice_get rules k ≡ Some r) d e) in
         (j, omega (arith, d, indexed.below j (marks_of rule.left) held.held), subst (λ (q : Rule). IsHeld rules index q.left j) one held)
 
 -- the first rule that matches
@@ -123,13 +120,13 @@ first_match_some rules inside strict_only whole u i d o m same room is tried non
     let rule = get_or inside i d in
     let found : IsMatch rule m u × Applies rule strict_only whole u = subst (IsMatchIfAny rule strict_only whole u) is tried in
     let there : slice_get rules i ≡ Some rule = subst (λ (rs : List Rule). slice_get rs i ≡ Some rule) same (slice_get-get_or inside i d room) in
-    (((rule, there, found.1), none), λ r e. subst (λ (q : Rule). IsMatch q m u) (some_same _ _ (sym there ∙ e)) found.0)
+    (((rule, there, found.1), none), λ r e. subst (λ (q : Rule). IsMatch q m u) (same_Some _ _ (sym there ∙ e)) found.0)
 
 pub first_match_none : (rules inside : List Rule) (strict_only : Bool) (whole u : Tree) (i : ℕ) (d : Rule) (o : Option (List (ℕ × Tree))) → inside ≡ rules → i < length inside → o ≡ None → IsMatchIfAny (get_or inside i d) strict_only whole u o → ¬ IsRootRedex rules strict_only whole u i
 first_match_none rules inside strict_only whole u i d o same room is tried (r, e, applies) =
     let rule = get_or inside i d in
     let there : slice_get rules i ≡ Some rule = subst (λ (rs : List Rule). slice_get rs i ≡ Some rule) same (slice_get-get_or inside i d room) in
-    subst (IsMatchIfAny rule strict_only whole u) is tried (subst (λ (q : Rule). Applies q strict_only whole u) (some_same _ _ (sym e ∙ there)) applies)
+    subst (IsMatchIfAny rule strict_only whole u) is tried (subst (λ (q : Rule). Applies q strict_only whole u) (same_Some _ _ (sym e ∙ there)) applies)
 
 -- before the k-th candidate no rule applies, where none of the earlier candidates does
 pub none_before_candidate : (rules : List Rule) (strict_only : Bool) (whole u : Tree) (index : RuleIndex) (keys : List ℕ) (k i : ℕ) → IsIndexOf (length rules) rules index

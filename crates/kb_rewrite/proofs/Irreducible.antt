@@ -2,12 +2,11 @@
 use Rattle.std.proofs.Common.{refl, ap, sym, ◌∙◌, List, Some}
 use Rattle.std.specs.Prelude.{false}
 use Rattle.std.proofs.lemmas.Bool.{false≢true}
-use Rattle.std.proofs.lemmas.Option.{slice_get-get_or}
+use Rattle.std.proofs.lemmas.Option.{slice_get-get_or, same_Some}
 use Rattle.kb_term.specs.Tree.{Tree}
 use Rattle.kb_term.specs.Rule.{Rule}
 use Rattle.kb_term.specs.Substitution.{instance}
 use Rattle.kb_term.specs.Proving.{Step}
-use Rattle.kb_term.proofs.Subtrees.{some_same}
 use Rattle.kb_rewrite.specs.NormalForm.{HasNoRedex, IsNormal, StrategyStep}
 use Rattle.kb_rewrite.proofs.FirstRedexes.{rule_inside}
 
@@ -19,4 +18,4 @@ pub step_from : (rules : List Rule) (t u : Tree) → StrategyStep rules t u → 
 step_from rules t u (p, i, first, w) =
     let rule = first.redex.rule in
     let inside = rule_inside rules i rule first.redex.there in
-    (rule, (i, inside, some_same _ _ (sym (slice_get-get_or rules i rule inside) ∙ first.redex.there)), p, w)
+    (rule, (i, inside, same_Some _ _ (sym (slice_get-get_or rules i rule inside) ∙ first.redex.there)), p, w)

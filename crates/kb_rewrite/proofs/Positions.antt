@@ -2,10 +2,10 @@
 use Rattle.std.proofs.Common.{ℕ, zero, suc, ◌<◌, ◌≡◌, refl, sym, ap, ◌∙◌, arith, subst, List, [], ◌∷◌, length, get_or, Some, None}
 use Rattle.std.specs.Prelude.{option_and_then, Bool, true, false}
 use Rattle.std.proofs.lemmas.Bool.{false≢true}
+use Rattle.std.proofs.lemmas.Option.{same_Some}
 use Rattle.kb_term.specs.Tree.{Tree, variable, apply, trees_of}
 use Rattle.kb_term.specs.Position.{argument, subtree_at}
 use Rattle.kb_term.specs.Substitution.{Matches}
-use Rattle.kb_term.proofs.Subtrees.{some_same}
 use Rattle.kb_rewrite.specs.NormalForm.{Encompasses}
 
 -- the argument with a number from 1
@@ -45,7 +45,7 @@ pub encompasses_root : (t s : Tree) → Matches s t → Encompasses t s
 encompasses_root t s m = ([], (t, refl, m))
 
 pub encompasses_variable : (n : ℕ) (s : Tree) → Encompasses (variable n) s → Matches s (variable n)
-encompasses_variable n s ([], (u, e, m)) = subst (Matches s) (sym (some_same _ _ e)) m
+encompasses_variable n s ([], (u, e, m)) = subst (Matches s) (sym (same_Some _ _ e)) m
 encompasses_variable n s (i ∷ p, (u, e, m)) = absurd (cc)
 
 -- the pattern matches in an argument
@@ -54,7 +54,7 @@ encompasses_in f us k s h (p, (u, e, m)) = (suc k ∷ p, (u, subtree-in f us k p
 
 -- it matches neither at the root nor in an argument
 pub encompasses_none : (f : ℕ) (us : List Tree) (s : Tree) → ¬ Matches s (apply f (trees_of us)) → ((k : ℕ) → k < length us → ¬ Encompasses (get_or us k (variable 0)) s) → ¬ Encompasses (apply f (trees_of us)) s
-encompasses_none f us s root inside ([], (u, e, m)) = root (subst (Matches s) (sym (some_same _ _ e)) m)
+encompasses_none f us s root inside ([], (u, e, m)) = root (subst (Matches s) (sym (same_Some _ _ e)) m)
 encompasses_none f us s root inside (i ∷ p, (u, e, m)) =
     let r = subtree-below f us i p u e in
     inside r.0 r.1 (p, (u, r.3, m))

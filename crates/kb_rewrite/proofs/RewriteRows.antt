@@ -1,8 +1,9 @@
 -- Redexes and normal forms on small terms.
-use Rattle.std.specs.Prelude.{ℕ, zero, suc, ◌+◌, ◌<◌, List, [], ◌∷◌, ◌≡◌, false, Some, None, All, length}
+use Rattle.std.specs.Prelude.{ℕ, zero, suc, ◌+◌, ◌<◌, List, [], ◌∷◌, ◌≡◌, false, None, All, length}
 use Rattle.std.proofs.Common.{refl, arith, subst, ap, sym, ◌∙◌}
 use Rattle.std.proofs.lemmas.Bool.{false≢true}
 use Rattle.std.proofs.lemmas.Option.{same_Some}
+use Rattle.kb_lemmas.proofs.Options.{none_some}
 use Rattle.kb_term.specs.Substitution.{instance}
 use Rattle.kb_term.specs.Tree.{Tree, variable, tree_size, tree_depth}
 use Rattle.kb_term.specs.Rule.{Rule}
@@ -106,9 +107,6 @@ to-b = record { left = none 0; right = none 1 } ∷ []
 
 step-to-b : StrategyStep to-b (none 0) (none 1)
 step-to-b = strategy_root to-b (none 0) (none 1) 0 (record { left = none 0; right = none 1 }) variable refl refl refl (λ j h. absurd (omega (arith, h)))
-
-none_some : {X : Type 0} {x : X} → None ≡ Some x → ⊥
-none_some e = cc
 
 normal-b : IsNormal to-b (none 1)
 normal-b u (rule, (suc k, h, e), p, s) = absurd (omega (arith, h))

@@ -1,6 +1,7 @@
 -- What a step makes.
 use Rattle.std.proofs.Common.{ℕ, zero, suc, ◌<◌, ◌≡◌, refl, sym, ap, ◌∙◌, arith, subst, List, [], ◌∷◌, length, get_or, set, take, Some}
 use Rattle.std.specs.Prelude.{map, Result, IsSomeAnd, false}
+use Rattle.std.proofs.lemmas.Option.{same_Some}
 use Rattle.kb_term.specs.Tree.{Tree, variable, more_trees, trees_of}
 use Rattle.kb_term.specs.Position.{subtree_at, replace_at, with_argument}
 use Rattle.kb_term.specs.View.{tree_of}
@@ -10,7 +11,7 @@ use Rattle.kb_term.specs.Proving.{RewritesAt}
 use Rattle.kb_term.specs.Made.{IsLimitedAnswer}
 use Rattle.kb_term.specs.declared.term.Term.{Term}
 use Rattle.kb_term.specs.declared.fault.TermFault.{TermFault}
-use Rattle.kb_term.proofs.Subtrees.{some_same, replace-there}
+use Rattle.kb_term.proofs.Subtrees.{replace-there}
 use Rattle.kb_rewrite.specs.NormalForm.{IsRedex}
 use Rattle.kb_rewrite.specs.Search.{IsStepAnswer}
 use Rattle.kb_rewrite.proofs.FirstRedexes.{rule_at}
@@ -48,7 +49,7 @@ step_made rules t made p i rule m answer h is at made_is limited other e = subst
 -- with want of memory
 pub step_memory : (rules : List Rule) (t : Tree) (p : List ℕ) (i : ℕ) → IsRedex rules false t p i → (answer : Result Term TermFault) → ((v : Tree) → IsLimitedAnswer v answer) → IsStepAnswer rules t p i answer
 step_memory rules t p i redex answer limited other e =
-    let same = some_same _ _ (sym redex.there ∙ e) in
+    let same = same_Some _ _ (sym redex.there ∙ e) in
     let m = redex.matches.2.0 in
     let at : subtree_at t p ≡ Some (instance m redex.rule.left) = redex.matches.1 ∙ ap Some (sym redex.matches.2.1) in
     let r = replace-there p t (instance m redex.rule.left) (instance m redex.rule.right) at in

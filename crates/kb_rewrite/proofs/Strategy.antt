@@ -2,6 +2,7 @@
 use Rattle.std.proofs.Common.{ℕ, suc, ◌<◌, ◌≡◌, refl, sym, ap, ◌∙◌, subst, List, [], ◌∷◌, length, get_or, Some}
 use Rattle.std.specs.Prelude.{slice_get, false, option_map, option_and_then}
 use Rattle.std.proofs.lemmas.Bool.{false≢true}
+use Rattle.std.proofs.lemmas.Option.{same_Some}
 use Rattle.kb_term.specs.Tree.{Tree, variable, apply, trees_of}
 use Rattle.kb_term.specs.View.{tree_of}
 use Rattle.kb_term.specs.declared.term.Term.{Term}
@@ -9,7 +10,6 @@ use Rattle.kb_term.specs.Position.{with_argument, replace_at}
 use Rattle.kb_term.specs.Rule.{Rule}
 use Rattle.kb_term.specs.Substitution.{instance, Matches}
 use Rattle.kb_term.specs.Proving.{RewritesAt}
-use Rattle.kb_term.proofs.Subtrees.{some_same}
 use Rattle.kb_rewrite.specs.NormalForm.{MatchesAt, IsRedex, IsFirstRedex, HasNoRedex, StrategyStep}
 use Rattle.kb_rewrite.specs.Answers.{IsTried}
 use Rattle.kb_rewrite.specs.declared.normalising.Tried.{Tried}
@@ -51,7 +51,7 @@ first_from rules t p i h =
       after = h.after;
       in_preorder = h.in_preorder;
       none_before = λ q j c r. h.none_before q c r.matches.0 r.matches.1 j (r.rule, r.there, r.matches.2);
-      first_rule = λ j d r. h.first.1 j d (r.rule, r.there, subst (Matches r.rule.left) (some_same _ _ (sym r.matches.1 ∙ h.there)) r.matches.2);
+      first_rule = λ j d r. h.first.1 j d (r.rule, r.there, subst (Matches r.rule.left) (same_Some _ _ (sym r.matches.1 ∙ h.there)) r.matches.2);
     }
 
 none_to : (rules : List Rule) (t : Tree) → HasNoRedex rules false t → HasNone (MatchesRoot rules) t
@@ -62,7 +62,7 @@ none_from rules t h p i r = h p r.matches.0 r.matches.1 i (r.rule, r.there, r.ma
 
 -- a step at the first redex, by its rule
 step_by : (rules : List Rule) (t u : Tree) (p : List ℕ) (i : ℕ) (rule : Rule) → IsFirstRedex rules false t p i → slice_get rules i ≡ Some rule → RewritesAt rule p t u → StrategyStep rules t u
-step_by rules t u p i rule first e w = (p, i, first, subst (λ (r : Rule). RewritesAt r p t u) (some_same _ _ (sym e ∙ first.redex.there)) w)
+step_by rules t u p i rule first e w = (p, i, first, subst (λ (r : Rule). RewritesAt r p t u) (same_Some _ _ (sym e ∙ first.redex.there)) w)
 
 -- at the root, by the first rule that matches there
 pub strategy_root : (rules : List Rule) (t u : Tree) (i : ℕ) (rule : Rule) (m : ℕ → Tree) → slice_get rules i ≡ Some rule → instance m rule.left ≡ t → u ≡ instance m rule.right → ((j : ℕ) → j < i → ¬ IsRedex rules false t [] j) → StrategyStep rules t u
@@ -94,7 +94,7 @@ no_redex_apply rules f us root inside =
 
 -- a redex at the root is by a rule that applies to the term itself
 pub root_redex : (rules : List Rule) (t : Tree) (i : ℕ) → IsRedex rules false t [] i → IsRootRedex rules false t t i
-root_redex rules t i r = (r.rule, r.there, (subst (Matches r.rule.left) (sym (some_same _ _ r.matches.1)) r.matches.2, r.strict))
+root_redex rules t i r = (r.rule, r.there, (subst (Matches r.rule.left) (sym (same_Some _ _ r.matches.1)) r.matches.2, r.strict))
 
 -- the same for equal terms
 pub root_same : (rules : List Rule) {t u : Tree} → t ≡ u → ((j : ℕ) → ¬ IsRedex rules false t [] j) → (j : ℕ) → ¬ IsRedex rules false u [] j

@@ -3,6 +3,9 @@ use Rattle.std.proofs.Common.{append-nil, append_assoc, ◌≡◌, ◌⊎◌, �
 use Rattle.std.specs.Prelude.{not, nat_eq, nat_le, bytes_eq, is_some, codes}
 use Rattle.std.specs.List.{list_all, list_any}
 use Rattle.std.proofs.lemmas.Option.{same_Some}
+use Rattle.std.proofs.lemmas.Bool.{and_from}
+use Rattle.kb_lemmas.proofs.Options.{some_of_map}
+use Rattle.kb_lemmas.proofs.Lists.{all_join}
 use Rattle.kb_text.specs.Names.{Name, is_among, firsts, are_distinct}
 use Rattle.kb_text.specs.Tokens.{Token, left_paren, right_paren, comma, identifier, end_of_input}
 use Rattle.kb_text.specs.Grammar.{Written, alone, Section, variables, rules, skipped, WrittenEquation, Sign, open_after, reserved_names}
@@ -11,12 +14,11 @@ use Rattle.kb_text.specs.Problems.{names_in, depth_in, is_unapplied, equations_o
 use Rattle.kb_text.specs.Refusals.{back, Spot, spot_of, equation_spot, new_equation, side_of, awaits_term, open_parens, last_alone, ends_next, arguments_so_far, ended_alone, names_in_front, equation_names, front_variables, front_names, front_uses, front_count, is_token, is_some_and, is_new, has_other_arity, closing_clash_of, is_in_variables}
 use Rattle.kb_text.specs.Machine.{next_term, next_equation, whole_equation, next_rules, next_skipped, next_section, open_at}
 use Rattle.kb_syntax.specs.Moves.{names_of_token, new_variables, names_at, new_names, alone_ended, ended_use, ended_in, ended_at, new_uses, open_equations, equation_ended, new_equations, side_names}
-use Rattle.kb_text.proofs.Sound.{map_some}
 use Rattle.kb_syntax.proofs.MoveTerms.{term_names}
 use Rattle.kb_syntax.proofs.MoveSections.{equations-append, whole_is, is_whole_is, awaits_if_name, left_next}
 use Rattle.kb_text.proofs.Firsts.{same_bytes}
 use Rattle.kb_syntax.proofs.FineTerms.{FineTerm, FineSide, Passes, fine_term, fine_end, parens_bound}
-use Rattle.kb_syntax.proofs.FineLists.{and_join, all_join, all_one, few_more, agree-push, ordered-variables, ordered-other, skipped_names, skipped-append}
+use Rattle.kb_syntax.proofs.FineLists.{all_one, few_more, agree-push, ordered-variables, ordered-other, skipped_names, skipped-append}
 
 abbrev pub is_short : Name → Bool
 is_short x = nat_le (length x) 64
@@ -187,7 +189,7 @@ ended_fine vars uses u t fine closing lone h = (agree_all, all_join (fine_use va
     not_left t e = absurd (cc)
 
     closing_use : (a : Name × ℕ × ℕ) → ends_next u ≡ Some a → fine_use vars (a.0, a.1) ≡ true
-    closing_use a e = let r = fine_end vars u 0 a fine e in and_join _ _ (below a.1 r.0) (ap (λ (b : Bool). not b || nat_eq a.1 0) r.1)
+    closing_use a e = let r = fine_end vars u 0 a fine e in and_from _ _ (below a.1 r.0) (ap (λ (b : Bool). not b || nat_eq a.1 0) r.1)
       where
         below : (n : ℕ) → n ≤ 8 → nat_le n 8 ≡ true
         below n k = grind arith
@@ -261,9 +263,9 @@ whole_fine : (vars : List Name) (e : EquationFront) (w : WrittenEquation) → Fi
 whole_fine vars e w h k =
     let r = whole_is e w k in
     let fine : FineFront vars (in_right w.left w.sign (whole r.side)) = subst (FineFront vars) r.is h in
-    let right : fine_side vars w.right ≡ true = subst (λ (t : Written). fine_side vars t ≡ true) r.right (and_join _ _ (below (length (names_in r.side)) 512 fine.size) (and_join _ _ (below (depth_in r.side) 64 (omega (arith, fine.sides.1.depth))) fine.sides.1.unapplied)) in
+    let right : fine_side vars w.right ≡ true = subst (λ (t : Written). fine_side vars t ≡ true) r.right (and_from _ _ (below (length (names_in r.side)) 512 fine.size) (and_from _ _ (below (depth_in r.side) 64 (omega (arith, fine.sides.1.depth))) fine.sides.1.unapplied)) in
     let few : nat_le (length (firsts (variables_among vars (names_in w.left ++ names_in w.right)))) 64 ≡ true = subst (λ (t : Written). nat_le (length (firsts (variables_among vars (names_in w.left ++ names_in t)))) 64 ≡ true) r.right (below _ 64 fine.variables) in
-    and_join _ _ fine.sides.0 (and_join _ _ right few)
+    and_from _ _ fine.sides.0 (and_from _ _ right few)
   where
     below : (m n : ℕ) → m ≤ n → nat_le m n ≡ true
     below m n h = grind arith
@@ -374,7 +376,7 @@ goes_on_fine ss es (in_left u) after t h n k = ⊎_elim
     subst (FineFront vars) a.4 (record {
       variables = subst (λ (v : TermFront). length (firsts (variables_among vars (names_in_front v))) ≤ 64) is h.open_equation.variables;
       size = omega arith;
-      sides = and_join _ _ (below (length (names_in a.0)) 512 (subst (λ (v : TermFront). length (names_in_front v) ≤ 512) is h.open_equation.size)) (and_join _ _ (below (depth_in a.0) 64 (omega (arith, fine.depth))) fine.unapplied);
+      sides = and_from _ _ (below (length (names_in a.0)) 512 (subst (λ (v : TermFront). length (names_in_front v) ≤ 512) is h.open_equation.size)) (and_from _ _ (below (depth_in a.0) 64 (omega (arith, fine.depth))) fine.unapplied);
     }))
     (left_next u t after k)
   where
@@ -394,7 +396,7 @@ goes_on_fine ss es (behind_sign l s) after (identifier c) h n k =
     vars = front_variables (record { sections = ss; open_section = Some (in_equation es (behind_sign l s)) })
 goes_on_fine ss es (behind_sign l s) after t h n k = absurd (cc)
 goes_on_fine ss es (in_right l s u) after t h n k =
-    let r = map_some (in_right l s) (next_term u t) after k in
+    let r = some_of_map (in_right l s) (next_term u t) after k in
     let q = side_goes_on ss es (in_right l s u) t u r.0 [] h n refl refl r.1 (right_spot l s u) (names_in l ++ names_in_front r.0) (ap (names_in l ++◌) (term_names u r.0 t r.1) ∙ sym (append_assoc (names_in l) (names_in_front u) (names_of_token t))) in
     subst (FineFront (front_variables (record { sections = ss; open_section = Some (in_equation es (in_right l s u)) }))) r.2 (record { variables = q.0; size = q.1; sides = (h.open_equation.sides.0, q.2) })
 

@@ -2,7 +2,7 @@
 use Rattle.std.proofs.Common.{append-nil, append_assoc, ◌≡◌, refl, ap, sym, ◌∙◌, subst, arith, ℕ, ◌<◌, ◌≤◌, List, [], ◌∷◌, ◌++◌, Option, Some, None, Bool, true, false, cond, ◌&&◌, ◌||◌, length, length-append}
 use Rattle.std.specs.Prelude.{not, nat_eq, bytes_eq, is_some, unwrap_or, filter}
 use Rattle.std.specs.List.{list_all, list_any}
-use Rattle.std.proofs.lemmas.List.Folds.{list_all-append, list_any-append}
+use Rattle.std.proofs.lemmas.List.Folds.{list_any-append}
 use Rattle.std.proofs.lemmas.List.Elements.{filter-append}
 use Rattle.kb_text.specs.Names.{Name, is_among, firsts, are_distinct}
 use Rattle.kb_text.specs.Grammar.{Section, variables, rules, skipped}
@@ -10,33 +10,14 @@ use Rattle.kb_text.specs.Problems.{arity_in, agree, are_ordered, is_variables, i
 use Rattle.kb_text.specs.Refusals.{has_other_arity, is_new, is_some_and}
 use Rattle.kb_text.proofs.Firsts.{same_bytes, is_among-firsts, firsts-push}
 use Rattle.kb_syntax.proofs.Known.{arity-append}
-use Rattle.std.proofs.lemmas.Slice.Eq.{bytes_eq-Decides}
-
-pub and_split : (a b : Bool) → (a && b) ≡ true → (a ≡ true) × (b ≡ true)
-and_split true b h = (refl, h)
-and_split false b h = absurd (cc)
-
-pub and_join : (a b : Bool) → a ≡ true → b ≡ true → (a && b) ≡ true
-and_join a b h k = (λ i. h i && k i)
-
-pub all_join : {X : Type 0} (p : X → Bool) (xs ys : List X) → list_all p xs ≡ true → list_all p ys ≡ true → list_all p (xs ++ ys) ≡ true
-all_join p xs ys h k = list_all-append p xs ys ∙ and_join _ _ h k
+use Rattle.std.proofs.lemmas.Bool.{and_from, and_parts}
+use Rattle.kb_text.proofs.RewrittenLists.{same_name, among-append}
+use Rattle.kb_lemmas.proofs.Lists.{all_join}
 
 pub all_one : {X : Type 0} (p : X → Bool) (x : X) → p x ≡ true → list_all p (x ∷ []) ≡ true
 all_one p x h = ap (λ (b : Bool). b && true) h
 
 -- ---- names
-
-pub same_name : (x : Name) → bytes_eq x x ≡ true
-same_name x = (bytes_eq-Decides x x).1 refl
-
-pub among-append : (xs ys : List Name) (x : Name) → is_among (xs ++ ys) x ≡ (is_among xs x || is_among ys x)
-among-append [] ys x = refl
-among-append (y ∷ xs) ys x = go (bytes_eq x y) (among-append xs ys x)
-  where
-    go : (b : Bool) → is_among (xs ++ ys) x ≡ (is_among xs x || is_among ys x) → (b || is_among (xs ++ ys) x) ≡ ((b || is_among xs x) || is_among ys x)
-    go true h = refl
-    go false h = h
 
 pub distinct-push : (xs : List Name) (x : Name) → are_distinct xs ≡ true → is_among xs x ≡ false → are_distinct (xs ++ x ∷ []) ≡ true
 distinct-push [] x h k = refl
@@ -63,16 +44,13 @@ distinct-push (y ∷ ys) x h k = go (is_among ys y) (bytes_eq x y) refl refl (di
 filter_one : (p : Name → Bool) (xs : List Name) (x : Name) → filter p (xs ++ x ∷ []) ≡ filter p xs ++ cond (p x) (x ∷ []) []
 filter_one p xs x = filter-append p xs (x ∷ [])
 
-firsts_push : (xs : List Name) (x : Name) → firsts (xs ++ x ∷ []) ≡ cond (is_among (firsts xs) x) (firsts xs) (firsts xs ++ x ∷ [])
-firsts_push xs x = firsts-push xs x
-
 -- one more name makes at most one more different name, and none where there are enough
 pub few_more : (p : Name → Bool) (names : List Name) (x : Name) (n : ℕ) → length (firsts (filter p names)) ≤ n → (is_new x (filter p names) n && p x) ≡ false → length (firsts (filter p (names ++ x ∷ []))) ≤ n
 few_more p names x n h k = subst (λ (xs : List Name). length (firsts xs) ≤ n) (sym (filter_one p names x)) (go (p x) refl)
   where
     go : (b : Bool) → p x ≡ b → length (firsts (filter p names ++ cond b (x ∷ []) [])) ≤ n
     go false e = subst (λ (xs : List Name). length (firsts xs) ≤ n) (sym (append-nil (filter p names))) h
-    go true e = subst (λ (xs : List Name). length xs ≤ n) (sym (firsts_push (filter p names) x)) (by (is_among (firsts (filter p names)) x) refl)
+    go true e = subst (λ (xs : List Name). length xs ≤ n) (sym (firsts-push (filter p names) x)) (by (is_among (firsts (filter p names)) x) refl)
       where
         by : (b : Bool) → is_among (firsts (filter p names)) x ≡ b → length (cond b (firsts (filter p names)) (firsts (filter p names) ++ x ∷ [])) ≤ n
         by true q = h
@@ -105,10 +83,10 @@ some-within before us u = ap is_some (arity-append before (u ∷ us) u.0) ∙ go
 all_same_first : (before us vs : List (Name × ℕ)) → list_all (fits_first (before ++ us)) us ≡ true → list_all (fits_first ((before ++ us) ++ vs)) us ≡ true
 all_same_first before [] vs h = refl
 all_same_first before (u ∷ us) vs h =
-    let parts = and_split (fits_first (before ++ u ∷ us) u) (list_all (fits_first (before ++ u ∷ us)) us) h in
+    let parts = and_parts (fits_first (before ++ u ∷ us) u) (list_all (fits_first (before ++ u ∷ us)) us) h in
     let moved : before ++ u ∷ us ≡ (before ++ u ∷ []) ++ us = sym (append_assoc before (u ∷ []) us) in
     let rest = all_same_first (before ++ u ∷ []) us vs (ap (λ (all : List (Name × ℕ)). list_all (fits_first all) us) (sym moved) ∙ parts.1) in
-    and_join _ _
+    and_from _ _
     (ap (λ (o : Option ℕ). nat_eq u.1 (unwrap_or o 0)) (arity-more (before ++ u ∷ us) vs u.0 (some-within before us u)) ∙ parts.0)
     (ap (λ (all : List (Name × ℕ)). list_all (fits_first (all ++ vs)) us) moved ∙ rest)
 

@@ -16,10 +16,12 @@ use Rattle.kb_text.specs.declared.kind.Kind.TheVariants.{NotUtf8, BadSection, Do
 use Rattle.kb_text.specs.declared.kind.Bound.TheVariants.{Name as NameLimit, Equations, Size, Depth, Symbols, Variables, Arity}
 use Rattle.kb_text.proofs.Exact.{in_best, rises, IsIn, NotBefore}
 use Rattle.kb_syntax.proofs.MoveSections.{Move, section_moves, names-append}
-use Rattle.kb_syntax.proofs.FineLists.{and_split, and_join, all_join, distinct-push, no-equations, skipped_names}
+use Rattle.kb_syntax.proofs.FineLists.{distinct-push, no-equations, skipped_names}
 use Rattle.kb_syntax.proofs.Fine.{Fine, Unshown, NextParts, FineEquation, is_short, fine_use, fine_side, fine_equation, skipped_open, skipped_moves, uses_fine, few_names, ended_equations, new_short, only_name, next_parts, is_equation}
 use Rattle.kb_text.proofs.RunTexts.{closed_at}
 use Rattle.std.proofs.lemmas.List.Folds.{list_all-append}
+use Rattle.std.proofs.lemmas.Bool.{and_parts, and_from}
+use Rattle.kb_lemmas.proofs.Lists.{all_join}
 
 -- ---- what isn't shown
 
@@ -186,30 +188,30 @@ fine_start = record { short_variables = refl; short_names = refl; short_skipped 
 -- a test of all names of sections, by the three kinds of names
 section_names : (ss : List Section) → list_all is_short (variables_of ss) ≡ true → list_all is_short (all_names (equations_of ss)) ≡ true → list_all is_short (skipped_names ss) ≡ true → list_all is_short (flat_map names_of_section ss) ≡ true
 section_names [] a b c = refl
-section_names (variables xs ∷ ss) a b c = let r = and_split _ _ (sym (list_all-append is_short xs (variables_of ss)) ∙ a) in all_join is_short xs _ r.0 (section_names ss r.1 b c)
-section_names (rules es ∷ ss) a b c = let r = and_split _ _ (sym (list_all-append is_short (all_names es) (all_names (equations_of ss))) ∙ ap (list_all is_short) (sym (names-append es (equations_of ss))) ∙ b) in all_join is_short (all_names es) _ r.0 (section_names ss a r.1 c)
-section_names (skipped x ts ∷ ss) a b c = let r = and_split _ _ c in and_join _ _ r.0 (section_names ss a b r.1)
+section_names (variables xs ∷ ss) a b c = let r = and_parts _ _ (sym (list_all-append is_short xs (variables_of ss)) ∙ a) in all_join is_short xs _ r.0 (section_names ss r.1 b c)
+section_names (rules es ∷ ss) a b c = let r = and_parts _ _ (sym (list_all-append is_short (all_names es) (all_names (equations_of ss))) ∙ ap (list_all is_short) (sym (names-append es (equations_of ss))) ∙ b) in all_join is_short (all_names es) _ r.0 (section_names ss a r.1 c)
+section_names (skipped x ts ∷ ss) a b c = let r = and_parts _ _ c in and_from _ _ r.0 (section_names ss a b r.1)
 
 -- a test of all sides
 side_tests : (vars : List Name) (p : Written → Bool) (es : List WrittenEquation) → ((t : Written) → fine_side vars t ≡ true → p t ≡ true) → list_all (fine_equation vars) es ≡ true → list_all p (sides_of es) ≡ true
 side_tests vars p [] q h = refl
 side_tests vars p (e ∷ es) q h =
-    let r = and_split _ _ h in
-    let a = and_split _ _ r.0 in
-    let b = and_split _ _ a.1 in
-    and_join _ _ (q e.left a.0) (and_join _ _ (q e.right b.0) (side_tests vars p es q r.1))
+    let r = and_parts _ _ h in
+    let a = and_parts _ _ r.0 in
+    let b = and_parts _ _ a.1 in
+    and_from _ _ (q e.left a.0) (and_from _ _ (q e.right b.0) (side_tests vars p es q r.1))
 
 each_test : (vars : List Name) (es : List WrittenEquation) → list_all (fine_equation vars) es ≡ true → list_all (λ e. nat_le (length (equation_variables vars e)) 64) es ≡ true
 each_test vars [] h = refl
 each_test vars (e ∷ es) h =
-    let r = and_split _ _ h in
-    let a = and_split _ _ r.0 in
-    let b = and_split _ _ a.1 in
-    and_join _ _ b.1 (each_test vars es r.1)
+    let r = and_parts _ _ h in
+    let a = and_parts _ _ r.0 in
+    let b = and_parts _ _ a.1 in
+    and_from _ _ b.1 (each_test vars es r.1)
 
 use_tests : (vars : List Name) (us : List (Name × ℕ)) → list_all (fine_use vars) us ≡ true → list_all (λ (u : Name × ℕ). nat_le u.1 8) us ≡ true
 use_tests vars [] h = refl
-use_tests vars (u ∷ us) h = let r = and_split _ _ h in let a = and_split _ _ r.0 in and_join _ _ a.0 (use_tests vars us r.1)
+use_tests vars (u ∷ us) h = let r = and_parts _ _ h in let a = and_parts _ _ r.0 in and_from _ _ a.0 (use_tests vars us r.1)
 
 -- the variables, names, uses and equations of whole sections
 whole_lists : (ss : List Section) → (front_variables (closed_at ss) ≡ variables_of ss) × (front_names (closed_at ss) ≡ all_names (equations_of ss)) × (front_uses (closed_at ss) ≡ all_uses (equations_of ss)) × (equations_of ss ++ [] ≡ equations_of ss) × (skipped_names ss ++ [] ≡ skipped_names ss)
@@ -222,7 +224,7 @@ meets_conditions ss h r =
       ordered = h.ordered;
       has_rules = r;
       distinct = ap are_distinct (sym l.0) ∙ h.distinct;
-      unapplied = side_tests (variables_of ss) (is_unapplied (variables_of ss)) (equations_of ss) (λ t k. (and_split _ _ (and_split _ _ k).1).1) equations;
+      unapplied = side_tests (variables_of ss) (is_unapplied (variables_of ss)) (equations_of ss) (λ t k. (and_parts _ _ (and_parts _ _ k).1).1) equations;
       one_arity = ap agree (sym l.2) ∙ h.agrees;
     }
 
@@ -232,8 +234,8 @@ meets_limits ss h =
     let equations : list_all (fine_equation (variables_of ss)) (equations_of ss) ≡ true = (λ i. list_all (fine_equation (sym l.0 i)) (sym l.3 i)) ∙ h.equations in record {
       names = section_names ss (ap (list_all is_short) (sym l.0) ∙ h.short_variables) (ap (list_all is_short) (sym l.1) ∙ h.short_names) (ap (list_all is_short) (sym l.4) ∙ h.short_skipped);
       equations = below (length (equations_of ss)) 256 (omega (arith, h.count));
-      size = side_tests (variables_of ss) (λ t. nat_le (length (names_in t)) 512) (equations_of ss) (λ t k. (and_split _ _ k).0) equations;
-      depth = side_tests (variables_of ss) (λ t. nat_le (depth_in t) 64) (equations_of ss) (λ t k. (and_split _ _ (and_split _ _ k).1).0) equations;
+      size = side_tests (variables_of ss) (λ t. nat_le (length (names_in t)) 512) (equations_of ss) (λ t k. (and_parts _ _ k).0) equations;
+      depth = side_tests (variables_of ss) (λ t. nat_le (depth_in t) 64) (equations_of ss) (λ t k. (and_parts _ _ (and_parts _ _ k).1).0) equations;
       symbols = below _ 24 (subst (λ (ns : List Name). length (firsts (symbols_among (variables_of ss) ns)) ≤ 24) l.1 (subst (λ (vs : List Name). length (firsts (symbols_among vs (front_names (closed_at ss)))) ≤ 24) l.0 h.symbols));
       arity = use_tests (variables_of ss) (all_uses (equations_of ss)) ((λ i. list_all (fine_use (sym l.0 i)) (sym l.2 i)) ∙ h.uses);
       variables_each = each_test (variables_of ss) (equations_of ss) equations;

@@ -2,6 +2,7 @@
 use Rattle.std.proofs.Common.{◌≡◌, refl, ap, sym, ◌∙◌, subst, arith, ℕ, ◌+◌, ◌<◌, ◌≤◌, List, Some, Bool, true, false, ◌&&◌}
 use Rattle.std.specs.Prelude.{not, max}
 use Rattle.std.proofs.lemmas.Option.{same_Some}
+use Rattle.kb_lemmas.proofs.Options.{some_of_map}
 use Rattle.kb_text.specs.Names.{Name, is_among}
 use Rattle.kb_text.specs.Tokens.{Token, left_paren, right_paren, comma, identifier}
 use Rattle.kb_text.specs.Grammar.{Written, alone, applied, Arguments, no_arguments, argument}
@@ -10,7 +11,6 @@ use Rattle.kb_text.specs.Problems.{depth_in, depth_in_all, is_unapplied, are_una
 use Rattle.kb_text.specs.Refusals.{awaits_term, open_parens, last_alone, ends_next, arguments_so_far}
 use Rattle.kb_text.specs.Machine.{next_term, with_last, behind_argument}
 use Rattle.kb_syntax.proofs.MoveTerms.{count-with_last}
-use Rattle.kb_text.proofs.Sound.{map_some}
 
 -- a whole term at a depth
 pub record FineTerm (vars : List Name) (d : ℕ) (t : Written) : Type 0 where
@@ -90,10 +90,10 @@ fine_term vars (within f ts (whole (alone c))) v d left_paren h k p = subst (Fin
 fine_term vars (within f ts (whole (alone c))) v d t h k p = fine_behind vars d f ts (alone c) v t h k.0 k.1 (λ e. p.comma e)
 fine_term vars (within f ts (whole (applied g us))) v d t h k p = fine_behind vars d f ts (applied g us) v t h k.0 k.1 (λ e. p.comma e)
 fine_term vars (within f ts (opened g us)) v d t h k p =
-    let r = map_some (within f ts) (next_term (opened g us) t) v h in
+    let r = some_of_map (within f ts) (next_term (opened g us) t) v h in
     subst (FineSide vars d) r.2 (k.0, fine_term vars (opened g us) r.0 (d + 1) t r.1 k.1 (inside vars d f ts (opened g us) t (λ e. refl) p))
 fine_term vars (within f ts (within g us u)) v d t h k p =
-    let r = map_some (within f ts) (next_term (within g us u) t) v h in
+    let r = some_of_map (within f ts) (next_term (within g us u) t) v h in
     subst (FineSide vars d) r.2 (k.0, fine_term vars (within g us u) r.0 (d + 1) t r.1 k.1 (inside vars d f ts (within g us u) t (λ e. refl) p))
 
 -- the application that ends next has at most 8 arguments, and no variable as its symbol

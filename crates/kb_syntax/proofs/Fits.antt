@@ -3,6 +3,9 @@ use Rattle.std.proofs.Common.{append-nil, append_assoc, ◌≡◌, ◌⊎◌, in
 use Rattle.std.specs.Prelude.{not, nat_eq, is_some, bytes_eq, codes, filter}
 use Rattle.std.specs.List.{list_all, list_any, AllByRecursion}
 use Rattle.std.proofs.lemmas.Option.{same_Some}
+use Rattle.std.proofs.Math.Bool.{and-false}
+use Rattle.std.proofs.lemmas.Bool.{and_parts}
+use Rattle.kb_lemmas.proofs.Options.{none_some, some_of_map}
 use Rattle.kb_text.specs.Names.{Name, is_among, firsts, are_distinct}
 use Rattle.kb_text.specs.Tokens.{Token, left_paren, right_paren, comma, identifier, end_of_input}
 use Rattle.kb_text.specs.Grammar.{Written, alone, Section, variables, rules, skipped, WrittenEquation, open_after, reserved_names}
@@ -11,11 +14,10 @@ use Rattle.kb_text.specs.Problems.{names_in, variables_of, equations_of, all_nam
 use Rattle.kb_text.specs.Refusals.{back, Spot, spot_of, equation_spot, new_equation, side_of, awaits_term, open_parens, last_alone, ends_next, arguments_so_far, ended_alone, names_in_front, equation_names, front_variables, front_names, front_uses, front_count, is_token, is_some_and, is_new, has_other_arity, closing_clash_of, is_in_variables}
 use Rattle.kb_text.specs.Machine.{next_term, next_equation, whole_equation, sign_of, next_rules, next_skipped, next_section, next_front, open_at}
 use Rattle.kb_syntax.specs.Moves.{names_of_token, new_variables, names_at, new_names, ended_use, ended_in, ended_at, new_uses, open_equations, equation_ended, new_equations, side_names}
-use Rattle.kb_text.proofs.Sound.{map_some}
 use Rattle.kb_syntax.proofs.MoveTerms.{term_names}
 use Rattle.kb_syntax.proofs.MoveSections.{Move, section_moves, whole_is, is_whole_is, awaits_if_name, left_next}
 use Rattle.kb_text.proofs.Firsts.{same_bytes}
-use Rattle.kb_syntax.proofs.FineLists.{and_split, no-equations, skipped_names, skipped-append}
+use Rattle.kb_syntax.proofs.FineLists.{no-equations, skipped_names, skipped-append}
 use Rattle.kb_syntax.proofs.Fine.{Unshown, is_short, skipped_open, HasSpot, left_spot, right_spot, closed_count}
 use Rattle.kb_syntax.proofs.FitsTerms.{FitsTerm, FitsSide, fits_term}
 use Rattle.kb_syntax.proofs.FitsLists.{all_front, all_behind, each_front, few_less, fewer_names, distinct_front, distinct_last, agree_front, agree_last, ordered_front, none_before_variables}
@@ -65,15 +67,8 @@ pub record PassesTests (vars : List Name) (o : Option SectionFront) (t : Token) 
   pub variables : (c : Name) (s : Spot) → t ≡ identifier c → spot_of o ≡ Some s → (is_new c (variables_among vars s.equation) 64 && is_among vars c) ≡ false
   pub arity : (u : TermFront) → t ≡ comma → side_of o ≡ Some u → arguments_so_far u ≡ 8 → ⊥
 
-pub none_some : {A : Type 0} {x : A} → None ≡ Some x → ⊥
-none_some e = cc
-
 same_token : (c d : Name) → identifier c ≡ identifier d → c ≡ d
 same_token c d e = cc
-
-and_false : (b : Bool) → (b && false) ≡ false
-and_false true = refl
-and_false false = refl
 
 -- where a name would begin an equation
 new_tests : (vars : List Name) (o : Option SectionFront) (t : Token) → spot_of o ≡ Some new_equation → (t ≡ left_paren → ⊥) → (t ≡ comma → ⊥) → PassesTests vars o t
@@ -164,7 +159,7 @@ equation_before vars es (behind_sign l s) after (identifier c) h k =
     here = record { begins = false; side = []; equation = names_in l; parens = 0 }
 equation_before vars es (behind_sign l s) after t h k = absurd (cc)
 equation_before vars es (in_right l s u) after t h k =
-    let a = map_some (in_right l s) (next_term u t) after h in
+    let a = some_of_map (in_right l s) (next_term u t) after h in
     let fits : FitsFront vars (in_right l s a.0) = subst (FitsFront vars) (sym a.2) k in
     let names : names_in l ++ names_in_front a.0 ≡ (names_in l ++ names_in_front u) ++ names_of_token t = ap (names_in l ++◌) (term_names u a.0 t a.1) ∙ sym (append_assoc (names_in l) (names_in_front u) (names_of_token t)) in
     let few : length (firsts (variables_among vars ((names_in l ++ names_in_front u) ++ names_of_token t))) ≤ 64 = subst (λ (ns : List Name). length (firsts (variables_among vars ns)) ≤ 64) names fits.variables in
@@ -215,7 +210,7 @@ not_begun (in_left u) after c s q v = by (awaits_term u) v
     by false v = absurd (none_some v)
 not_begun (behind_sign l z) after c s q v = ap (λ (y : Spot). y.begins) (sym (same_Some _ s v))
 not_begun (in_right l z u) after c s q v =
-    let r = map_some (in_right l z) (next_term u (identifier c)) after q in
+    let r = some_of_map (in_right l z) (next_term u (identifier c)) after q in
     by (awaits_term u) (awaits_if_name u r.0 c r.1) v
   where
     by : (b : Bool) → b ≡ true → Some (cond b (record { begins = false; side = names_in_front u; equation = names_in l ++ names_in_front u; parens = open_parens u }) new_equation) ≡ Some s → s.begins ≡ false
@@ -248,7 +243,7 @@ parts ss (Some begun) (identifier x) g k h = go (bytes_eq x (codes "VAR")) refl 
     go false e false r true k = absurd (cc)
     go false e false r false k =
         let q : Fits (record { sections = ss; open_section = Some (in_skipped x []) }) = subst Fits (sym (same_Some _ g k)) h in
-        record { open_equation = tt; ordered = q.ordered; count = omega (arith, q.count); skipped = ap (list_all is_short) (append-nil (skipped_names ss)) ∙ all_front is_short (skipped_names ss) (x ∷ []) q.short_skipped; tests = tests; begins = λ c s u v. absurd (none_some v); short_word = λ c u v. ap is_short (sym (same_token x c u)) ∙ (and_split _ _ (all_behind is_short (skipped_names ss) (x ∷ []) q.short_skipped)).0; word = λ u v. absurd (not_word v) }
+        record { open_equation = tt; ordered = q.ordered; count = omega (arith, q.count); skipped = ap (list_all is_short) (append-nil (skipped_names ss)) ∙ all_front is_short (skipped_names ss) (x ∷ []) q.short_skipped; tests = tests; begins = λ c s u v. absurd (none_some v); short_word = λ c u v. ap is_short (sym (same_token x c u)) ∙ (and_parts _ _ (all_behind is_short (skipped_names ss) (x ∷ []) q.short_skipped)).0; word = λ u v. absurd (not_word v) }
       where
         not_word : identifier x ≡ identifier (codes "VAR") → ⊥
         not_word v = let w : bytes_eq x (codes "VAR") ≡ true = ap (λ (y : Name). bytes_eq y (codes "VAR")) (same_token x (codes "VAR") v) in cc
@@ -265,7 +260,7 @@ parts ss (Some in_rules) (identifier x) g k h =
     let q : Fits (record { sections = ss; open_section = Some (in_equation [] (in_left (whole (alone x)))) }) = subst Fits (sym (same_Some _ g k)) h in
     let count = q.count in
     plain_parts ss (Some in_rules) g (identifier x) tt q.ordered (omega (arith, count)) q.short_skipped (new_tests (front_variables g) (Some in_rules) (identifier x) refl (λ e. cc) (λ e. cc)) (λ e. cc)
-    (λ c s e u. ap (s.begins &&◌) (less (front_count (record { sections = ss; open_section = Some in_rules })) (omega (arith, count))) ∙ and_false s.begins)
+    (λ c s e u. ap (s.begins &&◌) (less (front_count (record { sections = ss; open_section = Some in_rules })) (omega (arith, count))) ∙ and-false s.begins)
 parts ss (Some in_rules) right_paren g k h =
     let q : Fits (record { sections = ss ++ rules [] ∷ []; open_section = None }) = subst Fits (sym (same_Some _ g k)) h in
     let count = q.count in
@@ -293,7 +288,7 @@ parts ss (Some (in_equation es e)) t g k h = go t (whole_equation e) refl (next_
         let r = ended w p own in
         let count = x.count in
         let fewer : front_count f + 1 ≤ 256 = omega (arith, count, length-append es (w ∷ [])) in
-        plain_parts ss (Some (in_equation es e)) g (identifier c) r.0 x.ordered (omega (arith, fewer)) x.short_skipped (new_tests (front_variables g) (Some (in_equation es e)) (identifier c) r.1 (λ u. cc) (λ u. cc)) (λ u. cc) (λ d s u v. ap (s.begins &&◌) (less (front_count f) fewer) ∙ and_false s.begins)
+        plain_parts ss (Some (in_equation es e)) g (identifier c) r.0 x.ordered (omega (arith, fewer)) x.short_skipped (new_tests (front_variables g) (Some (in_equation es e)) (identifier c) r.1 (λ u. cc) (λ u. cc)) (λ u. cc) (λ d s u v. ap (s.begins &&◌) (less (front_count f) fewer) ∙ and-false s.begins)
     go right_paren (Some w) p None q k =
         let same = same_Some (record { sections = ss ++ rules (es ++ w ∷ []) ∷ []; open_section = None }) g k in
         let x : Fits (record { sections = ss ++ rules (es ++ w ∷ []) ∷ []; open_section = None }) = subst Fits (sym same) h in
@@ -375,13 +370,13 @@ quiet f g t m h p same = record {
       where
         go : (s : Option Spot) → is_some s ≡ true → list_all is_short (names_at s (identifier c)) ≡ true → is_short c ≡ true
         go None e q = absurd (cc)
-        go (Some s) e q = (and_split _ _ q).0
+        go (Some s) e q = (and_parts _ _ q).0
 
     declared : (c : Name) → t ≡ identifier c → is_in_variables f.open_section ≡ true → is_short c ≡ true
     declared c k e = go f.open_section e (subst (λ (x : Token). list_all is_short (new_variables f.open_section x) ≡ true) k (all_behind is_short (front_variables f) (new_variables f.open_section t) variables_short))
       where
         go : (o : Option SectionFront) → is_in_variables o ≡ true → list_all is_short (new_variables o (identifier c)) ≡ true → is_short c ≡ true
-        go (Some (in_variables xs)) e q = (and_split _ _ q).0
+        go (Some (in_variables xs)) e q = (and_parts _ _ q).0
         go o e q = absurd (cc)
 
     doubled : (c : Name) → t ≡ identifier c → is_in_variables f.open_section ≡ true → is_among (front_variables f) c ≡ false

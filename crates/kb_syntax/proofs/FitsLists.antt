@@ -4,6 +4,8 @@ use Rattle.std.specs.Prelude.{not, nat_eq, is_some, unwrap_or, filter, bytes_eq}
 use Rattle.std.specs.List.{list_all, list_any, AllByRecursion}
 use Rattle.std.proofs.lemmas.List.Folds.{list_all-append, list_any-append}
 use Rattle.std.proofs.lemmas.List.Elements.{filter-append}
+use Rattle.std.proofs.lemmas.Bool.{or_from, or_parts, and_parts, and_from}
+use Rattle.kb_text.proofs.RewrittenLists.{among-append}
 use Rattle.kb_text.specs.Names.{Name, is_among, firsts, are_distinct}
 use Rattle.kb_text.specs.Tokens.{Token, identifier}
 use Rattle.kb_text.specs.Grammar.{Section, variables, rules, skipped}
@@ -11,25 +13,18 @@ use Rattle.kb_text.specs.Problems.{arity_in, agree, are_ordered, is_variables, i
 use Rattle.kb_text.specs.Refusals.{has_other_arity, is_new, is_some_and}
 use Rattle.kb_syntax.specs.Moves.{names_of_token}
 use Rattle.kb_text.proofs.Firsts.{is_among-firsts, firsts-push, bytes_eq-comm}
-use Rattle.kb_syntax.proofs.FineLists.{and_split, and_join, among-append, arity-more, some-within}
+use Rattle.kb_syntax.proofs.FineLists.{arity-more, some-within}
 
 -- a test of a list holds for its front
 pub all_front : {X : Type 0} (p : X → Bool) (xs ys : List X) → list_all p (xs ++ ys) ≡ true → list_all p xs ≡ true
-all_front p xs ys h = (and_split _ _ (sym (list_all-append p xs ys) ∙ h)).0
+all_front p xs ys h = (and_parts _ _ (sym (list_all-append p xs ys) ∙ h)).0
 
 pub all_behind : {X : Type 0} (p : X → Bool) (xs ys : List X) → list_all p (xs ++ ys) ≡ true → list_all p ys ≡ true
-all_behind p xs ys h = (and_split _ _ (sym (list_all-append p xs ys) ∙ h)).1
+all_behind p xs ys h = (and_parts _ _ (sym (list_all-append p xs ys) ∙ h)).1
 
 pub each_front : {X : Type 0} (P : X → Type 0) (xs ys : List X) → AllByRecursion P (xs ++ ys) → AllByRecursion P xs × AllByRecursion P ys
 each_front P [] ys h = (tt, h)
 each_front P (x ∷ xs) ys h = let r = each_front P xs ys h.1 in ((h.0, r.0), r.1)
-
-pub or_parts : (a b : Bool) → (a || b) ≡ false → (a ≡ false) × (b ≡ false)
-or_parts true b h = absurd (cc)
-or_parts false b h = (refl, h)
-
-pub or_join : (a b : Bool) → a ≡ false → b ≡ false → (a || b) ≡ false
-or_join a b h k = (λ i. h i || k i)
 
 -- ---- names
 
@@ -90,7 +85,7 @@ distinct_last [] x h = refl
 distinct_last (y ∷ ys) x h =
     let r = not_either (is_among (ys ++ x ∷ []) y) (are_distinct (ys ++ x ∷ [])) h in
     let q = or_parts (is_among ys y) (bytes_eq y x || false) (sym (among-append ys (x ∷ []) y) ∙ r.0) in
-    or_join (bytes_eq x y) (is_among ys x) (bytes_eq-comm y x false (or_parts (bytes_eq y x) false q.1).0) (distinct_last ys x r.1)
+    or_from (bytes_eq x y) (is_among ys x) (bytes_eq-comm y x false (or_parts (bytes_eq y x) false q.1).0) (distinct_last ys x r.1)
 
 -- ---- uses
 
@@ -100,10 +95,10 @@ fits_first all u = nat_eq u.1 (unwrap_or (arity_in all u.0) 0)
 same_first : (before us vs : List (Name × ℕ)) → list_all (fits_first ((before ++ us) ++ vs)) us ≡ true → list_all (fits_first (before ++ us)) us ≡ true
 same_first before [] vs h = refl
 same_first before (u ∷ us) vs h =
-    let parts = and_split (fits_first ((before ++ u ∷ us) ++ vs) u) (list_all (fits_first ((before ++ u ∷ us) ++ vs)) us) h in
+    let parts = and_parts (fits_first ((before ++ u ∷ us) ++ vs) u) (list_all (fits_first ((before ++ u ∷ us) ++ vs)) us) h in
     let moved : before ++ u ∷ us ≡ (before ++ u ∷ []) ++ us = sym (append_assoc before (u ∷ []) us) in
     let rest = same_first (before ++ u ∷ []) us vs (ap (λ (all : List (Name × ℕ)). list_all (fits_first (all ++ vs)) us) (sym moved) ∙ parts.1) in
-    and_join _ _
+    and_from _ _
     (ap (λ (o : Option ℕ). nat_eq u.1 (unwrap_or o 0)) (sym (arity-more (before ++ u ∷ us) vs u.0 (some-within before us u))) ∙ parts.0)
     (ap (λ (all : List (Name × ℕ)). list_all (fits_first all) us) moved ∙ rest)
 
@@ -117,7 +112,7 @@ agree_last us x n vs h = go (arity_in us x) refl
     all = us ++ (x, n) ∷ vs
 
     own : nat_eq n (unwrap_or (arity_in (us ++ (x, n) ∷ vs) x) 0) ≡ true
-    own = (and_split _ _ (all_behind (fits_first (us ++ (x, n) ∷ vs)) us ((x, n) ∷ vs) h)).0
+    own = (and_parts _ _ (all_behind (fits_first (us ++ (x, n) ∷ vs)) us ((x, n) ∷ vs) h)).0
 
     other : (m : ℕ) → nat_eq n m ≡ true → not (nat_eq m n) ≡ false
     other m e = let same : nat_eq m n ≡ true = grind arith in ap not same

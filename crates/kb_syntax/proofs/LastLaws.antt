@@ -2,6 +2,7 @@
 use Rattle.std.proofs.Common.{◌≡◌, refl, ap, sym, ◌∙◌, subst, ℕ, zero, suc, List, [], Option, Some, None, Bool, true, false, cond, ◌&&◌}
 use Rattle.std.specs.Prelude.{is_some, option_and_then, option_map}
 use Rattle.std.proofs.lemmas.Option.{same_Some}
+use Rattle.kb_lemmas.proofs.Options.{some_of_map}
 use Rattle.kb_text.specs.Names.{Name, is_among}
 use Rattle.kb_text.specs.Tokens.{Token, left_paren, right_paren, comma, identifier, end_of_input}
 use Rattle.kb_text.specs.Grammar.{Written, alone, applied, Arguments, no_arguments, argument, WrittenEquation}
@@ -14,7 +15,6 @@ use Rattle.kb_syntax.specs.Reader.{IsNextReader, TellsLast, name_notes, use_note
 use Rattle.kb_syntax.specs.Variables.{number_at}
 use Rattle.kb_syntax.specs.declared.notes.Notes.{Notes}
 use Rattle.kb_syntax.specs.declared.reader.Reader.{Reader}
-use Rattle.kb_text.proofs.Sound.{map_some}
 use Rattle.kb_syntax.proofs.VariableLaws.{number-is_some}
 
 -- a side with a name alone at its end ends with this token
@@ -41,10 +41,10 @@ term_last (within f ts (whole (alone c))) v left_paren h = subst (λ (v : TermFr
 term_last (within f ts (whole (alone c))) v t h = behind_last f (with_last ts (alone c)) t v h
 term_last (within f ts (whole (applied g us))) v t h = behind_last f (with_last ts (applied g us)) t v h
 term_last (within f ts (opened g us)) v t h =
-    let r = map_some (within f ts) (next_term (opened g us) t) v h in
+    let r = some_of_map (within f ts) (next_term (opened g us) t) v h in
     subst (λ (v : TermFront). Ends t (Some v)) r.2 (term_last (opened g us) r.0 t r.1)
 term_last (within f ts (within g us u)) v t h =
-    let r = map_some (within f ts) (next_term (within g us u) t) v h in
+    let r = some_of_map (within f ts) (next_term (within g us u) t) v h in
     subst (λ (v : TermFront). Ends t (Some v)) r.2 (term_last (within g us u) r.0 t r.1)
 
 abbrev EndsEquation : Token → EquationFront → Type 0
@@ -60,17 +60,17 @@ equation_last (in_left u) g t h = go (next_term u t) refl h
     sign : (o : Option Written) → option_and_then (λ w. option_map (behind_sign w) (sign_of t)) o ≡ Some g → EndsEquation t g
     sign None h = absurd (cc)
     sign (Some w) h =
-        let r = map_some (behind_sign w) (sign_of t) g h in
+        let r = some_of_map (behind_sign w) (sign_of t) g h in
         subst (EndsEquation t) r.2 (none t)
 
     go : (o : Option TermFront) → next_term u t ≡ o → or_try (option_map in_left o) (option_and_then (λ w. option_map (behind_sign w) (sign_of t)) (is_whole u)) ≡ Some g → EndsEquation t g
     go (Some v) k h = subst (EndsEquation t) (same_Some (in_left v) g h) (term_last u v t k)
     go None k h = sign (is_whole u) h
 equation_last (behind_sign l s) g t h =
-    let r = map_some (in_right l s) (begin_term t) g h in
+    let r = some_of_map (in_right l s) (begin_term t) g h in
     subst (EndsEquation t) r.2 (begin_last t r.0 r.1)
 equation_last (in_right l s u) g t h =
-    let r = map_some (in_right l s) (next_term u t) g h in
+    let r = some_of_map (in_right l s) (next_term u t) g h in
     subst (EndsEquation t) r.2 (term_last u r.0 t r.1)
 
 abbrev EndsLook : Token → Look → Type 0

@@ -4,6 +4,8 @@ use Rattle.std.specs.Prelude.{option_map, option_and_then, codes, bytes_eq, is_s
 use Rattle.std.specs.List.{list_any}
 use Rattle.std.proofs.lemmas.Option.{same_Some}
 use Rattle.std.proofs.lemmas.List.Folds.{list_any-append}
+use Rattle.kb_lemmas.proofs.Booleans.{or_nothing}
+use Rattle.kb_lemmas.proofs.Options.{some_of_map}
 use Rattle.kb_text.specs.Names.{Name, is_among}
 use Rattle.kb_text.specs.Tokens.{Token, arrow, equals, left_paren, right_paren, identifier, end_of_input}
 use Rattle.kb_text.specs.Grammar.{Written, alone, applied, Sign, WrittenEquation, Section, variables, rules, skipped, open_after, reserved_names}
@@ -12,7 +14,6 @@ use Rattle.kb_text.specs.Problems.{names_in, uses_in, variables_of, equations_of
 use Rattle.kb_text.specs.Refusals.{names_in_front, uses_in_front, Spot, awaits_term, last_alone, ended_alone, equation_names, equation_uses, equation_spot, open_variables, open_names, open_uses, front_variables, front_names, front_uses}
 use Rattle.kb_text.specs.Machine.{next_term, next_equation, whole_equation, is_whole, sign_of, or_try, next_rules, next_skipped, next_section, section_named, open_at}
 use Rattle.kb_syntax.specs.Moves.{names_of_token, new_variables, names_at, new_names, ended_in, new_uses, open_equations, equation_ended, new_equations, closes_rules}
-use Rattle.kb_text.proofs.Sound.{map_some}
 use Rattle.kb_syntax.proofs.MoveTerms.{term_names, term_uses, uses-ended}
 
 -- ---- lists of sections and of equations
@@ -52,7 +53,7 @@ awaits_if_name (opened f ts) v c h = refl
 awaits_if_name (within f ts (whole (alone d))) v c h = absurd (cc)
 awaits_if_name (within f ts (whole (applied g us))) v c h = absurd (cc)
 awaits_if_name (within f ts (opened g us)) v c h = refl
-awaits_if_name (within f ts (within g us u)) v c h = let r = map_some (within f ts) (next_term (within g us u) (identifier c)) v h in awaits_if_name (within g us u) r.0 c r.1
+awaits_if_name (within f ts (within g us u)) v c h = let r = some_of_map (within f ts) (next_term (within g us u) (identifier c)) v h in awaits_if_name (within g us u) r.0 c r.1
 
 pub is_whole_is : (u : TermFront) (w : Written) → is_whole u ≡ Some w → u ≡ whole w
 is_whole_is (whole t) w h = ap whole (same_Some t w h)
@@ -119,7 +120,7 @@ equation_moves (in_left u) g t h = ⊎_elim
 equation_moves (behind_sign l s) g (identifier c) h = subst (EquationMove (behind_sign l s) (identifier c)) (same_Some (in_right l s (whole (alone c))) g h) (record { names = refl; uses = refl })
 equation_moves (behind_sign l s) g t h = absurd (cc)
 equation_moves (in_right l s u) g t h =
-    let r = map_some (in_right l s) (next_term u t) g h in
+    let r = some_of_map (in_right l s) (next_term u t) g h in
     subst (EquationMove (in_right l s u) t) r.2 (record {
       names = ap (names_in l ++◌) (term_names u r.0 t r.1) ∙ sym (append_assoc (names_in l) (names_in_front u) (names_of_token t));
       uses = ap (uses_in l ++◌) (term_uses u r.0 t r.1) ∙ sym (append_assoc (uses_in l) (uses_in_front u) (ended_in u t));
@@ -140,7 +141,7 @@ pub whole_is : (e : EquationFront) (w : WrittenEquation) → whole_equation e �
 whole_is (in_left u) w h = absurd (cc)
 whole_is (behind_sign l s) w h = absurd (cc)
 whole_is (in_right l s u) w h =
-    let r = map_some (λ (x : Written). record { left = l; sign = s; right = x }) (is_whole u) w h in
+    let r = some_of_map (λ (x : Written). record { left = l; sign = s; right = x }) (is_whole u) w h in
     record {
       side = r.0;
       is = ap (in_right l s) (is_whole_is u r.0 r.1) ∙ (λ i. in_right ((r.2 i).left) ((r.2 i).sign) (whole r.0));
@@ -178,10 +179,6 @@ pub record Move (ss : List Section) (o : Option SectionFront) (t : Token) (g : F
 still : {X : Type 0} (xs : List X) → xs ++ [] ≡ (xs ++ []) ++ []
 still xs = sym (append-nil (xs ++ []))
 
-or_false : (b : Bool) → b ≡ (b || false)
-or_false true = refl
-or_false false = refl
-
 or_true : (b : Bool) → true ≡ (b || true)
 or_true true = refl
 or_true false = refl
@@ -203,10 +200,10 @@ begun_moves ss x s g h k = go (bytes_eq x (codes "VAR")) (bytes_eq x (codes "RUL
     move m = subst (Move ss (Some begun) (identifier x)) (same_Some (record { sections = ss; open_section = Some s }) g k) m
 
     go : (a b d : Bool) → cond a (Some (in_variables [])) (cond b (Some in_rules) (cond d None (Some (in_skipped x [])))) ≡ Some s → Move ss (Some begun) (identifier x) g
-    go true b d h = move (subst Fresh (same_Some (in_variables []) s h) (record { variables = still _; equations = still _; rules = or_false _; names = still _; uses = still _ }))
-    go false true d h = move (subst Fresh (same_Some in_rules s h) (record { variables = still _; equations = still _; rules = or_false _; names = still _; uses = still _ }))
+    go true b d h = move (subst Fresh (same_Some (in_variables []) s h) (record { variables = still _; equations = still _; rules = or_nothing _; names = still _; uses = still _ }))
+    go false true d h = move (subst Fresh (same_Some in_rules s h) (record { variables = still _; equations = still _; rules = or_nothing _; names = still _; uses = still _ }))
     go false false true h = absurd (cc)
-    go false false false h = move (subst Fresh (same_Some (in_skipped x []) s h) (record { variables = still _; equations = still _; rules = or_false _; names = still _; uses = still _ }))
+    go false false false h = move (subst Fresh (same_Some (in_skipped x []) s h) (record { variables = still _; equations = still _; rules = or_nothing _; names = still _; uses = still _ }))
 
 skipped_moves : (ss : List Section) (x : Name) (ts : List Token) (t : Token) (n : Option ℕ) (g : Front) → next_skipped ss x ts t n ≡ Some g → Move ss (Some (in_skipped x ts)) t g
 skipped_moves ss x ts right_paren (Some zero) g h = subst (Move ss (Some (in_skipped x ts)) right_paren) (same_Some (record { sections = ss ++ skipped x ts ∷ []; open_section = None }) g h) (record {
@@ -217,7 +214,7 @@ skipped_moves ss x ts right_paren (Some zero) g h = subst (Move ss (Some (in_ski
   uses = closed (ap all_uses (equations-append ss _) ∙ uses-append (equations_of ss) []);
 })
 skipped_moves ss x ts end_of_input n g h = absurd (cc)
-skipped_moves ss x ts t n g h = subst (Move ss (Some (in_skipped x ts)) t) (same_Some (record { sections = ss; open_section = Some (in_skipped x (ts ++ t ∷ [])) }) g h) (record { variables = still _; equations = still _; rules = or_false _; names = still _; uses = still _ })
+skipped_moves ss x ts t n g h = subst (Move ss (Some (in_skipped x ts)) t) (same_Some (record { sections = ss; open_section = Some (in_skipped x (ts ++ t ∷ [])) }) g h) (record { variables = still _; equations = still _; rules = or_nothing _; names = still _; uses = still _ })
 
 -- an equation that goes on
 goes_on : (ss : List Section) (es : List WrittenEquation) (e after : EquationFront) (t : Token) → closes_rules (Some (in_equation es e)) t ≡ false → new_equations (Some (in_equation es e)) t ≡ [] → EquationMove e t after
@@ -225,7 +222,7 @@ goes_on : (ss : List Section) (es : List WrittenEquation) (e after : EquationFro
 goes_on ss es e after t h k m = record {
   variables = still _;
   equations = sym (ap ((equations_of ss ++ es) ++◌) k ∙ append-nil _);
-  rules = or_false _ ∙ ap (list_any is_rules ss ||◌) (sym h);
+  rules = or_nothing _ ∙ ap (list_any is_rules ss ||◌) (sym h);
   names = ap (λ (ns : List Name). all_names (equations_of ss) ++ (all_names es ++ ns)) m.names ∙ ap (all_names (equations_of ss) ++◌) (one_more (all_names es) (equation_names e) _) ∙ one_more (all_names (equations_of ss)) _ _;
   uses = ap (λ (us : List (Name × ℕ)). all_uses (equations_of ss) ++ (all_uses es ++ us)) m.uses ∙ ap (all_uses (equations_of ss) ++◌) (one_more (all_uses es) (equation_uses e) _) ∙ one_more (all_uses (equations_of ss)) _ _;
 }
@@ -253,7 +250,7 @@ next_moves : (ss : List Section) (es : List WrittenEquation) (e : EquationFront)
 next_moves ss es e w c h = record {
   variables = still _;
   equations = one_more (equations_of ss) es (w ∷ []) ∙ ap (λ (x : Option WrittenEquation). (equations_of ss ++ es) ++ equation_ended x (identifier c)) (sym h);
-  rules = or_false _;
+  rules = or_nothing _;
   names =
       ap (λ (ns : List Name). all_names (equations_of ss) ++ (ns ++ c ∷ [])) (names-append es (w ∷ []) ∙ ap (all_names es ++◌) (sym (whole_names e w h)))
       ∙ one_more (all_names (equations_of ss)) (all_names es ++ equation_names e) (c ∷ [])
@@ -300,7 +297,7 @@ rules_moves ss es e right_paren (Some w) None g p q h = subst (Move ss (Some (in
 rules_moves ss es e t w None g p q h = absurd (cc)
 
 pub section_moves : (ss : List Section) (o : Option SectionFront) (t : Token) (g : Front) → next_section ss o t ≡ Some g → Move ss o t g
-section_moves ss None left_paren g h = subst (Move ss None left_paren) (same_Some (record { sections = ss; open_section = Some begun }) g h) (record { variables = still _; equations = still _; rules = or_false _; names = still _; uses = still _ })
+section_moves ss None left_paren g h = subst (Move ss None left_paren) (same_Some (record { sections = ss; open_section = Some begun }) g h) (record { variables = still _; equations = still _; rules = or_nothing _; names = still _; uses = still _ })
 section_moves ss None t g h = absurd (cc)
 section_moves ss (Some begun) (identifier x) g h = go (section_named x) refl h
   where
@@ -308,7 +305,7 @@ section_moves ss (Some begun) (identifier x) g h = go (section_named x) refl h
     go None p h = absurd (cc)
     go (Some s) p h = begun_moves ss x s g p h
 section_moves ss (Some begun) t g h = absurd (cc)
-section_moves ss (Some (in_variables xs)) (identifier x) g h = subst (Move ss (Some (in_variables xs)) (identifier x)) (same_Some (record { sections = ss; open_section = Some (in_variables (xs ++ x ∷ [])) }) g h) (record { variables = one_more (variables_of ss) xs (x ∷ []); equations = still _; rules = or_false _; names = still _; uses = still _ })
+section_moves ss (Some (in_variables xs)) (identifier x) g h = subst (Move ss (Some (in_variables xs)) (identifier x)) (same_Some (record { sections = ss; open_section = Some (in_variables (xs ++ x ∷ [])) }) g h) (record { variables = one_more (variables_of ss) xs (x ∷ []); equations = still _; rules = or_nothing _; names = still _; uses = still _ })
 section_moves ss (Some (in_variables xs)) right_paren g h = subst (Move ss (Some (in_variables xs)) right_paren) (same_Some (record { sections = ss ++ variables xs ∷ []; open_section = None }) g h) (record {
   variables = closed (variables-append ss _ ∙ ap (variables_of ss ++◌) (append-nil xs));
   equations = closed (equations-append ss _);
@@ -317,7 +314,7 @@ section_moves ss (Some (in_variables xs)) right_paren g h = subst (Move ss (Some
   uses = closed (ap all_uses (equations-append ss _) ∙ uses-append (equations_of ss) []);
 })
 section_moves ss (Some (in_variables xs)) t g h = absurd (cc)
-section_moves ss (Some in_rules) (identifier x) g h = subst (Move ss (Some in_rules) (identifier x)) (same_Some (record { sections = ss; open_section = Some (in_equation [] (in_left (whole (alone x)))) }) g h) (record { variables = still _; equations = still _; rules = or_false _; names = ap (λ (ns : List Name). ns ++ x ∷ []) (sym (append-nil _)); uses = still _ })
+section_moves ss (Some in_rules) (identifier x) g h = subst (Move ss (Some in_rules) (identifier x)) (same_Some (record { sections = ss; open_section = Some (in_equation [] (in_left (whole (alone x)))) }) g h) (record { variables = still _; equations = still _; rules = or_nothing _; names = ap (λ (ns : List Name). ns ++ x ∷ []) (sym (append-nil _)); uses = still _ })
 section_moves ss (Some in_rules) right_paren g h = subst (Move ss (Some in_rules) right_paren) (same_Some (record { sections = ss ++ rules [] ∷ []; open_section = None }) g h) (record {
   variables = closed (variables-append ss _);
   equations = closed (equations-append ss _);

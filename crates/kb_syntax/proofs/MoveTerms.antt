@@ -1,6 +1,7 @@
 -- What one more token of a term adds to its names and its uses.
 use Rattle.std.proofs.Common.{append-nil, append_assoc, ◌≡◌, refl, ap, sym, ◌∙◌, subst, arith, ◌+◌, List, [], ◌∷◌, ◌++◌, Some}
 use Rattle.std.proofs.lemmas.Option.{same_Some}
+use Rattle.kb_lemmas.proofs.Options.{some_of_map}
 use Rattle.kb_text.specs.Names.{Name}
 use Rattle.kb_text.specs.Tokens.{Token, left_paren, right_paren, comma, identifier}
 use Rattle.kb_text.specs.Grammar.{Written, alone, applied, Arguments, no_arguments, argument}
@@ -9,7 +10,6 @@ use Rattle.kb_text.specs.Problems.{names_in, names_in_all, uses_in, uses_in_all,
 use Rattle.kb_text.specs.Refusals.{names_in_front, uses_in_front, last_alone, ended_alone}
 use Rattle.kb_text.specs.Machine.{next_term, with_last, behind_argument}
 use Rattle.kb_syntax.specs.Moves.{names_of_token, ended_in}
-use Rattle.kb_text.proofs.Sound.{map_some}
 
 names-with_last : (ts : Arguments) (t : Written) → names_in_all (with_last ts t) ≡ names_in_all ts ++ names_in t
 names-with_last no_arguments t = append-nil (names_in t)
@@ -51,10 +51,10 @@ term_names (within f ts (whole (alone c))) v left_paren h = subst (NamesMove (wi
 term_names (within f ts (whole (alone c))) v t h = names_behind f ts (alone c) v t h
 term_names (within f ts (whole (applied g us))) v t h = names_behind f ts (applied g us) v t h
 term_names (within f ts (opened g us)) v t h =
-    let r = map_some (within f ts) (next_term (opened g us) t) v h in
+    let r = some_of_map (within f ts) (next_term (opened g us) t) v h in
     subst (NamesMove (within f ts (opened g us)) t) r.2 (ap (λ (ns : List Name). f ∷ (names_in_all ts ++ ns)) (term_names (opened g us) r.0 t r.1) ∙ ap (f ∷◌) (sym (append_assoc (names_in_all ts) (names_in_front (opened g us)) (names_of_token t))))
 term_names (within f ts (within g us u)) v t h =
-    let r = map_some (within f ts) (next_term (within g us u) t) v h in
+    let r = some_of_map (within f ts) (next_term (within g us u) t) v h in
     subst (NamesMove (within f ts (within g us u)) t) r.2 (ap (λ (ns : List Name). f ∷ (names_in_all ts ++ ns)) (term_names (within g us u) r.0 t r.1) ∙ ap (f ∷◌) (sym (append_assoc (names_in_all ts) (names_in_front (within g us u)) (names_of_token t))))
 
 uses_behind : (f : Name) (ts : Arguments) (w : Written) (v : TermFront) (t : Token) → behind_argument f (with_last ts w) t ≡ Some v → UsesMove (within f ts (whole w)) t v
@@ -79,8 +79,8 @@ term_uses (within f ts (whole (alone c))) v left_paren h = subst (UsesMove (with
 term_uses (within f ts (whole (alone c))) v t h = uses_behind f ts (alone c) v t h
 term_uses (within f ts (whole (applied g us))) v t h = uses_behind f ts (applied g us) v t h
 term_uses (within f ts (opened g us)) v t h =
-    let r = map_some (within f ts) (next_term (opened g us) t) v h in
+    let r = some_of_map (within f ts) (next_term (opened g us) t) v h in
     subst (UsesMove (within f ts (opened g us)) t) r.2 (ap (uses_in_all ts ++◌) (term_uses (opened g us) r.0 t r.1) ∙ sym (append_assoc (uses_in_all ts) (uses_in_front (opened g us)) (ended_in (opened g us) t)))
 term_uses (within f ts (within g us u)) v t h =
-    let r = map_some (within f ts) (next_term (within g us u) t) v h in
+    let r = some_of_map (within f ts) (next_term (within g us u) t) v h in
     subst (UsesMove (within f ts (within g us u)) t) r.2 (ap (uses_in_all ts ++◌) (term_uses (within g us u) r.0 t r.1) ∙ sym (append_assoc (uses_in_all ts) (uses_in_front (within g us u)) (ended_in (within g us u) t)))

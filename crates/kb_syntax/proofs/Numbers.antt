@@ -1,20 +1,12 @@
 -- Names numbered by first occurrence: their numbers are the places of these numbers.
 use Rattle.std.proofs.Common.{◌≡◌, ◌⊎◌, inl, inr, refl, ap, sym, ◌∙◌, arith, ℕ, ◌+◌, List, [], ◌∷◌, map, filter, Bool, true, false, not, cond, ◌&&◌, ◌||◌, ◌==◌}
 use Rattle.std.specs.Prelude.{bytes_eq}
-use Rattle.std.proofs.lemmas.Bool.{cases_eq, eq-eqb, ne_eqb}
+use Rattle.std.proofs.lemmas.Bool.{cases_eq, eq-eqb, ne_eqb, or_left, or_right, or_parts, or_from}
+use Rattle.kb_text.proofs.RewrittenLists.{same_name}
 use Rattle.kb_term.specs.Pair.{distinct, place_in}
 use Rattle.kb_text.specs.Names.{Name, is_among, firsts, number_of, are_distinct}
 use Rattle.kb_text.proofs.Firsts.{same_bytes, bytes_eq-other, bytes_eq-comm, is_among-firsts}
-use Rattle.kb_syntax.proofs.FineLists.{same_name}
-use Rattle.kb_syntax.proofs.FitsLists.{not_either, or_parts, or_join}
-
-pub or_left : (a b : Bool) → a ≡ true → (a || b) ≡ true
-or_left true b h = refl
-or_left false b h = absurd (cc)
-
-pub or_right : (a b : Bool) → b ≡ true → (a || b) ≡ true
-or_right true b h = refl
-or_right false b h = h
+use Rattle.kb_syntax.proofs.FitsLists.{not_either}
 
 -- a name among those that pass a test of names
 pub among-filter : (vars xs : List Name) (x : Name) → is_among (filter (is_among vars) xs) x ≡ (is_among xs x && is_among vars x)
@@ -42,14 +34,14 @@ not_among_others (z ∷ zs) x = go (bytes_eq z x) refl (not_among_others zs x)
   where
     go : (b : Bool) → bytes_eq z x ≡ b → is_among (filter (λ y. not (bytes_eq y x)) zs) x ≡ false → is_among (cond (not b) (z ∷ filter (λ y. not (bytes_eq y x)) zs) (filter (λ y. not (bytes_eq y x)) zs)) x ≡ false
     go true e ih = ih
-    go false e ih = or_join (bytes_eq x z) _ (bytes_eq-comm z x false e) ih
+    go false e ih = or_from (bytes_eq x z) _ (bytes_eq-comm z x false e) ih
 
 not_among_kept : (p : Name → Bool) (fs : List Name) (x : Name) → is_among fs x ≡ false → is_among (filter p fs) x ≡ false
 not_among_kept p [] x h = refl
 not_among_kept p (z ∷ zs) x h = let r = or_parts (bytes_eq x z) (is_among zs x) h in go (p z) r.0 (not_among_kept p zs x r.1)
   where
     go : (b : Bool) → bytes_eq x z ≡ false → is_among (filter p zs) x ≡ false → is_among (cond b (z ∷ filter p zs) (filter p zs)) x ≡ false
-    go true e ih = or_join (bytes_eq x z) _ e ih
+    go true e ih = or_from (bytes_eq x z) _ e ih
     go false e ih = ih
 
 distinct_kept : (p : Name → Bool) (fs : List Name) → are_distinct fs ≡ true → are_distinct (filter p fs) ≡ true

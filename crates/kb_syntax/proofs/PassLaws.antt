@@ -1,6 +1,7 @@
 -- Notes behind one more token of an equation that doesn't end it.
 use Rattle.std.proofs.Common.{append-nil, ◌≡◌, refl, ap, sym, ◌∙◌, ℕ, List, [], ◌++◌, Option, Some, None, Bool, true, false, cond, ◌||◌, ◌&&◌}
 use Rattle.std.specs.Prelude.{map, is_some}
+use Rattle.kb_lemmas.proofs.Booleans.{or_nothing}
 use Rattle.kb_text.specs.Tokens.{Token, right_paren, identifier}
 use Rattle.kb_text.specs.Grammar.{WrittenEquation}
 use Rattle.kb_text.specs.Fronts.{EquationFront, TermFront}
@@ -33,10 +34,6 @@ not_ended e t h = go (whole_equation e) refl t h
         true_false : {b : Bool} → b ≡ true → b ≡ false → ⊥
         true_false p q = cc
     go (Some w) p t h = (ap (λ (w : Option WrittenEquation). equation_ended w t) p, refl)
-
-or_nothing : (b : Bool) → b ≡ (b || false)
-or_nothing true = refl
-or_nothing false = refl
 
 pub goes_on_passed : (old new : Notes) (e : EquationFront) (t : Token) → is_ended e t ≡ false → new ≡ record old { size = cond (is_sign t) 0 old.size } → IsPassed old (at_equation e) t new
 goes_on_passed old new e t h k =

@@ -40,8 +40,8 @@ use Rattle.kb_syntax.proofs.LookLaws.{HasDepth, next-look, side-look, front_look
 use Rattle.kb_syntax.proofs.Known.{count-known}
 use Rattle.kb_syntax.proofs.Fine.{Fine, FineEquation, fine_use, is_short}
 use Rattle.kb_text.proofs.IdentifierLaws.{AllPairs-map}
-use Rattle.kb_syntax.proofs.FineLists.{and_split}
 use Rattle.std.proofs.lemmas.Slice.Eq.{bytes_eq-Decides}
+use Rattle.std.proofs.lemmas.Bool.{and_parts}
 use Rattle.kb_syntax.proofs.FineNext.{row_none, here_none, unshown, fine_next, fine_start, meets_conditions, meets_limits}
 use Rattle.kb_syntax.proofs.StandsNext.{stands_next}
 
@@ -339,7 +339,7 @@ end_rules ss e = go (list_any is_rules ss) (here_none _ (row_none (closed_at ss)
 
 all_tests : (p : Name → Bool) (xs : List Name) → list_all p xs ≡ true → All (λ x. p x ≡ true) xs
 all_tests p [] h = All-nil (λ x. p x ≡ true)
-all_tests p (x ∷ xs) h = let r = and_split (p x) (list_all p xs) h in All-cons (λ x. p x ≡ true) x xs r.0 (all_tests p xs r.1)
+all_tests p (x ∷ xs) h = let r = and_parts (p x) (list_all p xs) h in All-cons (λ x. p x ≡ true) x xs r.0 (all_tests p xs r.1)
 
 all_firsts : (P : Name → Type 0) (xs : List Name) → All P xs → All P (firsts xs)
 all_firsts P [] h = h
@@ -382,13 +382,13 @@ map_agree f g (x ∷ xs) h = (λ i. All-head (λ x. f x ≡ g x) x xs h i ∷ ma
 -- the first use of a name has at most 8 arguments where all uses do
 arity_at_most : (vars : List Name) (us : List (Name × ℕ)) (x : Name) → list_all (fine_use vars) us ≡ true → unwrap_or (arity_in us x) 0 ≤ 8
 arity_at_most vars [] x h = omega arith
-arity_at_most vars (u ∷ us) x h = go (bytes_eq x u.0) (arity_at_most vars us x (and_split (fine_use vars u) (list_all (fine_use vars) us) h).1)
+arity_at_most vars (u ∷ us) x h = go (bytes_eq x u.0) (arity_at_most vars us x (and_parts (fine_use vars u) (list_all (fine_use vars) us) h).1)
   where
     below : (n : ℕ) → nat_le n 8 ≡ true → n ≤ 8
     below n e = grind arith
 
     go : (b : Bool) → unwrap_or (arity_in us x) 0 ≤ 8 → unwrap_or (cond b (Some u.1) (arity_in us x)) 0 ≤ 8
-    go true r = below u.1 (and_split (nat_le u.1 8) (not (is_among vars u.0) || nat_eq u.1 0) (and_split (fine_use vars u) (list_all (fine_use vars) us) h).0).0
+    go true r = below u.1 (and_parts (nat_le u.1 8) (not (is_among vars u.0) || nat_eq u.1 0) (and_parts (fine_use vars u) (list_all (fine_use vars) us) h).0).0
     go false r = r
 
 -- ---- a whole text

@@ -3,6 +3,7 @@ use Rattle.std.proofs.Common.{◌≡◌, refl, ap, sym, ◌∙◌, arith, ℕ, �
 use Rattle.std.specs.Prelude.{not, option_and_then, nat_eq, nat_le, bytes_eq}
 use Rattle.std.specs.List.{list_all}
 use Rattle.std.proofs.lemmas.Option.{same_Some}
+use Rattle.std.proofs.lemmas.Bool.{and_parts}
 use Rattle.kb_text.specs.Names.{Name, is_among}
 use Rattle.kb_text.specs.Tokens.{Token, left_paren, right_paren}
 use Rattle.kb_text.specs.Grammar.{no_arguments, argument}
@@ -25,16 +26,15 @@ use Rattle.kb_syntax.proofs.Known.{name-known, alone-known, closing-known}
 use Rattle.kb_syntax.proofs.Rows.{first_of, own_kinds, AreBack, best-answer, end-rows, mark-rows}
 use Rattle.kb_syntax.proofs.LookLaws.{side-look}
 use Rattle.kb_syntax.proofs.FineTerms.{fine_end}
-use Rattle.kb_syntax.proofs.FineLists.{and_split}
 use Rattle.kb_syntax.proofs.Fine.{Fine, fine_use, side_fine}
 
 -- no arity but 0 is known of a variable
 variable_alone : (vars : List Name) (us : List (Name × ℕ)) → list_all (fine_use vars) us ≡ true → (x : Name) → is_among vars x ≡ true → has_other_arity us x 0 ≡ false
 variable_alone vars [] h x k = refl
-variable_alone vars (u ∷ us) h x k = go (bytes_eq x u.0) refl (variable_alone vars us (and_split _ _ h).1 x k)
+variable_alone vars (u ∷ us) h x k = go (bytes_eq x u.0) refl (variable_alone vars us (and_parts _ _ h).1 x k)
   where
     zero_use : x ≡ u.0 → not (nat_eq u.1 0) ≡ false
-    zero_use e = by (is_among vars u.0) (nat_eq u.1 0) (ap (is_among vars) (sym e) ∙ k) (and_split (nat_le u.1 8) (not (is_among vars u.0) || nat_eq u.1 0) (and_split (fine_use vars u) (list_all (fine_use vars) us) h).0).1
+    zero_use e = by (is_among vars u.0) (nat_eq u.1 0) (ap (is_among vars) (sym e) ∙ k) (and_parts (nat_le u.1 8) (not (is_among vars u.0) || nat_eq u.1 0) (and_parts (fine_use vars u) (list_all (fine_use vars) us) h).0).1
       where
         by : (a b : Bool) → a ≡ true → (not a || b) ≡ true → not b ≡ false
         by true true p q = refl

@@ -1,7 +1,10 @@
 -- Spelled bytes show no refusal.
-use Rattle.std.proofs.Common.{append-nil, ◌≡◌, inl, inr, ⊎_elim, refl, ap, sym, ◌∙◌, subst, arith, ℕ, ◌≤◌, List, [], ◌∷◌, ◌++◌, Option, Some, None, Bool, true, false, cond, ◌&&◌, ◌||◌, length, flat_map, take_all}
+use Rattle.std.proofs.Common.{append-nil, ◌≡◌, inl, inr, ⊎_elim, refl, ap, sym, ◌∙◌, subst, arith, ℕ, List, [], ◌∷◌, ◌++◌, Option, Some, None, Bool, true, false, cond, ◌&&◌, ◌||◌, length, flat_map, take_all}
 use Rattle.std.specs.Prelude.{not, nat_eq, nat_le, nat_lt, is_some, bytes_eq, codes, option_map, option_and_then, IsUtf8}
 use Rattle.std.specs.List.{list_all, list_any, AllByRecursion}
+use Rattle.std.proofs.lemmas.Bool.{leb-true, and_parts, and_from}
+use Rattle.kb_lemmas.proofs.Lists.{all_join}
+use Rattle.kb_lemmas.proofs.Options.{none_some}
 use Rattle.kb_term.specs.Signature.{Problem}
 use Rattle.kb_text.specs.Names.{Name, is_among, firsts, are_distinct}
 use Rattle.kb_text.specs.Tokens.{Token, arrow_equals, bar, left_paren, right_paren, comma, identifier, end_of_input}
@@ -18,11 +21,11 @@ use Rattle.kb_text.proofs.RunTexts.{closed_at, one_front, last_split, reaches_fr
 use Rattle.kb_text.proofs.Firsts.{same_bytes}
 use Rattle.kb_syntax.proofs.SideLaws.{IsNoTermToken, no_term_token}
 use Rattle.kb_syntax.proofs.MoveSections.{names-append, left_next, awaits_if_name}
-use Rattle.kb_syntax.proofs.FineLists.{and_split, and_join, all_join, skipped_names}
+use Rattle.kb_syntax.proofs.FineLists.{skipped_names}
 use Rattle.kb_syntax.proofs.Fine.{Unshown, is_short, left_spot}
 use Rattle.kb_syntax.proofs.FitsTerms.{few_arguments}
 use Rattle.kb_syntax.proofs.FitsLists.{all_front, all_behind}
-use Rattle.kb_syntax.proofs.Fits.{Fits, FitsEquation, fits_before, none_some}
+use Rattle.kb_syntax.proofs.Fits.{Fits, FitsEquation, fits_before}
 
 -- ---- whole texts
 
@@ -35,29 +38,26 @@ section_parts (rules es ∷ ss) h =
     let r = section_parts ss (all_behind is_short (all_names es) (flat_map names_of_section ss) h) in
     (r.0, (ap (list_all is_short) (names-append es (equations_of ss)) ∙ all_join is_short (all_names es) (all_names (equations_of ss)) (all_front is_short (all_names es) (flat_map names_of_section ss) h) r.1.0, r.1.1))
 section_parts (skipped x ts ∷ ss) h =
-    let a = and_split _ _ h in
+    let a = and_parts _ _ h in
     let r = section_parts ss a.1 in
-    (r.0, (r.1.0, and_join _ _ a.0 r.1.1))
-
-at_most : (m n : ℕ) → nat_le m n ≡ true → m ≤ n
-at_most m n h = grind arith
+    (r.0, (r.1.0, and_from _ _ a.0 r.1.1))
 
 each_fits : (vars : List Name) (es : List WrittenEquation) → list_all (λ t. nat_le (length (names_in t)) 512) (sides_of es) ≡ true → list_all (λ t. nat_le (depth_in t) 64) (sides_of es) ≡ true → list_all (is_unapplied vars) (sides_of es) ≡ true
     → list_all few_arguments (all_uses es) ≡ true → list_all (λ e. nat_le (length (equation_variables vars e)) 64) es ≡ true → AllByRecursion (FitsEquation vars) es
 each_fits vars [] size depth unapplied arity few = tt
 each_fits vars (e ∷ es) size depth unapplied arity few =
-    let a = and_split _ _ size in
-    let b = and_split _ _ a.1 in
-    let c = and_split _ _ depth in
-    let d = and_split _ _ c.1 in
-    let f = and_split _ _ unapplied in
-    let g = and_split _ _ f.1 in
+    let a = and_parts _ _ size in
+    let b = and_parts _ _ a.1 in
+    let c = and_parts _ _ depth in
+    let d = and_parts _ _ c.1 in
+    let f = and_parts _ _ unapplied in
+    let g = and_parts _ _ f.1 in
     let behind = all_behind few_arguments (uses_in e.left) (uses_in e.right ++ all_uses es) arity in
-    let v = and_split _ _ few in (
+    let v = and_parts _ _ few in (
       record {
-        left = record { size = at_most (length (names_in e.left)) 512 a.0; term = record { depth = let m = at_most (depth_in e.left) 64 c.0 in omega (arith, m); unapplied = f.0; arities = all_front few_arguments (uses_in e.left) (uses_in e.right ++ all_uses es) arity } };
-        right = record { size = at_most (length (names_in e.right)) 512 b.0; term = record { depth = let m = at_most (depth_in e.right) 64 d.0 in omega (arith, m); unapplied = g.0; arities = all_front few_arguments (uses_in e.right) (all_uses es) behind } };
-        variables = at_most (length (equation_variables vars e)) 64 v.0;
+        left = record { size = leb-true (length (names_in e.left)) 512 a.0; term = record { depth = let m = leb-true (depth_in e.left) 64 c.0 in omega (arith, m); unapplied = f.0; arities = all_front few_arguments (uses_in e.left) (uses_in e.right ++ all_uses es) arity } };
+        right = record { size = leb-true (length (names_in e.right)) 512 b.0; term = record { depth = let m = leb-true (depth_in e.right) 64 d.0 in omega (arith, m); unapplied = g.0; arities = all_front few_arguments (uses_in e.right) (all_uses es) behind } };
+        variables = leb-true (length (equation_variables vars e)) 64 v.0;
       },
       each_fits vars es b.1 d.1 g.1 (all_behind few_arguments (uses_in e.right) (all_uses es) behind) v.1,
     )
@@ -72,8 +72,8 @@ fits_text ss c l =
       short_skipped = ap (list_all is_short) (append-nil (skipped_names ss)) ∙ r.1.1;
       distinct = ap are_distinct vars ∙ c.distinct;
       agrees = ap agree (append-nil (all_uses (equations_of ss))) ∙ c.one_arity;
-      count = let m = at_most (length (equations_of ss)) 256 l.equations in omega (arith, m);
-      symbols = at_most _ 24 ((λ i. nat_le (length (firsts (symbols_among (vars i) (names i)))) 24) ∙ l.symbols);
+      count = let m = leb-true (length (equations_of ss)) 256 l.equations in omega (arith, m);
+      symbols = leb-true _ 24 ((λ i. nat_le (length (firsts (symbols_among (vars i) (names i)))) 24) ∙ l.symbols);
       equations = subst (AllByRecursion (FitsEquation (variables_of ss ++ []))) (sym (append-nil (equations_of ss))) (subst (λ (vs : List Name). AllByRecursion (FitsEquation vs) (equations_of ss)) (sym vars) (each_fits (variables_of ss) (equations_of ss) l.size l.depth c.unapplied l.arity l.variables_each));
       open_equation = tt;
       ordered = c.ordered;

@@ -4,6 +4,8 @@ use Rattle.std.specs.Prelude.{not, map, option_map, is_some, bytes_eq, codes}
 use Rattle.std.specs.List.{list_any}
 use Rattle.std.proofs.lemmas.Option.{same_Some}
 use Rattle.std.proofs.lemmas.List.Elements.{filter-append}
+use Rattle.kb_text.proofs.RewrittenLists.{among-append}
+use Rattle.kb_lemmas.proofs.Options.{some_of_map}
 use Rattle.kb_text.specs.Names.{Name, is_among, firsts, with_name}
 use Rattle.kb_text.specs.Tokens.{Token, arrow, equals, left_paren, right_paren, identifier, end_of_input}
 use Rattle.kb_text.specs.Grammar.{alone, Section, WrittenEquation, Sign, open_after, reserved_names, rules, skipped, variables}
@@ -17,9 +19,8 @@ use Rattle.kb_syntax.specs.Reader.{Stands, place_look, name_notes, use_notes, pr
 use Rattle.kb_syntax.specs.Written.{equation_of}
 use Rattle.kb_syntax.specs.declared.reader.Place.{Place}
 use Rattle.kb_syntax.specs.declared.notes.Notes.{Notes}
-use Rattle.kb_text.proofs.Sound.{map_some}
 use Rattle.kb_syntax.proofs.Fine.{Fine, Unshown}
-use Rattle.kb_syntax.proofs.FineLists.{no-equations, among-append}
+use Rattle.kb_syntax.proofs.FineLists.{no-equations}
 use Rattle.kb_syntax.proofs.Known.{arity-append}
 use Rattle.kb_text.proofs.Firsts.{same_bytes}
 use Rattle.kb_syntax.proofs.WrittenArguments.{with_name-firsts}
@@ -123,7 +124,7 @@ goes_on_names (in_left u) after t h = ⊎_elim
 goes_on_names (behind_sign l s) after (identifier c) h = subst (GoesOn (behind_sign l s) (identifier c)) (same_Some (in_right l s (whole (alone c))) after h) (refl, refl)
 goes_on_names (behind_sign l s) after t h = absurd (cc)
 goes_on_names (in_right l s u) after t h =
-    let r = map_some (in_right l s) (next_term u t) after h in
+    let r = some_of_map (in_right l s) (next_term u t) after h in
     let spot : (c : Name) → t ≡ identifier c → (sp : Spot) × (equation_spot (in_right l s u) ≡ Some sp) × (sp.begins ≡ false) = λ c k. (record { begins = false; side = names_in_front u; equation = names_in l ++ names_in_front u; parens = open_parens u }, ap (λ (b : Bool). Some (cond b (record { begins = false; side = names_in_front u; equation = names_in l ++ names_in_front u; parens = open_parens u }) new_equation)) (awaits_if_name u r.0 c (ap (next_term u) (sym k) ∙ r.1)), refl) in
     subst (GoesOn (in_right l s u) t) r.2 (
       after_plain (equation_spot (in_right l s u)) t (names_in l ++ names_in_front u) (names_in l ++ names_in_front r.0) (ap (names_in l ++◌) (term_names u r.0 t r.1) ∙ sym (append_assoc (names_in l) (names_in_front u) (names_of_token t))) spot,

@@ -4,6 +4,7 @@ use Rattle.std.specs.Prelude.{map, bytes_eq, nat_lt, nat_eq, not, Option, is_som
 use Rattle.std.specs.List.{list_all, position, position_or_len}
 use Rattle.std.proofs.lemmas.List.{map-append, length-map}
 use Rattle.std.proofs.lemmas.Option.{same_Some}
+use Rattle.std.proofs.lemmas.Bool.{and_parts}
 use Rattle.kb_term.specs.Pair.{place_in}
 use Rattle.kb_text.specs.Names.{Name, is_among, number_of, with_name}
 use Rattle.kb_text.proofs.Firsts.{bytes_eq-comm, same_bytes}
@@ -15,13 +16,12 @@ use Rattle.kb_text.specs.Problems.{equation_variables, names_in, variables_among
 use Rattle.kb_syntax.specs.Looks.{with_names, is_one_more}
 use Rattle.kb_syntax.specs.Variables.{VariableNames, AreNumbered, names_at, with_found, variable_number}
 use Rattle.kb_syntax.proofs.WrittenArguments.{with_names-among, names-firsts}
-use Rattle.kb_syntax.proofs.FineLists.{and_split}
 use Rattle.kb_syntax.proofs.Numbers.{same_number}
 
 pub names-numbered : (names ns : List Name) → list_all (is_among names) ns ≡ true → names_at names (map (number_of names) ns) ≡ ns
 names-numbered names [] h = refl
 names-numbered names (x ∷ xs) h =
-    let r = and_split (is_among names x) (list_all (is_among names) xs) h in
+    let r = and_parts (is_among names x) (list_all (is_among names) xs) h in
     λ i. at_number names x r.0 i ∷ names-numbered names xs r.1 i
 
 pub names-are : (names : List Name) (is : List ℕ) (n : AreNumbered names is) → names_at names is ≡ n.names
@@ -35,7 +35,7 @@ step n false = omega arith
 pub place-number : (names ns : List Name) (x : Name) → list_all (is_among names) ns ≡ true → is_among names x ≡ true → place_in (map (number_of names) ns) (number_of names x) ≡ number_of ns x
 place-number names [] x h k = refl
 place-number names (y ∷ ys) x h k =
-    let r = and_split (is_among names y) (list_all (is_among names) ys) h in
+    let r = and_parts (is_among names y) (list_all (is_among names) ys) h in
     let same : (number_of names y == number_of names x) ≡ bytes_eq x y = same_number names x y k r.0 ∙ sym (bytes_eq-comm y x (bytes_eq y x) refl) in
     (λ i. cond (not (same i)) (1 + place-number names ys x r.1 k i) 0) ∙ step (number_of ys x) (bytes_eq x y)
 
@@ -70,7 +70,7 @@ among-more names ns x h = go (is_among names x)
     more : (ys : List Name) → list_all (is_among names) ys ≡ true → list_all (is_among (names ++ x ∷ [])) ys ≡ true
     more [] h = refl
     more (y ∷ ys) h =
-        let r = and_split (is_among names y) (list_all (is_among names) ys) h in
+        let r = and_parts (is_among names y) (list_all (is_among names) ys) h in
         λ i. (among-append names (x ∷ []) y ∙ ap (λ (b : Bool). b || is_among (x ∷ []) y) r.0) i && more ys r.1 i
 
     go : (b : Bool) → list_all (is_among (cond b names (names ++ x ∷ []))) ns ≡ true
@@ -91,7 +91,7 @@ numbers-more names ns x h = go (is_among names x)
     more : (ys : List Name) → list_all (is_among names) ys ≡ true → map (number_of (names ++ x ∷ [])) ys ≡ map (number_of names) ys
     more [] h = refl
     more (y ∷ ys) h =
-        let r = and_split (is_among names y) (list_all (is_among names) ys) h in
+        let r = and_parts (is_among names y) (list_all (is_among names) ys) h in
         λ i. number-more names x y r.0 i ∷ more ys r.1 i
 
     go : (b : Bool) → map (number_of (cond b names (names ++ x ∷ []))) ns ≡ map (number_of names) ns
@@ -122,7 +122,7 @@ numbered-push names is x k n = record {
     all_push : (ns : List Name) → list_all (is_among names) ns ≡ true → list_all (is_among names) (ns ++ x ∷ []) ≡ true
     all_push [] h = ap (λ (b : Bool). b && true) k
     all_push (y ∷ ys) h =
-        let r = and_split (is_among names y) (list_all (is_among names) ys) h in
+        let r = and_parts (is_among names y) (list_all (is_among names) ys) h in
         λ i. r.0 i && all_push ys r.1 i
 
 pub names-push : (names : List Name) (is : List ℕ) (x : Name) → is_among names x ≡ true → names_at names (is ++ number_of names x ∷ []) ≡ names_at names is ++ x ∷ []
@@ -146,7 +146,7 @@ not_found names is x k n = ap (λ (ns : List Name). is_among ns x) (names-are na
     go : (ns : List Name) → list_all (is_among names) ns ≡ true → is_among ns x ≡ false
     go [] h = refl
     go (y ∷ ys) h =
-        let r = and_split (is_among names y) (list_all (is_among names) ys) h in by (bytes_eq x y) refl r.0 (go ys r.1)
+        let r = and_parts (is_among names y) (list_all (is_among names) ys) h in by (bytes_eq x y) refl r.0 (go ys r.1)
       where
         by : (b : Bool) → bytes_eq x y ≡ b → is_among names y ≡ true → is_among ys x ≡ false → (b || is_among ys x) ≡ false
         by true e p q = let both : is_among names x ≡ true = ap (is_among names) (same_bytes x y e) ∙ p in absurd (cc)

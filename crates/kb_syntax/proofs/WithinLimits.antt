@@ -8,21 +8,18 @@ use Rattle.kb_term.specs.Tree.{Tree, variable, apply, no_trees, list_of, tree_si
 use Rattle.kb_term.specs.Substitution.{rename}
 use Rattle.kb_term.specs.Pair.{distinct, place_in, variables_of_pair}
 use Rattle.kb_term.specs.Signature.{SymbolEntry, Problem, HasArity, IsWellFormed, AreWellFormed, IsEquationWithinLimits, IsWithinLimits}
-use Rattle.kb_term.proofs.Steps.{contains_cases}
 use Rattle.kb_term.proofs.Variants.{rename_same}
 use Rattle.std.proofs.lemmas.List.Elements.{Contains-append_left, Contains-append_right}
+use Rattle.std.proofs.lemmas.Bool.{not-true, leb-true, and_parts, or_left, or_right}
+use Rattle.kb_text.proofs.RewrittenLists.{among-append, same_name}
+use Rattle.kb_lemmas.proofs.Membership.{contains_cases}
 use Rattle.kb_text.specs.Names.{Name, is_among, number_of}
 use Rattle.kb_text.specs.Grammar.{Written, alone, applied, Arguments, no_arguments, argument, WrittenEquation, Section}
 use Rattle.kb_text.specs.Problems.{variables_of as declared, equations_of, names_in, names_in_all, count_of, uses_in, uses_in_all, arity_in, depth_in, depth_in_all, sides_of, all_names, all_uses, variables_among, symbols_among, term_of, terms_of, symbol_names, equation_variables, equation_of, entry_of, is_unapplied, are_unapplied, Spells}
 use Rattle.kb_text.proofs.Firsts.{same_bytes, is_among-firsts}
-use Rattle.kb_syntax.proofs.FineLists.{and_split, among-append, same_name}
 use Rattle.kb_syntax.proofs.FitsTerms.{few_arguments}
 use Rattle.kb_syntax.proofs.FitsLists.{all_front, all_behind}
-use Rattle.kb_syntax.proofs.Numbers.{or_left, or_right, among-filter, distinct_firsts, distinct_numbers, place_number}
-
-turned : (b : Bool) → not b ≡ true → b ≡ false
-turned true h = absurd (cc)
-turned false h = refl
+use Rattle.kb_syntax.proofs.Numbers.{among-filter, distinct_firsts, distinct_numbers, place_number}
 
 -- ---- the shape of a term
 
@@ -102,18 +99,18 @@ mutual
     where
       go : (v : Bool) → is_among found c ≡ v → IsWellFormed (map (entry_of uses) symbols) (cond v (variable (number_of found c)) (apply (number_of symbols c) no_trees))
       go true e = tt
-      go false e = (has_arity uses symbols c 0 (b c (first_name c []) (sym (a c (first_name c [])) ∙ e)) (same_count 0 (unwrap_or (arity_in uses c) 0) (and_split _ _ g).0), tt)
+      go false e = (has_arity uses symbols c 0 (b c (first_name c []) (sym (a c (first_name c [])) ∙ e)) (same_count 0 (unwrap_or (arity_in uses c) 0) (and_parts _ _ g).0), tt)
   term_formed vars found symbols uses (applied f ts) a b u g =
-      let v = and_split _ _ u in
-      let own = (and_split _ _ (all_behind (agrees uses) (uses_in_all ts) ((f, count_of ts) ∷ []) g)).0 in (
-        subst (HasArity (map (entry_of uses) symbols) (number_of symbols f)) (sym (terms_count found symbols ts)) (has_arity uses symbols f (count_of ts) (b f (first_name f (names_in_all ts)) (turned (is_among vars f) v.0)) (same_count (count_of ts) (unwrap_or (arity_in uses f) 0) own)),
+      let v = and_parts _ _ u in
+      let own = (and_parts _ _ (all_behind (agrees uses) (uses_in_all ts) ((f, count_of ts) ∷ []) g)).0 in (
+        subst (HasArity (map (entry_of uses) symbols) (number_of symbols f)) (sym (terms_count found symbols ts)) (has_arity uses symbols f (count_of ts) (b f (first_name f (names_in_all ts)) (not-true (is_among vars f) v.0)) (same_count (count_of ts) (unwrap_or (arity_in uses f) 0) own)),
         terms_formed vars found symbols uses ts (λ x c. a x (or_right (bytes_eq x f) (is_among (names_in_all ts) x) c)) (λ x c. b x (or_right (bytes_eq x f) (is_among (names_in_all ts) x) c)) v.1 (all_front (agrees uses) (uses_in_all ts) ((f, count_of ts) ∷ []) g),
       )
 
   terms_formed : (vars found symbols : List Name) (uses : List (Name × ℕ)) (ts : Arguments) → AreFound vars found (names_in_all ts) → AreSymbols vars symbols (names_in_all ts) → are_unapplied vars ts ≡ true → list_all (agrees uses) (uses_in_all ts) ≡ true → AreWellFormed (map (entry_of uses) symbols) (terms_of found symbols ts)
   terms_formed vars found symbols uses no_arguments a b u g = tt
   terms_formed vars found symbols uses (argument t ts) a b u g =
-      let v = and_split _ _ u in (
+      let v = and_parts _ _ u in (
         term_formed vars found symbols uses t (λ x c. a x (in_front (names_in t) (names_in_all ts) x c)) (λ x c. b x (in_front (names_in t) (names_in_all ts) x c)) v.0 (all_front (agrees uses) (uses_in t) (uses_in_all ts) g),
         terms_formed vars found symbols uses ts (λ x c. a x (in_rest (names_in t) (names_in_all ts) x c)) (λ x c. b x (in_rest (names_in t) (names_in_all ts) x c)) v.1 (all_behind (agrees uses) (uses_in t) (uses_in_all ts) g),
       )
@@ -132,13 +129,13 @@ mutual
       go true = refl
       go false = refl
   term_variables vars found symbols (applied f ts) a u =
-      let v = and_split _ _ u in
-      terms_variables vars found symbols ts (λ x c. a x (or_right (bytes_eq x f) (is_among (names_in_all ts) x) c)) v.1 ∙ sym (ap (λ (b : Bool). map (number_of found) (cond b (f ∷ variables_among vars (names_in_all ts)) (variables_among vars (names_in_all ts)))) (turned (is_among vars f) v.0))
+      let v = and_parts _ _ u in
+      terms_variables vars found symbols ts (λ x c. a x (or_right (bytes_eq x f) (is_among (names_in_all ts) x) c)) v.1 ∙ sym (ap (λ (b : Bool). map (number_of found) (cond b (f ∷ variables_among vars (names_in_all ts)) (variables_among vars (names_in_all ts)))) (not-true (is_among vars f) v.0))
 
   terms_variables : (vars found symbols : List Name) (ts : Arguments) → AreFound vars found (names_in_all ts) → are_unapplied vars ts ≡ true → variables_in (terms_of found symbols ts) ≡ map (number_of found) (variables_among vars (names_in_all ts))
   terms_variables vars found symbols no_arguments a u = refl
   terms_variables vars found symbols (argument t ts) a u =
-      let v = and_split _ _ u in
+      let v = and_parts _ _ u in
       ap₂ (λ (ms ns : List ℕ). ms ++ ns) (term_variables vars found symbols t (λ x c. a x (in_front (names_in t) (names_in_all ts) x c)) v.0) (terms_variables vars found symbols ts (λ x c. a x (in_rest (names_in t) (names_in_all ts) x c)) v.1)
       ∙ sym (map_join (number_of found) (variables_among vars (names_in t)) (variables_among vars (names_in_all ts)))
       ∙ ap (map (number_of found)) (sym (filter-append (is_among vars) (names_in t) (names_in_all ts)))
@@ -149,9 +146,6 @@ number_in P found [] h n c = absurd (omega arith)
 number_in P found (x ∷ xs) h n c = ⊎_elim (λ e. subst P e (h x (first_name x xs))) (λ k. number_in P found xs (λ y d. h y (or_right (bytes_eq y x) (is_among xs y) d)) n k) (contains_cases (number_of found x) (map (number_of found) xs) n c)
 
 -- ---- an equation
-
-at_most : (m n : ℕ) → nat_le m n ≡ true → m ≤ n
-at_most m n h = grind arith
 
 equation_within : (vars symbols : List Name) (uses : List (Name × ℕ)) (e : WrittenEquation) → AreSymbols vars symbols (names_in e.left ++ names_in e.right) → is_unapplied vars e.left ≡ true → is_unapplied vars e.right ≡ true
     → list_all (agrees uses) (uses_in e.left) ≡ true → list_all (agrees uses) (uses_in e.right) ≡ true → length (names_in e.left) ≤ 512 → length (names_in e.right) ≤ 512 → depth_in e.left ≤ 64 → depth_in e.right ≤ 64 → length (equation_variables vars e) ≤ 64
@@ -199,23 +193,23 @@ equations_within : (vars symbols : List Name) (uses : List (Name × ℕ)) (es : 
     → All (IsEquationWithinLimits (map (entry_of uses) symbols)) (map (equation_of vars symbols) es)
 equations_within vars symbols uses [] known u g s d few = All-nil (IsEquationWithinLimits (map (entry_of uses) symbols))
 equations_within vars symbols uses (e ∷ es) known u g s d few =
-    let u1 = and_split _ _ u in
-    let u2 = and_split _ _ u1.1 in
-    let s1 = and_split _ _ s in
-    let s2 = and_split _ _ s1.1 in
-    let d1 = and_split _ _ d in
-    let d2 = and_split _ _ d1.1 in
-    let f = and_split _ _ few in
+    let u1 = and_parts _ _ u in
+    let u2 = and_parts _ _ u1.1 in
+    let s1 = and_parts _ _ s in
+    let s2 = and_parts _ _ s1.1 in
+    let d1 = and_parts _ _ d in
+    let d2 = and_parts _ _ d1.1 in
+    let f = and_parts _ _ few in
     let g1 = all_behind (agrees uses) (uses_in e.left) (uses_in e.right ++ all_uses es) g in
     All-cons (IsEquationWithinLimits (map (entry_of uses) symbols)) (equation_of vars symbols e) (map (equation_of vars symbols) es)
     (equation_within vars symbols uses e (λ x c. known x (ap (λ (ns : List Name). is_among ns x) (sym (append_assoc (names_in e.left) (names_in e.right) (all_names es))) ∙ in_front (names_in e.left ++ names_in e.right) (all_names es) x c)) u1.0 u2.0
     (all_front (agrees uses) (uses_in e.left) (uses_in e.right ++ all_uses es) g) (all_front (agrees uses) (uses_in e.right) (all_uses es) g1)
-    (at_most (length (names_in e.left)) 512 s1.0) (at_most (length (names_in e.right)) 512 s2.0) (at_most (depth_in e.left) 64 d1.0) (at_most (depth_in e.right) 64 d2.0) (at_most (length (equation_variables vars e)) 64 f.0))
+    (leb-true (length (names_in e.left)) 512 s1.0) (leb-true (length (names_in e.right)) 512 s2.0) (leb-true (depth_in e.left) 64 d1.0) (leb-true (depth_in e.right) 64 d2.0) (leb-true (length (equation_variables vars e)) 64 f.0))
     (equations_within vars symbols uses es (λ x c. known x (in_rest (names_in e.left) (names_in e.right ++ all_names es) x (in_rest (names_in e.right) (all_names es) x c))) u2.1 (all_behind (agrees uses) (uses_in e.right) (all_uses es) g1) s2.1 d2.1 f.1)
 
 few_at : (uses : List (Name × ℕ)) (x : Name) → list_all few_arguments uses ≡ true → unwrap_or (arity_in uses x) 0 ≤ 8
 few_at [] x h = omega arith
-few_at (u ∷ us) x h = let r = and_split _ _ h in go (bytes_eq x u.0) (at_most u.1 8 r.0) (few_at us x r.1)
+few_at (u ∷ us) x h = let r = and_parts _ _ h in go (bytes_eq x u.0) (leb-true u.1 8 r.0) (few_at us x r.1)
   where
     go : (b : Bool) → u.1 ≤ 8 → unwrap_or (arity_in us x) 0 ≤ 8 → unwrap_or (cond b (Some u.1) (arity_in us x)) 0 ≤ 8
     go true a c = a
@@ -243,8 +237,8 @@ are_symbols ss x a b = is_among-firsts (symbols_among (declared ss) (all_names (
 
 pub within_limits : (bytes : List ℕ) (p : Problem) → Spells bytes p → IsWithinLimits p
 within_limits bytes p h = subst IsWithinLimits (sym h.stands_for) (record {
-  symbols = let few = at_most (length (symbol_names h.sections)) 24 h.limits.symbols in omega (arith, few, length-map (symbol_names h.sections) (entry_of (all_uses (equations_of h.sections))));
+  symbols = let few = leb-true (length (symbol_names h.sections)) 24 h.limits.symbols in omega (arith, few, length-map (symbol_names h.sections) (entry_of (all_uses (equations_of h.sections))));
   arities = entries_few (all_uses (equations_of h.sections)) (symbol_names h.sections) h.limits.arity;
-  count = let few = at_most (length (equations_of h.sections)) 256 h.limits.equations in omega (arith, few, length-map (equations_of h.sections) (equation_of (declared h.sections) (symbol_names h.sections)));
+  count = let few = leb-true (length (equations_of h.sections)) 256 h.limits.equations in omega (arith, few, length-map (equations_of h.sections) (equation_of (declared h.sections) (symbol_names h.sections)));
   each = equations_within (declared h.sections) (symbol_names h.sections) (all_uses (equations_of h.sections)) (equations_of h.sections) (are_symbols h.sections) h.conditions.unapplied h.conditions.one_arity h.limits.size h.limits.depth h.limits.variables_each;
 })

@@ -1,5 +1,7 @@
 -- Steps by positions are steps by recursion on terms, and paths are chains.
-use Rattle.std.proofs.Common.{ℕ, zero, suc, ◌≡◌, ◌≤◌, refl, sym, ap, ◌∙◌, subst, arith, List, [], ◌∷◌, Contains, Option, Some, None, option_map, option_and_then, length}
+use Rattle.std.proofs.Common.{ℕ, zero, suc, ◌≡◌, ◌≤◌, refl, sym, ap, ◌∙◌, subst, arith, List, [], ◌∷◌, Contains, Some, option_map, option_and_then, length}
+use Rattle.std.proofs.lemmas.Option.{same_Some}
+use Rattle.kb_lemmas.proofs.Options.{some_of_map, some_of_and_then}
 use Rattle.kb_term.specs.Tree.{Tree, variable, apply, Trees, no_trees, more_trees}
 use Rattle.kb_term.specs.Position.{argument, with_argument, subtree_at, replace_at}
 use Rattle.kb_term.specs.Substitution.{instance}
@@ -12,17 +14,6 @@ use Rattle.kb_term.proofs.Steps.{Step, StepIn, at_root, inside, here, there}
 -- some rule with the property rewrites s to t at some position
 abbrev pub PositionStep : (Rule → Type 0) → Tree → Tree → Type 0
 PositionStep rules s t = (r : Rule) × rules r × (p : List ℕ) × RewritesAt r p s t
-
-some_of_and_then : {A B : Type 0} (f : A → Option B) (o : Option A) (b : B) → option_and_then f o ≡ Some b → (a : A) × o ≡ Some a × f a ≡ Some b
-some_of_and_then f None b e = absurd (cc)
-some_of_and_then f (Some a) b e = (a, refl, e)
-
-some_of_map : {A B : Type 0} (f : A → B) (o : Option A) (b : B) → option_map f o ≡ Some b → (a : A) × o ≡ Some a × f a ≡ b
-some_of_map f None b e = absurd (cc)
-some_of_map f (Some a) b e = (a, refl, cc)
-
-some_same : {A : Type 0} (s t : A) → Some s ≡ Some t → s ≡ t
-some_same s t e = cc
 
 step_in_from : (rules : Rule → Type 0) (ts : Trees) (i : ℕ) (x v : Tree) → argument ts i ≡ Some x → Step rules x v → StepIn rules ts (with_argument ts i v)
 step_in_from rules no_trees zero x v e h = absurd (cc)
@@ -37,7 +28,7 @@ step_from rules r i m (k ∷ p) (variable n) t e d = absurd (cc)
 step_from rules r i m (k ∷ p) (apply f ts) t e d =
     let a = some_of_and_then (λ y. subtree_at y p) (argument ts k) (instance m r.left) e in
     let b = some_of_and_then (λ y. option_map (λ v. apply f (with_argument ts k v)) (replace_at y p (instance m r.right))) (argument ts k) t d in
-    let same : a.0 ≡ b.0 = some_same a.0 b.0 (sym a.1 ∙ b.1) in
+    let same : a.0 ≡ b.0 = same_Some a.0 b.0 (sym a.1 ∙ b.1) in
     let c = some_of_map (λ v. apply f (with_argument ts k v)) (replace_at b.0 p (instance m r.right)) t b.2 in
     let h = step_from rules r i m p b.0 c.0 (subst (λ y. subtree_at y p ≡ Some (instance m r.left)) same a.2) c.1 in
     subst (Step rules (apply f ts)) c.2 (inside (step_in_from rules ts k b.0 c.0 b.1 h))

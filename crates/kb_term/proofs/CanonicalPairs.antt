@@ -2,6 +2,7 @@
 use Rattle.std.proofs.Common.{ℕ, ◌≡◌, ◌⊎◌, inl, inr, refl, sym, ap, ap₂, ◌∙◌, arith, Bool, true, false, cond, nat_cmp, is_gt, Ordering, Less, Equal, Greater}
 use Rattle.std.specs.Ordering.{ordering_then}
 use Rattle.std.proofs.lemmas.Bool.Decides.{nat_tests}
+use Rattle.kb_lemmas.proofs.Booleans.{then_equal}
 use Rattle.kb_term.specs.Tree.{Tree, variable, apply, Trees, no_trees, more_trees, tree_cmp, trees_cmp}
 use Rattle.kb_term.specs.Pair.{Pair, numbered, pair_cmp, lesser, canonical, IsVariantEquation, IsSameEquation}
 use Rattle.kb_term.proofs.Variants.{variants_from_numbered, numbered_from_variants}
@@ -21,11 +22,6 @@ pub then_flip : (a b : Ordering) → ordering_then (flip a) (flip b) ≡ flip (o
 then_flip Less b = refl
 then_flip Equal b = refl
 then_flip Greater b = refl
-
-pub then_equal : (a b : Ordering) → ordering_then a b ≡ Equal → (a ≡ Equal) × (b ≡ Equal)
-then_equal Less b e = absurd (cc)
-then_equal Equal b e = (refl, e)
-then_equal Greater b e = absurd (cc)
 
 mutual
   pub tree_flip : (s t : Tree) → tree_cmp t s ≡ flip (tree_cmp s t)

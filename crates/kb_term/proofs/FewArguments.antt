@@ -1,10 +1,10 @@
 -- Terms with few arguments, argument by argument.
 use Rattle.std.proofs.Common.{ℕ, zero, suc, ◌<◌, ◌≤◌, ◌≡◌, refl, ap, arith, List, [], ◌∷◌, length, get_or}
 use Rattle.std.specs.Prelude.{All}
+use Rattle.std.proofs.lemmas.Option.{same_Some}
 use Rattle.kb_term.specs.Tree.{Tree, Trees, variable, apply, no_trees, more_trees, trees_of, list_of}
 use Rattle.kb_term.specs.FewArguments.{HasFewArguments, HaveFewArguments}
 use Rattle.kb_term.specs.Signature.{Signature, SymbolEntry, HasArity, IsWellFormed, AreWellFormed}
-use Rattle.kb_term.proofs.Subtrees.{some_same}
 
 -- arguments of a term with few arguments
 pub few_arguments : (us : List Tree) (k : ℕ) → k < length us → HaveFewArguments (trees_of us) → HasFewArguments (get_or us k (variable 0))
@@ -24,7 +24,7 @@ all_few_arguments (u ∷ us) h = (h 0 (omega arith), all_few_arguments us (λ j 
 -- an arity of the signature
 few_arity : (signature : Signature) → All (λ (f : SymbolEntry). f.arity ≤ 255) signature → (f n : ℕ) → HasArity signature f n → n ≤ 255
 few_arity [] small f n h = absurd (cc)
-few_arity (g ∷ gs) small zero n h = let e : g.arity ≡ n = some_same g.arity n h in omega (arith, e, small 0 g (omega arith))
+few_arity (g ∷ gs) small zero n h = let e : g.arity ≡ n = same_Some g.arity n h in omega (arith, e, small 0 g (omega arith))
 few_arity (g ∷ gs) small (suc f) n h = few_arity gs (λ k d p. small (suc k) d (omega (arith, p))) f n h
 
 -- terms over a signature have few arguments where its arities are small

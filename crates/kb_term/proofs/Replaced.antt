@@ -3,6 +3,7 @@ use Rattle.std.proofs.Common.{ℕ, zero, suc, ◌+◌, ◌-◌, ◌≤◌, ◌<�
 use Rattle.std.specs.Prelude.{option_and_then, IsSome, map, sum_by, max}
 use Rattle.std.proofs.lemmas.List.{take_all, take_more, map-append}
 use Rattle.std.proofs.lemmas.List.Sums.{sum_by-cons}
+use Rattle.kb_lemmas.proofs.Options.{some_of_map, some_of_and_then}
 use Rattle.kb_term.specs.Tree.{Tree, Trees, variable, apply, no_trees, more_trees, trees_of, list_of, tree_size, trees_size, tree_depth, list_depth}
 use Rattle.kb_term.specs.View.{tree_of}
 use Rattle.kb_term.specs.declared.term.Term.{Term}
@@ -48,14 +49,6 @@ argument-is_at : (ts : List Tree) (k : ℕ) (x d : Tree) → argument (trees_of 
 argument-is_at [] k x d e = absurd (cc)
 argument-is_at (t ∷ ts) zero x d e = cc
 argument-is_at (t ∷ ts) (suc k) x d e = argument-is_at ts k x d e
-
-some_of_and_then : {A B : Type 0} (f : A → Option B) (o : Option A) (b : B) → option_and_then f o ≡ Some b → (a : A) × o ≡ Some a × f a ≡ Some b
-some_of_and_then f None b e = absurd (cc)
-some_of_and_then f (Some a) b e = (a, refl, e)
-
-some_of_map : {A B : Type 0} (f : A → B) (o : Option A) (b : B) → option_map f o ≡ Some b → (a : A) × o ≡ Some a × f a ≡ b
-some_of_map f None b e = absurd (cc)
-some_of_map f (Some a) b e = (a, refl, cc)
 
 -- an argument of an application is replaced at a position
 pub record IsReplaced (f : ℕ) (ts : List Tree) (i : ℕ) (p : List ℕ) (u v : Tree) : Type 0 where

@@ -3,11 +3,11 @@ use Rattle.std.proofs.Common.{ℕ, zero, suc, ◌<◌, ◌≤◌, ◌≡◌, ◌
 use Rattle.std.specs.Prelude.{◌==◌}
 use Rattle.std.proofs.lemmas.Bool.{cases_eq, eq-eqb, ne_eqb}
 use Rattle.std.proofs.lemmas.List.Elements.{Contains-append_left, Contains-append_right}
+use Rattle.kb_lemmas.proofs.Membership.{contains_cases}
 use Rattle.kb_term.specs.Tree.{Tree, variables_of, HasVariablesBelow}
 use Rattle.kb_term.specs.Substitution.{rename}
 use Rattle.kb_term.specs.Pair.{place_in, variables_of_pair}
 use Rattle.kb_term.specs.Rule.{numbered_rule, IsRuleBelow}
-use Rattle.kb_term.proofs.Steps.{contains_cases}
 use Rattle.kb_term.proofs.Variants.{variables_renamed, in_distinct}
 
 place_below : (xs : List ℕ) (x : ℕ) → Contains xs x → place_in xs x < length xs

@@ -3,14 +3,11 @@ use Rattle.std.proofs.Common.{ℕ, zero, suc, ◌+◌, ◌≡◌, inl, inr, refl
 use Rattle.std.specs.Prelude.{IsSome}
 use Rattle.std.proofs.lemmas.Bool.{false≢true}
 use Rattle.std.proofs.lemmas.List.Elements.{Contains-append_left, Contains-append_right, Contains-append_cases}
+use Rattle.std.proofs.lemmas.Option.{same_Some}
+use Rattle.kb_lemmas.proofs.Membership.{contains_mapped, contains_cases}
 use Rattle.kb_term.specs.Tree.{Tree, Trees, variable, apply, no_trees, more_trees, variables_of, variables_in}
 use Rattle.kb_term.specs.Substitution.{instance, instances}
 use Rattle.kb_term.specs.Position.{argument, with_argument, subtree_at, replace_at, function_positions_of, function_positions_in}
-use Rattle.kb_term.proofs.Steps.{contains_cases, contains_first, contains_behind}
-
--- the value of a Some
-pub some_same : {X : Type 0} (x y : X) → Some x ≡ Some y → x ≡ y
-some_same x y e = cc
 
 -- arguments of an instance
 pub argument-instances : (d : ℕ → Tree) (ts : Trees) (i : ℕ) → argument (instances d ts) i ≡ option_map (instance d) (argument ts i)
@@ -71,25 +68,17 @@ argument_variables : (ts : Trees) (i : ℕ) (a : Tree) → argument ts i ≡ Som
 argument_variables no_trees zero a e n c = absurd (cc)
 argument_variables no_trees (suc i) a e n c = absurd (cc)
 argument_variables (more_trees t ts) zero a e n c = absurd (cc)
-argument_variables (more_trees t ts) (suc zero) a e n c = Contains-append_left (variables_of t) (variables_in ts) n (subst (λ u. Contains (variables_of u) n) (sym (some_same t a e)) c)
+argument_variables (more_trees t ts) (suc zero) a e n c = Contains-append_left (variables_of t) (variables_in ts) n (subst (λ u. Contains (variables_of u) n) (sym (same_Some t a e)) c)
 argument_variables (more_trees t ts) (suc (suc i)) a e n c = Contains-append_right (variables_of t) (variables_in ts) n (argument_variables ts (suc i) a e n c)
 
 pub subtree_variables : (p : List ℕ) (t u : Tree) → subtree_at t p ≡ Some u → (n : ℕ) → Contains (variables_of u) n → Contains (variables_of t) n
-subtree_variables [] t u e n c = subst (λ u. Contains (variables_of u) n) (sym (some_same t u e)) c
+subtree_variables [] t u e n c = subst (λ u. Contains (variables_of u) n) (sym (same_Some t u e)) c
 subtree_variables (i ∷ p) (variable x) u e n c = absurd (cc)
 subtree_variables (i ∷ p) (apply f ts) u e n c = go (argument ts i) refl (λ a h. subtree_variables p a u h n c) e
   where
     go : (o : Option Tree) → argument ts i ≡ o → ((a : Tree) → subtree_at a p ≡ Some u → Contains (variables_of a) n) → option_and_then (λ t. subtree_at t p) o ≡ Some u → Contains (variables_in ts) n
     go None q back e = absurd (cc)
     go (Some a) q back e = argument_variables ts i a q n (back a e)
-
--- a member of a mapped list is made of one of the list
-pub contains_mapped : {X Y : Type 0} (f : X → Y) (xs : List X) (y : Y) → Contains (map f xs) y → (x : X) × Contains xs x × (f x ≡ y)
-contains_mapped f [] y c = absurd (omega (arith, c.1))
-contains_mapped f (x ∷ xs) y c = elim (contains_cases (f x) (map f xs) y c) [
-  | inl e ↦ (x, contains_first x xs, e)
-  | inr d ↦ let h = contains_mapped f xs y d in (h.0, contains_behind x xs h.0 h.1, h.2)
-]
 
 -- at each position at which no variable stands there is a subterm
 mutual

@@ -1,8 +1,9 @@
 -- What the tests of variants decide.
 use Rattle.std.proofs.Common.{◌≡◌, refl, sym, ap, ap₂, ◌∙◌, subst, arith, ℕ, ◌+◌, List, [], ◌∷◌, ◌++◌, get_or, Bool, true, false, cond, Contains, append_assoc, append-nil}
-use Rattle.std.specs.Prelude.{◌&&◌, ◌==◌, not}
-use Rattle.std.proofs.lemmas.Bool.{false≢true, eqb-true, eq-eqb}
+use Rattle.std.specs.Prelude.{◌==◌, not}
+use Rattle.std.proofs.lemmas.Bool.{false≢true, eqb-true, eq-eqb, and_from}
 use Rattle.std.proofs.lemmas.List.Elements.{Contains-append_left, Contains-append_right}
+use Rattle.kb_lemmas.proofs.Booleans.{and_gives_left, and_gives_right}
 use Rattle.kb_term.specs.Tree.{Tree, Trees, variable, apply, no_trees, more_trees, variables_of, variables_in, tree_eq}
 use Rattle.kb_term.specs.Substitution.{rename, instances, IsVariant}
 use Rattle.kb_term.specs.Pair.{distinct, place_in}
@@ -38,17 +39,6 @@ named_decides s t xs ys d e b f = (
   (λ v. f ∙ tree_eq-same (rename (place_in xs) s) (rename (place_in ys) t) (ap (λ zs. rename (place_in zs) s) d ∙ places_from_variant s t v ∙ ap (λ zs. rename (place_in zs) t) (sym e))),
 )
 
-and-left : (a b : Bool) → (a && b) ≡ true → a ≡ true
-and-left true b e = refl
-and-left false b e = absurd (false≢true e)
-
-and-right : (a b : Bool) → (a && b) ≡ true → b ≡ true
-and-right true b e = e
-and-right false b e = absurd (false≢true e)
-
-and-both : (a b : Bool) → a ≡ true → b ≡ true → (a && b) ≡ true
-and-both a b d e = rw (d, e) refl
-
 -- where x stands in s exactly where y stands in t, both are first met at one place
 mutual
   place_alike : (x y : ℕ) (s t : Tree) (xs ys : List ℕ) → stands_alike x y s t ≡ true → place_in xs x ≡ place_in ys y → place_in (variables_of s ++ xs) x ≡ place_in (variables_of t ++ ys) y
@@ -61,7 +51,7 @@ mutual
       go false false h = ap (λ k. 1 + k) e
   place_alike x y (variable m) (apply g us) xs ys h e = absurd (false≢true h)
   place_alike x y (apply f ts) (variable n) xs ys h e = absurd (false≢true h)
-  place_alike x y (apply f ts) (apply g us) xs ys h e = places_alike x y ts us xs ys (and-right (f == g) (stand_alike x y ts us) h) e
+  place_alike x y (apply f ts) (apply g us) xs ys h e = places_alike x y ts us xs ys (and_gives_right (f == g) (stand_alike x y ts us) h) e
 
   places_alike : (x y : ℕ) (ts us : Trees) (xs ys : List ℕ) → stand_alike x y ts us ≡ true → place_in xs x ≡ place_in ys y → place_in (variables_in ts ++ xs) x ≡ place_in (variables_in us ++ ys) y
   places_alike x y no_trees no_trees xs ys h e = e
@@ -69,7 +59,7 @@ mutual
   places_alike x y (more_trees t ts) no_trees xs ys h e = absurd (false≢true h)
   places_alike x y (more_trees t ts) (more_trees u us) xs ys h e =
       ap (λ vs. place_in vs x) (append_assoc (variables_of t) (variables_in ts) xs)
-      ∙ place_alike x y t u (variables_in ts ++ xs) (variables_in us ++ ys) (and-left (stands_alike x y t u) (stand_alike x y ts us) h) (places_alike x y ts us xs ys (and-right (stands_alike x y t u) (stand_alike x y ts us) h) e)
+      ∙ place_alike x y t u (variables_in ts ++ xs) (variables_in us ++ ys) (and_gives_left (stands_alike x y t u) (stand_alike x y ts us) h) (places_alike x y ts us xs ys (and_gives_right (stands_alike x y t u) (stand_alike x y ts us) h) e)
       ∙ ap (λ vs. place_in vs y) (sym (append_assoc (variables_of u) (variables_in us) ys))
 
 first_place : (x y : ℕ) (s t : Tree) → stands_alike x y s t ≡ true → place_in (variables_of s) x ≡ place_in (variables_of t) y
@@ -80,13 +70,13 @@ mutual
   places_from_paired a b (variable m) (variable n) h = ap variable (first_place m n a b h)
   places_from_paired a b (variable m) (apply g us) h = absurd (false≢true h)
   places_from_paired a b (apply f ts) (variable n) h = absurd (false≢true h)
-  places_from_paired a b (apply f ts) (apply g us) h = ap₂ apply (eqb-true f g (and-left (f == g) (are_paired a b ts us) h)) (places_from_are_paired a b ts us (and-right (f == g) (are_paired a b ts us) h))
+  places_from_paired a b (apply f ts) (apply g us) h = ap₂ apply (eqb-true f g (and_gives_left (f == g) (are_paired a b ts us) h)) (places_from_are_paired a b ts us (and_gives_right (f == g) (are_paired a b ts us) h))
 
   places_from_are_paired : (a b : Tree) (ts us : Trees) → are_paired a b ts us ≡ true → instances (λ x. variable (place_in (variables_of a) x)) ts ≡ instances (λ x. variable (place_in (variables_of b) x)) us
   places_from_are_paired a b no_trees no_trees h = refl
   places_from_are_paired a b no_trees (more_trees u us) h = absurd (false≢true h)
   places_from_are_paired a b (more_trees t ts) no_trees h = absurd (false≢true h)
-  places_from_are_paired a b (more_trees t ts) (more_trees u us) h = ap₂ more_trees (places_from_paired a b t u (and-left (is_paired a b t u) (are_paired a b ts us) h)) (places_from_are_paired a b ts us (and-right (is_paired a b t u) (are_paired a b ts us) h))
+  places_from_are_paired a b (more_trees t ts) (more_trees u us) h = ap₂ more_trees (places_from_paired a b t u (and_gives_left (is_paired a b t u) (are_paired a b ts us) h)) (places_from_are_paired a b ts us (and_gives_right (is_paired a b t u) (are_paired a b ts us) h))
 
 -- a renaming that tells variables apart keeps where each stands
 mutual
@@ -101,20 +91,20 @@ mutual
       both : (b : Bool) → cond b b (not b) ≡ true
       both true = refl
       both false = refl
-  alike_renamed r vs h x c (apply f ts) k = and-both (f == f) (stand_alike x (r x) ts (instances (λ n. variable (r n)) ts)) (eq-eqb f f refl) (alikes_renamed r vs h x c ts k)
+  alike_renamed r vs h x c (apply f ts) k = and_from (f == f) (stand_alike x (r x) ts (instances (λ n. variable (r n)) ts)) (eq-eqb f f refl) (alikes_renamed r vs h x c ts k)
 
   alikes_renamed : (r : ℕ → ℕ) (vs : List ℕ) → IsApart r vs → (x : ℕ) → Contains vs x → (ts : Trees) → ((y : ℕ) → Contains (variables_in ts) y → Contains vs y) → stand_alike x (r x) ts (instances (λ n. variable (r n)) ts) ≡ true
   alikes_renamed r vs h x c no_trees k = refl
-  alikes_renamed r vs h x c (more_trees t ts) k = and-both (stands_alike x (r x) t (rename r t)) (stand_alike x (r x) ts (instances (λ n. variable (r n)) ts)) (alike_renamed r vs h x c t (λ y d. k y (Contains-append_left (variables_of t) (variables_in ts) y d))) (alikes_renamed r vs h x c ts (λ y d. k y (Contains-append_right (variables_of t) (variables_in ts) y d)))
+  alikes_renamed r vs h x c (more_trees t ts) k = and_from (stands_alike x (r x) t (rename r t)) (stand_alike x (r x) ts (instances (λ n. variable (r n)) ts)) (alike_renamed r vs h x c t (λ y d. k y (Contains-append_left (variables_of t) (variables_in ts) y d))) (alikes_renamed r vs h x c ts (λ y d. k y (Contains-append_right (variables_of t) (variables_in ts) y d)))
 
 mutual
   paired_renamed : (r : ℕ → ℕ) (a : Tree) → IsApart r (variables_of a) → (s : Tree) → ((y : ℕ) → Contains (variables_of s) y → Contains (variables_of a) y) → is_paired a (rename r a) s (rename r s) ≡ true
   paired_renamed r a h (variable m) k = alike_renamed r (variables_of a) h m (k m (0, omega arith, refl)) a (λ y c. c)
-  paired_renamed r a h (apply f ts) k = and-both (f == f) (are_paired a (rename r a) ts (instances (λ n. variable (r n)) ts)) (eq-eqb f f refl) (are_paired_renamed r a h ts k)
+  paired_renamed r a h (apply f ts) k = and_from (f == f) (are_paired a (rename r a) ts (instances (λ n. variable (r n)) ts)) (eq-eqb f f refl) (are_paired_renamed r a h ts k)
 
   are_paired_renamed : (r : ℕ → ℕ) (a : Tree) → IsApart r (variables_of a) → (ts : Trees) → ((y : ℕ) → Contains (variables_in ts) y → Contains (variables_of a) y) → are_paired a (rename r a) ts (instances (λ n. variable (r n)) ts) ≡ true
   are_paired_renamed r a h no_trees k = refl
-  are_paired_renamed r a h (more_trees t ts) k = and-both (is_paired a (rename r a) t (rename r t)) (are_paired a (rename r a) ts (instances (λ n. variable (r n)) ts)) (paired_renamed r a h t (λ y d. k y (Contains-append_left (variables_of t) (variables_in ts) y d))) (are_paired_renamed r a h ts (λ y d. k y (Contains-append_right (variables_of t) (variables_in ts) y d)))
+  are_paired_renamed r a h (more_trees t ts) k = and_from (is_paired a (rename r a) t (rename r t)) (are_paired a (rename r a) ts (instances (λ n. variable (r n)) ts)) (paired_renamed r a h t (λ y d. k y (Contains-append_left (variables_of t) (variables_in ts) y d))) (are_paired_renamed r a h ts (λ y d. k y (Contains-append_right (variables_of t) (variables_in ts) y d)))
 
 pub paired_decides : (s t : Tree) (b : Bool) → b ≡ is_paired s t s t → (b ≡ true → IsVariant s t) × (IsVariant s t → b ≡ true)
 paired_decides s t b f = (

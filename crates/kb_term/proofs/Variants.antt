@@ -2,10 +2,11 @@
 use Rattle.std.proofs.Common.{ℕ, suc, ◌+◌, ◌≡◌, ◌⊎◌, inl, inr, refl, sym, ap, ap₂, ◌∙◌, subst, arith, List, [], ◌∷◌, ◌++◌, map, filter, get_or, Contains, Bool, true, false, not, cond, ◌==◌, ⊎_elim}
 use Rattle.std.proofs.lemmas.List.Elements.{Contains-append_cases, Contains-append_left, Contains-append_right}
 use Rattle.std.proofs.lemmas.Bool.{cases_eq, cond-true, cond-false, eq-eqb, ne_eqb, cond_both}
+use Rattle.kb_lemmas.proofs.Membership.{contains_cases, contains_behind, contains_first}
 use Rattle.kb_term.specs.Tree.{Tree, variable, apply, Trees, no_trees, more_trees, variables_of, variables_in}
 use Rattle.kb_term.specs.Substitution.{instances, rename}
 use Rattle.kb_term.specs.Pair.{distinct, place_in, variables_of_pair, numbered, IsVariantEquation}
-use Rattle.kb_term.proofs.Steps.{occurs_from, occurs_to, contains_cases, contains_behind, contains_first}
+use Rattle.kb_term.proofs.Steps.{occurs_from, occurs_to}
 use Rattle.kb_term.proofs.Instances.{instance-agree, agree_at, instance-instance, instance-variable}
 
 pub rename-rename : (f g : ℕ → ℕ) (t : Tree) → rename f (rename g t) ≡ rename (λ x. f (g x)) t

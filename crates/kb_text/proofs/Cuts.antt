@@ -4,8 +4,8 @@ use Rattle.std.specs.Prelude.{⊤}
 use Rattle.std.specs.List.{join_with_byte, onto_first, slice_split}
 use Rattle.std.proofs.lemmas.Bool.{false≢true}
 use Rattle.std.proofs.lemmas.List.Splits.{slice_split-cons_no, slice_split-cons_yes}
+use Rattle.kb_lemmas.proofs.Numbers.{eq_itself}
 use Rattle.kb_text.specs.Fields.{IsWithout, behind}
-use Rattle.kb_text.proofs.Identifiers.{same_equal}
 
 pub without-append : (c : ℕ) (xs ys : List ℕ) → IsWithout c xs → IsWithout c ys → IsWithout c (xs ++ ys)
 without-append c [] ys h k = k
@@ -26,7 +26,7 @@ split_whole c (x ∷ xs) h = slice_split-cons_no (λ b. b == c) x xs h.0 ∙ ap 
 
 -- a part ends before the byte
 split_front : (c : ℕ) (xs ys : List ℕ) → IsWithout c xs → slice_split (λ b. b == c) (xs ++ c ∷ ys) ≡ xs ∷ slice_split (λ b. b == c) ys
-split_front c [] ys h = slice_split-cons_yes (λ b. b == c) c ys (same_equal c)
+split_front c [] ys h = slice_split-cons_yes (λ b. b == c) c ys (eq_itself c)
 split_front c (x ∷ xs) ys h = slice_split-cons_no (λ b. b == c) x (xs ++ c ∷ ys) h.0 ∙ ap (onto_first x) (split_front c xs ys h.1)
 
 -- joined fields without the byte are its parts
@@ -69,8 +69,8 @@ without_more c (b ∷ bytes) (suc i) h e k = let f : suc i + 1 ≡ suc (i + 1) =
 -- a text is cut behind its first line in one way
 pub one_line : (c : ℕ) (xs ys zs ws : List ℕ) → IsWithout c xs → IsWithout c ys → xs ++ c ∷ zs ≡ ys ++ c ∷ ws → (xs ≡ ys) × (zs ≡ ws)
 one_line c [] [] zs ws f g e = (refl, cc)
-one_line c [] (y ∷ ys) zs ws f g e = absurd (let s : c ≡ y = cc in false≢true (sym g.0 ∙ ap (λ z. z == c) (sym s) ∙ same_equal c))
-one_line c (x ∷ xs) [] zs ws f g e = absurd (let s : x ≡ c = cc in false≢true (sym f.0 ∙ ap (λ z. z == c) s ∙ same_equal c))
+one_line c [] (y ∷ ys) zs ws f g e = absurd (let s : c ≡ y = cc in false≢true (sym g.0 ∙ ap (λ z. z == c) (sym s) ∙ eq_itself c))
+one_line c (x ∷ xs) [] zs ws f g e = absurd (let s : x ≡ c = cc in false≢true (sym f.0 ∙ ap (λ z. z == c) s ∙ eq_itself c))
 one_line c (x ∷ xs) (y ∷ ys) zs ws f g e =
     let t : xs ++ c ∷ zs ≡ ys ++ c ∷ ws = cc in
     let r = one_line c xs ys zs ws f.1 g.1 t in

@@ -1,11 +1,12 @@
 -- The tokens of a name and of what stands behind it.
 use Rattle.std.proofs.Common.{◌≡◌, refl, ap, sym, ◌∙◌, subst, inl, arith, ℕ, ◌+◌, ◌<◌, ◌==◌, List, [], ◌∷◌, ◌++◌, Bool, true, false, not, ◌&&◌, ◌||◌, cond, length, get_or}
 use Rattle.std.specs.Prelude.{map, nat_eq, ⊤}
-use Rattle.std.proofs.lemmas.Bool.{false≢true, eqb-true}
+use Rattle.std.proofs.lemmas.Bool.{false≢true, eqb-true, and_parts, not-true}
+use Rattle.kb_lemmas.proofs.Numbers.{eq_itself}
 use Rattle.kb_term.specs.Identifier.{begins_otherwise, is_unbroken, is_white_space}
 use Rattle.kb_text.specs.Tokens.{Token, Placed, Start, white, mark, letter, start_of, tokens_by, tokens_from, letter_before, with_letter, arrow_equals, arrow, equals, bar, left_paren, right_paren, comma, quotation, identifier}
 use Rattle.kb_text.specs.Starts.{Stops}
-use Rattle.kb_text.proofs.Identifiers.{and_true, letter_start, not_true, same_equal}
+use Rattle.kb_text.proofs.Identifiers.{letter_start}
 use Rattle.kb_text.proofs.Runs.{IsApart, alone_letter, at_stop, stands_from, start_is}
 
 -- the bytes that stand behind names in written problems: a space, a line feed, parentheses and the comma
@@ -95,7 +96,7 @@ same_start b (c ∷ []) rest s h =
 same_start b (c ∷ d ∷ name) rest s h = start_is b (c ∷ d ∷ (name ++ rest)) ∙ sym (start_is b (c ∷ d ∷ name)) ∙ h
 
 letter_of : (b : ℕ) (name rest : List ℕ) → IsStopped rest → is_unbroken (b ∷ name) ≡ true → start_of b (name ++ rest) ≡ letter
-letter_of b name rest s h = same_start b name rest s (letter_start b name (not_true (begins_otherwise (b ∷ name)) (and_true (not (begins_otherwise (b ∷ name))) (is_unbroken name) h).0))
+letter_of b name rest s h = same_start b name rest s (letter_start b name (not-true (begins_otherwise (b ∷ name)) (and_parts (not (begins_otherwise (b ∷ name))) (is_unbroken name) h).0))
 
 -- no identifier goes on behind the name
 apart : (n : ℕ) (rest : List ℕ) → IsStopped rest → IsApart n (tokens_from 0 n rest)
@@ -107,11 +108,11 @@ one_name : (name : List ℕ) (b n : ℕ) (rest : List ℕ) → is_unbroken (b �
 one_name [] b n rest h s =
     ap (λ (k : Start). tokens_by k n b (λ k. tokens_from k (n + 1) rest)) (letter_of b [] rest s h) ∙ alone_letter n b (tokens_from 0 (n + 1) rest) (apart (n + 1) rest s)
 one_name (c ∷ name) b n rest h s =
-    let r = and_true (not (begins_otherwise (b ∷ c ∷ name))) (is_unbroken (c ∷ name)) h in
+    let r = and_parts (not (begins_otherwise (b ∷ c ∷ name))) (is_unbroken (c ∷ name)) h in
     let last : n + 1 + length (c ∷ name) ≡ n + length (b ∷ c ∷ name) = omega arith in
     ap (λ (k : Start). tokens_by k n b (λ k. tokens_from k (n + 1) (c ∷ (name ++ rest)))) (letter_of b (c ∷ name) rest s h)
     ∙ ap (λ (ts : List Placed). letter_before n b ts) (one_name name c (n + 1) rest r.1 s)
-    ∙ ap (λ (t : Bool). with_letter n b (record { at = n + 1; token = identifier (c ∷ name) }) (tokens_from 0 (n + 1 + length (c ∷ name)) rest) (identifier (c ∷ name)) t) (same_equal (n + 1))
+    ∙ ap (λ (t : Bool). with_letter n b (record { at = n + 1; token = identifier (c ∷ name) }) (tokens_from 0 (n + 1 + length (c ∷ name)) rest) (identifier (c ∷ name)) t) (eq_itself (n + 1))
     ∙ ap (λ (m : ℕ). record { at = n; token = identifier (b ∷ c ∷ name) } ∷ tokens_from 0 m rest) last
 
 -- the tokens of a text from a place on, without their places

@@ -3,6 +3,7 @@ use Rattle.std.proofs.Common.{◌≡◌, refl, ap, ap₂, sym, ◌∙◌, subst,
 use Rattle.std.specs.Prelude.{IsTrue, map}
 use Rattle.std.proofs.lemmas.Bool.{false≢true}
 use Rattle.std.proofs.lemmas.List.{drop-drop, length-take-le, map_push}
+use Rattle.kb_term.proofs.FewArguments.{arguments-count}
 use Rattle.kb_term.specs.Signature.{Signature, IsSignature, HasArity}
 use Rattle.kb_term.specs.Tree.{Tree, variable, apply, Trees, no_trees, more_trees, list_of, trees_of}
 use Rattle.kb_term.specs.View.{tree_of}
@@ -44,10 +45,6 @@ opened_closed names (x ∷ xs) = refl
 bounded_push : (signature : Signature) (d : ℕ) (xs : List Tree) (y : Tree) → AreBounded signature d (trees_of xs) → IsBounded signature d y → AreBounded signature d (trees_of (xs ++ y ∷ []))
 bounded_push signature d [] y h k = (k, tt)
 bounded_push signature d (x ∷ xs) y h k = (h.0, bounded_push signature d xs y h.1 k)
-
-length-list_of : (xs : List Tree) → length (list_of (trees_of xs)) ≡ length xs
-length-list_of [] = refl
-length-list_of (x ∷ xs) = omega (arith, length-list_of xs)
 
 length-push : (xs : List Tree) (y : Tree) → length (xs ++ y ∷ []) ≡ suc (length xs)
 length-push [] y = refl
@@ -216,7 +213,7 @@ arguments_read signature behind d arity items at size p k = record {
 pub application_read : (signature : Signature) (text name behind : List ℕ) (cut d f arity : ℕ) (items : List Tree) (size : ℕ) → IsCut text name behind cut → 1 ≤ d → symbol_text (names_of signature) f ≡ name → HasArity signature f arity → BeginsWithArguments signature behind (d - 1) arity items size
     → BeginsWithTerm signature text d (apply f (trees_of items)) (length name + size)
 application_read signature text name behind cut d f arity items size c h e a p = record {
-  bounded = (h, subst (HasArity signature f) (sym (length-list_of items ∙ p.count)) a, p.bounded);
+  bounded = (h, subst (HasArity signature f) (sym (arguments-count items ∙ p.count)) a, p.bounded);
   within = omega (arith, ap length c.whole, length-append name behind, p.within);
   spelling = c.whole ∙ ap₂ ◌++◌ (sym e) (p.spelling ∙ ap (arguments_text names (trees_of items) ++◌) (sym moved)) ∙ sym (append_assoc (symbol_text names f) (arguments_text names (trees_of items)) (drop (length name + size) text));
   ends = subst IsNameEnd (sym moved) p.ends;

@@ -1,11 +1,11 @@
 -- Written numbers and terms hold no white space.
-use Rattle.std.proofs.Common.{◌≡◌, refl, ap, sym, ◌∙◌, subst, arith, ℕ, zero, suc, ◌+◌, ◌-◌, ◌<◌, ◌≤◌, ◌==◌, ◌^◌, List, [], ◌∷◌, ◌++◌, Bool, true, false, not, ◌||◌, length, get_or}
+use Rattle.std.proofs.Common.{◌≡◌, refl, ap, sym, ◌∙◌, subst, arith, ℕ, zero, suc, ◌+◌, ◌-◌, ◌<◌, ◌==◌, ◌^◌, List, [], ◌∷◌, ◌++◌, Bool, true, false, not, ◌||◌, length, get_or}
 use Rattle.std.specs.Prelude.{decimal, nat_le, replicate}
 use Rattle.std.specs.List.{join_with_byte, list_all, list_any, starts_with}
-use Rattle.std.proofs.lemmas.Bool.{false≢true, ne_eqb}
-use Rattle.std.proofs.lemmas.Bool.Decides.{nat_tests}
+use Rattle.std.proofs.lemmas.Bool.{false≢true, ne_eqb, leb-true, and_parts, not-true}
 use Rattle.std.proofs.lemmas.Fmt.{decimal_by_steps}
 use Rattle.std.proofs.lemmas.List.{get_or-map}
+use Rattle.kb_lemmas.proofs.Numbers.{eq_above}
 use Rattle.kb_term.specs.Identifier.{is_white_space, marks, begins_otherwise, is_unbroken}
 use Rattle.kb_term.specs.Signature.{Signature, SymbolEntry, IsSignature}
 use Rattle.kb_term.specs.Tree.{Tree, variable, apply, Trees, no_trees, more_trees, list_of}
@@ -13,7 +13,6 @@ use Rattle.kb_text.specs.Fields.{IsWithout}
 use Rattle.kb_text.specs.Terms.{names_of, prefix_length, symbol_text, term_text, arguments_text, later_text}
 use Rattle.kb_text.specs.TermReading.{IsBounded, AreBounded}
 use Rattle.kb_text.proofs.Cuts.{AreWithout, without-append}
-use Rattle.kb_text.proofs.Identifiers.{and_true, not_true}
 use Rattle.kb_text.proofs.TermTexts.{arity_within}
 
 -- white space, below every byte that is written but those of names
@@ -27,23 +26,17 @@ space_blank = record { low = omega arith; white = refl }
 pub feed_blank : IsBlank 10
 feed_blank = record { low = omega arith; white = refl }
 
-pub high_byte : (b c : ℕ) → c < b → (b == c) ≡ false
-high_byte b c h = ne_eqb b c (λ e. omega arith)
-
-at_least : (b c : ℕ) → nat_le b c ≡ true → b ≤ c
-at_least b c h = grind (arith, nat_tests)
-
 -- a word of letters
 pub word_without : (c : ℕ) → c < 40 → (w : List ℕ) → list_all (nat_le 40) w ≡ true → IsWithout c w
 word_without c h [] e = tt
 word_without c h (b ∷ w) e =
-    let r = and_true (nat_le 40 b) (list_all (nat_le 40) w) e in
-    let l = at_least 40 b r.0 in
-    (high_byte b c (omega arith), word_without c h w r.1)
+    let r = and_parts (nat_le 40 b) (list_all (nat_le 40) w) e in
+    let l = leb-true 40 b r.0 in
+    (eq_above b c (omega arith), word_without c h w r.1)
 
 pub decimal_without : (c n : ℕ) → c < 48 → n < 2 ^ 64 → IsWithout c (decimal n)
 decimal_without c n h l =
-    decimal_by_steps (λ m ds. IsWithout c ds) (λ m k. (high_byte (48 + m) c (omega arith), tt)) (λ m ds k w. without-append c ds _ w (high_byte _ c (omega arith), tt)) n l
+    decimal_by_steps (λ m ds. IsWithout c ds) (λ m k. (eq_above (48 + m) c (omega arith), tt)) (λ m ds k w. without-append c ds _ w (eq_above _ c (omega arith), tt)) n l
 
 pub join_without : (c d : ℕ) (fs : List (List ℕ)) → (d == c) ≡ false → AreWithout c fs → IsWithout c (join_with_byte d fs)
 join_without c d [] h k = tt
@@ -52,7 +45,7 @@ join_without c d (f ∷ g ∷ fs) h k = without-append c f (d ∷ join_with_byte
 
 letters_without : (c : ℕ) → c < 40 → (n : ℕ) → IsWithout c (replicate n 120)
 letters_without c h zero = tt
-letters_without c h (suc n) = (high_byte 120 c (omega arith), letters_without c h n)
+letters_without c h (suc n) = (eq_above 120 c (omega arith), letters_without c h n)
 
 no_white : (c : ℕ) → IsBlank c → (b : ℕ) (bytes : List ℕ) → begins_otherwise (b ∷ bytes) ≡ false → (b == c) ≡ false
 no_white c k b bytes h =
@@ -61,8 +54,8 @@ no_white c k b bytes h =
 unbroken_without : (c : ℕ) → IsBlank c → (bytes : List ℕ) → is_unbroken bytes ≡ true → IsWithout c bytes
 unbroken_without c k [] h = tt
 unbroken_without c k (b ∷ bytes) h =
-    let r = and_true (not (begins_otherwise (b ∷ bytes))) (is_unbroken bytes) h in
-    (no_white c k b bytes (not_true (begins_otherwise (b ∷ bytes)) r.0), unbroken_without c k bytes r.1)
+    let r = and_parts (not (begins_otherwise (b ∷ bytes))) (is_unbroken bytes) h in
+    (no_white c k b bytes (not-true (begins_otherwise (b ∷ bytes)) r.0), unbroken_without c k bytes r.1)
 
 some_entry : SymbolEntry
 some_entry = record { name = []; arity = 0 }
@@ -86,10 +79,10 @@ mutual
   arguments_without c k signature s d (more_trees t ts) b =
       let names = names_of signature in
       let low = k.low in (
-        high_byte 40 c k.low,
+        eq_above 40 c k.low,
         without-append c (term_text names t ++ later_text names ts) (41 ∷ [])
             (without-append c (term_text names t) (later_text names ts) (text_without c k signature s d t b.0) (later_without c k signature s d ts b.1))
-            (high_byte 41 c (omega arith), tt),
+            (eq_above 41 c (omega arith), tt),
       )
 
   later_without : (c : ℕ) → IsBlank c → (signature : Signature) → IsSignature signature → (d : ℕ) (ts : Trees) → AreBounded signature d ts → IsWithout c (later_text (names_of signature) ts)
@@ -97,4 +90,4 @@ mutual
   later_without c k signature s d (more_trees t ts) b =
       let names = names_of signature in
       let low = k.low in
-      (high_byte 44 c (omega arith), without-append c (term_text names t) (later_text names ts) (text_without c k signature s d t b.0) (later_without c k signature s d ts b.1))
+      (eq_above 44 c (omega arith), without-append c (term_text names t) (later_text names ts) (text_without c k signature s d t b.0) (later_without c k signature s d ts b.1))

@@ -2,29 +2,28 @@
 use Rattle.std.proofs.Common.{◌≡◌, refl, ap, sym, ◌∙◌, arith, ℕ, zero, suc, ◌+◌, ◌<◌, ◌≤◌, List, [], ◌∷◌, Bool, true, false, ◌&&◌, Some, length, get_or, take, drop, cond}
 use Rattle.std.specs.Prelude.{◌||◌, filter, find, nat_eq, nat_lt, not, unwrap_or, replicate}
 use Rattle.std.specs.List.{list_all, list_any, range_with_len, starts_with}
-use Rattle.std.proofs.lemmas.Bool.{false≢true, ltb-true, eqb-true}
+use Rattle.std.proofs.lemmas.Bool.{false≢true, ltb-true, eqb-true, and_parts}
 use Rattle.kb_text.specs.Names.{Name}
 use Rattle.kb_text.specs.Terms.{is_digit, is_x_number, prefix_length}
-use Rattle.kb_text.proofs.Identifiers.{and_true}
 use Rattle.kb_text.proofs.TextLaws.{begins_with_letters}
 
 letter_at : (n m : ℕ) (name : List ℕ) → list_all (λ b. nat_eq 120 b) (take n name) ≡ true → m < n → m < length name → get_or name m 0 ≡ 120
 letter_at zero m name h l k = absurd (omega arith)
 letter_at (suc n) m [] h l k = absurd (omega arith)
-letter_at (suc n) zero (b ∷ name) h l k = sym (eqb-true 120 b (and_true (nat_eq 120 b) _ h).0)
-letter_at (suc n) (suc m) (b ∷ name) h l k = letter_at n m name (and_true (nat_eq 120 b) _ h).1 (omega arith) (omega arith)
+letter_at (suc n) zero (b ∷ name) h l k = sym (eqb-true 120 b (and_parts (nat_eq 120 b) _ h).0)
+letter_at (suc n) (suc m) (b ∷ name) h l k = letter_at n m name (and_parts (nat_eq 120 b) _ h).1 (omega arith) (omega arith)
 
 digit_at : (m : ℕ) (name : List ℕ) → list_all is_digit (drop m name) ≡ true → m < length name → is_digit (get_or name m 0) ≡ true
 digit_at m [] h k = absurd (omega arith)
-digit_at zero (b ∷ name) h k = (and_true (is_digit b) _ h).0
+digit_at zero (b ∷ name) h k = (and_parts (is_digit b) _ h).0
 digit_at (suc m) (b ∷ name) h k = digit_at m name h (omega arith)
 
 -- a name is letters x and a number for one number of letters at most
 pub one_number : (m n : ℕ) (name : Name) → m < n → is_x_number m name ≡ true → is_x_number n name ≡ true → ⊥
 one_number m n name l a b =
-    let p = and_true (starts_with nat_eq name (replicate m 120) && nat_lt m (length name)) (list_all is_digit (drop m name)) a in
-    let q = and_true (starts_with nat_eq name (replicate n 120) && nat_lt n (length name)) (list_all is_digit (drop n name)) b in
-    let r = and_true (starts_with nat_eq name (replicate n 120)) (nat_lt n (length name)) q.0 in
+    let p = and_parts (starts_with nat_eq name (replicate m 120) && nat_lt m (length name)) (list_all is_digit (drop m name)) a in
+    let q = and_parts (starts_with nat_eq name (replicate n 120) && nat_lt n (length name)) (list_all is_digit (drop n name)) b in
+    let r = and_parts (starts_with nat_eq name (replicate n 120)) (nat_lt n (length name)) q.0 in
     let long : n < length name = ltb-true n (length name) r.1 in
     let letter = letter_at n m name (sym (begins_with_letters n name (omega arith)) ∙ r.0) l (omega arith) in
     false≢true (sym (ap is_digit letter) ∙ digit_at m name p.1 (omega arith))

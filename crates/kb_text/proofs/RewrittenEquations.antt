@@ -2,9 +2,10 @@
 use Rattle.std.proofs.Common.{◌≡◌, refl, ap, ap₂, sym, ◌∙◌, arith, ℕ, ◌≤◌, List, [], ◌∷◌, ◌++◌, Bool, true, false, not, ◌&&◌, ◌||◌, cond, length, max}
 use Rattle.std.specs.Prelude.{filter, map, nat_eq, nat_le, unwrap_or, ⊤}
 use Rattle.std.specs.List.{list_all}
-use Rattle.std.proofs.lemmas.Bool.{leb-true}
+use Rattle.std.proofs.lemmas.Bool.{leb-true, and_parts}
 use Rattle.std.proofs.lemmas.List.{length-map, map-append}
 use Rattle.std.proofs.lemmas.List.Elements.{filter-append}
+use Rattle.std.proofs.Math.Bool.{or-true}
 use Rattle.kb_term.specs.Pair.{distinct}
 use Rattle.kb_term.specs.Tree.{variable, apply, no_trees, variables_of as occurrences, variables_in}
 use Rattle.kb_text.specs.Names.{Name, is_among, number_of, firsts}
@@ -12,7 +13,6 @@ use Rattle.kb_text.specs.Grammar.{Written, alone, applied, Arguments, no_argumen
 use Rattle.kb_text.specs.Problems.{names_in, names_in_all, uses_in, arity_in, depth_in, is_unapplied, sides_of, all_names, all_uses, term_of, terms_of, equation_variables, equation_of}
 use Rattle.kb_text.specs.Terms.{variable_count, most_variables}
 use Rattle.kb_text.proofs.Firsts.{is_among-firsts}
-use Rattle.kb_text.proofs.Identifiers.{and_true}
 use Rattle.kb_text.proofs.RewrittenTerms.{IsGood, AreGood, is_good, good_symbol, good_variable, first_good, others_good, arguments_good, head_symbol, all_split}
 use Rattle.kb_text.proofs.RewrittenLists.{all_among, among-append, among-filter, distinct_numbers}
 
@@ -31,15 +31,11 @@ abbrev pub AreGoodEquations : List Name → List Name → List (Name × ℕ) →
 AreGoodEquations vars symbols uses [] = ⊤
 AreGoodEquations vars symbols uses (e ∷ es) = IsGoodEquation vars symbols uses e × AreGoodEquations vars symbols uses es
 
-or_true : (v : Bool) → (v || true) ≡ true
-or_true true = refl
-or_true false = refl
-
 in_left : (xs ys : List Name) (c : Name) → is_among xs c ≡ true → is_among (xs ++ ys) c ≡ true
 in_left xs ys c h = among-append xs ys c ∙ ap (λ v. v || is_among ys c) h
 
 in_right : (xs ys : List Name) (c : Name) → is_among ys c ≡ true → is_among (xs ++ ys) c ≡ true
-in_right xs ys c h = among-append xs ys c ∙ ap (is_among xs c ||◌) h ∙ or_true (is_among xs c)
+in_right xs ys c h = among-append xs ys c ∙ ap (is_among xs c ||◌) h ∙ or-true (is_among xs c)
 
 good_in_equation : (vars symbols ns : List Name) (c : Name) → is_among ns c ≡ true → (is_among vars c ≡ false → is_among symbols c ≡ true) → is_good vars (firsts (filter (is_among vars) ns)) symbols c ≡ true
 good_in_equation vars symbols ns c h s = go (is_among vars c) refl
@@ -61,13 +57,13 @@ good_equations vars symbols uses (e ∷ es) s u a d f =
     let l = names_in e.left in
     let r = names_in e.right in
     let found = equation_variables vars e in
-    let ul = and_true (is_unapplied vars e.left) (is_unapplied vars e.right && list_all (is_unapplied vars) (sides_of es)) u in
-    let ur = and_true (is_unapplied vars e.right) (list_all (is_unapplied vars) (sides_of es)) ul.1 in
+    let ul = and_parts (is_unapplied vars e.left) (is_unapplied vars e.right && list_all (is_unapplied vars) (sides_of es)) u in
+    let ur = and_parts (is_unapplied vars e.right) (list_all (is_unapplied vars) (sides_of es)) ul.1 in
     let al = all_split (agrees uses) (uses_in e.left) (uses_in e.right ++ all_uses es) a in
     let ar = all_split (agrees uses) (uses_in e.right) (all_uses es) al.1 in
-    let dl = and_true (nat_le (depth_in e.left) 64) (nat_le (depth_in e.right) 64 && list_all (λ t. nat_le (depth_in t) 64) (sides_of es)) d in
-    let dr = and_true (nat_le (depth_in e.right) 64) (list_all (λ t. nat_le (depth_in t) 64) (sides_of es)) dl.1 in
-    let fe = and_true (nat_le (length found) 64) (list_all (λ e. nat_le (length (equation_variables vars e)) 64) es) f in (
+    let dl = and_parts (nat_le (depth_in e.left) 64) (nat_le (depth_in e.right) 64 && list_all (λ t. nat_le (depth_in t) 64) (sides_of es)) d in
+    let dr = and_parts (nat_le (depth_in e.right) 64) (list_all (λ t. nat_le (depth_in t) 64) (sides_of es)) dl.1 in
+    let fe = and_parts (nat_le (length found) 64) (list_all (λ e. nat_le (length (equation_variables vars e)) 64) es) f in (
       record {
         left = record { names = all_among (is_good vars found symbols) l (λ c h. good_in_equation vars symbols (l ++ r) c (in_left l r c h) (s c (in_left l (r ++ all_names es) c h))); unapplied = ul.0; uses_agree = al.0 };
         right = record { names = all_among (is_good vars found symbols) r (λ c h. good_in_equation vars symbols (l ++ r) c (in_right l r c h) (s c (in_right l (r ++ all_names es) c (in_left r (all_names es) c h)))); unapplied = ur.0; uses_agree = ar.0 };
@@ -82,7 +78,7 @@ good_equations vars symbols uses (e ∷ es) s u a d f =
 
 mutual
   numbers_of : (vars found symbols : List Name) (uses : List (Name × ℕ)) (t : Written) → IsGood vars found symbols uses t → occurrences (term_of found symbols t) ≡ map (number_of found) (filter (is_among vars) (names_in t))
-  numbers_of vars found symbols uses (alone c) h = go (and_true (is_good vars found symbols c) true h.names).0 (is_among found c) refl
+  numbers_of vars found symbols uses (alone c) h = go (and_parts (is_good vars found symbols c) true h.names).0 (is_among found c) refl
     where
       go : is_good vars found symbols c ≡ true → (v : Bool) → is_among found c ≡ v → occurrences (cond (is_among found c) (variable (number_of found c)) (apply (number_of symbols c) no_trees)) ≡ map (number_of found) (cond (is_among vars c) (c ∷ []) [])
       go g true e = ap (λ v. occurrences (cond v (variable (number_of found c)) (apply (number_of symbols c) no_trees))) e ∙ ap (λ v. map (number_of found) (cond v (c ∷ []) [])) (sym (good_variable vars found symbols c g e))

@@ -2,13 +2,12 @@
 use Rattle.std.proofs.Common.{◌≡◌, refl, ap, ap₂, sym, ◌∙◌, arith, ℕ, zero, suc, ◌+◌, ◌<◌, ◌≤◌, ◌==◌, List, [], ◌∷◌, ◌++◌, Bool, true, false, not, ◌&&◌, ◌||◌, cond, length, get_or}
 use Rattle.std.specs.Prelude.{bytes_eq, filter, map}
 use Rattle.std.specs.List.{list_all, range_with_len}
-use Rattle.std.proofs.lemmas.Bool.{false≢true, eqb-true, eq-eqb}
+use Rattle.std.proofs.lemmas.Bool.{false≢true, eqb-true, eq-eqb, and_parts}
 use Rattle.std.proofs.lemmas.Slice.Eq.{bytes_eq-Decides}
 use Rattle.kb_term.specs.Pair.{distinct}
 use Rattle.kb_text.specs.Names.{Name, is_among, number_of, firsts, are_distinct}
 use Rattle.kb_text.specs.Terms.{is_x_number, prefix_length, variable_text}
 use Rattle.kb_text.proofs.Firsts.{same_bytes}
-use Rattle.kb_text.proofs.Identifiers.{and_true}
 use Rattle.kb_text.proofs.Prefixes.{name_is_no_variable}
 use Rattle.kb_text.proofs.RewrittenTerms.{at_number, number_within, renamed, is_good, good_other, good_symbol, good_variable, AreApart, KeepsNumbers}
 use Rattle.kb_text.proofs.VariableTexts.{one_variable, variable_is_x_number}
@@ -120,7 +119,7 @@ among_again vars found symbols xs c v g = go (is_among found c) refl
 pub variables_again : (vars found symbols xs ns : List Name) → Covers symbols found xs → list_all (is_good vars found symbols) ns ≡ true → filter (is_among xs) (map (renamed symbols found) ns) ≡ map (renamed symbols found) (filter (is_among vars) ns)
 variables_again vars found symbols xs [] v g = refl
 variables_again vars found symbols xs (c ∷ ns) v g =
-    let r = and_true (is_good vars found symbols c) (list_all (is_good vars found symbols) ns) g in
+    let r = and_parts (is_good vars found symbols c) (list_all (is_good vars found symbols) ns) g in
     ap₂ (λ b zs. cond b (renamed symbols found c ∷ zs) zs) (among_again vars found symbols xs c v r.0) (variables_again vars found symbols xs ns v r.1) ∙ go (is_among vars c)
   where
     go : (b : Bool) → cond b (renamed symbols found c ∷ map (renamed symbols found) (filter (is_among vars) ns)) (map (renamed symbols found) (filter (is_among vars) ns)) ≡ map (renamed symbols found) (cond b (c ∷ filter (is_among vars) ns) (filter (is_among vars) ns))
@@ -130,7 +129,7 @@ variables_again vars found symbols xs (c ∷ ns) v g =
 pub symbols_again : (vars found symbols xs ns : List Name) → Covers symbols found xs → list_all (is_good vars found symbols) ns ≡ true → filter (λ x. not (is_among xs x)) (map (renamed symbols found) ns) ≡ filter (λ x. not (is_among vars x)) ns
 symbols_again vars found symbols xs [] v g = refl
 symbols_again vars found symbols xs (c ∷ ns) v g =
-    let r = and_true (is_good vars found symbols c) (list_all (is_good vars found symbols) ns) g in
+    let r = and_parts (is_good vars found symbols c) (list_all (is_good vars found symbols) ns) g in
     ap₂ (λ b zs. cond (not b) (renamed symbols found c ∷ zs) zs) (among_again vars found symbols xs c v r.0) (symbols_again vars found symbols xs ns v r.1) ∙ go r.0 (is_among vars c) refl
   where
     go : is_good vars found symbols c ≡ true → (b : Bool) → is_among vars c ≡ b → cond (not (is_among vars c)) (renamed symbols found c ∷ filter (λ x. not (is_among vars x)) ns) (filter (λ x. not (is_among vars x)) ns) ≡ cond (not (is_among vars c)) (c ∷ filter (λ x. not (is_among vars x)) ns) (filter (λ x. not (is_among vars x)) ns)
@@ -163,20 +162,20 @@ same_test symbols found c d few h k = go (bytes_eq c d) refl
 
 all_filter : (p q : Name → Bool) (xs : List Name) → list_all p xs ≡ true → list_all p (filter q xs) ≡ true
 all_filter p q [] h = refl
-all_filter p q (x ∷ xs) h = go (all_filter p q xs (and_true (p x) (list_all p xs) h).1) (q x)
+all_filter p q (x ∷ xs) h = go (all_filter p q xs (and_parts (p x) (list_all p xs) h).1) (q x)
   where
     go : list_all p (filter q xs) ≡ true → (v : Bool) → list_all p (cond v (x ∷ filter q xs) (filter q xs)) ≡ true
-    go next true = ap₂ ◌&&◌ (and_true (p x) (list_all p xs) h).0 next
+    go next true = ap₂ ◌&&◌ (and_parts (p x) (list_all p xs) h).0 next
     go next false = next
 
 all_firsts : (p : Name → Bool) (xs : List Name) → list_all p xs ≡ true → list_all p (firsts xs) ≡ true
 all_firsts p [] h = refl
-all_firsts p (x ∷ xs) h = let r = and_true (p x) (list_all p xs) h in ap₂ ◌&&◌ r.0 (all_filter p (λ y. not (bytes_eq y x)) (firsts xs) (all_firsts p xs r.1))
+all_firsts p (x ∷ xs) h = let r = and_parts (p x) (list_all p xs) h in ap₂ ◌&&◌ r.0 (all_filter p (λ y. not (bytes_eq y x)) (firsts xs) (all_firsts p xs r.1))
 
 others_again : (symbols found : List Name) (x : Name) (zs : List Name) → length found ≤ 64 → is_among found x ≡ true → list_all (is_among found) zs ≡ true → filter (λ y. not (bytes_eq y (renamed symbols found x))) (map (renamed symbols found) zs) ≡ map (renamed symbols found) (filter (λ y. not (bytes_eq y x)) zs)
 others_again symbols found x [] few h g = refl
 others_again symbols found x (z ∷ zs) few h g =
-    let r = and_true (is_among found z) (list_all (is_among found) zs) g in
+    let r = and_parts (is_among found z) (list_all (is_among found) zs) g in
     ap₂ (λ b ws. cond (not b) (renamed symbols found z ∷ ws) ws) (same_test symbols found z x few r.0 h) (others_again symbols found x zs few h r.1) ∙ go (not (bytes_eq z x))
   where
     go : (b : Bool) → cond b (renamed symbols found z ∷ map (renamed symbols found) (filter (λ y. not (bytes_eq y x)) zs)) (map (renamed symbols found) (filter (λ y. not (bytes_eq y x)) zs)) ≡ map (renamed symbols found) (cond b (z ∷ filter (λ y. not (bytes_eq y x)) zs) (filter (λ y. not (bytes_eq y x)) zs))
@@ -186,7 +185,7 @@ others_again symbols found x (z ∷ zs) few h g =
 pub firsts_again : (symbols found ys : List Name) → length found ≤ 64 → list_all (is_among found) ys ≡ true → firsts (map (renamed symbols found) ys) ≡ map (renamed symbols found) (firsts ys)
 firsts_again symbols found [] few g = refl
 firsts_again symbols found (y ∷ ys) few g =
-    let r = and_true (is_among found y) (list_all (is_among found) ys) g in
+    let r = and_parts (is_among found y) (list_all (is_among found) ys) g in
     ap (λ zs. renamed symbols found y ∷ filter (λ z. not (bytes_eq z (renamed symbols found y))) zs) (firsts_again symbols found ys few r.1)
     ∙ ap (renamed symbols found y ∷◌) (others_again symbols found y (firsts ys) few r.0 (all_firsts (is_among found) ys r.1))
 
@@ -207,7 +206,7 @@ numbers_apart found c d h k = go (bytes_eq c d) refl
 other_numbers : (found : List Name) (x : Name) (zs : List Name) → is_among found x ≡ true → list_all (is_among found) zs ≡ true → filter (λ y. not (y == number_of found x)) (map (number_of found) zs) ≡ map (number_of found) (filter (λ y. not (bytes_eq y x)) zs)
 other_numbers found x [] h g = refl
 other_numbers found x (z ∷ zs) h g =
-    let r = and_true (is_among found z) (list_all (is_among found) zs) g in
+    let r = and_parts (is_among found z) (list_all (is_among found) zs) g in
     ap₂ (λ b ws. cond (not b) (number_of found z ∷ ws) ws) (numbers_apart found z x r.0 h) (other_numbers found x zs h r.1) ∙ go (not (bytes_eq z x))
   where
     go : (b : Bool) → cond b (number_of found z ∷ map (number_of found) (filter (λ y. not (bytes_eq y x)) zs)) (map (number_of found) (filter (λ y. not (bytes_eq y x)) zs)) ≡ map (number_of found) (cond b (z ∷ filter (λ y. not (bytes_eq y x)) zs) (filter (λ y. not (bytes_eq y x)) zs))
@@ -217,7 +216,7 @@ other_numbers found x (z ∷ zs) h g =
 pub distinct_numbers : (found ys : List Name) → list_all (is_among found) ys ≡ true → distinct (map (number_of found) ys) ≡ map (number_of found) (firsts ys)
 distinct_numbers found [] g = refl
 distinct_numbers found (y ∷ ys) g =
-    let r = and_true (is_among found y) (list_all (is_among found) ys) g in
+    let r = and_parts (is_among found y) (list_all (is_among found) ys) g in
     ap (λ zs. number_of found y ∷ filter (λ z. not (z == number_of found y)) zs) (distinct_numbers found ys r.1) ∙ ap (number_of found y ∷◌) (other_numbers found y (firsts ys) r.0 (all_firsts (is_among found) ys r.1))
 
 -- ---- numbers are kept
@@ -225,13 +224,13 @@ distinct_numbers found (y ∷ ys) g =
 among_part : (symbols found zs : List Name) (c : Name) → length found ≤ 64 → is_among found c ≡ true → list_all (is_among found) zs ≡ true → is_among (map (renamed symbols found) zs) (renamed symbols found c) ≡ is_among zs c
 among_part symbols found [] c few h g = refl
 among_part symbols found (z ∷ zs) c few h g =
-    let r = and_true (is_among found z) (list_all (is_among found) zs) g in
+    let r = and_parts (is_among found z) (list_all (is_among found) zs) g in
     ap₂ ◌||◌ (same_test symbols found c z few h r.0) (among_part symbols found zs c few h r.1)
 
 number_part : (symbols found zs : List Name) (c : Name) → length found ≤ 64 → is_among found c ≡ true → list_all (is_among found) zs ≡ true → number_of (map (renamed symbols found) zs) (renamed symbols found c) ≡ number_of zs c
 number_part symbols found [] c few h g = refl
 number_part symbols found (z ∷ zs) c few h g =
-    let r = and_true (is_among found z) (list_all (is_among found) zs) g in
+    let r = and_parts (is_among found z) (list_all (is_among found) zs) g in
     ap₂ (λ b n. cond b 0 (n + 1)) (same_test symbols found c z few h r.0) (number_part symbols found zs c few h r.1)
 
 pub keeps_numbers : (symbols found : List Name) → length found ≤ 64 → KeepsNumbers symbols found (map (renamed symbols found) found)
@@ -244,7 +243,7 @@ keeps_numbers symbols found few =
 apart_part : (symbols found zs : List Name) → length found ≤ 64 → list_all (is_among found) zs ≡ true → AreApart symbols (map (renamed symbols found) zs)
 apart_part symbols found [] few g = λ c h. refl
 apart_part symbols found (z ∷ zs) few g = λ c h.
-    let r = and_true (is_among found z) (list_all (is_among found) zs) g in
+    let r = and_parts (is_among found z) (list_all (is_among found) zs) g in
     let l = number_within found z r.0 in
     ap₂ ◌||◌ (ap (λ b. bytes_eq c (cond b (variable_text symbols (number_of found z)) z)) r.0 ∙ no_symbol_is_variable symbols c (number_of found z) h (omega arith)) (apart_part symbols found zs few r.1 c h)
 

@@ -2,7 +2,7 @@
 use Rattle.std.proofs.Common.{◌≡◌, refl, ap, ap₂, sym, ◌∙◌, subst, arith, ℕ, suc, ◌+◌, ◌-◌, ◌<◌, ◌≤◌, List, [], ◌∷◌, ◌++◌, Bool, true, false, not, ◌&&◌, ◌||◌, cond, Some, length, get_or, max}
 use Rattle.std.specs.Prelude.{bytes_eq, map, nat_eq, unwrap_or}
 use Rattle.std.specs.List.{list_all}
-use Rattle.std.proofs.lemmas.Bool.{eqb-true, false≢true}
+use Rattle.std.proofs.lemmas.Bool.{eqb-true, false≢true, and_parts, not-true}
 use Rattle.std.proofs.lemmas.List.{map-append}
 use Rattle.kb_term.specs.Signature.{HasArity}
 use Rattle.kb_term.specs.Tree.{Tree, variable, apply, Trees, no_trees, more_trees, list_of}
@@ -13,7 +13,6 @@ use Rattle.kb_text.specs.Terms.{variable_text, symbol_text}
 use Rattle.kb_text.specs.TermReading.{IsBounded, AreBounded}
 use Rattle.kb_text.specs.Rewritten.{written_term, written_terms}
 use Rattle.kb_text.proofs.Firsts.{same_bytes}
-use Rattle.kb_text.proofs.Identifiers.{and_true, not_true}
 
 -- ---- places in lists of names
 
@@ -69,13 +68,13 @@ good_symbol vars found symbols c h f = go (is_among vars c) refl
     go : (v : Bool) → is_among vars c ≡ v → IsSymbol vars found symbols c
     go true e = absurd (false≢true (sym f ∙ sym (ap (λ v. cond v (is_among found c) (not (is_among found c) && is_among symbols c)) e) ∙ h))
     go false e =
-        let r = and_true (not (is_among found c)) (is_among symbols c) (sym (ap (λ v. cond v (is_among found c) (not (is_among found c) && is_among symbols c)) e) ∙ h) in
+        let r = and_parts (not (is_among found c)) (is_among symbols c) (sym (ap (λ v. cond v (is_among found c) (not (is_among found c) && is_among symbols c)) e) ∙ h) in
         record { no_variable = e; not_found = f; symbol = r.1 }
 
 pub good_other : (vars found symbols : List Name) (c : Name) → is_good vars found symbols c ≡ true → is_among vars c ≡ false → IsSymbol vars found symbols c
 good_other vars found symbols c h f =
-    let r = and_true (not (is_among found c)) (is_among symbols c) (sym (ap (λ v. cond v (is_among found c) (not (is_among found c) && is_among symbols c)) f) ∙ h) in
-    record { no_variable = f; not_found = not_true (is_among found c) r.0; symbol = r.1 }
+    let r = and_parts (not (is_among found c)) (is_among symbols c) (sym (ap (λ v. cond v (is_among found c) (not (is_among found c) && is_among symbols c)) f) ∙ h) in
+    record { no_variable = f; not_found = not-true (is_among found c) r.0; symbol = r.1 }
 
 pub good_variable : (vars found symbols : List Name) (c : Name) → is_good vars found symbols c ≡ true → is_among found c ≡ true → is_among vars c ≡ true
 good_variable vars found symbols c h f = go (is_among vars c) refl
@@ -97,41 +96,37 @@ pub record AreGood (vars found symbols : List Name) (uses : List (Name × ℕ)) 
 
 pub all_split : {X : Type 0} (p : X → Bool) (xs ys : List X) → list_all p (xs ++ ys) ≡ true → (list_all p xs ≡ true) × (list_all p ys ≡ true)
 all_split p [] ys h = (refl, h)
-all_split p (x ∷ xs) ys h = let r = and_true (p x) (list_all p (xs ++ ys)) h in let s = all_split p xs ys r.1 in (ap₂ ◌&&◌ r.0 s.0, s.1)
-
-pub all_join : {X : Type 0} (p : X → Bool) (xs ys : List X) → list_all p xs ≡ true → list_all p ys ≡ true → list_all p (xs ++ ys) ≡ true
-all_join p [] ys h k = k
-all_join p (x ∷ xs) ys h k = let r = and_true (p x) (list_all p xs) h in ap₂ ◌&&◌ r.0 (all_join p xs ys r.1 k)
+all_split p (x ∷ xs) ys h = let r = and_parts (p x) (list_all p (xs ++ ys)) h in let s = all_split p xs ys r.1 in (ap₂ ◌&&◌ r.0 s.0, s.1)
 
 pub first_good : (vars found symbols : List Name) (uses : List (Name × ℕ)) (t : Written) (ts : Arguments) → AreGood vars found symbols uses (argument t ts) → IsGood vars found symbols uses t
 first_good vars found symbols uses t ts h = record {
   names = (all_split (is_good vars found symbols) (names_in t) (names_in_all ts) h.names).0;
-  unapplied = (and_true (is_unapplied vars t) (are_unapplied vars ts) h.unapplied).0;
+  unapplied = (and_parts (is_unapplied vars t) (are_unapplied vars ts) h.unapplied).0;
   uses_agree = (all_split (λ (u : Name × ℕ). nat_eq u.1 (unwrap_or (arity_in uses u.0) 0)) (uses_in t) (uses_in_all ts) h.uses_agree).0;
 }
 
 pub others_good : (vars found symbols : List Name) (uses : List (Name × ℕ)) (t : Written) (ts : Arguments) → AreGood vars found symbols uses (argument t ts) → AreGood vars found symbols uses ts
 others_good vars found symbols uses t ts h = record {
   names = (all_split (is_good vars found symbols) (names_in t) (names_in_all ts) h.names).1;
-  unapplied = (and_true (is_unapplied vars t) (are_unapplied vars ts) h.unapplied).1;
+  unapplied = (and_parts (is_unapplied vars t) (are_unapplied vars ts) h.unapplied).1;
   uses_agree = (all_split (λ (u : Name × ℕ). nat_eq u.1 (unwrap_or (arity_in uses u.0) 0)) (uses_in t) (uses_in_all ts) h.uses_agree).1;
 }
 
 pub arguments_good : (vars found symbols : List Name) (uses : List (Name × ℕ)) (f : Name) (ts : Arguments) → IsGood vars found symbols uses (applied f ts) → AreGood vars found symbols uses ts
 arguments_good vars found symbols uses f ts h = record {
-  names = (and_true (is_good vars found symbols f) (list_all (is_good vars found symbols) (names_in_all ts)) h.names).1;
-  unapplied = (and_true (not (is_among vars f)) (are_unapplied vars ts) h.unapplied).1;
+  names = (and_parts (is_good vars found symbols f) (list_all (is_good vars found symbols) (names_in_all ts)) h.names).1;
+  unapplied = (and_parts (not (is_among vars f)) (are_unapplied vars ts) h.unapplied).1;
   uses_agree = (all_split (λ (u : Name × ℕ). nat_eq u.1 (unwrap_or (arity_in uses u.0) 0)) (uses_in_all ts) ((f, count_of ts) ∷ []) h.uses_agree).0;
 }
 
 pub head_symbol : (vars found symbols : List Name) (uses : List (Name × ℕ)) (f : Name) (ts : Arguments) → IsGood vars found symbols uses (applied f ts) → IsSymbol vars found symbols f
 head_symbol vars found symbols uses f ts h =
-    good_other vars found symbols f (and_true (is_good vars found symbols f) (list_all (is_good vars found symbols) (names_in_all ts)) h.names).0 (not_true (is_among vars f) (and_true (not (is_among vars f)) (are_unapplied vars ts) h.unapplied).0)
+    good_other vars found symbols f (and_parts (is_good vars found symbols f) (list_all (is_good vars found symbols) (names_in_all ts)) h.names).0 (not-true (is_among vars f) (and_parts (not (is_among vars f)) (are_unapplied vars ts) h.unapplied).0)
 
 head_arity : (vars found symbols : List Name) (uses : List (Name × ℕ)) (f : Name) (ts : Arguments) → IsGood vars found symbols uses (applied f ts) → count_of ts ≡ unwrap_or (arity_in uses f) 0
 head_arity vars found symbols uses f ts h =
     eqb-true (count_of ts) (unwrap_or (arity_in uses f) 0)
-    (and_true (nat_eq (count_of ts) (unwrap_or (arity_in uses f) 0)) true (all_split (λ (u : Name × ℕ). nat_eq u.1 (unwrap_or (arity_in uses u.0) 0)) (uses_in_all ts) ((f, count_of ts) ∷ []) h.uses_agree).1).0
+    (and_parts (nat_eq (count_of ts) (unwrap_or (arity_in uses f) 0)) true (all_split (λ (u : Name × ℕ). nat_eq u.1 (unwrap_or (arity_in uses u.0) 0)) (uses_in_all ts) ((f, count_of ts) ∷ []) h.uses_agree).1).0
 
 -- a name alone: a variable or a constant
 alone_cases : (vars found symbols : List Name) (uses : List (Name × ℕ)) (c : Name) → IsGood vars found symbols uses (alone c) → (P : Tree → Name → Type 0) → (is_among found c ≡ true → P (variable (number_of found c)) (variable_text symbols (number_of found c))) → (IsSymbol vars found symbols c → P (apply (number_of symbols c) no_trees) c)
@@ -140,7 +135,7 @@ alone_cases vars found symbols uses c h P a b = go (is_among found c) refl
   where
     go : (v : Bool) → is_among found c ≡ v → P (cond (is_among found c) (variable (number_of found c)) (apply (number_of symbols c) no_trees)) (cond (is_among found c) (variable_text symbols (number_of found c)) c)
     go true e = rw e (a e)
-    go false e = rw e (b (good_symbol vars found symbols c (and_true (is_good vars found symbols c) true h.names).0 e))
+    go false e = rw e (b (good_symbol vars found symbols c (and_parts (is_good vars found symbols c) true h.names).0 e))
 
 -- a symbol is written again by its name
 symbol_again : (vars found symbols : List Name) (c : Name) → IsSymbol vars found symbols c → renamed symbols found c ≡ c
@@ -263,7 +258,7 @@ mutual
   term_bounded vars found symbols uses (alone c) d h few deep =
       alone_cases vars found symbols uses c h (λ u x. IsBounded (map (entry_of uses) symbols) d u)
       (λ e. (deep, let l = number_within found c e in omega arith))
-      (λ s. (deep, subst (HasArity (map (entry_of uses) symbols) (number_of symbols c)) (sym (eqb-true 0 (unwrap_or (arity_in uses c) 0) (and_true (nat_eq 0 (unwrap_or (arity_in uses c) 0)) true h.uses_agree).0)) (arity_at uses symbols c s.symbol), tt))
+      (λ s. (deep, subst (HasArity (map (entry_of uses) symbols) (number_of symbols c)) (sym (eqb-true 0 (unwrap_or (arity_in uses c) 0) (and_parts (nat_eq 0 (unwrap_or (arity_in uses c) 0)) true h.uses_agree).0)) (arity_at uses symbols c s.symbol), tt))
   term_bounded vars found symbols uses (applied f ts) d h few deep =
       let s = head_symbol vars found symbols uses f ts h in (
         omega arith,

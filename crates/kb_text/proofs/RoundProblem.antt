@@ -2,9 +2,10 @@
 use Rattle.std.proofs.Common.{◌≡◌, refl, ap, ap₂, sym, ◌∙◌, subst, arith, append-nil, ℕ, zero, suc, ◌+◌, ◌<◌, ◌≤◌, List, [], ◌∷◌, ◌++◌, true, false, not, ◌&&◌, length, get_or, length-append}
 use Rattle.std.specs.Prelude.{decimal, filter, map, nat_le, replicate}
 use Rattle.std.specs.List.{list_all, range_with_len}
-use Rattle.std.proofs.lemmas.Bool.{le-leb, leb-true}
+use Rattle.std.proofs.lemmas.Bool.{le-leb, leb-true, and_parts, not-true}
 use Rattle.std.proofs.lemmas.Fmt.{length-decimal-le}
-use Rattle.std.proofs.lemmas.List.{get_or-map, length-map}
+use Rattle.std.proofs.lemmas.List.{get_or-map, length-map, length-replicate}
+use Rattle.kb_lemmas.proofs.Lists.{all_join}
 use Rattle.kb_term.specs.Signature.{IsSignature, Problem, SymbolEntry}
 use Rattle.kb_text.specs.Names.{Name, is_among, number_of, firsts, are_distinct}
 use Rattle.kb_text.specs.Grammar.{WrittenEquation, Section, variables, rules, text_tokens}
@@ -12,10 +13,9 @@ use Rattle.kb_text.specs.Problems.{Spells, MeetsConditions, MeetsLimits, variabl
 use Rattle.kb_text.specs.Terms.{names_of, prefix_length, variable_text, most_variables, problem_text}
 use Rattle.kb_text.specs.Rewritten.{written_equation}
 use Rattle.kb_text.proofs.Firsts.{is_among-firsts}
-use Rattle.kb_text.proofs.Identifiers.{and_true, not_true}
 use Rattle.kb_text.proofs.Prefixes.{prefix_small}
 use Rattle.kb_text.proofs.ProblemTokens.{problem_tokens}
-use Rattle.kb_text.proofs.RewrittenTerms.{all_join, at_number, number_within}
+use Rattle.kb_text.proofs.RewrittenTerms.{at_number, number_within}
 use Rattle.kb_text.proofs.RewrittenLists.{all_among, among-filter, variables_apart, variables_cover, variables_distinct}
 use Rattle.kb_text.proofs.RewrittenEquations.{AreGoodEquations, HaveAtMost, at_most_most, good_equations}
 use Rattle.kb_text.proofs.RoundTrip.{IsDeclared, SameArities, rewritten, all_symbols_again, equations_again, unapplied_sides, depths_again, sizes_again, variables_each_again, arities_again, no_arities, agree_again, few_again, short_again, bounded_equations, entries_again}
@@ -25,14 +25,10 @@ names_of-entries : (uses : List (Name × ℕ)) (symbols : List Name) → names_o
 names_of-entries uses [] = refl
 names_of-entries uses (x ∷ xs) = ap (x ∷◌) (names_of-entries uses xs)
 
-letters_count : (n : ℕ) → length {A = ℕ} (replicate n 120) ≡ n
-letters_count zero = refl
-letters_count (suc n) = omega (arith, letters_count n)
-
 short_variable : (symbols : List Name) (k : ℕ) → length symbols ≤ 24 → k < 64 → nat_le (length (variable_text symbols k)) 64 ≡ true
 short_variable symbols k few l =
     let digits : length (decimal (k + 1)) ≤ 2 = length-decimal-le 2 (k + 1) (omega arith) (omega arith) (omega arith) in
-    le-leb (length (variable_text symbols k)) 64 (omega (arith, digits, prefix_small symbols, length-append (replicate (prefix_length symbols) 120) (decimal (k + 1)), letters_count (prefix_length symbols)))
+    le-leb (length (variable_text symbols k)) 64 (omega (arith, digits, prefix_small symbols, length-append (replicate (prefix_length symbols) 120) (decimal (k + 1)), length-replicate {A = ℕ} (prefix_length symbols) 120))
 
 short_variables : (symbols : List Name) (n s : ℕ) → length symbols ≤ 24 → s + n ≤ 64 → list_all (λ (x : Name). nat_le (length x) 64) (map (variable_text symbols) (range_with_len s n)) ≡ true
 short_variables symbols zero s few l = refl
@@ -66,7 +62,7 @@ module _ (bytes : List ℕ) (p : Problem) (h : Spells bytes p) (s : IsSignature 
   in_symbols c m v = is_among-firsts (filter (λ x. not (is_among vars x)) (all_names es)) c ∙ among-filter (λ x. not (is_among vars x)) (all_names es) c ∙ ap₂ (λ a b. not a && b) v m
 
   no_variable : (c : Name) → is_among symbols c ≡ true → is_among vars c ≡ false
-  no_variable c m = not_true (is_among vars c) (and_true (not (is_among vars c)) (is_among (all_names es) c) (sym (is_among-firsts (filter (λ x. not (is_among vars x)) (all_names es)) c ∙ among-filter (λ x. not (is_among vars x)) (all_names es) c) ∙ m)).0
+  no_variable c m = not-true (is_among vars c) (and_parts (not (is_among vars c)) (is_among (all_names es) c) (sym (is_among-firsts (filter (λ x. not (is_among vars x)) (all_names es)) c ∙ among-filter (λ x. not (is_among vars x)) (all_names es) c) ∙ m)).0
 
   good : AreGoodEquations vars symbols uses es
   good = good_equations vars symbols uses es in_symbols h.conditions.unapplied h.conditions.one_arity h.limits.depth h.limits.variables_each

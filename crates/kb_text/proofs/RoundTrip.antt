@@ -2,9 +2,11 @@
 use Rattle.std.proofs.Common.{◌≡◌, refl, ap, ap₂, sym, ◌∙◌, arith, ℕ, zero, suc, ◌<◌, ◌≤◌, List, [], ◌∷◌, ◌++◌, Bool, true, false, not, ◌&&◌, ◌||◌, cond, length, get_or, Option, Some}
 use Rattle.std.specs.Prelude.{bytes_eq, filter, map, nat_eq, nat_le, unwrap_or}
 use Rattle.std.specs.List.{list_all}
-use Rattle.std.proofs.lemmas.Bool.{false≢true, eqb-true}
+use Rattle.std.proofs.lemmas.Bool.{false≢true, eqb-true, and_parts}
 use Rattle.std.proofs.lemmas.List.{length-map, map-append}
 use Rattle.std.proofs.lemmas.List.Elements.{filter-append}
+use Rattle.std.proofs.Math.Bool.{or-true}
+use Rattle.kb_lemmas.proofs.Lists.{all_join}
 use Rattle.kb_term.specs.Tree.{Tree}
 use Rattle.kb_text.specs.Names.{Name, is_among, number_of, firsts}
 use Rattle.kb_text.specs.Grammar.{Written, alone, applied, Arguments, no_arguments, argument, WrittenEquation}
@@ -12,9 +14,8 @@ use Rattle.kb_text.specs.Problems.{names_in, names_in_all, uses_in, uses_in_all,
 use Rattle.kb_text.specs.Terms.{variable_text}
 use Rattle.kb_text.specs.Rewritten.{written_term, written_equation}
 use Rattle.kb_text.proofs.Firsts.{same_bytes}
-use Rattle.kb_text.proofs.Identifiers.{and_true}
 use Rattle.kb_text.proofs.ProblemTokens.{IsBoundedEquation}
-use Rattle.kb_text.proofs.RewrittenTerms.{IsGood, AreGood, AreApart, renamed, renamed_use, is_good, good_symbol, good_variable, first_good, others_good, arguments_good, head_symbol, all_split, all_join, names_again, uses_again, depth_again, unapplied_again, term_again, term_bounded, number_within}
+use Rattle.kb_text.proofs.RewrittenTerms.{IsGood, AreGood, AreApart, renamed, renamed_use, is_good, good_symbol, good_variable, first_good, others_good, arguments_good, head_symbol, all_split, names_again, uses_again, depth_again, unapplied_again, term_again, term_bounded, number_within}
 use Rattle.kb_text.proofs.RewrittenLists.{Covers, apart_again, firsts_again, keeps_numbers, no_symbol_is_variable, same_name, symbols_again, variables_again}
 use Rattle.kb_text.proofs.RewrittenEquations.{IsGoodEquation, AreGoodEquations, HaveAtMost, agrees, all_found}
 
@@ -108,16 +109,12 @@ variables_each_again vars symbols xs uses most (e ∷ es) g d m =
 abbrev is_fine : List Name → List Name → List Name → Name × ℕ → Bool
 is_fine vars found symbols u = is_good vars found symbols u.0 && (not (is_among vars u.0) || nat_eq u.1 0)
 
-or_right : (v : Bool) → (v || true) ≡ true
-or_right true = refl
-or_right false = refl
-
 mutual
   fine_uses : (vars found symbols : List Name) (uses : List (Name × ℕ)) (t : Written) → IsGood vars found symbols uses t → list_all (is_fine vars found symbols) (uses_in t) ≡ true
-  fine_uses vars found symbols uses (alone c) h = λ i. ((and_true (is_good vars found symbols c) true h.names).0 i && or_right (not (is_among vars c)) i) && true
+  fine_uses vars found symbols uses (alone c) h = λ i. ((and_parts (is_good vars found symbols c) true h.names).0 i && or-true (not (is_among vars c)) i) && true
   fine_uses vars found symbols uses (applied f ts) h =
       all_join (is_fine vars found symbols) (uses_in_all ts) ((f, count_of ts) ∷ []) (fine_uses_all vars found symbols uses ts (arguments_good vars found symbols uses f ts h))
-      (λ i. ((and_true (is_good vars found symbols f) (list_all (is_good vars found symbols) (names_in_all ts)) h.names).0 i && (not ((head_symbol vars found symbols uses f ts h).no_variable i) || nat_eq (count_of ts) 0)) && true)
+      (λ i. ((and_parts (is_good vars found symbols f) (list_all (is_good vars found symbols) (names_in_all ts)) h.names).0 i && (not ((head_symbol vars found symbols uses f ts h).no_variable i) || nat_eq (count_of ts) 0)) && true)
 
   fine_uses_all : (vars found symbols : List Name) (uses : List (Name × ℕ)) (ts : Arguments) → AreGood vars found symbols uses ts → list_all (is_fine vars found symbols) (uses_in_all ts) ≡ true
   fine_uses_all vars found symbols uses no_arguments h = refl
@@ -141,8 +138,8 @@ symbol_test vars found symbols x n few g s v = go (is_among found n) refl
 arity_part : (vars found symbols : List Name) (x : Name) (us vs ws : List (Name × ℕ)) → length found ≤ 64 → list_all (is_fine vars found symbols) us ≡ true → is_among symbols x ≡ true → is_among vars x ≡ false → arity_in vs x ≡ arity_in ws x → arity_in (map (renamed_use symbols found) us ++ vs) x ≡ arity_in (us ++ ws) x
 arity_part vars found symbols x [] vs ws few f s v e = e
 arity_part vars found symbols x (u ∷ us) vs ws few f s v e =
-    let r = and_true (is_fine vars found symbols u) (list_all (is_fine vars found symbols) us) f in
-    let g = and_true (is_good vars found symbols u.0) (not (is_among vars u.0) || nat_eq u.1 0) r.0 in
+    let r = and_parts (is_fine vars found symbols u) (list_all (is_fine vars found symbols) us) f in
+    let g = and_parts (is_good vars found symbols u.0) (not (is_among vars u.0) || nat_eq u.1 0) r.0 in
     ap₂ (λ b o. cond b (Some u.1) o) (symbol_test vars found symbols x u.0 few g.0 s v) (arity_part vars found symbols x us vs ws few r.1 s v e)
 
 pub arities_again : (vars symbols : List Name) (uses : List (Name × ℕ)) (x : Name) (es : List WrittenEquation) → AreGoodEquations vars symbols uses es → is_among symbols x ≡ true → is_among vars x ≡ false → arity_in (all_uses (rewritten vars symbols es)) x ≡ arity_in (all_uses es) x
@@ -158,8 +155,8 @@ arities_again vars symbols uses x (e ∷ es) g s v =
 no_arity : (vars found symbols : List Name) (k : ℕ) (us vs : List (Name × ℕ)) → k < 64 → list_all (is_fine vars found symbols) us ≡ true → unwrap_or (arity_in vs (variable_text symbols k)) 0 ≡ 0 → unwrap_or (arity_in (map (renamed_use symbols found) us ++ vs) (variable_text symbols k)) 0 ≡ 0
 no_arity vars found symbols k [] vs l f e = e
 no_arity vars found symbols k (u ∷ us) vs l f e =
-    let r = and_true (is_fine vars found symbols u) (list_all (is_fine vars found symbols) us) f in
-    go (no_arity vars found symbols k us vs l r.1 e) (and_true (is_good vars found symbols u.0) (not (is_among vars u.0) || nat_eq u.1 0) r.0) (bytes_eq (variable_text symbols k) (renamed symbols found u.0)) refl
+    let r = and_parts (is_fine vars found symbols u) (list_all (is_fine vars found symbols) us) f in
+    go (no_arity vars found symbols k us vs l r.1 e) (and_parts (is_good vars found symbols u.0) (not (is_among vars u.0) || nat_eq u.1 0) r.0) (bytes_eq (variable_text symbols k) (renamed symbols found u.0)) refl
   where
     count : (is_good vars found symbols u.0 ≡ true) × ((not (is_among vars u.0) || nat_eq u.1 0) ≡ true) → (b : Bool) → is_among found u.0 ≡ b → variable_text symbols k ≡ cond b (variable_text symbols (number_of found u.0)) u.0 → u.1 ≡ 0
     count g true h q = eqb-true u.1 0 (sym (ap (λ v. not v || nat_eq u.1 0) (good_variable vars found symbols u.0 g.0 h)) ∙ g.1)
@@ -189,9 +186,9 @@ pub record SameArities (symbols : List Name) (uses again : List (Name × ℕ)) :
 agree_part : (vars found symbols : List Name) (uses again us : List (Name × ℕ)) → length found ≤ 64 → SameArities symbols uses again → list_all (is_fine vars found symbols) us ≡ true → list_all (agrees uses) us ≡ true → list_all (agrees again) (map (renamed_use symbols found) us) ≡ true
 agree_part vars found symbols uses again [] few s f a = refl
 agree_part vars found symbols uses again (u ∷ us) few s f a =
-    let r = and_true (is_fine vars found symbols u) (list_all (is_fine vars found symbols) us) f in
-    let q = and_true (agrees uses u) (list_all (agrees uses) us) a in
-    ap₂ ◌&&◌ (go (and_true (is_good vars found symbols u.0) (not (is_among vars u.0) || nat_eq u.1 0) r.0) q.0 (is_among found u.0) refl) (agree_part vars found symbols uses again us few s r.1 q.1)
+    let r = and_parts (is_fine vars found symbols u) (list_all (is_fine vars found symbols) us) f in
+    let q = and_parts (agrees uses u) (list_all (agrees uses) us) a in
+    ap₂ ◌&&◌ (go (and_parts (is_good vars found symbols u.0) (not (is_among vars u.0) || nat_eq u.1 0) r.0) q.0 (is_among found u.0) refl) (agree_part vars found symbols uses again us few s r.1 q.1)
   where
     go : (is_good vars found symbols u.0 ≡ true) × ((not (is_among vars u.0) || nat_eq u.1 0) ≡ true) → agrees uses u ≡ true → (b : Bool) → is_among found u.0 ≡ b → nat_eq u.1 (unwrap_or (arity_in again (cond (is_among found u.0) (variable_text symbols (number_of found u.0)) u.0)) 0) ≡ true
     go g h true e =
@@ -234,7 +231,7 @@ short_part : (vars found symbols ns : List Name) → length found ≤ 64 → ((k
     → list_all (λ (x : Name). nat_le (length x) 64) (map (renamed symbols found) ns) ≡ true
 short_part vars found symbols [] few v s g = refl
 short_part vars found symbols (n ∷ ns) few v s g =
-    let r = and_true (is_good vars found symbols n) (list_all (is_good vars found symbols) ns) g in
+    let r = and_parts (is_good vars found symbols n) (list_all (is_good vars found symbols) ns) g in
     ap₂ ◌&&◌ (go r.0 (is_among found n) refl) (short_part vars found symbols ns few v s r.1)
   where
     go : is_good vars found symbols n ≡ true → (b : Bool) → is_among found n ≡ b → nat_le (length (cond (is_among found n) (variable_text symbols (number_of found n)) n)) 64 ≡ true
@@ -264,6 +261,6 @@ bounded_equations vars symbols uses (e ∷ es) g (suc k) d l = bounded_equations
 pub entries_again : (symbols : List Name) (uses again : List (Name × ℕ)) (ys : List Name) → SameArities symbols uses again → list_all (is_among symbols) ys ≡ true → map (entry_of again) ys ≡ map (entry_of uses) ys
 entries_again symbols uses again [] s g = refl
 entries_again symbols uses again (y ∷ ys) s g =
-    let r = and_true (is_among symbols y) (list_all (is_among symbols) ys) g in
+    let r = and_parts (is_among symbols y) (list_all (is_among symbols) ys) g in
     let one : entry_of again y ≡ entry_of uses y = ap (λ (o : Option ℕ). let n = unwrap_or o 0 in record { name = y; arity = n }) (s.symbol y r.0) in
     ap₂ (λ z zs. z ∷ zs) one (entries_again symbols uses again ys s r.1)

@@ -2,7 +2,7 @@
 use Rattle.std.proofs.Common.{◌≡◌, ◌⊎◌, inl, inr, ⊎_elim, ℕ, zero, suc, ◌+◌, ◌-◌, ◌<◌, ◌≤◌, ◌==◌, List, [], ◌∷◌, Bool, true, false, length, take, drop, get_or, refl, sym, ◌∙◌, ap, subst, arith, length-drop}
 use Rattle.std.proofs.Math.Nat.{eq-or-lt_of_le}
 use Rattle.std.proofs.lemmas.List.{drop_more, get_or-drop}
-use Rattle.std.proofs.lemmas.Bool.Decides.{nat_tests}
+use Rattle.kb_lemmas.proofs.Numbers.{eq_itself, eq_above}
 use Rattle.kb_text.specs.Tokens.{Token, Placed, Start, white, mark, letter, start_of, tokens_by, tokens_from, letter_before, with_letter, identifier}
 use Rattle.kb_text.specs.declared.lexer.Mark.{Mark}
 use Rattle.kb_text.specs.declared.lexer.Mark.TheVariants.{ArrowEquals, Arrow, Equals, Bar, LeftParen, RightParen, Comma, Quotation}
@@ -67,12 +67,6 @@ apart_from : (m : ℕ) (l : List Placed) → StandsFrom (m + 1) l → IsApart m 
 apart_from m [] h = h
 apart_from m (p ∷ ps) h = inr (omega arith)
 
-not_equal : (a b : ℕ) → b < a → (a == b) ≡ false
-not_equal a b h = grind (arith, nat_tests)
-
-same_equal : (a : ℕ) → (a == a) ≡ true
-same_equal a = grind (arith, nat_tests)
-
 -- a letter that no identifier follows directly
 pub alone_letter : (n b : ℕ) (l : List Placed) → IsApart (n + 1) l → letter_before n b l ≡ record { at = n; token = identifier (b ∷ []) } ∷ l
 alone_letter n b [] h = absurd h
@@ -80,7 +74,7 @@ alone_letter n b (p ∷ ps) h = go p.token h
   where
     go : (t : Token) → IsNoIdentifier t ⊎ (n + 1 < p.at) → with_letter n b p ps t (p.at == n + 1) ≡ record { at = n; token = identifier (b ∷ []) } ∷ p ∷ ps
     go (identifier name) (inl h) = absurd h
-    go (identifier name) (inr h) = ap (λ (e : Bool). with_letter n b p ps (identifier name) e) (not_equal p.at (n + 1) h)
+    go (identifier name) (inr h) = ap (λ (e : Bool). with_letter n b p ps (identifier name) e) (eq_above p.at (n + 1) h)
     go t h = refl
 
 pub at_stop : (s : Start) (n b : ℕ) (rest : ℕ → List Placed) → Stops s → ((k : ℕ) → StandsFrom (n + 1) (rest k)) → IsApart n (tokens_by s n b rest)
@@ -117,7 +111,7 @@ letters_run (suc m) bytes at end e within letters apart =
     from_place bytes at at inside
     ∙ ap (λ (s : Start). tokens_by s at b (λ k. tokens_from k (at + 1) (drop (at + 1) bytes))) (letters at (omega arith) (omega arith))
     ∙ ap (λ (ts : List Placed). letter_before at b ts) behind
-    ∙ ap (λ (t : Bool). with_letter at b (record { at = at + 1; token = identifier (take (suc m) (drop (at + 1) bytes)) }) (tokens_from 0 end (drop end bytes)) (identifier (take (suc m) (drop (at + 1) bytes))) t) (same_equal (at + 1))
+    ∙ ap (λ (t : Bool). with_letter at b (record { at = at + 1; token = identifier (take (suc m) (drop (at + 1) bytes)) }) (tokens_from 0 end (drop end bytes)) (identifier (take (suc m) (drop (at + 1) bytes))) t) (eq_itself (at + 1))
     ∙ ap (λ (l : List ℕ). record { at = at; token = identifier (take (suc (suc m)) l) } ∷ tokens_from 0 end (drop end bytes)) (sym (drop_more bytes at 0 inside))
 
 pub name_tokens : (bytes : List ℕ) (at end : ℕ) → IsNameTo bytes at end → tokens_from 0 at (drop at bytes) ≡ record { at = at; token = identifier (take (end - at) (drop at bytes)) } ∷ tokens_from 0 end (drop end bytes)

@@ -4,6 +4,7 @@ use Rattle.std.specs.List.{AllByRecursion}
 use Rattle.std.proofs.lemmas.List.{append-nil}
 use Rattle.std.proofs.lemmas.Option.{same_Some}
 use Rattle.std.specs.Cmp.Lexicographic.{same_text}
+use Rattle.kb_lemmas.proofs.Options.{some_of_map}
 use Rattle.kb_text.specs.Names.{Name, is_among}
 use Rattle.kb_text.specs.Tokens.{Token, arrow, equals, left_paren, right_paren, comma, identifier, end_of_input}
 use Rattle.kb_text.specs.Grammar.{Written, alone, applied, Arguments, no_arguments, argument, Sign, by_arrow, by_equals, WrittenEquation, Section, variables, rules, skipped, IsSection, open_after, reserved_names, term_tokens, sign_token, equation_tokens, section_tokens, HasNext, name_tokens}
@@ -11,10 +12,6 @@ use Rattle.kb_text.specs.Fronts.{TermFront, whole, opened, within, EquationFront
 use Rattle.kb_text.specs.Machine.{with_last, behind_argument, next_term, next_equation, next_front, next_section, next_rules, next_skipped, is_whole, sign_of, or_try, begin_term, whole_equation, section_named, open_at, closed_with}
 use Rattle.kb_text.proofs.RunTexts.{open-append, then_open, is_some_is}
 use Rattle.kb_text.proofs.Completed.{arguments-with_last, followed-with_last, flat_map-last, flat_map-sections, all-last, has_next_of_front}
-
-pub map_some : {A B : Type 0} (f : A → B) (o : Option A) (y : B) → option_map f o ≡ Some y → (x : A) × (o ≡ Some x) × (f x ≡ y)
-map_some f None y h = absurd (cc)
-map_some f (Some x) y h = (x, refl, same_Some (f x) y h)
 
 -- the tokens of the second are those of the first and t
 abbrev Longer : List Token → List Token → Token → Type 0
@@ -40,11 +37,11 @@ term_sound (within f ts (whole (alone c))) v left_paren h = subst (λ (w : TermF
 term_sound (within f ts (whole (alone c))) v t h = behind_sound f ts (alone c) v t h
 term_sound (within f ts (whole (applied g us))) v t h = behind_sound f ts (applied g us) v t h
 term_sound (within f ts (opened g us)) v t h =
-    let r = map_some (within f ts) (next_term (opened g us) t) v h in
+    let r = some_of_map (within f ts) (next_term (opened g us) t) v h in
     subst (λ (w : TermFront). Longer (term_front_tokens (within f ts (opened g us))) (term_front_tokens w) t) r.2
     (ap (λ (l : List Token). identifier f ∷ left_paren ∷ (followed_tokens ts ++ l)) (term_sound (opened g us) r.0 t r.1) ∙ ap (λ (l : List Token). identifier f ∷ left_paren ∷ l) (sym (append_assoc (followed_tokens ts) (term_front_tokens (opened g us)) (t ∷ []))))
 term_sound (within f ts (within g us u)) v t h =
-    let r = map_some (within f ts) (next_term (within g us u) t) v h in
+    let r = some_of_map (within f ts) (next_term (within g us u) t) v h in
     subst (λ (w : TermFront). Longer (term_front_tokens (within f ts (within g us u))) (term_front_tokens w) t) r.2
     (ap (λ (l : List Token). identifier f ∷ left_paren ∷ (followed_tokens ts ++ l)) (term_sound (within g us u) r.0 t r.1) ∙ ap (λ (l : List Token). identifier f ∷ left_paren ∷ l) (sym (append_assoc (followed_tokens ts) (term_front_tokens (within g us u)) (t ∷ []))))
 
@@ -76,18 +73,18 @@ pub equation_sound : (e g : EquationFront) (t : Token) → next_equation e t ≡
 equation_sound (in_left u) g t h = go (or_some (option_map in_left (next_term u t)) (option_and_then (λ l. option_map (behind_sign l) (sign_of t)) (is_whole u)) g h)
   where
     go : (option_map in_left (next_term u t) ≡ Some g) ⊎ (option_and_then (λ l. option_map (behind_sign l) (sign_of t)) (is_whole u) ≡ Some g) → Longer (term_front_tokens u) (equation_front_tokens g) t
-    go (inl a) = let r = map_some in_left (next_term u t) g a in subst (λ (e : EquationFront). Longer (term_front_tokens u) (equation_front_tokens e) t) r.2 (term_sound u r.0 t r.1)
+    go (inl a) = let r = some_of_map in_left (next_term u t) g a in subst (λ (e : EquationFront). Longer (term_front_tokens u) (equation_front_tokens e) t) r.2 (term_sound u r.0 t r.1)
     go (inr a) =
         let r = then_some (λ l. option_map (behind_sign l) (sign_of t)) (is_whole u) g a in
-        let q = map_some (behind_sign r.0) (sign_of t) g r.2 in
+        let q = some_of_map (behind_sign r.0) (sign_of t) g r.2 in
         subst (λ (e : EquationFront). Longer (term_front_tokens u) (equation_front_tokens e) t) q.2
         (ap (λ (v : TermFront). term_front_tokens v ++ sign_token q.0 ∷ []) (sym (whole_is u r.0 r.1)) ∙ ap (λ (x : Token). term_front_tokens u ++ x ∷ []) (sym (sign_is t q.0 q.1)))
 equation_sound (behind_sign l s) g t h =
-    let r = map_some (in_right l s) (begin_term t) g h in
+    let r = some_of_map (in_right l s) (begin_term t) g h in
     subst (λ (e : EquationFront). Longer (equation_front_tokens (behind_sign l s)) (equation_front_tokens e) t) r.2
     (ap (λ (x : List Token). term_tokens l ++ sign_token s ∷ x) (begin_is t r.0 r.1) ∙ sym (append_assoc (term_tokens l) (sign_token s ∷ []) (t ∷ [])))
 equation_sound (in_right l s u) g t h =
-    let r = map_some (in_right l s) (next_term u t) g h in
+    let r = some_of_map (in_right l s) (next_term u t) g h in
     subst (λ (e : EquationFront). Longer (equation_front_tokens (in_right l s u)) (equation_front_tokens e) t) r.2
     (ap (λ (x : List Token). term_tokens l ++ sign_token s ∷ x) (term_sound u r.0 t r.1) ∙ sym (append_assoc (term_tokens l) (sign_token s ∷ term_front_tokens u) (t ∷ [])))
 
@@ -95,7 +92,7 @@ pub whole_equation_is : (e : EquationFront) (w : WrittenEquation) → whole_equa
 whole_equation_is (in_left u) w h = absurd (cc)
 whole_equation_is (behind_sign l s) w h = absurd (cc)
 whole_equation_is (in_right l s u) w h =
-    let r = map_some (λ (x : Written). record { left = l; sign = s; right = x }) (is_whole u) w h in
+    let r = some_of_map (λ (x : Written). record { left = l; sign = s; right = x }) (is_whole u) w h in
     ap (λ (v : TermFront). term_tokens l ++ sign_token s ∷ term_front_tokens v) (whole_is u r.0 r.1) ∙ ap equation_tokens r.2
 
 -- ---- texts

@@ -2,15 +2,15 @@
 use Rattle.std.proofs.Common.{◌≡◌, refl, ap, sym, ◌∙◌, subst, ⊎_elim, arith, ℕ, zero, suc, ◌+◌, ◌-◌, ◌<◌, ◌≤◌, ◌==◌, List, [], ◌∷◌, ◌++◌, Bool, true, false, not, ◌&&◌, ◌||◌, cond, length, take, drop, length-append, Contains}
 use Rattle.std.specs.Prelude.{map, nat_eq, nat_le, nat_lt}
 use Rattle.std.specs.List.{list_all, list_any, starts_with}
-use Rattle.std.proofs.lemmas.Bool.{false≢true, eqb-true, eqb-false}
+use Rattle.std.proofs.lemmas.Bool.{false≢true, eqb-true, eqb-false, and_parts}
 use Rattle.std.proofs.lemmas.Bool.Decides.{nat_tests}
 use Rattle.std.proofs.lemmas.List.{take-append-drop}
 use Rattle.std.proofs.lemmas.Slice.Eq.{bytes_eq-Decides}
+use Rattle.kb_lemmas.proofs.Membership.{contains_cases, contains_first, contains_behind}
+use Rattle.kb_lemmas.proofs.Lists.{take_front}
 use Rattle.kb_term.specs.Identifier.{is_white_space, begins_otherwise}
-use Rattle.kb_term.proofs.Steps.{contains_cases, contains_first, contains_behind}
 use Rattle.kb_text.specs.Tokens.{Token, Placed, Start, white, mark, letter, marks, mark_of, start_of, tokens_by, tokens_from, letter_before, with_letter, identifier}
 use Rattle.kb_text.specs.Spelling.{IsBroken, IsUnbrokenBefore, Stands, a_mark, an_identifier, the_end, AreSpelled}
-use Rattle.kb_text.proofs.Identifiers.{and_true}
 use Rattle.kb_text.proofs.IdentifierLaws.{letter_begins}
 use Rattle.kb_text.proofs.Runs.{StandsFrom, stands_from}
 
@@ -27,14 +27,14 @@ fall n (m ∷ ms) = nat_le (length m.1) n && fall (length m.1) ms
 fall_contains : (ms : List Row) (n : ℕ) (x : Row) → fall n ms ≡ true → Contains ms x → length x.1 ≤ n
 fall_contains [] n x f c = absurd (omega (arith, c.1))
 fall_contains (m ∷ ms) n x f c =
-    let r = and_true (nat_le (length m.1) n) (fall (length m.1) ms) f in
+    let r = and_parts (nat_le (length m.1) n) (fall (length m.1) ms) f in
     let l : length m.1 ≤ n = grind (arith, nat_tests, r.0) in
     ⊎_elim (λ (q : m ≡ x). omega (arith, l, ap (λ (y : Row). length y.1) q)) (λ d. omega (arith, l, fall_contains ms (length m.1) x r.1 d)) (contains_cases m ms x c)
 
 passes : (p : Row → Bool) (ms : List Row) (x : Row) → list_all p ms ≡ true → Contains ms x → p x ≡ true
 passes p [] x f c = absurd (omega (arith, c.1))
 passes p (m ∷ ms) x f c =
-    let r = and_true (p m) (list_all p ms) f in
+    let r = and_parts (p m) (list_all p ms) f in
     ⊎_elim (λ q. sym (ap p q) ∙ r.0) (λ d. passes p ms x r.1 d) (contains_cases m ms x c)
 
 any_passes : (p : List ℕ → Bool) (ms : List Row) (x : Row) → Contains ms x → p x.1 ≡ true → list_any p (map (λ (m : Row). m.1) ms) ≡ true
@@ -74,7 +74,7 @@ longest [] n text t size x f e c s = absurd (cc)
 longest (m ∷ ms) n text t size x f e c s = go (λ g d. longest ms (length m.1) text t size x falls g d s) (starts_with nat_eq text m.1) refl
   where
     falls : fall (length m.1) ms ≡ true
-    falls = (and_true (nat_le (length m.1) n) (fall (length m.1) ms) f).1
+    falls = (and_parts (nat_le (length m.1) n) (fall (length m.1) ms) f).1
 
     go : (mark_of ms text ≡ mark t size → Contains ms x → length x.1 ≤ size) → (v : Bool) → starts_with nat_eq text m.1 ≡ v → length x.1 ≤ size
     go later true p =
@@ -92,10 +92,6 @@ begins_is : (text w : List ℕ) → starts_with nat_eq text w ≡ true → text 
 begins_is text w s =
     let same : w ≡ take (length w) text = (bytes_eq-Decides w (take (length w) text)).0 s in
     sym (take-append-drop (length w) text) ∙ ap (λ (z : List ℕ). z ++ drop (length w) text) (sym same)
-
-take_front : (w rest : List ℕ) → take (length w) (w ++ rest) ≡ w
-take_front [] rest = refl
-take_front (x ∷ w) rest = ap (x ∷◌) (take_front w rest)
 
 -- ---- what begins where
 
@@ -140,7 +136,7 @@ broken_by_other t w rest n (the_end i e f) = subst IsBroken (sym (ap (λ (z : Li
 broken_before : (space after text : List ℕ) → list_all is_white_space space ≡ true → text ≡ space ++ after → (space ≡ [] → IsBroken after) → IsBroken text
 broken_before [] after text h parts f = subst IsBroken (sym parts) (f refl)
 broken_before (c ∷ space) after text h parts f =
-    let w = (and_true (is_white_space c) (list_all is_white_space space) h).0 in
+    let w = (and_parts (is_white_space c) (list_all is_white_space space) h).0 in
     subst IsBroken (sym parts) (ap (λ (v : Bool). v || list_any (λ (m : List ℕ). starts_with ◌==◌ (c ∷ (space ++ after)) m) (map (λ (m : Row). m.1) marks)) w)
 
 -- ---- one byte more

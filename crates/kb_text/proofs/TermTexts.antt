@@ -1,13 +1,12 @@
 -- The text of a term decides the term.
 use Rattle.std.proofs.Common.{◌≡◌, refl, ap, ap₂, sym, ◌∙◌, subst, ⊎_elim, append_assoc, arith, ℕ, zero, suc, ◌+◌, ◌-◌, ◌<◌, List, [], ◌∷◌, ◌++◌, Bool, true, false, not, ◌||◌, ◌==◌, Some, length, get_or}
-use Rattle.std.proofs.lemmas.Bool.{cases_lt, eqb-true, false≢true}
+use Rattle.std.proofs.lemmas.Bool.{cases_lt, eqb-true, false≢true, not-true, and_parts}
 use Rattle.std.proofs.lemmas.List.{get_or-map}
 use Rattle.kb_term.specs.Identifier.{begins_otherwise, is_unbroken}
 use Rattle.kb_term.specs.Signature.{Signature, SymbolEntry, IsSignature, HasArity}
 use Rattle.kb_term.specs.Tree.{Tree, variable, apply, Trees, no_trees, more_trees, list_of}
 use Rattle.kb_text.specs.Terms.{is_x_number, names_of, prefix_length, variable_text, symbol_text, term_text, arguments_text, later_text}
 use Rattle.kb_text.specs.TermReading.{ends_name, IsInName, IsNameEnd, IsBounded, AreBounded}
-use Rattle.kb_text.proofs.Identifiers.{and_true}
 use Rattle.kb_text.proofs.Prefixes.{name_is_no_variable}
 use Rattle.kb_text.proofs.VariableTexts.{one_variable, variable_in_name, variable_is_x_number}
 
@@ -46,15 +45,11 @@ no_end b bytes h = first (b == 40) refl
     first true e = absurd (false≢true (sym h ∙ ap (λ z. begins_otherwise (z ∷ bytes)) (eqb-true b 40 e)))
     first false e = second (b == 41) refl e
 
-not_true : (a : Bool) → not a ≡ true → a ≡ false
-not_true true h = absurd (cc)
-not_true false h = refl
-
 unbroken_in_name : (bytes : List ℕ) → is_unbroken bytes ≡ true → IsInName bytes
 unbroken_in_name [] h = tt
 unbroken_in_name (b ∷ bytes) h =
-    let r = and_true (not (begins_otherwise (b ∷ bytes))) (is_unbroken bytes) h in
-    (no_end b bytes (not_true (begins_otherwise (b ∷ bytes)) r.0), unbroken_in_name bytes r.1)
+    let r = and_parts (not (begins_otherwise (b ∷ bytes))) (is_unbroken bytes) h in
+    (no_end b bytes (not-true (begins_otherwise (b ∷ bytes)) r.0), unbroken_in_name bytes r.1)
 
 names_length : (signature : Signature) → length (names_of signature) ≡ length signature
 names_length [] = refl

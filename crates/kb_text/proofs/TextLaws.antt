@@ -2,16 +2,13 @@
 use Rattle.std.proofs.Common.{append-nil, append_assoc, ◌≡◌, refl, ap, sym, ◌∙◌, arith, ℕ, zero, suc, ◌+◌, ◌-◌, ◌≤◌, ◌<◌, List, [], ◌∷◌, ◌++◌, Bool, true, false, ◌&&◌, length, get_or, take, drop, Vec, Global}
 use Rattle.std.specs.Prelude.{map, replicate, nat_eq, nat_lt, codes, bytes_eq, find}
 use Rattle.std.specs.List.{list_all, starts_with, range_with_len}
+use Rattle.std.proofs.lemmas.List.{length-replicate}
 use Rattle.kb_term.specs.Tree.{Trees, no_trees, more_trees, trees_of}
 use Rattle.kb_term.specs.View.{tree_of}
 use Rattle.kb_term.specs.Signature.{symbols_of_list}
 use Rattle.kb_term.specs.declared.term.Term.{Term}
 use Rattle.kb_text.specs.Names.{Name}
 use Rattle.kb_text.specs.Terms.{separator, is_digit, is_x_number, names_of, symbol_text, term_text, arguments_text, later_text}
-
-length-replicate : (n : ℕ) → length {A = ℕ} (replicate n 120) ≡ n
-length-replicate zero = refl
-length-replicate (suc n) = omega (arith, length-replicate n)
 
 letters : (xs : List ℕ) → bytes_eq (replicate (length xs) 120) xs ≡ list_all (λ b. nat_eq 120 b) xs
 letters [] = refl
@@ -25,7 +22,7 @@ length-take (suc n) (x ∷ xs) h = omega (arith, length-take n xs (omega arith))
 -- a name that is long enough begins with n letters x where its first n bytes are letters x
 pub begins_with_letters : (n : ℕ) (name : List ℕ) → n ≤ length name → starts_with nat_eq name (replicate n 120) ≡ list_all (λ b. nat_eq 120 b) (take n name)
 begins_with_letters n name h =
-    ap (λ (k : ℕ). bytes_eq (replicate n 120) (take k name)) (length-replicate n)
+    ap (λ (k : ℕ). bytes_eq (replicate n 120) (take k name)) (length-replicate n 120)
     ∙ ap (λ (k : ℕ). bytes_eq (replicate k 120) (take n name)) (sym (length-take n name h))
     ∙ letters (take n name)
 

@@ -2,14 +2,13 @@
 use Rattle.std.proofs.Common.{◌≡◌, refl, ap, ap₂, sym, ◌∙◌, subst, ⊎_elim, inl, inr, arith, ℕ, zero, suc, ◌+◌, ◌*◌, ◌/◌, ◌%◌, ◌<◌, ◌≤◌, List, [], ◌∷◌, ◌++◌, true, false, length, get_or, take, drop, length-append}
 use Rattle.std.specs.Prelude.{◌⊎◌, MatchOption, None, Option, Some, decimal, nat_eq, replicate}
 use Rattle.std.specs.List.{list_all}
-use Rattle.std.proofs.lemmas.Bool.{cases_lt, eqb-true}
+use Rattle.std.proofs.lemmas.Bool.{cases_lt, eqb-true, and_parts}
 use Rattle.std.proofs.lemmas.Bool.Decides.{nat_tests}
 use Rattle.std.proofs.lemmas.Fmt.{decimal_digit, decimal_step, decimal_injective}
-use Rattle.std.proofs.lemmas.List.{append_cancel_left, take_at, drop_at, take-append-drop}
+use Rattle.std.proofs.lemmas.List.{append_cancel_left, take_at, drop_at, take-append-drop, length-replicate}
 use Rattle.kb_term.specs.Signature.{Signature, HasName}
 use Rattle.kb_text.specs.Terms.{is_digit, is_x_number, names_of, symbol_text}
 use Rattle.kb_text.specs.TermReading.{IsInName, ends_name}
-use Rattle.kb_text.proofs.Identifiers.{and_true}
 use Rattle.kb_text.proofs.TextLaws.{x_number}
 
 pub two_digits : (m : ℕ) → 10 ≤ m → m ≤ 99 → decimal m ≡ (48 + m / 10) ∷ (48 + m % 10) ∷ []
@@ -91,22 +90,18 @@ all_digits m h =
 some_digits : (m : ℕ) → m ≤ 64 → 0 < length (decimal m)
 some_digits m h = ⊎_elim (λ l. let e = ap length (decimal_digit m l) in omega arith) (λ l. let e = ap length (two_digits m l (omega arith)) in omega arith) (cases_lt m 10)
 
-letters_count : (n : ℕ) → length {A = ℕ} (replicate n 120) ≡ n
-letters_count zero = refl
-letters_count (suc n) = omega (arith, letters_count n)
-
 pub variable_longer : (p m : ℕ) → m ≤ 64 → p < length (replicate p 120 ++ decimal m)
-variable_longer p m h = omega (arith, some_digits m h, length-append (replicate p 120) (decimal m), letters_count p)
+variable_longer p m h = omega (arith, some_digits m h, length-append (replicate p 120) (decimal m), length-replicate {A = ℕ} p 120)
 
 -- its letters are letters x
 pub variable_letters : (p m : ℕ) → list_all (λ b. nat_eq 120 b) (take p (replicate p 120 ++ decimal m)) ≡ true
-variable_letters p m = ap (list_all (λ b. nat_eq 120 b)) (take_at (replicate p 120) (decimal m) p (letters_count p)) ∙ all_letters p
+variable_letters p m = ap (list_all (λ b. nat_eq 120 b)) (take_at (replicate p 120) (decimal m) p (length-replicate p 120)) ∙ all_letters p
 
 -- and no name of a symbol is one
 pub variable_is_x_number : (p m : ℕ) → m ≤ 64 → is_x_number p (replicate p 120 ++ decimal m) ≡ true
 variable_is_x_number p m h =
     x_number p (replicate p 120 ++ decimal m) true true (variable_longer p m h) (variable_letters p m)
-    (ap (list_all is_digit) (drop_at (replicate p 120) (decimal m) p (letters_count p)) ∙ all_digits m h)
+    (ap (list_all is_digit) (drop_at (replicate p 120) (decimal m) p (length-replicate p 120)) ∙ all_digits m h)
 
 pub one_variable : (p m n : ℕ) → m < 64 → n < 64 → replicate p 120 ++ decimal (m + 1) ≡ replicate p 120 ++ decimal (n + 1) → m ≡ n
 one_variable p m n h k e = let f = decimal_injective (m + 1) (n + 1) (omega arith) (omega arith) (append_cancel_left (replicate p 120) (decimal (m + 1)) (decimal (n + 1)) e) in omega arith
@@ -116,7 +111,7 @@ pub letters_are : (n : ℕ) (name : List ℕ) → n ≤ length name → list_all
 letters_are zero name h e = refl
 letters_are (suc n) [] h e = absurd (omega arith)
 letters_are (suc n) (b ∷ name) h e =
-    let p = and_true (nat_eq 120 b) (list_all (λ b. nat_eq 120 b) (take n name)) e in
+    let p = and_parts (nat_eq 120 b) (list_all (λ b. nat_eq 120 b) (take n name)) e in
     ap₂ (λ x xs. x ∷ xs) (sym (eqb-true 120 b p.0)) (letters_are n name (omega arith) p.1)
 
 abbrev WhereVariable : Option ℕ → (ℕ → List ℕ) → List ℕ → Type 0

@@ -1,32 +1,18 @@
 -- The text of a problem is UTF-8.
-use Rattle.std.proofs.Common.{◌≡◌, refl, sym, subst, arith, ℕ, zero, suc, ◌+◌, ◌-◌, ◌<◌, ◌≤◌, List, [], ◌∷◌, ◌++◌, length, get_or, true}
-use Rattle.std.specs.Prelude.{IsUtf8, codes, decimal, flat_map, nat_lt, replicate}
-use Rattle.std.specs.List.{list_all, range_with_len}
-use Rattle.std.proofs.lemmas.Bool.{ltb-true}
+use Rattle.std.proofs.Common.{refl, sym, subst, arith, ℕ, zero, suc, ◌+◌, ◌-◌, ◌<◌, ◌≤◌, List, [], ◌∷◌, ◌++◌, length, get_or}
+use Rattle.std.specs.Prelude.{IsUtf8, codes, decimal, flat_map, replicate}
+use Rattle.std.specs.List.{range_with_len}
 use Rattle.std.proofs.lemmas.Fmt.{IsAscii-decimal}
 use Rattle.std.proofs.lemmas.List.{get_or-map}
 use Rattle.std.proofs.lemmas.Str.{IsUtf8-append, IsUtf8-from_ascii, IsUtf8-nil}
+use Rattle.kb_lemmas.proofs.Texts.{ascii_utf8, letters_utf8}
 use Rattle.kb_term.specs.Signature.{Signature, SymbolEntry, IsSignature, Problem}
 use Rattle.kb_term.specs.Tree.{Tree, variable, apply, Trees, no_trees, more_trees, list_of}
 use Rattle.kb_text.specs.Names.{Name}
 use Rattle.kb_text.specs.Terms.{names_of, prefix_length, variable_text, symbol_text, term_text, arguments_text, later_text, most_variables, problem_line, problem_text}
 use Rattle.kb_text.specs.TermReading.{IsBounded, AreBounded}
-use Rattle.kb_text.proofs.Identifiers.{and_true}
 use Rattle.kb_text.proofs.ProblemTokens.{IsBoundedEquation}
 use Rattle.kb_text.proofs.TermTexts.{arity_within}
-
--- ASCII, byte by byte
-ascii_bytes : (bs : List ℕ) → list_all (λ b. nat_lt b 128) bs ≡ true → (i : ℕ) → get_or bs i 0 < 128
-ascii_bytes [] h i = omega arith
-ascii_bytes (b ∷ bs) h zero = ltb-true b 128 (and_true (nat_lt b 128) (list_all (λ b. nat_lt b 128) bs) h).0
-ascii_bytes (b ∷ bs) h (suc i) = ascii_bytes bs (and_true (nat_lt b 128) (list_all (λ b. nat_lt b 128) bs) h).1 i
-
-plain : (bs : List ℕ) → list_all (λ b. nat_lt b 128) bs ≡ true → IsUtf8 bs
-plain bs h = IsUtf8-from_ascii bs (ascii_bytes bs h)
-
-letters_utf8 : (n : ℕ) → IsUtf8 (replicate n 120)
-letters_utf8 zero = IsUtf8-nil
-letters_utf8 (suc n) = IsUtf8-append (120 ∷ []) (replicate n 120) (plain (120 ∷ []) refl) (letters_utf8 n)
 
 variable_utf8 : (names : List Name) (k : ℕ) → k < 64 → IsUtf8 (variable_text names k)
 variable_utf8 names k h = IsUtf8-append (replicate (prefix_length names) 120) (decimal (k + 1)) (letters_utf8 (prefix_length names)) (IsUtf8-from_ascii (decimal (k + 1)) (IsAscii-decimal (k + 1) (omega arith)))
@@ -44,20 +30,20 @@ mutual
   term_utf8 signature s (apply f (more_trees t ts)) d b =
       let names = names_of signature in
       IsUtf8-append (symbol_text names f) (arguments_text names (more_trees t ts)) (symbol_utf8 signature s f (arity_within signature f (length (list_of (more_trees t ts))) b.1))
-      (IsUtf8-append (40 ∷ (term_text names t ++ later_text names ts)) (41 ∷ []) (IsUtf8-append (40 ∷ term_text names t) (later_text names ts) (IsUtf8-append (40 ∷ []) (term_text names t) (plain (40 ∷ []) refl) (term_utf8 signature s t (d - 1) b.2.0)) (later_utf8 signature s ts (d - 1) b.2.1)) (plain (41 ∷ []) refl))
+      (IsUtf8-append (40 ∷ (term_text names t ++ later_text names ts)) (41 ∷ []) (IsUtf8-append (40 ∷ term_text names t) (later_text names ts) (IsUtf8-append (40 ∷ []) (term_text names t) (ascii_utf8 (40 ∷ []) refl) (term_utf8 signature s t (d - 1) b.2.0)) (later_utf8 signature s ts (d - 1) b.2.1)) (ascii_utf8 (41 ∷ []) refl))
 
   later_utf8 : (signature : Signature) → IsSignature signature → (ts : Trees) (d : ℕ) → AreBounded signature d ts → IsUtf8 (later_text (names_of signature) ts)
   later_utf8 signature s no_trees d b = IsUtf8-nil
   later_utf8 signature s (more_trees t ts) d b =
       let names = names_of signature in
-      IsUtf8-append (44 ∷ term_text names t) (later_text names ts) (IsUtf8-append (44 ∷ []) (term_text names t) (plain (44 ∷ []) refl) (term_utf8 signature s t d b.0)) (later_utf8 signature s ts d b.1)
+      IsUtf8-append (44 ∷ term_text names t) (later_text names ts) (IsUtf8-append (44 ∷ []) (term_text names t) (ascii_utf8 (44 ∷ []) refl) (term_utf8 signature s t d b.0)) (later_utf8 signature s ts d b.1)
 
 line_utf8 : (signature : Signature) → IsSignature signature → (e : Tree × Tree) → IsBoundedEquation signature e → IsUtf8 (problem_line (names_of signature) e)
 line_utf8 signature s e b =
     let names = names_of signature in
     IsUtf8-append (term_text names e.0 ++ 32 ∷ 61 ∷ 61 ∷ 32 ∷ term_text names e.1) (10 ∷ [])
-    (IsUtf8-append (term_text names e.0) (32 ∷ 61 ∷ 61 ∷ 32 ∷ term_text names e.1) (term_utf8 signature s e.0 64 b.0) (IsUtf8-append (32 ∷ 61 ∷ 61 ∷ 32 ∷ []) (term_text names e.1) (plain (32 ∷ 61 ∷ 61 ∷ 32 ∷ []) refl) (term_utf8 signature s e.1 64 b.1)))
-    (plain (10 ∷ []) refl)
+    (IsUtf8-append (term_text names e.0) (32 ∷ 61 ∷ 61 ∷ 32 ∷ term_text names e.1) (term_utf8 signature s e.0 64 b.0) (IsUtf8-append (32 ∷ 61 ∷ 61 ∷ 32 ∷ []) (term_text names e.1) (ascii_utf8 (32 ∷ 61 ∷ 61 ∷ 32 ∷ []) refl) (term_utf8 signature s e.1 64 b.1)))
+    (ascii_utf8 (10 ∷ []) refl)
 
 lines_utf8 : (signature : Signature) → IsSignature signature → (es : List (Tree × Tree)) → ((k : ℕ) (d : Tree × Tree) → k < length es → IsBoundedEquation signature (get_or es k d)) → IsUtf8 (flat_map (problem_line (names_of signature)) es)
 lines_utf8 signature s [] b = IsUtf8-nil
@@ -66,7 +52,7 @@ lines_utf8 signature s (e ∷ es) b = IsUtf8-append (problem_line (names_of sign
 variables_utf8 : (names : List Name) (count k : ℕ) → k + count ≤ 64 → IsUtf8 (flat_map (λ n. 32 ∷ variable_text names n) (range_with_len k count))
 variables_utf8 names zero k l = IsUtf8-nil
 variables_utf8 names (suc count) k l =
-    IsUtf8-append (32 ∷ variable_text names k) (flat_map (λ n. 32 ∷ variable_text names n) (range_with_len (k + 1) count)) (IsUtf8-append (32 ∷ []) (variable_text names k) (plain (32 ∷ []) refl) (variable_utf8 names k (omega arith))) (variables_utf8 names count (k + 1) (omega arith))
+    IsUtf8-append (32 ∷ variable_text names k) (flat_map (λ n. 32 ∷ variable_text names n) (range_with_len (k + 1) count)) (IsUtf8-append (32 ∷ []) (variable_text names k) (ascii_utf8 (32 ∷ []) refl) (variable_utf8 names k (omega arith))) (variables_utf8 names count (k + 1) (omega arith))
 
 pub text_utf8 : (p : Problem) → IsSignature p.signature → ((k : ℕ) (d : Tree × Tree) → k < length p.equations → IsBoundedEquation p.signature (get_or p.equations k d)) → most_variables p.equations ≤ 64 → IsUtf8 (problem_text p)
 text_utf8 p s b few =
@@ -77,8 +63,8 @@ text_utf8 p s b few =
     (IsUtf8-append (((codes "(VAR" ++ vs) ++ codes ")\n") ++ codes "(RULES\n") es
     (IsUtf8-append ((codes "(VAR" ++ vs) ++ codes ")\n") (codes "(RULES\n")
     (IsUtf8-append (codes "(VAR" ++ vs) (codes ")\n")
-    (IsUtf8-append (codes "(VAR") vs (plain (codes "(VAR") refl) (variables_utf8 names (most_variables p.equations) 0 (omega arith)))
-    (plain (codes ")\n") refl))
-    (plain (codes "(RULES\n") refl))
+    (IsUtf8-append (codes "(VAR") vs (ascii_utf8 (codes "(VAR") refl) (variables_utf8 names (most_variables p.equations) 0 (omega arith)))
+    (ascii_utf8 (codes ")\n") refl))
+    (ascii_utf8 (codes "(RULES\n") refl))
     (lines_utf8 p.signature s p.equations b))
-    (plain (codes ")\n") refl)
+    (ascii_utf8 (codes ")\n") refl)

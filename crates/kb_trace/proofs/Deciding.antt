@@ -1,6 +1,7 @@
 -- When a step is right, by what is made of its rules.
 use Rattle.std.proofs.Common.{ℕ, ◌≡◌, ◌∙◌, sym, ap, subst, subst₂, List, Option, Some, None}
 use Rattle.std.specs.Prelude.{Bool, IsTrue, ◌↔◌}
+use Rattle.std.proofs.lemmas.Option.{same_Some}
 use Rattle.kb_term.specs.Tree.{Tree}
 use Rattle.kb_term.specs.Pair.{Pair, canonical_pair, ArePairWithin}
 use Rattle.kb_term.specs.Rule.{Rule, IsRule, rule_of}
@@ -8,7 +9,6 @@ use Rattle.kb_term.specs.View.{tree_of}
 use Rattle.kb_term.specs.declared.term.Term.{Term}
 use Rattle.kb_term.specs.declared.origin.RuleRef.{RuleRef}
 use Rattle.kb_term.specs.declared.origin.Origin.TheVariants.{Rewrite, Overlap}
-use Rattle.kb_term.proofs.Subtrees.{some_same}
 use Rattle.kb_overlap.specs.Trace.{side, other_side, IsRightRewrite, IsRightOverlap, FollowsBy}
 use Rattle.kb_trace.specs.Steps.{IsRewritten, IsOverlapped, IsCitedRule}
 use Rattle.kb_trace.proofs.Canonical.{within_canonical}
@@ -44,7 +44,7 @@ pub rewrite_origin : (equations : List (Tree × Tree)) (earlier : ℕ → Option
 rewrite_origin equations earlier a w p r pair old rule b at cited h =
     let e = cited_pair (earlier r.node) r.dir rule cited in (
       λ y. (old, e.0, at, e.1, subst (λ q. IsRightRewrite old w p q pair) e.2 (h.0 y)),
-      λ z. h.1 (subst₂ (λ x q. IsRightRewrite x w p q pair) (some_same z.0 old (sym z.2 ∙ at)) (ap (λ x. rule_of x r.dir) (some_same z.1 e.0 (sym z.3 ∙ e.1)) ∙ sym e.2) z.4),
+      λ z. h.1 (subst₂ (λ x q. IsRightRewrite x w p q pair) (same_Some z.0 old (sym z.2 ∙ at)) (ap (λ x. rule_of x r.dir) (same_Some z.1 e.0 (sym z.3 ∙ e.1)) ∙ sym e.2) z.4),
     )
 
 pub overlap_origin : (equations : List (Tree × Tree)) (earlier : ℕ → Option Pair) (x y : RuleRef) (p : List ℕ) (pair : Pair) (outer inner : Rule) (b : Bool)
@@ -53,5 +53,5 @@ overlap_origin equations earlier x y p pair outer inner b one other h =
     let d = cited_pair (earlier x.node) x.dir outer one in
     let e = cited_pair (earlier y.node) y.dir inner other in (
       λ z. (d.0, e.0, d.1, e.1, subst₂ (λ q r. IsRightOverlap q r p pair) d.2 e.2 (h.0 z)),
-      λ z. h.1 (subst₂ (λ q r. IsRightOverlap q r p pair) (ap (λ q. rule_of q x.dir) (some_same z.0 d.0 (sym z.2 ∙ d.1)) ∙ sym d.2) (ap (λ q. rule_of q y.dir) (some_same z.1 e.0 (sym z.3 ∙ e.1)) ∙ sym e.2) z.4),
+      λ z. h.1 (subst₂ (λ q r. IsRightOverlap q r p pair) (ap (λ q. rule_of q x.dir) (same_Some z.0 d.0 (sym z.2 ∙ d.1)) ∙ sym d.2) (ap (λ q. rule_of q y.dir) (same_Some z.1 e.0 (sym z.3 ∙ e.1)) ∙ sym e.2) z.4),
     )

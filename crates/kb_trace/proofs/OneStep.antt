@@ -3,6 +3,7 @@ use Rattle.std.proofs.Common.{◌≡◌, refl, ap, ap₂, sym, ◌∙◌, arith,
 use Rattle.std.specs.Prelude.{codes, decimal, map, IsTrue}
 use Rattle.std.specs.List.{join_with_byte, list_all, slice_split}
 use Rattle.std.proofs.lemmas.Fmt.{decimal_digit, decimal_injective}
+use Rattle.std.proofs.lemmas.Bool.{and_parts}
 use Rattle.kb_term.specs.Pair.{Pair}
 use Rattle.kb_term.specs.Signature.{Signature, IsSignature}
 use Rattle.kb_term.specs.Tree.{Tree}
@@ -12,7 +13,6 @@ use Rattle.kb_term.specs.declared.origin.Origin.TheVariants.{Input, Rewrite, Ove
 use Rattle.kb_overlap.specs.Trace.{TraceStep}
 use Rattle.kb_text.specs.Terms.{TermSpelled, names_of, term_text, IsPairForm}
 use Rattle.kb_text.proofs.Cuts.{fields_cut}
-use Rattle.kb_text.proofs.Identifiers.{and_true}
 use Rattle.kb_text.proofs.TermParts.{one_spelled}
 use Rattle.kb_trace.specs.TraceText.{position_text, origin_fields, step_fields, is_up_to, is_position, is_origin, IsStepForm}
 use Rattle.kb_trace.proofs.StepForms.{up_to, placed, rewrite_form, overlap_form, numbers_without, first_spelled, second_spelled, pair_fields}
@@ -35,8 +35,8 @@ one_numbers [] [] h k e = refl
 one_numbers [] (n ∷ ns) h k e = absurd (cc)
 one_numbers (m ∷ ms) [] h k e = absurd (cc)
 one_numbers (m ∷ ms) (n ∷ ns) h k e =
-    let x = and_true (is_up_to 8 m) (list_all (is_up_to 8) ms) h in
-    let y = and_true (is_up_to 8 n) (list_all (is_up_to 8) ns) k in
+    let x = and_parts (is_up_to 8 m) (list_all (is_up_to 8) ms) h in
+    let y = and_parts (is_up_to 8 n) (list_all (is_up_to 8) ns) k in
     let l = up_to 8 m x.0 in
     let r = up_to 8 n y.0 in
     ap₂ (λ x xs. x ∷ xs) (small_number m n (omega arith) (omega arith) (ap head_of e)) (one_numbers ms ns x.1 y.1 (ap tail_of e))
@@ -47,7 +47,7 @@ position_parts n ns h = fields_cut 46 (decimal n) (map decimal ns) (numbers_with
 
 pub not_root : (n : ℕ) (ns : List ℕ) → list_all (is_up_to 8) (n ∷ ns) ≡ true → position_text (n ∷ ns) ≡ codes "e" → ⊥
 not_root n ns h e =
-    let l = up_to 8 n (and_true (is_up_to 8 n) (list_all (is_up_to 8) ns) h).0 in
+    let l = up_to 8 n (and_parts (is_up_to 8 n) (list_all (is_up_to 8) ns) h).0 in
     let parts : map decimal (n ∷ ns) ≡ codes "e" ∷ [] = sym (position_parts n ns h) ∙ ap (slice_split (λ b. b == 46)) e in
     let digit : (48 + n) ∷ [] ≡ codes "e" = sym (decimal_digit n (omega arith)) ∙ ap head_of parts in
     let same = ap (λ xs. get_or xs 0 0) digit in

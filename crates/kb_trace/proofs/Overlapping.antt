@@ -2,6 +2,7 @@
 use Rattle.std.proofs.Common.{ℕ, zero, suc, ◌+◌, ◌≡◌, ◌∙◌, refl, sym, ap, subst, arith, inl, inr, List, [], ◌∷◌, ◌++◌, map, Contains, Option, Some, None, Result, Ok, Err}
 use Rattle.std.specs.Prelude.{option_and_then}
 use Rattle.std.proofs.lemmas.List.Elements.{Contains-append_left, Contains-append_right, Contains-append_cases}
+use Rattle.kb_lemmas.proofs.Membership.{contains_map, contains_cases, contains_first, contains_behind, contains_mapped}
 use Rattle.kb_term.specs.Tree.{Tree, Trees, variable, apply, no_trees, more_trees}
 use Rattle.kb_term.specs.Position.{argument, subtree_at, function_positions_of, function_positions_in}
 use Rattle.kb_term.specs.Pair.{Pair, canonical_pair}
@@ -10,8 +11,6 @@ use Rattle.kb_term.specs.View.{tree_of}
 use Rattle.kb_term.specs.declared.term.Term.{Term}
 use Rattle.kb_term.specs.declared.limit.Limit.{Limit}
 use Rattle.kb_term.proofs.Arguments.{argument-zero}
-use Rattle.kb_term.proofs.Steps.{contains_cases, contains_first, contains_behind}
-use Rattle.kb_term.proofs.Subtrees.{contains_mapped}
 use Rattle.kb_overlap.specs.Overlap.{Overlap, IsOverlapOrLimit, IsRenamedApart, HasNoOverlapAt, canonical_sides}
 use Rattle.kb_overlap.specs.Found.{AreVariablesBelow, IsFoundAt}
 use Rattle.kb_overlap.proofs.Finding.{apart_is, none_there}
@@ -20,13 +19,6 @@ use Rattle.kb_trace.specs.Steps.{IsOverlapped, IsPairWithin}
 
 pub below_from : (bound : ℕ) (rule : Rule) → IsRuleBelow bound rule → AreVariablesBelow bound rule
 below_from bound rule h = (h.left, h.right)
-
-contains_map : {X Y : Type 0} (f : X → Y) (xs : List X) (x : X) → Contains xs x → Contains (map f xs) (f x)
-contains_map f [] x c = absurd (omega (arith, c.1))
-contains_map f (y ∷ xs) x c = elim (contains_cases y xs x c) [
-  | inl e ↦ subst (λ z. Contains (map f (y ∷ xs)) (f z)) e (contains_first (f y) (map f xs))
-  | inr d ↦ contains_behind (f y) (map f xs) (f x) (contains_map f xs x d)
-]
 
 -- at a position at which no variable stands there is an application
 mutual

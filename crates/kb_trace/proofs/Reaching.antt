@@ -6,14 +6,14 @@ use Rattle.std.proofs.lemmas.List.{get_or_append_left, get_or-set_same, get_or-s
 use Rattle.std.proofs.lemmas.List.Quantifiers.{all_pairs_push}
 use Rattle.std.proofs.Math.Seq.{get_or-append_seam}
 use Rattle.std.proofs.lemmas.List.Elements.{All-push, filter-append, Contains-append_cases, Contains-append_left, Contains-append_right}
-use Rattle.std.proofs.lemmas.Option.{slice_get_within}
+use Rattle.std.proofs.lemmas.Option.{slice_get_within, same_Some}
 use Rattle.std.proofs.lemmas.Bool.{cases_eq, ne_eqb}
+use Rattle.kb_lemmas.proofs.Lists.{zip_push}
+use Rattle.kb_lemmas.proofs.Membership.{contains_cases, contains_first, contains_behind}
 use Rattle.kb_term.specs.Proving.{IsPath}
 use Rattle.kb_term.specs.Pair.{Pair, place_in}
 use Rattle.kb_term.specs.declared.origin.Origin.{Origin}
 use Rattle.kb_term.specs.declared.origin.Origin.TheVariants.{Input, Rewrite, Overlap}
-use Rattle.kb_term.proofs.Steps.{contains_cases, contains_first, contains_behind}
-use Rattle.kb_term.proofs.Subtrees.{some_same}
 use Rattle.kb_term.proofs.Numbered.{place_in_is}
 use Rattle.kb_text.proofs.PrintLaws.{range_push}
 use Rattle.kb_trace.specs.Reached.{cites, Cites, CitesEarlier, IsReached, HasMarked, with_numbers, number_in, IsStepOf, IsTraceOf, AreMarks}
@@ -63,7 +63,7 @@ swept_marked nodes wanted marks new i n x earlier s room is marked at h = record
       ⊎_elim
       (λ (old : Marked marks j).
       ⊎_elim
-      (λ (e : j ≡ n). (h.marked m).1 (inr (subst (λ (y : Pair × Origin). Contains (cites y.1) m) (some_same r.0 x (sym r.1 ∙ ap (slice_get nodes) e ∙ at)) r.2)))
+      (λ (e : j ≡ n). (h.marked m).1 (inr (subst (λ (y : Pair × Origin). Contains (cites y.1) m) (same_Some r.0 x (sym r.1 ∙ ap (slice_get nodes) e ∙ at)) r.2)))
       (λ (ne : j ≢ n). let past : length nodes ≤ j + i = omega arith in (h.marked m).1 (inl (s.closed j m past old r)))
       (cases_eq j n))
       (λ c. let less : j < n = earlier n j (x, at, c) in absurd (omega arith))
@@ -197,12 +197,6 @@ marked_within : (marks : List Bool) (n : ℕ) → Marked marks n → n < length 
 marked_within [] n h = absurd (cc)
 marked_within (x ∷ marks) zero h = omega arith
 marked_within (x ∷ marks) (suc n) h = omega (arith, marked_within marks n h)
-
-zip_push : {X Y : Type 0} (R : X → Y → Type 0) (xs : List X) (ys : List Y) (x : X) (y : Y) → AllZip R xs ys → R x y → AllZip R (xs ++ x ∷ []) (ys ++ y ∷ [])
-zip_push R [] [] x y h r = (r, tt)
-zip_push R [] (b ∷ ys) x y h r = absurd h
-zip_push R (a ∷ xs) [] x y h r = absurd h
-zip_push R (a ∷ xs) (b ∷ ys) x y h r = (h.0, zip_push R xs ys x y h.1 r)
 
 -- the next node's place
 pub placed : (marks : List Bool) (places : List ℕ) (n k : ℕ) → length places ≡ n → ((m : ℕ) → m < n → get_or places m 0 ≡ length (kept marks m)) → k ≡ length (kept marks n) → (m : ℕ) → m < n + 1 → get_or (places ++ k ∷ []) m 0 ≡ length (kept marks m)

@@ -2,8 +2,9 @@
 use Rattle.std.proofs.Common.{◌≡◌, ◌⊎◌, refl, ap, sym, ◌∙◌, subst, ⊎_elim, arith, ℕ, zero, suc, ◌+◌, ◌<◌, ◌≤◌, ◌==◌, ◌^◌, List, [], ◌∷◌, ◌++◌, Bool, true, false, cond, ◌&&◌, length, get_or, Some, None, All, Contains}
 use Rattle.std.specs.Prelude.{codes, decimal, map, nat_le, IsTrue, ⊤}
 use Rattle.std.specs.List.{join_with_byte, list_all}
-use Rattle.std.proofs.lemmas.Bool.Decides.{nat_tests}
 use Rattle.std.proofs.lemmas.List.Elements.{Contains-get_or}
+use Rattle.std.proofs.lemmas.Bool.{leb-true, le-leb, and_parts}
+use Rattle.kb_lemmas.proofs.Numbers.{eq_above}
 use Rattle.kb_term.specs.Tree.{Tree, variables_of, tree_eq, HasVariablesBelow}
 use Rattle.kb_term.specs.Pair.{Pair, variables_of_pair, numbered, canonical, canonical_pair}
 use Rattle.kb_term.specs.Signature.{Signature, IsSignature}
@@ -18,42 +19,35 @@ use Rattle.kb_text.specs.Fields.{IsWithout}
 use Rattle.kb_text.specs.Names.{Name}
 use Rattle.kb_text.specs.Terms.{TermSpelled, names_of, term_text, infix_text, IsPairForm}
 use Rattle.kb_text.proofs.Cuts.{AreWithout, are_without-append}
-use Rattle.kb_text.proofs.Identifiers.{and_true}
-use Rattle.kb_text.proofs.PlainTexts.{IsBlank, high_byte, word_without, decimal_without, join_without, text_without}
+use Rattle.kb_text.proofs.PlainTexts.{IsBlank, word_without, decimal_without, join_without, text_without}
 use Rattle.kb_text.proofs.TermParts.{spelled_bounded}
 use Rattle.kb_trace.specs.TraceText.{position_text, cited_fields, origin_fields, step_fields, is_up_to, is_position, is_cited, is_origin, IsStepForm}
 
 -- ---- the numbers of an origin
-
-pub le_true : (a b : ℕ) → nat_le a b ≡ true → a ≤ b
-le_true a b h = grind (arith, nat_tests)
-
-pub true_le : (a b : ℕ) → a ≤ b → nat_le a b ≡ true
-true_le a b h = grind (arith, nat_tests)
 
 pub record IsUpTo (highest n : ℕ) : Type 0 where
   pub low : 1 ≤ n
   pub high : n ≤ highest
 
 pub up_to : (highest n : ℕ) → is_up_to highest n ≡ true → IsUpTo highest n
-up_to highest n h = let r = and_true (nat_le 1 n) (nat_le n highest) h in record { low = le_true 1 n r.0; high = le_true n highest r.1 }
+up_to highest n h = let r = and_parts (nat_le 1 n) (nat_le n highest) h in record { low = leb-true 1 n r.0; high = leb-true n highest r.1 }
 
 pub is_up_to-true : (highest n : ℕ) → 1 ≤ n → n ≤ highest → is_up_to highest n ≡ true
-is_up_to-true highest n h k = λ i. true_le 1 n h i && true_le n highest k i
+is_up_to-true highest n h k = λ i. le-leb 1 n h i && le-leb n highest k i
 
 pub record IsCited (r : RuleRef) : Type 0 where
   pub node : IsUpTo 4096 r.node
   pub dir : r.dir ≤ 1
 
 pub cited : (r : RuleRef) → is_cited r ≡ true → IsCited r
-cited r h = let e = and_true (is_up_to 4096 r.node) (nat_le r.dir 1) h in record { node = up_to 4096 r.node e.0; dir = le_true r.dir 1 e.1 }
+cited r h = let e = and_parts (is_up_to 4096 r.node) (nat_le r.dir 1) h in record { node = up_to 4096 r.node e.0; dir = leb-true r.dir 1 e.1 }
 
 pub record IsPlaced (p : List ℕ) : Type 0 where
   pub count : length p ≤ 63
   pub each : list_all (is_up_to 8) p ≡ true
 
 pub placed : (p : List ℕ) → is_position p ≡ true → IsPlaced p
-placed p h = let e = and_true (nat_le (length p) 63) (list_all (is_up_to 8) p) h in record { count = le_true (length p) 63 e.0; each = e.1 }
+placed p h = let e = and_parts (nat_le (length p) 63) (list_all (is_up_to 8) p) h in record { count = leb-true (length p) 63 e.0; each = e.1 }
 
 pub record IsRewriteForm (a w : ℕ) (p : List ℕ) (r : RuleRef) : Type 0 where
   pub node : IsUpTo 4096 a
@@ -63,10 +57,10 @@ pub record IsRewriteForm (a w : ℕ) (p : List ℕ) (r : RuleRef) : Type 0 where
 
 pub rewrite_form : (a w : ℕ) (p : List ℕ) (r : RuleRef) → is_origin (Rewrite a w p r) ≡ true → IsRewriteForm a w p r
 rewrite_form a w p r h =
-    let x = and_true (is_up_to 4096 a && nat_le w 1 && is_position p) (is_cited r) h in
-    let y = and_true (is_up_to 4096 a && nat_le w 1) (is_position p) x.0 in
-    let z = and_true (is_up_to 4096 a) (nat_le w 1) y.0 in
-    record { node = up_to 4096 a z.0; side = le_true w 1 z.1; position = y.1; rule = cited r x.1 }
+    let x = and_parts (is_up_to 4096 a && nat_le w 1 && is_position p) (is_cited r) h in
+    let y = and_parts (is_up_to 4096 a && nat_le w 1) (is_position p) x.0 in
+    let z = and_parts (is_up_to 4096 a) (nat_le w 1) y.0 in
+    record { node = up_to 4096 a z.0; side = leb-true w 1 z.1; position = y.1; rule = cited r x.1 }
 
 pub record IsOverlapForm (a b : RuleRef) (p : List ℕ) : Type 0 where
   pub outer : IsCited a
@@ -75,8 +69,8 @@ pub record IsOverlapForm (a b : RuleRef) (p : List ℕ) : Type 0 where
 
 pub overlap_form : (a b : RuleRef) (p : List ℕ) → is_origin (Overlap a b p) ≡ true → IsOverlapForm a b p
 overlap_form a b p h =
-    let x = and_true (is_cited a && is_cited b) (is_position p) h in
-    let y = and_true (is_cited a) (is_cited b) x.0 in
+    let x = and_parts (is_cited a && is_cited b) (is_position p) h in
+    let y = and_parts (is_cited a) (is_cited b) x.0 in
     record { outer = cited a y.0; inner = cited b y.1; position = x.1 }
 
 -- ---- their fields hold no white space
@@ -84,13 +78,13 @@ overlap_form a b p h =
 pub numbers_without : (c : ℕ) → c < 48 → (p : List ℕ) → list_all (is_up_to 8) p ≡ true → AreWithout c (map decimal p)
 numbers_without c h [] e = tt
 numbers_without c h (n ∷ ns) e =
-    let r = and_true (is_up_to 8 n) (list_all (is_up_to 8) ns) e in
+    let r = and_parts (is_up_to 8 n) (list_all (is_up_to 8) ns) e in
     let l = up_to 8 n r.0 in
     (decimal_without c n h (omega arith), numbers_without c h ns r.1)
 
 position_without : (c : ℕ) → c < 40 → (p : List ℕ) → is_position p ≡ true → IsWithout c (position_text p)
 position_without c h [] e = word_without c h (codes "e") refl
-position_without c h (n ∷ ns) e = join_without c 46 (map decimal (n ∷ ns)) (high_byte 46 c (omega arith)) (numbers_without c (omega arith) (n ∷ ns) (placed (n ∷ ns) e).each)
+position_without c h (n ∷ ns) e = join_without c 46 (map decimal (n ∷ ns)) (eq_above 46 c (omega arith)) (numbers_without c (omega arith) (n ∷ ns) (placed (n ∷ ns) e).each)
 
 number_without : (c : ℕ) → c < 40 → (n : ℕ) → n ≤ 4096 → IsWithout c (decimal n)
 number_without c h n l = decimal_without c n (omega arith) (omega arith)
@@ -155,15 +149,15 @@ step_without c b signature s k l step f =
 
 pub each_up_to : (p : List ℕ) → list_all (is_up_to 8) p ≡ true → (k : ℕ) → k < length p → IsUpTo 8 (get_or p k 0)
 each_up_to [] h k l = absurd (omega arith)
-each_up_to (n ∷ ns) h zero l = up_to 8 n (and_true (is_up_to 8 n) (list_all (is_up_to 8) ns) h).0
-each_up_to (n ∷ ns) h (suc k) l = each_up_to ns (and_true (is_up_to 8 n) (list_all (is_up_to 8) ns) h).1 k (omega arith)
+each_up_to (n ∷ ns) h zero l = up_to 8 n (and_parts (is_up_to 8 n) (list_all (is_up_to 8) ns) h).0
+each_up_to (n ∷ ns) h (suc k) l = each_up_to ns (and_parts (is_up_to 8 n) (list_all (is_up_to 8) ns) h).1 k (omega arith)
 
 pub all_more : (p : List ℕ) (n : ℕ) → list_all (is_up_to 8) p ≡ true → is_up_to 8 n ≡ true → list_all (is_up_to 8) (p ++ n ∷ []) ≡ true
 all_more [] n h e = λ i. e i && true
 all_more (m ∷ ms) n h e =
-    let r = and_true (is_up_to 8 m) (list_all (is_up_to 8) ms) h in
+    let r = and_parts (is_up_to 8 m) (list_all (is_up_to 8) ms) h in
     let k = all_more ms n r.1 e in
     λ i. r.0 i && k i
 
 pub is_position-true : (p : List ℕ) → length p ≤ 63 → list_all (is_up_to 8) p ≡ true → is_position p ≡ true
-is_position-true p h e = let l = true_le (length p) 63 h in λ i. l i && e i
+is_position-true p h e = let l = le-leb (length p) 63 h in λ i. l i && e i

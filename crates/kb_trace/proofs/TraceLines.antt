@@ -5,6 +5,7 @@ use Rattle.std.specs.List.{join_with_byte, slice_split}
 use Rattle.std.proofs.lemmas.Bool.{false≢true}
 use Rattle.std.proofs.lemmas.List.{drop-drop, drop_all, length_push, length-drop}
 use Rattle.std.proofs.lemmas.List.Elements.{All-head, All-push, All-tail}
+use Rattle.kb_lemmas.proofs.Numbers.{eq_above}
 use Rattle.kb_term.specs.Signature.{Signature, IsSignature}
 use Rattle.kb_overlap.specs.Trace.{TraceStep}
 use Rattle.kb_text.specs.Fields.{IsWithout}
@@ -13,7 +14,7 @@ use Rattle.kb_text.specs.Names.{Name}
 use Rattle.kb_text.specs.Terms.{names_of}
 use Rattle.kb_text.proofs.Cuts.{fields_cut, one_line}
 use Rattle.kb_text.proofs.LineFronts.{first_lines-none, first_lines-line, behind_front}
-use Rattle.kb_text.proofs.PlainTexts.{space_blank, feed_blank, high_byte, join_without}
+use Rattle.kb_text.proofs.PlainTexts.{space_blank, feed_blank, join_without}
 use Rattle.kb_trace.specs.TraceText.{origin_fields, step_fields, step_line, step_lines, trace_text, IsStepForm, IsTraceForm, IsTraceText}
 use Rattle.kb_trace.specs.Reading.{BeginsWithStep}
 use Rattle.kb_trace.proofs.StepForms.{step_without, pair_fields}
@@ -31,7 +32,7 @@ lines_then : (names : List Name) (k : ℕ) (s : TraceStep) (ss : List TraceStep)
 lines_then names k s ss rest = append_assoc (step_line names k s) (step_lines names (k + 1) ss) rest ∙ line_then names k s (step_lines names (k + 1) ss ++ rest)
 
 pub body_without : (signature : Signature) → IsSignature signature → (k : ℕ) → k ≤ 100000 → (s : TraceStep) → IsStepForm signature s → IsWithout 10 (body (names_of signature) k s)
-body_without signature i k h s f = join_without 10 32 (step_fields (names_of signature) k s) (high_byte 32 10 (omega arith)) (step_without 10 feed_blank signature i k (omega arith) s f)
+body_without signature i k h s f = join_without 10 32 (step_fields (names_of signature) k s) (eq_above 32 10 (omega arith)) (step_without 10 feed_blank signature i k (omega arith) s f)
 
 pub body_fields : (signature : Signature) → IsSignature signature → (k : ℕ) → k ≤ 100000 → (s : TraceStep) → IsStepForm signature s → slice_split (λ b. b == 32) (body (names_of signature) k s) ≡ step_fields (names_of signature) k s
 body_fields signature i k h s f = fields_cut 32 (decimal k) (origin_fields s.origin ++ pair_fields (names_of signature) s.pair) (step_without 32 space_blank signature i k (omega arith) s f)

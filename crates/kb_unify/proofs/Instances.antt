@@ -1,9 +1,10 @@
 -- Instances of one term under two substitutions, by the occurrences of its variables.
 use Rattle.std.proofs.Common.{ℕ, ◌≡◌, ◌⊎◌, inl, inr, List, [], ◌∷◌, arith, Contains}
 use Rattle.std.proofs.lemmas.Bool.{cases_eq}
+use Rattle.kb_lemmas.proofs.Membership.{contains_cases, contains_behind}
 use Rattle.kb_term.specs.Tree.{Tree, variables_of}
 use Rattle.kb_term.specs.Substitution.{instance}
-use Rattle.kb_term.proofs.Steps.{occurs_from, occurs_to, contains_cases, contains_behind}
+use Rattle.kb_term.proofs.Steps.{occurs_from, occurs_to}
 use Rattle.kb_term.proofs.Instances as Instances
 
 pub contains_decides : (xs : List ℕ) (n : ℕ) → Contains xs n ⊎ (¬ Contains xs n)

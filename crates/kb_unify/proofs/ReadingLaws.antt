@@ -4,6 +4,7 @@ use Rattle.std.proofs.Math.Nat.{mul-le-mul_right}
 use Rattle.std.proofs.lemmas.Bool.{cases_eq}
 use Rattle.std.proofs.lemmas.List.Quantifiers.{all_pairs_push}
 use Rattle.std.specs.Prelude.{AllPairs, map, ⊤, Result, Ok, Err, IfOk, min, cond, nat_lt, true, false, ◌==◌}
+use Rattle.kb_lemmas.proofs.Numbers.{lt_itself}
 use Rattle.kb_term.specs.Tree.{Tree, variable, apply, more_trees, trees_of, tree_size, tree_depth, trees_depth}
 use Rattle.kb_term.specs.View.{tree_of}
 use Rattle.kb_term.specs.declared.term.Term.{Term}
@@ -107,9 +108,6 @@ bound-same n i ne = grind arith
 bound-at : (n : ℕ) → nat_lt n (n + 1) ≡ true
 bound-at n = grind arith
 
-bound-before : (n : ℕ) → nat_lt n n ≡ false
-bound-before n = grind arith
-
 -- one more variable, which gets a term or stays
 pub lists-push : (n : ℕ) (w : ℕ → Tree) (es : List (ℕ × Tree)) (t : Tree) → ListsBelow n w es → AreKeysBelow n es → t ≡ w n → ListsBelow (n + 1) w (es ++ (n, t) ∷ [])
 lists-push n w es t h keys is i = go (cases_eq i n)
@@ -122,7 +120,7 @@ pub lists-skip : (n : ℕ) (w : ℕ → Tree) (es : List (ℕ × Tree)) → List
 lists-skip n w es h is i = go (cases_eq i n)
   where
     go : (i ≡ n) ⊎ (¬ (i ≡ n)) → substitution_of es i ≡ cond (nat_lt i (n + 1)) (w i) (variable i)
-    go (inl e) = subst (λ j. substitution_of es j ≡ cond (nat_lt j (n + 1)) (w j) (variable j)) (sym e) (rw (bound-at n) (h n ∙ rw (bound-before n) (sym is)))
+    go (inl e) = subst (λ j. substitution_of es j ≡ cond (nat_lt j (n + 1)) (w j) (variable j)) (sym e) (rw (bound-at n) (h n ∙ rw (lt_itself n) (sym is)))
     go (inr ne) = rw (bound-same n i ne) (h i)
 
 pub keys_pushed : (n : ℕ) (t : Tree) (es : List (ℕ × Tree)) → AreKeysBelow n es → AreKeysBelow (n + 1) (es ++ (n, t) ∷ [])

@@ -2,13 +2,13 @@
 use Rattle.std.proofs.Common.{ℕ, ◌≤◌, ◌≡◌, refl, sym, ap, ap₂, ◌∙◌, arith, List, [], ◌∷◌, map, Contains}
 use Rattle.std.specs.Prelude.{Bool}
 use Rattle.std.specs.List.{list_any}
+use Rattle.kb_lemmas.proofs.Membership.{contains_first, contains_behind}
 use Rattle.kb_term.specs.Tree.{Tree, Trees, variable, apply, no_trees, more_trees, tree_size, trees_size, tree_depth, trees_depth}
 use Rattle.kb_term.specs.Substitution.{instance, instances}
 use Rattle.kb_term.specs.Pair.{is_too_large, is_too_deep, first_limit, limit_if}
 use Rattle.kb_term.specs.declared.limit.Limit.TheVariants.{Size, Depth}
 use Rattle.kb_unify.specs.Unifier.{IsMostGeneralUnifier}
 use Rattle.kb_unify.specs.Answer.{terms_limit, unifier_limit, variables_of_both}
-use Rattle.kb_term.proofs.Steps.{contains_first, contains_behind}
 
 -- no term is empty
 size-pos : (t : Tree) → 1 ≤ tree_size t

@@ -8,15 +8,15 @@ use Rattle.std.specs.declared.cmp.Ordering.TheVariants.{Less, Equal, Greater}
 use Rattle.std.proofs.Math.ListN.{drop_of_length-le}
 use Rattle.std.proofs.Math.Seq.{drop-nil}
 use Rattle.std.proofs.lemmas.Cmp.{nat_cmp_total}
-use Rattle.std.proofs.lemmas.Bool.Decides.{nat_tests}
-use Rattle.kb_term.proofs.Steps.{contains_cases}
+use Rattle.std.proofs.lemmas.Bool.{ltb-false, ltb-true}
+use Rattle.kb_lemmas.proofs.Membership.{contains_cases, none_in}
 use Rattle.kb_label.specs.Names.{Name, name_cmp, IsInNameOrder, minus}
 use Rattle.kb_label.proofs.Ordered.{rest, skip}
 use Rattle.kb_jobs.proofs.Preorder.{nat_less, nat_same}
 use Rattle.kb_node.specs.declared.job.Job.{Job}
 use Rattle.mkb_model.specs.Jobs.{process_of, kind_number, job_numbers, numbers_cmp, job_cmp}
 use Rattle.mkb_model.specs.Plain.{Plain, cost, weight}
-use Rattle.mkb_model.proofs.Lists.{equal_or_more, none_in, clash}
+use Rattle.mkb_model.proofs.Lists.{equal_or_more, clash}
 use Rattle.mkb_model.specs.DueJobs.{first_job, awake}
 use Rattle.mkb_model.specs.declared.entry.Ticket.{Ticket}
 use Rattle.mkb_board.specs.Choosing.{jobs_of, first_choice, merged, IsCosted, StandsBefore}
@@ -54,12 +54,6 @@ more_cost cost weight i j h =
 abbrev job_in : Option Choice → Option Job
 job_in o = option_map (λ (c : Choice). c.job) o
 
-not_below : (k n : ℕ) → nat_lt k n ≡ false → n ≤ k
-not_below k n e = grind (arith, nat_tests)
-
-below : (k n : ℕ) → nat_lt k n ≡ true → k < n
-below k n e = grind (arith, nat_tests)
-
 module _ (b : Plain) (flight : List Job) (p : Name) (k : ℕ) (is_cost : k ≡ cost b p) where
   of_next : (j : Job) → first_choice b flight p ≡ Some j → cost b (process_of j) ≡ k
   of_next j e = ap (cost b) (choice_process b flight p j e) ∙ sym is_cost
@@ -73,7 +67,7 @@ module _ (b : Plain) (flight : List Job) (p : Name) (k : ℕ) (is_cost : k ≡ c
       go : (o : Option Job) → first_choice b flight p ≡ o → Some c.job ≡ merged (job_cmp (cost b) (weight b)) (Some c.job) o
       go None f = refl
       go (Some j) f =
-          let less : cost b (process_of c.job) ≤ cost b (process_of j) = omega (arith, not_below k c.cost e, of_next j f, costed) in
+          let less : cost b (process_of c.job) ≤ cost b (process_of j) = omega (arith, ltb-false k c.cost e, of_next j f, costed) in
           let earlier : name_cmp (process_of c.job) (process_of j) ≡ Less = ap (name_cmp (process_of c.job)) (choice_process b flight p j f) ∙ before in
           sym (ap (λ t. Some (cond t c.job j)) (less_cost (cost b) (weight b) c.job j less earlier))
 
@@ -82,7 +76,7 @@ module _ (b : Plain) (flight : List Job) (p : Name) (k : ℕ) (is_cost : k ≡ c
       → Some j ≡ merged (job_cmp (cost b) (weight b)) (job_in best) (first_choice b flight p)
   best_changes None j costed e f = sym f
   best_changes (Some c) j costed e f =
-      let more : cost b (process_of j) < cost b (process_of c.job) = omega (arith, below k c.cost e, of_next j f, costed) in
+      let more : cost b (process_of j) < cost b (process_of c.job) = omega (arith, ltb-true k c.cost e, of_next j f, costed) in
       sym (ap (merged (job_cmp (cost b) (weight b)) (Some c.job)) f ∙ ap (λ t. Some (cond t c.job j)) (more_cost (cost b) (weight b) c.job j more))
 
 -- ---- the processes so far

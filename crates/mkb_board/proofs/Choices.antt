@@ -3,9 +3,12 @@ use Rattle.std.proofs.Common.{Option, ◌≡◌, refl, sym, ap, ◌∙◌, List,
 use Rattle.std.specs.List.{find, list_any}
 use Rattle.std.specs.Option.{is_none}
 use Rattle.std.proofs.lemmas.List.Elements.{Contains-append_cases, filter-append}
+use Rattle.std.proofs.Math.Bool.{and-false, and-true}
+use Rattle.kb_lemmas.proofs.Lists.{filter_none_of}
+use Rattle.kb_lemmas.proofs.Booleans.{and_gives_left}
+use Rattle.kb_lemmas.proofs.Membership.{contains_mapped, contains_flat_map_back, contains_first, contains_behind}
 use Rattle.kb_term.specs.declared.origin.RuleRef.{RuleRef}
-use Rattle.mkb_model.proofs.Lists.{and_left, clash, map_in, flat_map_in, filter_in, find_none}
-use Rattle.kb_term.proofs.Steps.{contains_first, contains_behind}
+use Rattle.mkb_model.proofs.Lists.{clash, filter_in, find_none}
 use Rattle.kb_label.specs.Names.{Name, has}
 use Rattle.kb_node.specs.declared.job.Job.{Job}
 use Rattle.kb_node.specs.declared.job.Job.TheVariants.{Reduce, Orient, Overlap, Close}
@@ -15,13 +18,9 @@ use Rattle.mkb_model.specs.DueJobs.{is_due, is_working, is_work_due, is_close_du
 use Rattle.mkb_model.specs.declared.settings.Selection.{Selection}
 use Rattle.mkb_model.specs.declared.settings.Selection.TheVariants.{Stated}
 use Rattle.mkb_board.specs.Choosing.{is_choice, first_choice, least_choice, merged}
-use Rattle.mkb_board.proofs.Idle.{due_as, working_so, true_and, and_true, none_found}
+use Rattle.mkb_board.proofs.Idle.{due_as, working_so, true_and, none_found}
 use Rattle.mkb_board.proofs.Least.{least_append, least_found, least_in, merged_none, job_cmp-total}
 use Rattle.mkb_board.proofs.Rising.{work_process, work_rises}
-
-pub and_not : (x : Bool) → (x && false) ≡ false
-and_not true = refl
-and_not false = refl
 
 filter_alike : {A : Type 0} (q e : A → Bool) (xs : List A) → ((x : A) → Contains xs x → q x ≡ e x) → filter q xs ≡ filter e xs
 filter_alike q e [] same = refl
@@ -52,28 +51,24 @@ due_for b p j i =
   where
     reduce : Contains (map (λ n. Reduce p (record { 0 = n })) (node_numbers b)) j → is_due b j ≡ (is_working b p && is_work_due b j)
     reduce k =
-        let m = map_in (λ n. Reduce p (record { 0 = n })) (node_numbers b) j k in
+        let m = contains_mapped (λ n. Reduce p (record { 0 = n })) (node_numbers b) j k in
         subst {A = Job} (λ z. is_due b z ≡ (is_working b p && is_work_due b z)) m.2 refl
 
     orient : Contains (map (λ n. Orient p (record { 0 = n })) (node_numbers b)) j → is_due b j ≡ (is_working b p && is_work_due b j)
     orient k =
-        let m = map_in (λ n. Orient p (record { 0 = n })) (node_numbers b) j k in
+        let m = contains_mapped (λ n. Orient p (record { 0 = n })) (node_numbers b) j k in
         subst {A = Job} (λ z. is_due b z ≡ (is_working b p && is_work_due b z)) m.2 refl
 
     overlap : Contains (flat_map (λ (a : RuleRef). map (Overlap p a) (rules_of b p)) (rules_of b p)) j → is_due b j ≡ (is_working b p && is_work_due b j)
     overlap k =
-        let q = flat_map_in (λ (a : RuleRef). map (Overlap p a) (rules_of b p)) (rules_of b p) j k in
-        let m = map_in (Overlap p q.0) (rules_of b p) j q.2 in
+        let q = contains_flat_map_back (λ (a : RuleRef). map (Overlap p a) (rules_of b p)) (rules_of b p) j k in
+        let m = contains_mapped (Overlap p q.0) (rules_of b p) j q.2 in
         subst {A = Job} (λ z. is_due b z ≡ (is_working b p && is_work_due b z)) m.2 refl
-
-filter_none_of : {A : Type 0} (q : A → Bool) (xs : List A) → ((x : A) → Contains xs x → q x ≡ false) → filter q xs ≡ []
-filter_none_of q [] never = refl
-filter_none_of q (x ∷ xs) never = ap (λ b. cond b (x ∷ filter q xs) (filter q xs)) (never x (contains_first x xs)) ∙ filter_none_of q xs (λ y i. never y (contains_behind x xs y i))
 
 -- a process that gave up takes none
 pub choice_over : (b : Plain) (flight : List Job) (p : Name) → is_over b p ≡ true → first_choice b flight p ≡ None
 choice_over b flight p over =
-    let idle : is_working b p ≡ false = ap (λ z. has b.living p && not z) over ∙ and_not (has b.living p) in
+    let idle : is_working b p ≡ false = ap (λ z. has b.living p && not z) over ∙ and-false (has b.living p) in
     let R = job_cmp (cost b) (weight b) in
     choice_parts b flight p
     ∙ ap (λ js. merged R (least R js) (least R (open_in b flight (Close p ∷ []))))
@@ -83,14 +78,14 @@ choice_over b flight p over =
 -- ---- the first that is due, and the first of these that is free
 
 any_due : (b : Plain) (js : List Job) → not (list_any (is_work_due b) js) ≡ is_none (find (is_choice b []) js)
-any_due b js = sym (none_found (is_choice b []) (is_work_due b) js (λ j. and_true (is_work_due b j)))
+any_due b js = sym (none_found (is_choice b []) (is_work_due b) js (λ j. and-true (is_work_due b j)))
 
 -- where some work is due, no closing is taken
 pub choice_of_work : (b : Plain) (flight : List Job) (p : Name) (j : Job) → has b.living p ≡ true → is_over b p ≡ false
     → find (is_choice b []) (work_of b p) ≡ Some j → first_choice b flight p ≡ least_choice b.settings.selection b flight (work_of b p)
 choice_of_work b flight p j lives going e =
     let busy : is_close_due b p ≡ false = ap (λ z. z && not (has b.closed p)) (any_due b (work_of b p) ∙ ap is_none e) in
-    let never : is_due b (Close p) ≡ false = ap (λ z. is_working b p && z) busy ∙ and_not (is_working b p) in
+    let never : is_due b (Close p) ≡ false = ap (λ z. is_working b p && z) busy ∙ and-false (is_working b p) in
     let R = job_cmp (cost b) (weight b) in
     choice_parts b flight p
     ∙ ap (λ js. merged R (least R js) (least R (open_in b flight (Close p ∷ [])))) (open_works b flight p lives going)
@@ -108,7 +103,7 @@ choice_of_close b flight p lives going e =
     let idle : not (list_any (is_work_due b) (work_of b p)) ≡ true = any_due b (work_of b p) ∙ ap is_none e in
     let due : is_due b (Close p) ≡ not (has b.closed p) = true_and (is_close_due b p) (working_so b p lives going) ∙ true_and (not (has b.closed p)) idle in
     let none : filter (is_choice b flight) (work_of b p) ≡ [] =
-    filter_none_of (is_choice b flight) (work_of b p) (λ j i. ap (λ z. z && is_free flight j) (sym (and_true (is_work_due b j)) ∙ find_none (is_choice b []) (work_of b p) e j i)) in
+    filter_none_of (is_choice b flight) (work_of b p) (λ j i. ap (λ z. z && is_free flight j) (sym (and-true (is_work_due b j)) ∙ find_none (is_choice b []) (work_of b p) e j i)) in
     let R = job_cmp (cost b) (weight b) in
     choice_parts b flight p
     ∙ ap (λ js. merged R (least R js) (least R (open_in b flight (Close p ∷ [])))) (open_works b flight p lives going ∙ none)
@@ -135,4 +130,4 @@ work_due b flight p by j e = go (find (is_choice b []) (work_of b p)) refl
 
     go : (o : Option Job) → find (is_choice b []) (work_of b p) ≡ o → (i : Job) × (find (is_choice b []) (work_of b p) ≡ Some i)
     go (Some i) h = (i, h)
-    go None h = clash (and_left (is_work_due b j) (is_free flight j) chosen.1) (sym (and_true (is_work_due b j)) ∙ find_none (is_choice b []) (work_of b p) h j chosen.0)
+    go None h = clash (and_gives_left (is_work_due b j) (is_free flight j) chosen.1) (sym (and-true (is_work_due b j)) ∙ find_none (is_choice b []) (work_of b p) h j chosen.0)

@@ -17,8 +17,8 @@ use Rattle.mkb_model.specs.declared.entry.Ticket.{Ticket}
 use Rattle.std.specs.Prelude.{Contains, Result, IsOk, is_ok}
 use Rattle.std.proofs.Common.{◌≤◌, not, ◌==◌, ⊎_elim}
 use Rattle.std.proofs.lemmas.Bool.{eq-eqb}
-use Rattle.kb_term.proofs.Steps.{contains_cases}
-use Rattle.mkb_model.proofs.Lists.{none_in}
+use Rattle.kb_lemmas.proofs.Lists.{filter_less}
+use Rattle.kb_lemmas.proofs.Membership.{contains_cases, none_in}
 use Rattle.mkb_board.specs.Boards.{Seen, seen, IsLegalBoard, IsBoard, takes_in, has_halt, drops_in, is_drop, owed}
 use Rattle.mkb_model.specs.declared.settings.Settings.{Settings}
 
@@ -112,19 +112,11 @@ after_push r x y z h e = e ∙ ap (λ b. cond b x y) h
 
 -- ---- landing
 
-pub shorter : {A : Type 0} (test : A → Bool) (xs : List A) → length (filter test xs) ≤ length xs
-shorter test [] = omega arith
-shorter test (x ∷ xs) = go (test x) refl (shorter test xs)
-  where
-    go : (b : Bool) → test x ≡ b → length (filter test xs) ≤ length xs → length (filter test (x ∷ xs)) ≤ length (x ∷ xs)
-    go true e r = let h : length (filter test (x ∷ xs)) ≡ length (filter test xs) + 1 = grind (arith, e) in omega (arith, h, r)
-    go false e r = let h : length (filter test (x ∷ xs)) ≡ length (filter test xs) = grind (arith, e) in omega (arith, h, r)
-
 -- a list loses what the test refuses
 pub loses_one : {A : Type 0} (test : A → Bool) (xs : List A) (y : A) → Contains xs y → test y ≡ false → length (filter test xs) + 1 ≤ length xs
 loses_one test [] y i f = none_in i
 loses_one {A} test (x ∷ xs) y i f = ⊎_elim
-    (λ e. let g : test x ≡ false = ap test e ∙ f in let h : length (filter test (x ∷ xs)) ≡ length (filter test xs) = grind (arith, g) in omega (arith, h, shorter test xs))
+    (λ e. let g : test x ≡ false = ap test e ∙ f in let h : length (filter test (x ∷ xs)) ≡ length (filter test xs) = grind (arith, g) in omega (arith, h, filter_less test xs))
     (λ k. go (test x) refl (loses_one test xs y k f))
     (contains_cases x xs y i)
   where

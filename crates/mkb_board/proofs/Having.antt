@@ -3,6 +3,8 @@ use Rattle.std.proofs.Common.{ℕ, zero, suc, ◌<◌, ◌≡◌, ◌++◌, ◌|
 use Rattle.std.specs.List.{find}
 use Rattle.std.proofs.lemmas.List.{map-append}
 use Rattle.std.proofs.lemmas.List.Elements.{filter-append}
+use Rattle.std.proofs.lemmas.Bool.{or_parts}
+use Rattle.kb_lemmas.proofs.Membership.{contains_behind, contains_first}
 use Rattle.kb_label.specs.Names.{Name, has}
 use Rattle.kb_term.specs.declared.origin.RuleRef.{RuleRef}
 use Rattle.kb_node.specs.declared.job.Job.{Job}
@@ -12,8 +14,7 @@ use Rattle.kb_node.specs.declared.node.NodeId.{NodeId}
 use Rattle.mkb_model.specs.Jobs.{is_free}
 use Rattle.mkb_model.specs.Plain.{Plain, directions, is_equation, is_rule, label, node_numbers, rules_of}
 use Rattle.mkb_model.specs.DueJobs.{is_reducible}
-use Rattle.mkb_model.proofs.Lists.{filter_in, numbers_in, or_none}
-use Rattle.kb_term.proofs.Steps.{contains_behind, contains_first}
+use Rattle.mkb_model.proofs.Lists.{filter_in, numbers_in}
 use Rattle.mkb_rules.specs.Sizes.{is_dead_at, AreAlive}
 use Rattle.mkb_rules.proofs.Paying.{dead_labels}
 use Rattle.mkb_board.specs.Choosing.{is_choice}
@@ -44,8 +45,8 @@ dead_unused b p n e = let d = dead_labels b.nodes n p e in ap₂ (λ (x y : Bool
 -- whoever doesn't have a node has no rule in it
 unused_rules : (b : Plain) (p : Name) (n : ℕ) → is_in_use (roles_of b p n) ≡ false → filter (is_rule b p) (directions n) ≡ []
 unused_rules b p n e =
-    let one = or_none (is_equation b p n) (is_rule b p (record { node = n; dir = 0 }) || is_rule b p (record { node = n; dir = 1 })) e in
-    let two = or_none (is_rule b p (record { node = n; dir = 0 })) (is_rule b p (record { node = n; dir = 1 })) one.1 in
+    let one = or_parts (is_equation b p n) (is_rule b p (record { node = n; dir = 0 }) || is_rule b p (record { node = n; dir = 1 })) e in
+    let two = or_parts (is_rule b p (record { node = n; dir = 0 })) (is_rule b p (record { node = n; dir = 1 })) one.1 in
     sym (rules_of_roles b p n) ∙ ap₂ (λ (x y : Bool). cond x (record { node = n; dir = 0 } ∷ []) [] ++ cond y (record { node = n; dir = 1 } ∷ []) []) two.0 two.1
 
 -- nothing is to be reduced there
@@ -55,7 +56,7 @@ unused_reduce b flight p n e = ap (λ (x : Bool). (x && is_reducible b p n) && i
 -- nor oriented
 pub unused_orient : (b : Plain) (flight : List Job) (p : Name) (n : ℕ) → is_in_use (roles_of b p n) ≡ false → is_choice b flight (Orient p (record { 0 = n })) ≡ false
 unused_orient b flight p n e =
-    let one = or_none (is_equation b p n) (is_rule b p (record { node = n; dir = 0 }) || is_rule b p (record { node = n; dir = 1 })) e in
+    let one = or_parts (is_equation b p n) (is_rule b p (record { node = n; dir = 0 }) || is_rule b p (record { node = n; dir = 1 })) e in
     ap (λ (x : Bool). (x && not (has (label b n X) p)) && is_free flight (Orient p (record { 0 = n }))) one.0
 
 -- ---- lists of nodes

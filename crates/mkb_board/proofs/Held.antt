@@ -2,7 +2,7 @@
 use Rattle.std.proofs.Common.{ℕ, ◌≡◌, ◌≢◌, ◌==◌, refl, sym, ap, ◌∙◌, subst, arith, append_assoc, List, [], ◌∷◌, ◌++◌, Contains, true, not}
 use Rattle.std.proofs.lemmas.Bool.Decides.{nat_tests}
 use Rattle.std.proofs.lemmas.List.Elements.{Contains-append_left, Contains-append_right}
-use Rattle.kb_term.proofs.Steps.{contains_first}
+use Rattle.kb_lemmas.proofs.Membership.{contains_first}
 use Rattle.kb_term.specs.Signature.{Problem}
 use Rattle.kb_node.specs.declared.job.Job.{Job}
 use Rattle.kb_jobs.specs.Working.{ProposesBy}

@@ -3,7 +3,8 @@ use Rattle.std.proofs.Common.{◌≡◌, refl, sym, ap, ◌∙◌, List, [], ◌
 use Rattle.std.specs.List.{find, list_any}
 use Rattle.std.specs.Option.{is_some, is_none}
 use Rattle.std.proofs.lemmas.List.Elements.{Contains-append_cases}
-use Rattle.kb_term.proofs.Steps.{contains_first, contains_behind}
+use Rattle.std.proofs.Math.Bool.{and-true}
+use Rattle.kb_lemmas.proofs.Membership.{contains_first, contains_behind, contains_mapped, contains_flat_map_back}
 use Rattle.kb_term.specs.declared.origin.RuleRef.{RuleRef}
 use Rattle.kb_label.specs.Names.{Name, has}
 use Rattle.kb_node.specs.declared.job.Job.{Job}
@@ -11,7 +12,7 @@ use Rattle.kb_node.specs.declared.job.Job.TheVariants.{Reduce, Orient, Overlap, 
 use Rattle.mkb_model.specs.Plain.{Plain, GivenUp, node_numbers, rules_of, is_over, over_in, over_reason}
 use Rattle.mkb_model.specs.DueJobs.{is_due, is_working, is_work_due, is_close_due, work_of, due_jobs_of}
 use Rattle.mkb_model.specs.Sleeping.{no_members}
-use Rattle.mkb_model.proofs.Lists.{map_in, flat_map_in, none_any}
+use Rattle.mkb_model.proofs.Lists.{none_any}
 use Rattle.mkb_board.specs.Choosing.{is_choice, ClosedRest}
 
 -- ---- lists
@@ -41,10 +42,6 @@ none_found q e (x ∷ xs) same = ap (λ b. is_none (cond b (Some x) (find q xs))
 pub true_and : (x : Bool) {y : Bool} → y ≡ true → (y && x) ≡ x
 true_and x h = ap (λ z. z && x) h
 
-pub and_true : (x : Bool) → (x && true) ≡ x
-and_true true = refl
-and_true false = refl
-
 pub due_as : (b : Plain) (p : Name) → is_working b p ≡ true → (j : Job) → Contains (work_of b p) j → is_due b j ≡ is_work_due b j
 due_as b p working j i =
     ⊎_elim reduce (λ k. ⊎_elim orient overlap (Contains-append_cases (map (λ n. Orient p (record { 0 = n })) (node_numbers b)) (flat_map (λ (a : RuleRef). map (Overlap p a) (rules_of b p)) (rules_of b p)) j k))
@@ -52,18 +49,18 @@ due_as b p working j i =
   where
     reduce : Contains (map (λ n. Reduce p (record { 0 = n })) (node_numbers b)) j → is_due b j ≡ is_work_due b j
     reduce k =
-        let m = map_in (λ n. Reduce p (record { 0 = n })) (node_numbers b) j k in
+        let m = contains_mapped (λ n. Reduce p (record { 0 = n })) (node_numbers b) j k in
         subst {A = Job} (λ z. is_due b z ≡ is_work_due b z) m.2 (true_and (is_work_due b (Reduce p (record { 0 = m.0 }))) working)
 
     orient : Contains (map (λ n. Orient p (record { 0 = n })) (node_numbers b)) j → is_due b j ≡ is_work_due b j
     orient k =
-        let m = map_in (λ n. Orient p (record { 0 = n })) (node_numbers b) j k in
+        let m = contains_mapped (λ n. Orient p (record { 0 = n })) (node_numbers b) j k in
         subst {A = Job} (λ z. is_due b z ≡ is_work_due b z) m.2 (true_and (is_work_due b (Orient p (record { 0 = m.0 }))) working)
 
     overlap : Contains (flat_map (λ (a : RuleRef). map (Overlap p a) (rules_of b p)) (rules_of b p)) j → is_due b j ≡ is_work_due b j
     overlap k =
-        let q = flat_map_in (λ (a : RuleRef). map (Overlap p a) (rules_of b p)) (rules_of b p) j k in
-        let m = map_in (Overlap p q.0) (rules_of b p) j q.2 in
+        let q = contains_flat_map_back (λ (a : RuleRef). map (Overlap p a) (rules_of b p)) (rules_of b p) j k in
+        let m = contains_mapped (Overlap p q.0) (rules_of b p) j q.2 in
         subst {A = Job} (λ z. is_due b z ≡ is_work_due b z) m.2 (true_and (is_work_due b (Overlap p q.0 m.0)) working)
 
 pub working_so : (b : Plain) (p : Name) → has b.living p ≡ true → is_over b p ≡ false → is_working b p ≡ true
@@ -82,7 +79,7 @@ nothing_due b p lives going =
     none_pass (is_due b) (is_work_due b) (work_of b p) (Close p) (due_as b p working)
     ∙ ap (λ z. not (list_any (is_work_due b) (work_of b p)) && not z) (true_and (is_close_due b p) working)
     ∙ idle_or (list_any (is_work_due b) (work_of b p)) (has b.closed p)
-    ∙ ap (λ z. has b.closed p && z) (sym (none_found (is_choice b []) (is_work_due b) (work_of b p) (λ j. and_true (is_work_due b j))))
+    ∙ ap (λ z. has b.closed p && z) (sym (none_found (is_choice b []) (is_work_due b) (work_of b p) (λ j. and-true (is_work_due b j))))
 
 -- where nothing is due for who is closed, nothing is due for a process just where it is closed
 pub idle_closed : (b : Plain) (p : Name) → ClosedRest b → has b.living p ≡ true → is_over b p ≡ false → has b.closed p ≡ no_members (due_jobs_of b p)
@@ -91,7 +88,7 @@ idle_closed b p rest lives going = sym (nothing_due b p lives going ∙ go (has 
     go : (t : Bool) → has b.closed p ≡ t → (t && is_none (find (is_choice b []) (work_of b p))) ≡ t
     go false e = refl
     go true e =
-        none_found (is_choice b []) (is_work_due b) (work_of b p) (λ j. and_true (is_work_due b j))
+        none_found (is_choice b []) (is_work_due b) (work_of b p) (λ j. and-true (is_work_due b j))
         ∙ ap not (none_any (is_work_due b) (work_of b p) (rest p e).no_work)
 
 -- ---- giving up

@@ -3,7 +3,6 @@ use Rattle.std.proofs.Common.{ℕ, suc, length, ◌<◌, ◌≡◌, zero, set, g
 use Rattle.std.specs.Prelude.{option_map}
 use Rattle.std.specs.List.{find, list_any}
 use Rattle.std.specs.Option.{option_or}
-use Rattle.std.proofs.lemmas.Bool.Decides.{nat_tests}
 use Rattle.std.proofs.lemmas.List.{length-set}
 use Rattle.std.specs.List.{cons_option}
 use Rattle.std.specs.Prelude.{All}
@@ -19,7 +18,6 @@ use Rattle.kb_node.specs.declared.job.Fact.{Fact}
 use Rattle.mkb_model.specs.Jobs.{ref_eq}
 use Rattle.mkb_model.specs.Plain.{Plain, PlainNode, known, pair_in, rule_at, rules_at, rules_of}
 use Rattle.mkb_model.specs.Ready.{KeepsPairs}
-use Rattle.mkb_model.proofs.AllFine.{pair_there}
 use Rattle.mkb_model.proofs.Commits.{pairs-applied}
 use Rattle.mkb_rules.specs.Named.{IsRuleThere}
 use Rattle.kb_jobs.specs.declared.rules.NamedRules.{NamedRules}
@@ -27,9 +25,13 @@ use Rattle.mkb_model.specs.DueJobs.{is_open, is_reducible}
 use Rattle.mkb_model.specs.Effects.{applied, effect, effect_label, give_up, limit_of}
 use Rattle.kb_label.specs.declared.verdict.Reason.{Reason}
 use Rattle.std.specs.Option.{option_map_or}
+use Rattle.std.proofs.lemmas.Bool.{eqb-true, or_parts, or_from}
+use Rattle.mkb_model.proofs.Views.{there_pair}
+use Rattle.kb_lemmas.proofs.Booleans.{and_gives_left, and_gives_right}
+use Rattle.kb_lemmas.proofs.Options.{none_some}
 use Rattle.mkb_model.specs.declared.proposed.Proposed.{Proposed}
 use Rattle.mkb_model.specs.declared.proposed.Proposed.TheVariants.{Facts, Rewrite, One, Both, Refuse, Deduce, Unjoined, Closed, Limit}
-use Rattle.mkb_model.proofs.Lists.{and_left, and_right, any_in, any_none, clash, none_some, or_none, or_off}
+use Rattle.mkb_model.proofs.Lists.{any_in, any_none, clash}
 use Rattle.mkb_board.specs.Normal.{AreAllNormal, AreNormal, HoldsRules, NoneOpens, Serves, is_open_in, is_open_to, roles_of}
 use Rattle.mkb_rules.specs.declared.roles.Roles.{Roles}
 use Rattle.mkb_board.specs.declared.normal.Normal.{Normal}
@@ -44,7 +46,7 @@ any_alike q e (x ∷ xs) same = ap₂ (λ s t. s || t) (same x) (any_alike q e x
 -- where the test is weaker on each, none passes
 pub any_still : {A : Type 0} (q e : A → Bool) (xs : List A) → ((x : A) → q x ≡ false → e x ≡ false) → list_any q xs ≡ false → list_any e xs ≡ false
 any_still q e [] so h = refl
-any_still q e (x ∷ xs) so h = let k = or_none (q x) (list_any q xs) h in or_off (e x) (list_any e xs) (so x k.0) (any_still q e xs so k.1)
+any_still q e (x ∷ xs) so h = let k = or_parts (q x) (list_any q xs) h in or_from (e x) (list_any e xs) (so x k.0) (any_still q e xs so k.1)
 
 -- ---- what is reducible
 
@@ -101,7 +103,7 @@ in_range (y ∷ ys) (suc n) q e = omega (arith, in_range ys n q e)
 module _ (b c : Plain) (keeps : KeepsPairs b.nodes c.nodes) where
   same_rule : (a : RuleRef) → IsRuleThere b a → IsRuleThere c a × (rule_at c a ≡ rule_at b a)
   same_rule a h =
-      let q = pair_there b.nodes a.node h.0 in
+      let q = there_pair b.nodes a.node h.0 in
       let there = keeps a.node q.0 q.1 in
       ((in_range c.nodes a.node q.0 there, h.1), ap (option_map (λ (z : Pair). rule_of z a.dir)) (there ∙ sym q.1))
 
@@ -158,11 +160,8 @@ normal_after b x k h = let e = effect_facts b x in normal_stays b (effect b x) e
 
 -- ---- the rules that are new
 
-same_number : (n m : ℕ) → (n == m) ≡ true → n ≡ m
-same_number n m e = grind (arith, nat_tests)
-
 ref_same : (a b : RuleRef) → ref_eq a b ≡ true → a ≡ b
-ref_same a b e = ap₂ (λ n d. record { node = n; dir = d }) (same_number a.node b.node (and_left (a.node == b.node) (a.dir == b.dir) e)) (same_number a.dir b.dir (and_right (a.node == b.node) (a.dir == b.dir) e))
+ref_same a b e = ap₂ (λ n d. record { node = n; dir = d }) (eqb-true a.node b.node (and_gives_left (a.node == b.node) (a.dir == b.dir) e)) (eqb-true a.dir b.dir (and_gives_right (a.node == b.node) (a.dir == b.dir) e))
 
 -- who is among rules of which none passes doesn't pass
 among_not : (q : RuleRef → Bool) (old : List RuleRef) (a : RuleRef) → list_any q old ≡ false → list_any (λ b. ref_eq b a) old ≡ true → q a ≡ false
@@ -179,8 +178,8 @@ fresh_none q old (a ∷ rules) h k = go (list_any (λ b. ref_eq b a) old) refl k
     left = filter (λ x. not (list_any (λ b. ref_eq b x) old)) rules
 
     go : (t : Bool) → list_any (λ b. ref_eq b a) old ≡ t → list_any q (cond (not t) (a ∷ left) left) ≡ false → (list_any q left ≡ false → list_any q rules ≡ false) → (q a || list_any q rules) ≡ false
-    go true e l behind = or_off (q a) (list_any q rules) (among_not q old a h e) (behind l)
-    go false e l behind = let p = or_none (q a) (list_any q left) l in or_off (q a) (list_any q rules) p.0 (behind p.1)
+    go true e l behind = or_from (q a) (list_any q rules) (among_not q old a h e) (behind l)
+    go false e l behind = let p = or_parts (q a) (list_any q left) l in or_from (q a) (list_any q rules) p.0 (behind p.1)
 
 -- what is noted of the old rules and of those that are new holds of all
 pub turned : (b : Plain) (nodes : List (Option Roles)) (old fresh rules : List RuleRef) → NoneOpens b nodes old → NoneOpens b nodes fresh → fresh ≡ filter (λ a. not (list_any (λ c. ref_eq c a) old)) rules → NoneOpens b nodes rules

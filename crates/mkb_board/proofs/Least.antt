@@ -9,13 +9,14 @@ use Rattle.std.specs.declared.cmp.Ordering.{Ordering}
 use Rattle.std.specs.declared.cmp.Ordering.TheVariants.{Less, Equal, Greater}
 use Rattle.std.specs.Option.{option_map_or}
 use Rattle.std.proofs.lemmas.Cmp.{alike_right, on_total, then_total, nat_cmp_total, nat_list_cmp_total}
-use Rattle.kb_term.proofs.Steps.{contains_first, contains_behind}
+use Rattle.kb_lemmas.proofs.Membership.{contains_first, contains_behind, contains_mapped, contains_flat_map_back}
+use Rattle.kb_lemmas.proofs.Options.{none_some, some_is}
 use Rattle.kb_label.specs.Names.{Name, name_cmp}
 use Rattle.kb_label.specs.NameOrder.{name_cmp-total}
 use Rattle.kb_node.specs.declared.job.Job.{Job}
 use Rattle.mkb_model.specs.Jobs.{process_of, kind_number, job_numbers, numbers_cmp, job_cmp, lesser, least}
 use Rattle.mkb_board.specs.Choosing.{merged}
-use Rattle.mkb_model.proofs.Lists.{clash, false_unless, none_some, some_is, filter_in, map_in, flat_map_in}
+use Rattle.mkb_model.proofs.Lists.{clash, false_unless, filter_in}
 
 -- ---- the order of jobs
 
@@ -90,7 +91,7 @@ sorted_filter P t (x ∷ xs) h = go (sorted_filter P t xs h.1) (t x)
 pub sorted_map : {A B : Type 0} (Q : A → A → Type 0) (P : B → B → Type 0) (f : A → B) → ((x y : A) → Q x y → P (f x) (f y)) → (xs : List A) → IsSorted Q xs → IsSorted P (map f xs)
 sorted_map Q P f h [] k = tt
 sorted_map {A = A} {B = B} Q P f h (x ∷ xs) k = (
-  λ y i. let m = map_in f xs y i in subst {A = B} (λ z. P (f x) z) m.2 (h x m.0 (k.0 m.0 m.1)),
+  λ y i. let m = contains_mapped f xs y i in subst {A = B} (λ z. P (f x) z) m.2 (h x m.0 (k.0 m.0 m.1)),
   sorted_map Q P f h xs k.1,
 )
 
@@ -98,7 +99,7 @@ pub sorted_flat : {A B : Type 0} (Q : A → A → Type 0) (P : B → B → Type 
 sorted_flat Q P F each h [] k = tt
 sorted_flat Q P F each h (x ∷ xs) k =
     sorted_append P (F x) (flat_map F xs) (each x) (sorted_flat Q P F each h xs k.1)
-    (λ u v i j. let m = flat_map_in F xs v j in h x m.0 (k.0 m.0 m.1) u v i m.2)
+    (λ u v i j. let m = contains_flat_map_back F xs v j in h x m.0 (k.0 m.0 m.1) u v i m.2)
 
 -- ---- the least of lists that stand one after another
 

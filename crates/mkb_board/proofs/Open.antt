@@ -1,6 +1,10 @@
 -- What a Reduce reads of the rules: those that can't be of use at the node are left out.
 use Rattle.std.proofs.Common.{ℕ, ◌≡◌, ◌≢◌, ◌⊎◌, inl, inr, refl, sym, ap, ap₂, ◌∙◌, subst, ⊎_elim, List, [], ◌∷◌, ◌++◌, map, filter, flat_map, Contains, Bool, true, false, cond, not, ◌&&◌, ◌||◌, ◌==◌, Option, Some, None}
 use Rattle.std.specs.Prelude.{option_map, is_none}
+use Rattle.std.proofs.Math.Bool.{or-true, and-true}
+use Rattle.std.proofs.lemmas.Bool.{and_cases, or_parts}
+use Rattle.kb_lemmas.proofs.Booleans.{and_gives_left}
+use Rattle.kb_lemmas.proofs.Options.{none_some, some_is}
 use Rattle.kb_term.specs.Pair.{Pair}
 use Rattle.kb_term.specs.Rule.{Rule}
 use Rattle.kb_term.specs.declared.origin.RuleRef.{RuleRef}
@@ -15,7 +19,7 @@ use Rattle.mkb_model.specs.Invariants.{FactsHold}
 use Rattle.mkb_model.specs.Plain.{Plain, is_equation, is_rule, known, pair_at, rule_at, rules_of}
 use Rattle.mkb_model.specs.DueJobs.{is_usable, reducers}
 use Rattle.mkb_model.specs.Proposals.{NamedRule, named_rules, unknown}
-use Rattle.mkb_model.proofs.Lists.{and_false, and_left, clash, filter_in, filter_map_in, in_filter, in_filter_map, none_some, or_none, some_is}
+use Rattle.mkb_model.proofs.Lists.{clash, filter_in, filter_map_in, in_filter, in_filter_map}
 use Rattle.mkb_model.proofs.Resting.{known_holds}
 use Rattle.kb_jobs.specs.Reducing.{unknown_of}
 use Rattle.kb_jobs.specs.Rules.{listed}
@@ -44,14 +48,6 @@ filter_kept {A} q e o (x ∷ xs) h = go (filter_kept q e o xs h) (q x) refl
     go ih true on = ap (λ t. filter q (cond t (x ∷ filter e xs) (filter e xs))) (h x on) ∙ alike (o x) (filter e xs) (filter o xs) ih
     go ih false off = dropped off (e x) (filter e xs) ∙ ih ∙ sym (dropped off (o x) (filter o xs))
 
-and_true : (x : Bool) → (x && true) ≡ x
-and_true true = refl
-and_true false = refl
-
-or_true : (x : Bool) → (x || true) ≡ true
-or_true true = refl
-or_true false = refl
-
 is_unknown : (o : Option Found) → is_none o ≡ true → o ≡ None
 is_unknown None h = refl
 is_unknown (Some k) h = clash h refl
@@ -66,14 +62,14 @@ module _ (b : Plain) (p : Name) (n : ℕ) where
   unknown_first : (a : RuleRef) → is_none (known b n 0 a) ≡ true → is_open_to b (roles_of b p n) n a ≡ elsewhere a
   unknown_first a h =
       ap (λ o. elsewhere a && (is_open_in (roles_of b p n) 0 o || (is_open_in (roles_of b p n) 1 (known b n 1 a) || false))) (is_unknown (known b n 0 a) h)
-      ∙ and_true (elsewhere a)
+      ∙ and-true (elsewhere a)
 
   -- or on side 1
   unknown_second : (a : RuleRef) → is_none (known b n 1 a) ≡ true → is_open_to b (roles_of b p n) n a ≡ elsewhere a
   unknown_second a h =
       ap (λ o. elsewhere a && (is_open_in (roles_of b p n) 0 (known b n 0 a) || (is_open_in (roles_of b p n) 1 o || false))) (is_unknown (known b n 1 a) h)
-      ∙ ap (λ z. elsewhere a && z) (or_true (is_open_in (roles_of b p n) 0 (known b n 0 a)))
-      ∙ and_true (elsewhere a)
+      ∙ ap (λ z. elsewhere a && z) (or-true (is_open_in (roles_of b p n) 0 (known b n 0 a)))
+      ∙ and-true (elsewhere a)
 
   -- what is unknown of open rules is what is unknown of all
   pub unknown_open : flat_map (unknown_on b n (open_rules b p n)) (0 ∷ 1 ∷ []) ≡ unknown b p n
@@ -122,9 +118,9 @@ module _ (b : Plain) (p : Name) (n : ℕ) (facts : FactsHold b) (q : Pair) (ther
   idle closed away w kind h found =
       let first = is_open_in (roles_of b p n) 0 (known b n 0 a) in
       let second = is_open_in (roles_of b p n) 1 (known b n 1 a) in
-      let c : (first || (second || false)) ≡ false = ⊎_elim (λ e. clash away e) (λ e. e) (and_false (not (a.node == n)) (first || (second || false)) closed) in
-      let d = or_none first (second || false) c in
-      let e = or_none second false d.1 in
+      let c : (first || (second || false)) ≡ false = ⊎_elim (λ e. clash away e) (λ e. e) (and_cases (not (a.node == n)) (first || (second || false)) closed) in
+      let d = or_parts first (second || false) c in
+      let e = or_parts second false d.1 in
       ⊎_elim
       (λ z. subst {A = ℕ} (λ v. IsFound (side q v) rule kind → is_usable b p n v kind ≡ false) (sym z) (idle_side 0 d.0 (usable_first b p n) kind) found)
       (λ z. subst {A = ℕ} (λ v. IsFound (side q v) rule kind → is_usable b p n v kind ≡ false) (sym z) (idle_side 1 e.0 (usable_second b p n) kind) found)
@@ -148,7 +144,7 @@ module _ (b : Plain) (p : Name) (n : ℕ) where
   open_elsewhere x i =
       let f = filter_map_in naming (open_rules b p n) x i in
       let o = filter_in (is_open_to b (roles_of b p n) n) (rules_of b p) f.0 f.1 in
-      in_filter_map naming (reducers b p n) f.0 x (in_filter away (rules_of b p) f.0 o.0 (and_left (away f.0) _ o.1)) f.2
+      in_filter_map naming (reducers b p n) f.0 x (in_filter away (rules_of b p) f.0 o.0 (and_gives_left (away f.0) _ o.1)) f.2
 
   -- each rule of the process elsewhere is open, or idle
   open_or_idle : FactsHold b → (q : Pair) → pair_at b n ≡ Some q → (x : NamedRule) → Contains (named_rules b (reducers b p n)) x

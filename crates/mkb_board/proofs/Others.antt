@@ -3,6 +3,7 @@ use Rattle.std.proofs.Common.{ℕ, ◌≡◌, ◌≢◌, ◌==◌, refl, sym, ap
 use Rattle.std.proofs.lemmas.Bool.Decides.{nat_tests}
 use Rattle.std.proofs.lemmas.List.{append-nil, append_cancel_left, same_from_push}
 use Rattle.std.proofs.lemmas.List.Elements.{Contains-append_left, filter-append}
+use Rattle.kb_lemmas.proofs.Lists.{no_end}
 use Rattle.kb_term.specs.Signature.{Problem}
 use Rattle.kb_jobs.specs.declared.working.Snapshot.{Snapshot}
 use Rattle.kb_node.specs.declared.job.Job.{Job}
@@ -21,10 +22,6 @@ use Rattle.mkb_board.specs.Held.{IsHeld}
 use Rattle.mkb_board.proofs.Ends.{last_of, not_nil}
 use Rattle.mkb_board.proofs.Held.{held_on, other_number}
 use Rattle.mkb_model.specs.declared.settings.Settings.{Settings}
-
-no_end : {A : Type 0} (xs : List A) (x : A) {Q : Type 0} → xs ++ x ∷ [] ≡ [] → Q
-no_end [] x e = absurd (cc)
-no_end (y ∷ xs) x e = absurd (cc)
 
 -- the last entry is of another, and so are those before it
 own_last : (xs : List Entry) (x : Entry) (w : ℕ) → own (xs ++ x ∷ []) w ≡ [] → (own xs w ≡ []) × (worker_of x ≢ w)

@@ -6,7 +6,9 @@ use Rattle.std.proofs.Common.{ℕ, zero, suc, ◌≤◌, ◌<◌, ◌≡◌, tru
 use Rattle.std.specs.Prelude.{option_map, IsTrue, IsSome}
 use Rattle.std.specs.List.{cons_option}
 use Rattle.std.proofs.lemmas.List.Elements.{Contains-append_cases}
-use Rattle.kb_term.proofs.Steps.{contains_cases}
+use Rattle.mkb_model.proofs.Views.{there_pair}
+use Rattle.kb_lemmas.proofs.Membership.{contains_cases, contains_flat_map_back, contains_mapped, none_in}
+use Rattle.kb_lemmas.proofs.Options.{some_is, none_some}
 use Rattle.kb_term.proofs.FewArguments.{few_from_arities}
 use Rattle.kb_term.proofs.RuleBelow.{numbered-below}
 use Rattle.kb_term.specs.FewArguments.{HasFewArguments}
@@ -32,11 +34,11 @@ use Rattle.mkb_model.specs.Journals.{Moment, IsPossibleRun, IsFirstJob, IsFreeJo
 use Rattle.mkb_model.proofs.KnownFacts.{facts_hold}
 use Rattle.mkb_model.specs.declared.entry.Ticket.{Ticket}
 use Rattle.mkb_model.specs.declared.entry.Entry.{Entry}
-use Rattle.mkb_model.proofs.Lists.{filter_in, filter_map_in, flat_map_in, map_in, numbers_in, none_in, some_is, none_some}
+use Rattle.mkb_model.proofs.Lists.{filter_in, filter_map_in, numbers_in}
 use Rattle.mkb_model.proofs.Living.{within_budget, living_forked}
 use Rattle.mkb_model.proofs.Selections.{legal-possible, first-free}
 use Rattle.mkb_model.proofs.Sizes.{limited_run, numbered_within, turned}
-use Rattle.mkb_model.proofs.AllFine.{states_ordered, commits_fine, pair_there}
+use Rattle.mkb_model.proofs.AllFine.{states_ordered, commits_fine}
 use Rattle.mkb_model.proofs.Flyers.{free_lives}
 use Rattle.mkb_model.proofs.Certificates.{certified_run}
 use Rattle.mkb_model.specs.Invariants.{FactsHold, IsCertified, SleepersWait, IsLabel}
@@ -137,7 +139,7 @@ module _ (P : Problem) (n : Settings) (ms : List Moment) (b : Plain) (within : I
   -- the constraints with the rule of a direction of the node behind them
   one_more : (s : OrientSnapshot) → IsTakenOrient b s → has b.living s.process ≡ true → s.node.0 < length b.nodes → (rules : List Rule) (d : ℕ) → rules ≡ rules_at b (constraints_of b s.process ++ record { node = s.node.0; dir = d } ∷ []) → AreOneMore s rules
   one_more s h lives there rules d e =
-      let q = pair_there b.nodes s.node.0 there in
+      let q = there_pair b.nodes s.node.0 there in
       let a : RuleRef = record { node = s.node.0; dir = d } in
       let r : rule_at b a ≡ Some (rule_of q.0 d) = ap (option_map (λ (z : Pair). rule_of z d)) q.1 in
       (rules_at b (constraints_of b s.process), rule_of q.0 d, e ∙ rules_behind b (constraints_of b s.process) a (rule_of q.0 d) r, first_taken s h lives)
@@ -231,21 +233,21 @@ work_there b p j i =
     numbered_there m k = let l = numbers_in 0 (length b.nodes) m k in omega (arith, l.1)
 
     reduces : Contains (map (λ n. jobs.Reduce p (record { 0 = n })) (node_numbers b)) j → HasJobNodes b j
-    reduces k = let m = map_in (λ n. jobs.Reduce p (record { 0 = n })) (node_numbers b) j k in subst {A = Job} (HasJobNodes b) m.2 (numbered_there m.0 m.1)
+    reduces k = let m = contains_mapped (λ n. jobs.Reduce p (record { 0 = n })) (node_numbers b) j k in subst {A = Job} (HasJobNodes b) m.2 (numbered_there m.0 m.1)
 
     orients : Contains (map (λ n. jobs.Orient p (record { 0 = n })) (node_numbers b)) j → HasJobNodes b j
-    orients k = let m = map_in (λ n. jobs.Orient p (record { 0 = n })) (node_numbers b) j k in subst {A = Job} (HasJobNodes b) m.2 (numbered_there m.0 m.1)
+    orients k = let m = contains_mapped (λ n. jobs.Orient p (record { 0 = n })) (node_numbers b) j k in subst {A = Job} (HasJobNodes b) m.2 (numbered_there m.0 m.1)
 
     overlaps : Contains (flat_map (λ (a : RuleRef). map (jobs.Overlap p a) (rules_of b p)) (rules_of b p)) j → HasJobNodes b j
     overlaps k =
-        let m = flat_map_in (λ (a : RuleRef). map (jobs.Overlap p a) (rules_of b p)) (rules_of b p) j k in
-        let l = map_in (jobs.Overlap p m.0) (rules_of b p) j m.2 in
+        let m = contains_flat_map_back (λ (a : RuleRef). map (jobs.Overlap p a) (rules_of b p)) (rules_of b p) j k in
+        let l = contains_mapped (jobs.Overlap p m.0) (rules_of b p) j m.2 in
         subst {A = Job} (HasJobNodes b) l.2 (passing_there b (is_rule b p) m.0 m.1, passing_there b (is_rule b p) l.0 l.1)
 
 free_there : (b : Plain) (j : Job) → IsFreeJob b j → HasJobNodes b j
 free_there b j i =
     let f = filter_in (is_free (flying_jobs b)) (due_jobs b) j i in
-    let m = flat_map_in (due_jobs_of b) (awake b) j f.0 in
+    let m = contains_flat_map_back (due_jobs_of b) (awake b) j f.0 in
     work_there b m.0 j (filter_in (is_due b) (work_of b m.0 ++ jobs.Close m.0 ∷ []) j m.2).0
 
 grounded : (state : Plain) (flight : List Ticket) (j : Job) → HasJobNodes (record state { flight = flight }) j → HasJobNodes state j

@@ -6,7 +6,7 @@ use Rattle.std.specs.declared.cmp.Ordering.TheVariants.{Less, Equal, Greater}
 use Rattle.std.proofs.lemmas.Cmp.{tied_itself, nat_cmp_total}
 use Rattle.std.specs.Cmp.{nat_cmp_is}
 use Rattle.std.proofs.lemmas.List.Elements.{Contains-append_cases}
-use Rattle.kb_term.proofs.Steps.{contains_cases}
+use Rattle.kb_lemmas.proofs.Membership.{contains_cases, contains_mapped, contains_flat_map_back, none_in}
 use Rattle.kb_label.specs.Names.{Name, name_cmp}
 use Rattle.kb_label.specs.NameOrder.{name_cmp-same}
 use Rattle.kb_term.specs.declared.origin.RuleRef.{RuleRef}
@@ -15,7 +15,7 @@ use Rattle.kb_node.specs.declared.job.Job.TheVariants.{Reduce, Orient, Overlap, 
 use Rattle.mkb_model.specs.Jobs.{process_of, kind_number, job_numbers, numbers_cmp, job_cmp}
 use Rattle.mkb_model.specs.Plain.{Plain, numbers_from, node_numbers, directions, is_rule, rules_of}
 use Rattle.mkb_model.specs.DueJobs.{work_of}
-use Rattle.mkb_model.proofs.Lists.{map_in, flat_map_in, numbers_in, none_in, equal_or_more}
+use Rattle.mkb_model.proofs.Lists.{numbers_in, equal_or_more}
 use Rattle.mkb_board.specs.Choosing.{StandsEarlier}
 use Rattle.mkb_board.proofs.Least.{IsSorted, sorted_append, sorted_filter, sorted_map, sorted_flat}
 
@@ -104,8 +104,8 @@ pub overlaps_rise : (b : Plain) (p : Name) → Rise (flat_map (λ (a : RuleRef).
 overlaps_rise b p = sorted_flat (λ a c. ref_cmp a c ≡ Less) (λ i j. StandsEarlier j i) (λ (a : RuleRef). map (Overlap p a) (rules_of b p))
     (λ a. sorted_map (λ a c. ref_cmp a c ≡ Less) (λ i j. StandsEarlier j i) (Overlap p a) (λ c y h. record { process = refl; kind = refl; numbers = second_less p a c y h }) (rules_of b p) (rules_rise b p))
     (λ a x h u v i j.
-    let m = map_in (Overlap p a) (rules_of b p) u i in
-    let k = map_in (Overlap p x) (rules_of b p) v j in
+    let m = contains_mapped (Overlap p a) (rules_of b p) u i in
+    let k = contains_mapped (Overlap p x) (rules_of b p) v j in
     subst {A = Job} (λ z. StandsEarlier v z) m.2 (subst {A = Job} (λ z. StandsEarlier z (Overlap p a m.0)) k.2 (record { process = refl; kind = refl; numbers = overlap_less p a m.0 x k.0 h })))
     (rules_of b p) (rules_rise b p)
 
@@ -150,15 +150,15 @@ module _ (b : Plain) (p : Name) where
       ap is_le (same_process cost weight i j (e.0 ∙ sym f.0) ∙ ap (λ z. ordering_then z (ordering_then (nat_cmp (weight i) (weight j)) (numbers_cmp (job_numbers i) (job_numbers j)))) (less (kind_number i) (kind_number j) d))
 
   pub are_reduces : AreKind 0 reduces
-  are_reduces j i = let m = map_in (λ n. Reduce p (record { 0 = n })) (node_numbers b) j i in (sym (ap process_of m.2), sym (ap kind_number m.2))
+  are_reduces j i = let m = contains_mapped (λ n. Reduce p (record { 0 = n })) (node_numbers b) j i in (sym (ap process_of m.2), sym (ap kind_number m.2))
 
   pub are_orients : AreKind 1 orients
-  are_orients j i = let m = map_in (λ n. Orient p (record { 0 = n })) (node_numbers b) j i in (sym (ap process_of m.2), sym (ap kind_number m.2))
+  are_orients j i = let m = contains_mapped (λ n. Orient p (record { 0 = n })) (node_numbers b) j i in (sym (ap process_of m.2), sym (ap kind_number m.2))
 
   pub are_overlaps : AreKind 2 overlaps
   are_overlaps j i =
-      let q = flat_map_in (λ (a : RuleRef). map (Overlap p a) (rules_of b p)) (rules_of b p) j i in
-      let m = map_in (Overlap p q.0) (rules_of b p) j q.2 in
+      let q = contains_flat_map_back (λ (a : RuleRef). map (Overlap p a) (rules_of b p)) (rules_of b p) j i in
+      let m = contains_mapped (Overlap p q.0) (rules_of b p) j q.2 in
       (sym (ap process_of m.2), sym (ap kind_number m.2))
 
   pub are_close : AreKind 3 (Close p ∷ [])

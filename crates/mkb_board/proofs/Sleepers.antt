@@ -7,6 +7,9 @@ use Rattle.std.specs.Cmp.{IsTotalOrder}
 use Rattle.std.specs.Ordering.{ordering_then, is_le, nat_cmp}
 use Rattle.std.specs.declared.cmp.Ordering.{Ordering}
 use Rattle.std.proofs.lemmas.Cmp.{alike_right, on_total, then_total, nat_cmp_total}
+use Rattle.std.proofs.lemmas.Bool.{and_from, or_left, or_right}
+use Rattle.kb_lemmas.proofs.Booleans.{and_gives_left, and_gives_right}
+use Rattle.kb_lemmas.proofs.Options.{some_is}
 use Rattle.kb_label.specs.Names.{Name, name_cmp, name_eq, has, add, minus, IsInNameOrder}
 use Rattle.kb_label.specs.NameOrder.{name_cmp-total}
 use Rattle.kb_label.proofs.Members.{name_eq-eq, name_eq-refl, has-minus}
@@ -16,7 +19,7 @@ use Rattle.mkb_model.specs.Limits.{AreLimited}
 use Rattle.mkb_model.specs.Plain.{Plain, cost}
 use Rattle.mkb_model.specs.Invariants.{IsLabel, SleepersWait}
 use Rattle.mkb_model.specs.Sleeping.{is_active, most_awake, process_cmp, rested, settle, waiting, with_one_asleep, with_one_awake, working}
-use Rattle.mkb_model.proofs.Lists.{and_both, and_left, and_right, clash, not_true, or_left, or_right, some_is}
+use Rattle.mkb_model.proofs.Lists.{clash, not_true}
 use Rattle.mkb_model.proofs.Labels.{label-add}
 use Rattle.mkb_model.proofs.Sleepers.{in_working, label_asleep, label_awake, label_rested, settled_same, working_few}
 use Rattle.mkb_board.specs.Choosing.{costed_cmp, merged}
@@ -35,7 +38,7 @@ label_short (p ∷ l) m o w h =
     let one = length-without p m w (h p (or_left (name_eq p p) (has l p) (name_eq-refl p))) in
     let fewer =
     label_short l (minus m (p ∷ [])) (rest p l o) (ordered-filter (λ q. not (has (p ∷ []) q)) m w)
-    (λ q k. has-minus m (p ∷ []) q ∙ and_both (not (name_eq q p || false)) (has m q) (differs q k (name_eq q p) refl) (h q (or_right (name_eq q p) (has l q) k))) in
+    (λ q k. has-minus m (p ∷ []) q ∙ and_from (not (name_eq q p || false)) (has m q) (differs q k (name_eq q p) refl) (h q (or_right (name_eq q p) (has l q) k))) in
     omega (arith, one, fewer)
   where
     differs : (q : Name) → has l q ≡ true → (x : Bool) → name_eq q p ≡ x → not (x || false) ≡ true
@@ -49,9 +52,9 @@ sleepers_few b alive h = label_short b.asleep b.living h.ordered alive h.living
 -- beside a process that works fewer sleep than live
 pub room_to_sleep : (b : Plain) (p : Name) → IsInNameOrder b.living → IsLabel b b.asleep → has (working b b.asleep) p ≡ true → length b.asleep < length b.living
 room_to_sleep b p alive h works =
-    let w = and_right (is_active b p) (not (has b.asleep p) && has b.living p) (sym (in_working b b.asleep p) ∙ works) in
-    let l = label-add b.living p b.asleep (and_right (not (has b.asleep p)) (has b.living p) w) (record { ordered = h.ordered; lives = h.living }) in
-    let one = length-add p b.asleep (not_true (and_left (not (has b.asleep p)) (has b.living p) w)) in
+    let w = and_gives_right (is_active b p) (not (has b.asleep p) && has b.living p) (sym (in_working b b.asleep p) ∙ works) in
+    let l = label-add b.living p b.asleep (and_gives_right (not (has b.asleep p)) (has b.living p) w) (record { ordered = h.ordered; lives = h.living }) in
+    let one = length-add p b.asleep (not_true (and_gives_left (not (has b.asleep p)) (has b.living p) w)) in
     let few = label_short (add p b.asleep) b.living l.ordered alive l.lives in
     omega (arith, one, few)
 

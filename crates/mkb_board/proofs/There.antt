@@ -16,6 +16,7 @@ use Rattle.mkb_model.specs.Sleeping.{is_failed}
 use Rattle.mkb_model.specs.Plain.{is_over, over_reason}
 use Rattle.std.specs.List.{find, list_all}
 use Rattle.std.specs.Prelude.{option_and_then, if◌then◌else◌, ◌||◌}
+use Rattle.kb_lemmas.proofs.Options.{some_is, none_some}
 use Rattle.kb_node.specs.declared.node.LabelKind.TheVariants.{E}
 use Rattle.kb_node.specs.declared.node.NodeId.{NodeId}
 use Rattle.kb_node.specs.declared.job.Job.{Job}
@@ -32,15 +33,14 @@ use Rattle.mkb_model.specs.Journals.{Moment, IsPossibleRun, IsFreeJob, IsFinishi
 use Rattle.mkb_model.specs.declared.proposed.Proposed.{Proposed}
 use Rattle.mkb_model.specs.declared.proposed.Proposed.TheVariants.{Facts, Rewrite, One, Both, Refuse, Deduce, Unjoined, Closed, Limit}
 use Rattle.mkb_model.specs.declared.entry.Entry.TheVariants.{Take}
-use Rattle.mkb_model.proofs.Lists.{some_is, none_some}
 use Rattle.mkb_model.proofs.Roles.{on_there}
-use Rattle.mkb_model.proofs.Views.{rule_listed}
+use Rattle.mkb_model.proofs.Views.{rule_listed, there_pair}
 use Rattle.mkb_model.proofs.Rewriting.{source_of}
 use Rattle.mkb_model.proofs.Endings.{nones}
 use Rattle.mkb_model.proofs.Flyers.{is_own, owners_live, taken_free}
 use Rattle.mkb_model.proofs.Fitting.{pairs_stay}
 use Rattle.mkb_model.proofs.Readiness.{rewrite_ready, named_rule}
-use Rattle.mkb_model.proofs.AllFine.{pair_there, due_equation, states_ordered, commits_fine}
+use Rattle.mkb_model.proofs.AllFine.{due_equation, states_ordered, commits_fine}
 use Rattle.mkb_model.proofs.Living.{within_budget}
 use Rattle.mkb_model.proofs.Origins.{some_named}
 use Rattle.mkb_model.proofs.Sizes.{limited_run, turned}
@@ -74,7 +74,7 @@ module _ (P : Problem) (n : Settings) (ms : List Moment) (b : Plain) (run : IsPo
   oriented_there : (p : Name) (m : NodeId) → Orient p m ≡ j → IsThere b m.0
   oriented_there p m e =
       let free = (taken_free P n ms b run f.before w t (Orient p m) (subst {A = Job} (λ z. Contains ms (record { board = f.before; entry = Take w t z })) (sym e) f.taken)).0 in
-      let q = pair_there f.before.nodes m.0 (on_there f.before.nodes p m.0 E (due_equation f.before p m free)) in
+      let q = there_pair f.before.nodes m.0 (on_there f.before.nodes p m.0 E (due_equation f.before p m free)) in
       there m.0 q.0 q.1
 
   redex_there : (p : Name) (m : ℕ) (cause : LimitCause) (side : ℕ) (a : RuleRef) (kind : Found) (r : Rule) → cause.redex ≡ Some (side, a, kind) → Contains (named_rules f.before (reducers f.before p m)) (record { ref = a; rule = r }) → HasRedexRule b cause.redex

@@ -7,8 +7,11 @@ use Rattle.std.specs.Ordering.{ordering_then}
 use Rattle.std.specs.declared.cmp.Ordering.{Ordering}
 use Rattle.std.proofs.lemmas.List.{map-append, take_more, append-nil}
 use Rattle.std.proofs.lemmas.List.Elements.{filter-append, filter_map-append, All-contains, Contains-append_cases}
+use Rattle.mkb_model.proofs.Views.{there_pair}
+use Rattle.kb_lemmas.proofs.Membership.{all_rest, contains_first, contains_cases, contains_flat_map_back, none_in}
+use Rattle.kb_lemmas.proofs.Lists.{filter_less}
+use Rattle.kb_lemmas.proofs.Options.{none_some}
 use Rattle.kb_label.specs.Names.{Name}
-use Rattle.kb_term.proofs.Steps.{contains_behind, contains_first, contains_cases}
 use Rattle.kb_term.specs.Pair.{Pair}
 use Rattle.kb_term.specs.Rule.{Rule, rule_of}
 use Rattle.kb_term.specs.declared.origin.RuleRef.{RuleRef}
@@ -16,8 +19,7 @@ use Rattle.kb_node.specs.declared.node.NodeId.{NodeId}
 use Rattle.kb_laws.proofs.Complete.{all_from}
 use Rattle.mkb_model.specs.Plain.{Plain, numbers_from, node_numbers, directions, is_rule, rules_of, pair_at, rule_at, rules_at, equations_at, sides, known}
 use Rattle.mkb_model.specs.Proposals.{NamedRule, named_rules}
-use Rattle.mkb_model.proofs.Lists.{filter_in, flat_map_in, numbers_in, none_in, none_some}
-use Rattle.mkb_model.proofs.AllFine.{pair_there}
+use Rattle.mkb_model.proofs.Lists.{filter_in, numbers_in}
 use Rattle.kb_jobs.specs.Rules.{named, ComesBefore, AreInOrder}
 use Rattle.kb_jobs.proofs.Preorder.{nat_less, nat_same}
 use Rattle.kb_jobs.specs.Reducing.{no_name}
@@ -27,21 +29,13 @@ pub use Rattle.mkb_rules.proofs.Viewed.{rules_viewed, constraints_viewed, equati
 
 -- ---- how many
 
-pub fewer : {X : Type 0} (F : X → Bool) (xs : List X) → length (filter F xs) ≤ length xs
-fewer F [] = omega arith
-fewer {X} F (x ∷ xs) = go (F x) (fewer F xs)
-  where
-    go : (t : Bool) → length (filter F xs) ≤ length xs → length (cond t (x ∷ filter F xs) (filter F xs)) ≤ suc (length xs)
-    go true h = omega (arith, h)
-    go false h = omega (arith, h)
-
 doubled : (n k : ℕ) → length (flat_map directions (numbers_from n k)) ≡ k + k
 doubled n zero = refl
 doubled n (suc k) = omega (arith, doubled (n + 1) k)
 
 -- a process has at most two rules for each node
 pub rules_few : (b : Plain) (p : Name) → length (rules_of b p) ≤ length b.nodes + length b.nodes
-rules_few b p = omega (arith, fewer (is_rule b p) (flat_map directions (node_numbers b)), doubled 0 (length b.nodes))
+rules_few b p = omega (arith, filter_less (is_rule b p) (flat_map directions (node_numbers b)), doubled 0 (length b.nodes))
 
 -- ---- in order
 
@@ -73,7 +67,7 @@ directions_order n (suc k) = (
 
     later : (a c : RuleRef) → a.node ≡ n → Contains rest c → ComesBefore a c
     later a c e i =
-        let m = flat_map_in directions (numbers_from (n + 1) k) c i in
+        let m = contains_flat_map_back directions (numbers_from (n + 1) k) c i in
         let l = numbers_in (n + 1) k m.0 m.1 in
         let d = in_directions m.0 c m.2 in
         by_node a c (omega (arith, l.0, d.0, e))
@@ -84,18 +78,15 @@ others_order b p F = kept_order F (rules_of b p) (kept_order (is_rule b p) (flat
 
 -- ---- names with rules
 
-tail_there : {X : Type 0} (P : X → Type 0) (x : X) (xs : List X) → All P (x ∷ xs) → All P xs
-tail_there P x xs h = all_from P xs (λ y i. All-contains P (x ∷ xs) y h (contains_behind x xs y i))
-
 pub rule_there : (b : Plain) (a : RuleRef) → IsRuleThere b a → (r : Rule) × (rule_at b a ≡ Some r)
-rule_there b a h = let q = pair_there b.nodes a.node h.0 in (rule_of q.0 a.dir, ap (option_map (λ (z : Pair). rule_of z a.dir)) q.1)
+rule_there b a h = let q = there_pair b.nodes a.node h.0 in (rule_of q.0 a.dir, ap (option_map (λ (z : Pair). rule_of z a.dir)) q.1)
 
 -- names that are there, with their rules
 pub named_there : (b : Plain) (names : List RuleRef) → All (IsRuleThere b) names → named names (rules_at b names) ≡ named_rules b names
 named_there b [] h = refl
 named_there b (a ∷ names) h =
     let r = rule_there b a (All-contains (IsRuleThere b) (a ∷ names) a h (contains_first a names)) in
-    go (rule_at b a) r.0 r.1 (named_there b names (tail_there (IsRuleThere b) a names h))
+    go (rule_at b a) r.0 r.1 (named_there b names (all_rest (IsRuleThere b) a names h))
   where
     go : (o : Option Rule) (r : Rule) → o ≡ Some r → named names (rules_at b names) ≡ named_rules b names → named (a ∷ names) (cons_option o (rules_at b names)) ≡ cons_option (option_map (λ (r : Rule). record { ref = a; rule = r }) o) (named_rules b names)
     go None r e ih = none_some e
@@ -106,7 +97,7 @@ pub as_many_there : (b : Plain) (names : List RuleRef) → All (IsRuleThere b) n
 as_many_there b [] h = refl
 as_many_there b (a ∷ names) h =
     let r = rule_there b a (All-contains (IsRuleThere b) (a ∷ names) a h (contains_first a names)) in
-    go (rule_at b a) r.0 r.1 (as_many_there b names (tail_there (IsRuleThere b) a names h))
+    go (rule_at b a) r.0 r.1 (as_many_there b names (all_rest (IsRuleThere b) a names h))
   where
     go : (o : Option Rule) (r : Rule) → o ≡ Some r → length names ≡ length (rules_at b names) → length (a ∷ names) ≡ length (cons_option o (rules_at b names))
     go None r e ih = none_some e
@@ -189,6 +180,6 @@ within_next k us w i h l m =
 
 -- the rules of a process elsewhere are few where the nodes are
 pub others_few : (b : Plain) (p : Name) (F : RuleRef → Bool) (rules names : List RuleRef) → names ≡ filter F rules → rules ≡ rules_of b p → length b.nodes ≤ 4096 → length names < 4294967296
-others_few b p F rules names e f l = omega (arith, ap length e, ap length f, fewer F rules, rules_few b p, l)
+others_few b p F rules names e f l = omega (arith, ap length e, ap length f, filter_less F rules, rules_few b p, l)
 
 -- ---- rules, node by node

@@ -9,7 +9,8 @@ use Rattle.std.specs.Option.{option_map_or, option_or}
 use Rattle.std.specs.Ordering.{is_le}
 use Rattle.std.proofs.lemmas.List.Elements.{filter-append, Contains-append_cases, Contains-get_or}
 use Rattle.std.proofs.lemmas.Bool.Decides.{nat_tests}
-use Rattle.kb_term.proofs.Steps.{contains_behind}
+use Rattle.std.proofs.Math.Bool.{and-false, and-true}
+use Rattle.kb_lemmas.proofs.Membership.{contains_behind}
 use Rattle.kb_label.specs.Names.{Name}
 use Rattle.kb_term.specs.declared.origin.RuleRef.{RuleRef}
 use Rattle.kb_node.specs.declared.job.Job.{Job}
@@ -23,8 +24,6 @@ use Rattle.mkb_rules.proofs.Viewed.{rule_there}
 use Rattle.mkb_board.specs.Choosing.{is_choice, least_choice, merged, IsWeighed, StandsEarlier}
 use Rattle.mkb_board.specs.declared.lightest.Weighed.{Weighed}
 use Rattle.mkb_board.proofs.Better.{drop_at}
-use Rattle.mkb_board.proofs.Choices.{and_not}
-use Rattle.mkb_board.proofs.Idle.{and_true}
 use Rattle.mkb_board.proofs.Least.{least_append, least_in, merged_both, merged_none, job_cmp-total}
 use Rattle.mkb_board.proofs.Picking.{numbers_all, numbers_step, numbers_end}
 use Rattle.mkb_board.proofs.Rising.{Rise, reduces, orients, overlaps, are_reduces, are_orients, are_overlaps, kinds, earlier_first, lighter_first}
@@ -38,15 +37,6 @@ abbrev pub by_size : Plain → Job → Job → Ordering
 by_size b = job_cmp (cost b) (weight_by Size b)
 
 -- ---- two tests
-
-pub both : (x y : Bool) → x ≡ true → y ≡ true → (x && y) ≡ true
-both x y e f = ap (λ z. z && y) e ∙ f
-
-pub first_not : (x y : Bool) → x ≡ false → (x && y) ≡ false
-first_not x y e = ap (λ z. z && y) e
-
-pub second_not : (x y : Bool) → y ≡ false → (x && y) ≡ false
-second_not x y e = ap (λ z. x && z) e ∙ and_not x
 
 module _ (b : Plain) (flight : List Job) where
   -- ---- one job more
@@ -76,7 +66,7 @@ module _ (b : Plain) (flight : List Job) where
               → job_in o ≡ merged (by_size b) (job_in o) (Some next.job)
           of None c h l = clash refl l
           of (Some w) c h l =
-              let most : weight_by Size b w.job ≤ weight_by Size b next.job = omega (arith, no_lighter next.weight w.weight (sym (and_true (nat_lt next.weight w.weight)) ∙ l), c, weighed) in
+              let most : weight_by Size b w.job ≤ weight_by Size b next.job = omega (arith, no_lighter next.weight w.weight (sym (and-true (nat_lt next.weight w.weight)) ∙ l), c, weighed) in
               sym (ap (λ z. Some (cond z w.job next.job)) (earlier_first (cost b) (weight_by Size b) w.job next.job h most))
 
   -- and gives way to a lighter one
@@ -87,14 +77,14 @@ module _ (b : Plain) (flight : List Job) where
     where
       go : (t : Bool) → is_choice b flight next.job ≡ t → (option_map_or (λ (w : Weighed). nat_lt next.weight w.weight) best true && t) ≡ true
           → Some next.job ≡ merged (by_size b) (job_in best) (least_choice Size b flight (next.job ∷ []))
-      go false f k = clash (sym (and_not (option_map_or (λ (w : Weighed). nat_lt next.weight w.weight) best true)) ∙ k) refl
+      go false f k = clash (sym (and-false (option_map_or (λ (w : Weighed). nat_lt next.weight w.weight) best true)) ∙ k) refl
       go true f k = of best costed earlier k ∙ sym (ap (merged (by_size b) (job_in best)) (one_choice next.job true f))
         where
           of : (o : Option Weighed) → IfSome o (IsWeighed b) → IfSome o (λ (w : Weighed). StandsEarlier next.job w.job) → (option_map_or (λ (w : Weighed). nat_lt next.weight w.weight) o true && true) ≡ true
               → Some next.job ≡ merged (by_size b) (job_in o) (Some next.job)
           of None c h l = refl
           of (Some w) c h l =
-              let less : weight_by Size b next.job < weight_by Size b w.job = omega (arith, lighter next.weight w.weight (sym (and_true (nat_lt next.weight w.weight)) ∙ l), c, weighed) in
+              let less : weight_by Size b next.job < weight_by Size b w.job = omega (arith, lighter next.weight w.weight (sym (and-true (nat_lt next.weight w.weight)) ∙ l), c, weighed) in
               sym (ap (λ z. Some (cond z w.job next.job)) (lighter_first (cost b) (weight_by Size b) w.job next.job h less))
 
 -- ---- the jobs so far and the rest

@@ -1,7 +1,7 @@
 -- The names f, a, b and c are those of a signature.
-use Rattle.std.proofs.Common.{ℕ, zero, suc, ◌≡◌, ◌≤◌, refl, arith, List, [], ◌∷◌, length, All}
-use Rattle.std.specs.Prelude.{AllPairs}
+use Rattle.std.proofs.Common.{ℕ, ◌≡◌, ◌≤◌, refl, arith, [], ◌∷◌, length}
 use Rattle.std.proofs.lemmas.List.Kept.{AllPairs-cons}
+use Rattle.kb_lemmas.proofs.Membership.{all_more, all_none, no_pairs}
 use Rattle.kb_term.specs.Identifier.{IsIdentifier}
 use Rattle.kb_term.specs.Signature.{Signature, SymbolEntry, IsSignature}
 
@@ -30,16 +30,6 @@ identifier-c = record { some = omega arith; utf8 = (99 ∷ [], (refl, refl)); un
 
 other_name : (a b : ℕ) → (a ≡ b → ⊥) → ¬ (a ∷ [] ≡ b ∷ [])
 other_name a b d e = d (cc)
-
-all_none : {X : Type 0} (P : X → Type 0) → All P []
-all_none P k d h = absurd (omega arith)
-
-all_more : {X : Type 0} (P : X → Type 0) (x : X) (xs : List X) → P x → All P xs → All P (x ∷ xs)
-all_more P x xs p h zero d i = p
-all_more P x xs p h (suc k) d i = h k d (omega arith)
-
-no_pairs : {X : Type 0} (R : X → X → Type 0) → AllPairs R []
-no_pairs R i j d h k = absurd (omega arith)
 
 pub signature-letters : IsSignature letters
 signature-letters =

@@ -1,12 +1,11 @@
 -- While an overlap waits no more overlaps of its process are taken than there are pairs of pairs that weigh no more.
 use Rattle.std.proofs.Common.{ℕ, suc, ◌+◌, ◌≤◌, ◌≡◌, ◌≢◌, ◌⊎◌, inl, inr, sym, ap, ap₂, ◌∙◌, subst, arith, List, [], ◌∷◌, ◌++◌, length, length-append, Contains, Some, nat_cmp, ⊎_elim}
-use Rattle.std.proofs.lemmas.List.Elements.{Contains-append_cases, Contains-append_left, Contains-append_right}
-use Rattle.kb_term.proofs.Steps.{contains_cases, contains_behind, contains_first}
+use Rattle.kb_lemmas.proofs.Membership.{here_or_elsewhere, contains_behind, contains_first, split_at}
+use Rattle.kb_lemmas.proofs.Options.{some_is}
 use Rattle.kb_term.specs.Pair.{Pair}
 use Rattle.kb_term.specs.Signature.{Problem, IsWithinLimits}
 use Rattle.kb_term.specs.declared.origin.RuleRef.{RuleRef}
 use Rattle.kb_label.specs.Names.{Name}
-use Rattle.kb_linear.proofs.Sorted.{split_at}
 use Rattle.kb_node.specs.declared.job.Job.{Job}
 use Rattle.kb_node.specs.declared.job.Job.TheVariants.{Overlap}
 use Rattle.mkb_model.specs.Plain.{Plain, pair_in, pair_size, rules_of, weight_by}
@@ -16,7 +15,6 @@ use Rattle.mkb_model.specs.declared.settings.Selection.TheVariants.{Size}
 use Rattle.mkb_model.specs.declared.settings.Settings.{Settings}
 use Rattle.mkb_model.proofs.Changes.{Fits}
 use Rattle.mkb_model.proofs.Fitting.{fits_run}
-use Rattle.mkb_model.proofs.Lists.{some_is}
 use Rattle.mkb_model.proofs.Selections.{first-free, legal-possible}
 use Rattle.mkb_model.proofs.Sizes.{limited_run}
 use Rattle.mkb_fairness.specs.Fairness.{AreDifferent, Waits, IsPairOver, HasPairsUpTo, overlaps_taken}
@@ -27,9 +25,6 @@ use Rattle.mkb_fairness.proofs.Once.{taken_once}
 use Rattle.mkb_fairness.proofs.Overlaps.{IsDueOverlap, free_overlap, due_ordered}
 
 -- ---- counting
-
-here_or_elsewhere : {Y : Type 0} (before after : List Y) (x y : Y) → Contains (before ++ x ∷ after) y → (x ≡ y) ⊎ Contains (before ++ after) y
-here_or_elsewhere before after x y c = ⊎_elim (λ d. inr (Contains-append_left before after y d)) (λ d. ⊎_elim (λ e. inl e) (λ k. inr (Contains-append_right before after y k)) (contains_cases x after y d)) (Contains-append_cases before (x ∷ after) y c)
 
 -- different jobs are no more than what they are related to, if no two are related to one
 related_le : {Y : Type 0} (R : Job → Y → Type 0) → ((i j : Job) (y : Y) → R i y → R j y → i ≡ j) → (xs : List Job) (ys : List Y) → AreDifferent xs → ((x : Job) → Contains xs x → (y : Y) × Contains ys y × R x y) → length xs ≤ length ys

@@ -2,6 +2,8 @@
 use Rattle.std.proofs.Common.{ℕ, ◌≡◌, ◌≢◌, ◌⊎◌, inl, inr, refl, sym, ap, ap₂, ◌∙◌, subst, arith, List, [], ◌∷◌, ◌++◌, Contains, true, false, Option, Some, None, ⊎_elim}
 use Rattle.std.specs.Option.{option_map_or}
 use Rattle.std.proofs.lemmas.List.Elements.{Contains-append_left}
+use Rattle.kb_laws.proofs.CompletionLaws.{variant_itself}
+use Rattle.kb_lemmas.proofs.Membership.{contains_behind, contains_cases, contains_first, none_in}
 use Rattle.kb_term.specs.Pair.{Pair}
 use Rattle.kb_term.specs.Rule.{Rule, rule_of}
 use Rattle.kb_term.specs.Signature.{Signature, Problem, IsWithinLimits, IsRuleOver}
@@ -10,7 +12,7 @@ use Rattle.kb_term.specs.declared.origin.RuleRef.{RuleRef}
 use Rattle.kb_term.proofs.Bridge.{step_to_position}
 use Rattle.kb_term.proofs.Chains.{reaches_map, reaches_one}
 use Rattle.kb_term.proofs.Instances.{instance-variable}
-use Rattle.kb_term.proofs.Steps.{Step, at_root, contains_behind, contains_cases, contains_first}
+use Rattle.kb_term.proofs.Steps.{Step, at_root}
 use Rattle.kb_label.specs.Names.{Name, has, name_eq, relabel}
 use Rattle.kb_label.specs.declared.verdict.Reason.{Reason}
 use Rattle.kb_label.proofs.Members.{name_eq-eq, name_eq-refl}
@@ -32,7 +34,7 @@ use Rattle.mkb_model.proofs.AllFine.{commits_fine, constraints_in, in_constraint
 use Rattle.mkb_model.proofs.Commits.{orients}
 use Rattle.mkb_model.proofs.Fitting.{pairs_stay}
 use Rattle.mkb_model.proofs.KnownFacts.{rule_stays}
-use Rattle.mkb_model.proofs.Lists.{clash, decide, filter_map_in, in_filter_map, none_in}
+use Rattle.mkb_model.proofs.Lists.{clash, decide, filter_map_in, in_filter_map}
 use Rattle.mkb_model.proofs.OneRoles.{reversed_rule}
 use Rattle.mkb_model.proofs.Orienting.{orient-roles}
 use Rattle.mkb_model.proofs.Proper.{IsOrdered, composed_differs}
@@ -42,7 +44,7 @@ use Rattle.mkb_model.proofs.Roles.{kind_number, kinds_decide, on_there}
 use Rattle.mkb_model.proofs.Selections.{legal-possible}
 use Rattle.mkb_model.proofs.Staying.{constraints_applied}
 use Rattle.mkb_model.proofs.Unmoved.{apart_forked}
-use Rattle.mkb_model.proofs.Views.{rule_itself, rule_listed}
+use Rattle.mkb_model.proofs.Views.{rule_listed}
 use Rattle.mkb_fairness.specs.Fairness.{StaysDue}
 use Rattle.mkb_fairness.proofs.Noted.{forked_leaves}
 use Rattle.mkb_fairness.proofs.Overlaps.{due_overlap, due_lives}
@@ -113,7 +115,7 @@ IsLed g rules r = IsRuleOver g r × Chain (Step (Contains rules)) r.left r.right
 -- the constraints of an ordered state don't lead along a pair in both directions
 not_both : (g : Signature) (a : KbState) → IsOrdered g a → (z : Pair) (d e : ℕ) → rule_kind d ≢ rule_kind e → IsLed g a.constraints (rule_of z d) → IsLed g a.constraints (rule_of z e) → ⊥
 not_both g a h z d e apart one other = composed_differs g two ordered second.right second.left second.right
-    (first, contains_first first (second ∷ []), reversed_rule z d e second.left second.right apart (rule_itself second))
+    (first, contains_first first (second ∷ []), reversed_rule z d e second.left second.right apart (variant_itself second))
     (step_to_position (Contains (first ∷ second ∷ [])) (at_root (second, variable, contains_behind first (second ∷ []) second (contains_first second []), sym (instance-variable second.left), sym (instance-variable second.right))))
     refl
   where

@@ -2,18 +2,18 @@
 use Rattle.std.proofs.Common.{ℕ, zero, suc, ◌+◌, ◌≤◌, ◌<◌, ◌≡◌, ◌⊎◌, inl, refl, sym, ap₂, ◌∙◌, subst, arith, List, [], ◌∷◌, ◌++◌, map, flat_map, length, length-append, Contains, get_or, not, ◌==◌, ⊎_elim}
 use Rattle.std.proofs.lemmas.List.Elements.{Contains-get_or}
 use Rattle.std.proofs.lemmas.List.Filters.{length-filter_both}
+use Rattle.kb_lemmas.proofs.Membership.{contains_behind, contains_first, contains_map, contains_flat_map}
 use Rattle.kb_term.specs.Tree.{Tree, Trees, variable, apply, no_trees, more_trees, tree_size, trees_size, variables_of, variables_in}
 use Rattle.kb_term.specs.Pair.{Pair, distinct, place_in, variables_of_pair, numbered}
 use Rattle.kb_term.specs.Signature.{Signature, IsWellFormed}
 use Rattle.kb_term.specs.Substitution.{rename}
 use Rattle.kb_term.proofs.CanonicalPairs.{lesser_cases}
 use Rattle.kb_term.proofs.Numbered.{place_in-le-length}
-use Rattle.kb_term.proofs.Steps.{contains_behind, contains_first}
 use Rattle.kb_term.proofs.Variants.{variables_renamed}
 use Rattle.kb_kbo.specs.KnuthBendix.{KboOrder, weight, weight_in}
 use Rattle.kb_kbo.specs.KnuthBendixLaws.{HasWeights, HasLighter}
 use Rattle.kb_kbo.proofs.KboHalting.{lighter_few}
-use Rattle.kb_linear.proofs.Sorted.{contains_map, contains_map_back, contains_flat_map}
+use Rattle.kb_linear.proofs.Sorted.{contains_map_back}
 use Rattle.mkb_model.specs.Plain.{pair_size}
 use Rattle.mkb_fairness.specs.Fairness.{IsPairOver, HasPairsUpTo}
 

@@ -5,7 +5,8 @@ use Rattle.std.specs.Option.{option_map_or}
 use Rattle.std.specs.Ordering.{ordering_then, ordering_reverse}
 use Rattle.std.proofs.lemmas.Cmp.{upto, tied_itself, on_total, then_total, nat_cmp_total}
 use Rattle.std.proofs.lemmas.Map.Keys.{le_from_is_le}
-use Rattle.kb_term.proofs.Steps.{contains_cases}
+use Rattle.kb_lemmas.proofs.Membership.{contains_cases, none_in}
+use Rattle.kb_lemmas.proofs.Options.{none_some, some_is}
 use Rattle.kb_term.specs.declared.origin.RuleRef.{RuleRef}
 use Rattle.kb_label.specs.Names.{Name, name_cmp}
 use Rattle.kb_label.specs.NameOrder.{name_cmp-total}
@@ -15,7 +16,7 @@ use Rattle.mkb_model.specs.Jobs.{process_of, kind_number, job_numbers, numbers_c
 use Rattle.mkb_model.specs.Plain.{Plain, cost, weight}
 use Rattle.mkb_model.specs.DueJobs.{free_jobs}
 use Rattle.mkb_model.specs.Journals.{IsFirstJob, IsFreeJob}
-use Rattle.mkb_model.proofs.Lists.{clash, none_some, some_is, none_in}
+use Rattle.mkb_model.proofs.Lists.{clash}
 use Rattle.mkb_model.proofs.Selections.{least-none}
 
 -- ---- jobs compared without the numbers in them

@@ -1,7 +1,9 @@
 -- An overlap that was taken is noted at the end of its turn, and stays noted while its process lives.
 use Rattle.std.proofs.Common.{ℕ, ◌+◌, ◌≡◌, refl, sym, ap, ◌∙◌, subst, arith, List, [], ◌∷◌, map, length, length-append, Contains, Bool, true, false, cond, not, ◌&&◌, ◌==◌, Option, Some, None, eqb-true, ⊎_elim}
 use Rattle.std.specs.Option.{option_map_or}
-use Rattle.kb_term.proofs.Steps.{contains_cases}
+use Rattle.std.proofs.lemmas.Bool.{and_from, or_right, or_left}
+use Rattle.kb_lemmas.proofs.Membership.{contains_cases}
+use Rattle.kb_lemmas.proofs.Options.{some_is, none_some}
 use Rattle.kb_term.specs.Signature.{Problem}
 use Rattle.kb_term.specs.declared.origin.RuleRef.{RuleRef}
 use Rattle.kb_label.specs.Names.{Name, has, name_eq, child, relabel, join, meet, is_empty}
@@ -21,7 +23,7 @@ use Rattle.mkb_model.specs.declared.proposed.Proposed.TheVariants.{Facts, Rewrit
 use Rattle.mkb_model.specs.declared.settings.Settings.{Settings}
 use Rattle.mkb_model.specs.declared.entry.Entry.{Entry}
 use Rattle.mkb_model.specs.declared.entry.Entry.TheVariants.{Take, Commit, Drop, Abandon, Halt}
-use Rattle.mkb_model.proofs.Lists.{clash, and_both, or_right, or_left, not_of_false, some_is, none_some}
+use Rattle.mkb_model.proofs.Lists.{clash, not_of_false}
 use Rattle.mkb_model.proofs.Completed.{ref_self}
 use Rattle.mkb_model.proofs.Flyers.{taken_free}
 use Rattle.mkb_model.proofs.Labels.{other_lives}
@@ -47,7 +49,7 @@ module _ (p : Name) (a c : RuleRef) (l : List Name) where
       go false ih = inner (ref_eq d.first x && ref_eq d.second y) d.names (done_in (gains_done_in a c l ds) x y) (λ k. k) ih h
 
   gains_these : has l p ≡ true → (ds : List Done) → has (done_in (gains_done_in a c l ds) a c) p ≡ true
-  gains_these h [] = go (ref_eq a a && ref_eq c c) (and_both (ref_eq a a) (ref_eq c c) (ref_self a) (ref_self c))
+  gains_these h [] = go (ref_eq a a && ref_eq c c) (and_from (ref_eq a a) (ref_eq c c) (ref_self a) (ref_self c))
     where
       go : (z : Bool) → z ≡ true → has (cond z l []) p ≡ true
       go true e = h
@@ -121,11 +123,11 @@ module _ (before b : Plain) (p : Name) (d e : RuleRef) (due : is_due b (Overlap 
   overlap_named =
       let r = due_rules b p d e due in
       has-minus (meet (label b d.node (rule_kind d.dir)) (label b e.node (rule_kind e.dir))) (done_of b d e) p
-      ∙ and_both (not (has (done_of b d e) p)) (has (meet (label b d.node (rule_kind d.dir)) (label b e.node (rule_kind e.dir))) p) (not_of_false (due_not_done b p d e due))
-      (has-meet (label b d.node (rule_kind d.dir)) (label b e.node (rule_kind e.dir)) p ∙ and_both (is_rule b p e) (is_rule b p d) r.1 r.0)
+      ∙ and_from (not (has (done_of b d e) p)) (has (meet (label b d.node (rule_kind d.dir)) (label b e.node (rule_kind e.dir))) p) (not_of_false (due_not_done b p d e due))
+      (has-meet (label b d.node (rule_kind d.dir)) (label b e.node (rule_kind e.dir)) p ∙ and_from (is_rule b p e) (is_rule b p d) r.1 r.0)
 
   still_named : (l : List Name) → has l p ≡ true → has (not_over b l) p ≡ true
-  still_named l h = has-filter (λ q. not (is_over b q)) l p ∙ and_both (not (is_over b p)) (has l p) (not_of_false (due_not_over b p d e due)) h
+  still_named l h = has-filter (λ q. not (is_over b q)) l p ∙ and_from (not (is_over b p)) (has l p) (not_of_false (due_not_over b p d e due)) h
 
   -- what is proposed acts on its process
   acts_on : (x : Proposed) → Proposes before (Overlap p d e) x → has (effect_label b x) p ≡ true

@@ -3,7 +3,8 @@ use Rattle.std.proofs.Common.{◌≡◌, ◌≢◌, refl, sym, ap, ◌∙◌, su
 use Rattle.std.specs.List.{filter_map, cons_option}
 use Rattle.std.proofs.lemmas.List.Elements.{Contains-get_or}
 use Rattle.std.proofs.lemmas.List.Kept.{AllPairs-cons}
-use Rattle.kb_term.proofs.Steps.{contains_cases, contains_behind, contains_first}
+use Rattle.kb_lemmas.proofs.Membership.{contains_cases, contains_behind, contains_first, none_in}
+use Rattle.kb_lemmas.proofs.Options.{none_some}
 use Rattle.kb_term.specs.Signature.{Problem}
 use Rattle.kb_term.specs.declared.origin.RuleRef.{RuleRef}
 use Rattle.kb_label.specs.Names.{Name, has}
@@ -13,7 +14,7 @@ use Rattle.mkb_model.specs.Plain.{Plain, done_of}
 use Rattle.mkb_model.specs.DueJobs.{is_due}
 use Rattle.mkb_model.specs.Journals.{Moment, IsRun, IsFirstJob}
 use Rattle.mkb_model.specs.declared.settings.Settings.{Settings}
-use Rattle.mkb_model.proofs.Lists.{clash, none_some, none_in}
+use Rattle.mkb_model.proofs.Lists.{clash}
 use Rattle.mkb_model.proofs.Selections.{first-free}
 use Rattle.mkb_fairness.specs.Fairness.{StaysDue, AreDifferent, Waits, taken_by, is_overlap_of, overlaps_taken}
 use Rattle.mkb_fairness.proofs.Turns.{AreTurns, turns, ended, newest_ended, taken_on}

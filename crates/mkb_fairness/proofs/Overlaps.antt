@@ -2,7 +2,8 @@
 use Rattle.std.proofs.Common.{◌≡◌, ◌≢◌, refl, sym, ap, subst, arith, List, [], ◌∷◌, ◌++◌, map, flat_map, Contains, true, false, not, ◌&&◌, Some, ⊎_elim}
 use Rattle.std.specs.List.{filter_map}
 use Rattle.std.proofs.lemmas.List.Elements.{Contains-append_cases}
-use Rattle.kb_term.proofs.Steps.{contains_cases}
+use Rattle.kb_lemmas.proofs.Membership.{contains_cases, none_in, contains_mapped, contains_flat_map_back, contains_flat_map}
+use Rattle.kb_lemmas.proofs.Booleans.{and_gives_left, and_gives_right}
 use Rattle.kb_term.specs.declared.origin.RuleRef.{RuleRef}
 use Rattle.kb_label.specs.Names.{Name, has}
 use Rattle.kb_label.proofs.Members.{name_eq-eq}
@@ -13,7 +14,7 @@ use Rattle.mkb_model.specs.Plain.{Plain, rules_of, node_numbers, is_rule, is_ove
 use Rattle.mkb_model.specs.DueJobs.{awake, due_jobs, due_jobs_of, flying_jobs, is_due, is_working, is_work_due, work_of}
 use Rattle.mkb_model.specs.Journals.{Moment, IsFreeJob}
 use Rattle.mkb_model.specs.declared.entry.Ticket.{Ticket}
-use Rattle.mkb_model.proofs.Lists.{clash, and_left, and_right, not_true, none_in, filter_in, in_filter, filter_map_in, map_in, flat_map_in, in_flat_map}
+use Rattle.mkb_model.proofs.Lists.{clash, not_true, filter_in, in_filter, filter_map_in}
 use Rattle.mkb_fairness.specs.Fairness.{taken_by, is_overlap_of, overlaps_taken}
 
 -- ---- what an overlap is
@@ -39,15 +40,15 @@ overlap_in b r q a c i = ⊎_elim in_work (λ k. ⊎_elim (λ e. no_kind (Close 
 
     at : Contains overlaps (Overlap q a c) → (r ≡ q) × Contains (rules_of b r) a × Contains (rules_of b r) c
     at k =
-        let f = flat_map_in (λ (x : RuleRef). map (Overlap r x) (rules_of b r)) (rules_of b r) (Overlap q a c) k in
-        let m = map_in (Overlap r f.0) (rules_of b r) (Overlap q a c) f.2 in
+        let f = contains_flat_map_back (λ (x : RuleRef). map (Overlap r x) (rules_of b r)) (rules_of b r) (Overlap q a c) k in
+        let m = contains_mapped (Overlap r f.0) (rules_of b r) (Overlap q a c) f.2 in
         let e = parts r q f.0 m.0 a c m.2 in
         (e.0, subst {A = RuleRef} (Contains (rules_of b r)) e.1 f.1, subst {A = RuleRef} (Contains (rules_of b r)) e.2 m.1)
 
     in_work : Contains (work_of b r) (Overlap q a c) → (r ≡ q) × Contains (rules_of b r) a × Contains (rules_of b r) c
     in_work k = ⊎_elim
-        (λ l. let m = map_in (λ n. Reduce r (record { 0 = n })) (node_numbers b) (Overlap q a c) l in no_kind (Reduce r (record { 0 = m.0 })) m.2 (λ z. omega (arith, z)))
-        (λ l. ⊎_elim (λ o. let m = map_in (λ n. Orient r (record { 0 = n })) (node_numbers b) (Overlap q a c) o in no_kind (Orient r (record { 0 = m.0 })) m.2 (λ z. omega (arith, z))) at (Contains-append_cases orients overlaps (Overlap q a c) l))
+        (λ l. let m = contains_mapped (λ n. Reduce r (record { 0 = n })) (node_numbers b) (Overlap q a c) l in no_kind (Reduce r (record { 0 = m.0 })) m.2 (λ z. omega (arith, z)))
+        (λ l. ⊎_elim (λ o. let m = contains_mapped (λ n. Orient r (record { 0 = n })) (node_numbers b) (Overlap q a c) o in no_kind (Orient r (record { 0 = m.0 })) m.2 (λ z. omega (arith, z))) at (Contains-append_cases orients overlaps (Overlap q a c) l))
         (Contains-append_cases reduces (orients ++ overlaps) (Overlap q a c) k)
 
 -- ---- due overlaps
@@ -73,43 +74,43 @@ module _ (b : Plain) (p : Name) (a c : RuleRef) where
   pub free_overlap : IsFreeJob b (Overlap p a c) → Contains (awake b) p × IsDueOverlap b p a c
   free_overlap free =
       let f = filter_in (is_free (flying_jobs b)) (due_jobs b) (Overlap p a c) free in
-      let r = flat_map_in (due_jobs_of b) (awake b) (Overlap p a c) f.0 in
+      let r = contains_flat_map_back (due_jobs_of b) (awake b) (Overlap p a c) f.0 in
       let d = due_with r.0 r.2 in
       (subst {A = Name} (Contains (awake b)) d.0 r.1, d.1)
 
   -- with nothing in flight a due overlap of a process that gets jobs may be taken
   pub overlap_free : Contains (awake b) p → Contains (due_jobs_of b p) (Overlap p a c) → b.flight ≡ [] → IsFreeJob b (Overlap p a c)
-  overlap_free gets due empty = in_filter (is_free (flying_jobs b)) (due_jobs b) (Overlap p a c) (in_flat_map (due_jobs_of b) (awake b) p (Overlap p a c) gets due)
+  overlap_free gets due empty = in_filter (is_free (flying_jobs b)) (due_jobs b) (Overlap p a c) (contains_flat_map (due_jobs_of b) (awake b) p (Overlap p a c) gets due)
       (subst {A = List Ticket} (λ ts. is_free (map (λ (t : Ticket). t.job) ts) (Overlap p a c) ≡ true) (sym empty) refl)
 
   module _ (due : is_due b (Overlap p a c) ≡ true) where
     works : is_working b p ≡ true
-    works = and_left (is_working b p) (is_work_due b (Overlap p a c)) due
+    works = and_gives_left (is_working b p) (is_work_due b (Overlap p a c)) due
 
     -- its process lives
     pub due_lives : has b.living p ≡ true
-    due_lives = and_left (has b.living p) (not (is_over b p)) works
+    due_lives = and_gives_left (has b.living p) (not (is_over b p)) works
 
     -- and has not given up
     pub due_not_over : is_over b p ≡ false
-    due_not_over = not_true (and_right (has b.living p) (not (is_over b p)) works)
+    due_not_over = not_true (and_gives_right (has b.living p) (not (is_over b p)) works)
 
     work_due : ((is_rule b p a && is_rule b p c) && (ref_le a c && not (has (done_of b a c) p))) ≡ true
-    work_due = and_right (is_working b p) (is_work_due b (Overlap p a c)) due
+    work_due = and_gives_right (is_working b p) (is_work_due b (Overlap p a c)) due
 
     -- it has both rules
     pub due_rules : (is_rule b p a ≡ true) × (is_rule b p c ≡ true)
     due_rules =
-        let k = and_left (is_rule b p a && is_rule b p c) (ref_le a c && not (has (done_of b a c) p)) work_due in
-        (and_left (is_rule b p a) (is_rule b p c) k, and_right (is_rule b p a) (is_rule b p c) k)
+        let k = and_gives_left (is_rule b p a && is_rule b p c) (ref_le a c && not (has (done_of b a c) p)) work_due in
+        (and_gives_left (is_rule b p a) (is_rule b p c) k, and_gives_right (is_rule b p a) (is_rule b p c) k)
 
     -- of which the first is not after the second
     pub due_ordered : ref_le a c ≡ true
-    due_ordered = and_left (ref_le a c) (not (has (done_of b a c) p)) (and_right (is_rule b p a && is_rule b p c) (ref_le a c && not (has (done_of b a c) p)) work_due)
+    due_ordered = and_gives_left (ref_le a c) (not (has (done_of b a c) p)) (and_gives_right (is_rule b p a && is_rule b p c) (ref_le a c && not (has (done_of b a c) p)) work_due)
 
     -- and they are not noted as overlapped
     pub due_not_done : has (done_of b a c) p ≡ false
-    due_not_done = not_true (and_right (ref_le a c) (not (has (done_of b a c) p)) (and_right (is_rule b p a && is_rule b p c) (ref_le a c && not (has (done_of b a c) p)) work_due))
+    due_not_done = not_true (and_gives_right (ref_le a c) (not (has (done_of b a c) p)) (and_gives_right (is_rule b p a && is_rule b p c) (ref_le a c && not (has (done_of b a c) p)) work_due))
 
 -- ---- taken overlaps
 

@@ -1,6 +1,9 @@
 -- The turns of one worker: each take is made with nothing in flight, and the next entry ends its ticket.
 use Rattle.std.proofs.Common.{ℕ, ◌≡◌, refl, sym, ap, ◌∙◌, subst, List, [], ◌∷◌, ◌++◌, filter, Contains, true, cond, not, ◌&&◌, ◌==◌, Some, None, eqb-true, eq-eqb, ⊎_elim}
-use Rattle.kb_term.proofs.Steps.{contains_cases}
+use Rattle.std.proofs.lemmas.Bool.{and_from}
+use Rattle.kb_lemmas.proofs.Membership.{contains_cases, none_in}
+use Rattle.kb_lemmas.proofs.Options.{none_some}
+use Rattle.kb_lemmas.proofs.Booleans.{and_gives_left, and_gives_right}
 use Rattle.kb_term.specs.Signature.{Problem}
 use Rattle.kb_node.specs.declared.job.Job.{Job}
 use Rattle.mkb_model.specs.Plain.{Plain}
@@ -9,7 +12,7 @@ use Rattle.mkb_model.specs.declared.settings.Settings.{Settings}
 use Rattle.mkb_model.specs.declared.entry.Ticket.{Ticket}
 use Rattle.mkb_model.specs.declared.entry.Entry.{Entry}
 use Rattle.mkb_model.specs.declared.entry.Entry.TheVariants.{Take, Commit, Drop, Abandon, Halt}
-use Rattle.mkb_model.proofs.Lists.{clash, none_some, none_in, and_left, and_right, and_both}
+use Rattle.mkb_model.proofs.Lists.{clash}
 use Rattle.mkb_model.proofs.Flights.{effect_flight}
 use Rattle.mkb_fairness.specs.Fairness.{taken_by}
 
@@ -34,17 +37,17 @@ lone (Abandon w t) h = clash h refl
 lone Halt h = clash h refl
 
 last_turn : (J : List Entry) (x y : Entry) → takes_in_turn ((J ++ x ∷ []) ++ y ∷ []) ≡ true → (takes_in_turn J ≡ true) × IsTurn x y
-last_turn [] (Take w t j) y h = (refl, and_left (is_end_of t y) (takes_in_turn []) (and_right (w == 1) (is_end_of t y && takes_in_turn []) h))
+last_turn [] (Take w t j) y h = (refl, and_gives_left (is_end_of t y) (takes_in_turn []) (and_gives_right (w == 1) (is_end_of t y && takes_in_turn []) h))
 last_turn [] (Commit w t e) y h = clash h refl
 last_turn [] (Drop w t p) y h = clash h refl
 last_turn [] (Abandon w t) y h = clash h refl
 last_turn [] Halt y h = clash h refl
 last_turn (Take w t j ∷ e ∷ J) x y h =
     let K : List Entry = (J ++ x ∷ []) ++ y ∷ [] in
-    let k = and_right (w == 1) (is_end_of t e && takes_in_turn K) h in
-    let r = last_turn J x y (and_right (is_end_of t e) (takes_in_turn K) k) in
-    (and_both (w == 1) (is_end_of t e && takes_in_turn J) (and_left (w == 1) (is_end_of t e && takes_in_turn K) h) (and_both (is_end_of t e) (takes_in_turn J) (and_left (is_end_of t e) (takes_in_turn K) k) r.0), r.1)
-last_turn (Take w t j ∷ []) x y h = lone y (and_right (is_end_of t x) (takes_in_turn (y ∷ [])) (and_right (w == 1) (is_end_of t x && takes_in_turn (y ∷ [])) h))
+    let k = and_gives_right (w == 1) (is_end_of t e && takes_in_turn K) h in
+    let r = last_turn J x y (and_gives_right (is_end_of t e) (takes_in_turn K) k) in
+    (and_from (w == 1) (is_end_of t e && takes_in_turn J) (and_gives_left (w == 1) (is_end_of t e && takes_in_turn K) h) (and_from (is_end_of t e) (takes_in_turn J) (and_gives_left (is_end_of t e) (takes_in_turn K) k) r.0), r.1)
+last_turn (Take w t j ∷ []) x y h = lone y (and_gives_right (is_end_of t x) (takes_in_turn (y ∷ [])) (and_gives_right (w == 1) (is_end_of t x && takes_in_turn (y ∷ [])) h))
 last_turn (Commit w t e ∷ J) x y h = clash h refl
 last_turn (Drop w t p ∷ J) x y h = clash h refl
 last_turn (Abandon w t ∷ J) x y h = clash h refl

@@ -1,6 +1,6 @@
 -- Adding the pairs of overlaps is a run of deductions of each process that gains them.
 use Rattle.std.proofs.Common.{ℕ, zero, suc, ◌≡◌, ◌≢◌, ◌⊎◌, ◌↔◌, inl, inr, refl, sym, ap, ◌∙◌, subst, arith, List, [], ◌∷◌, Some, ⊎_elim, Contains, true, false}
-use Rattle.kb_term.proofs.Steps.{contains_behind, contains_first}
+use Rattle.kb_lemmas.proofs.Membership.{contains_behind, contains_first}
 use Rattle.kb_term.specs.Tree.{Tree}
 use Rattle.kb_term.specs.Pair.{Pair, IsSameEquation}
 use Rattle.kb_term.specs.Signature.{Signature}

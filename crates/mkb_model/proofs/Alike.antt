@@ -1,20 +1,20 @@
 -- Two lists of the overlaps of named rules are alike, whichever variants and unifiers were taken, and so are what is proposed from them.
 use Rattle.std.proofs.Common.{ℕ, ◌≡◌, inl, inr, refl, sym, ap, ap₂, ◌∙◌, subst, List, [], ◌∷◌, ◌++◌, map, flat_map, Contains, Some, Result, Ok, Err}
 use Rattle.std.specs.Prelude.{option_to_list}
+use Rattle.kb_lemmas.proofs.Membership.{contains_behind, contains_first}
+use Rattle.kb_lemmas.proofs.Options.{none_some, some_is}
 use Rattle.kb_term.specs.Tree.{Tree}
 use Rattle.kb_term.specs.Substitution.{instance}
 use Rattle.kb_term.specs.Pair.{Pair, canonical_pair}
 use Rattle.kb_term.specs.declared.limit.Limit.{Limit as TermLimit}
 use Rattle.kb_term.specs.declared.origin.RuleRef.{RuleRef}
 use Rattle.kb_overlap.specs.Overlap.{Overlap as Listed, overlap_positions}
-use Rattle.kb_term.proofs.Steps.{contains_behind, contains_first}
 use Rattle.kb_rewrite.specs.NormalForm.{HoldVariables, Normalised, form, long, large}
 use Rattle.kb_rewrite.proofs.Determined.{answers_once}
 use Rattle.kb_label.specs.declared.verdict.Reason.{Reason}
 use Rattle.kb_node.specs.declared.job.Deduced.{Deduced}
 use Rattle.mkb_model.specs.Jobs.{ref_eq}
 use Rattle.mkb_model.specs.Proposals.{NamedRule, as_rules, NamedOverlap, OverlapsOfAll, own_limit, FirstThat, deduced_pair, AreDeduced, HasForm, form_limit, PassesLimit, PassesFirst, HaveForms, IsJoinedBy, FormsMeet, OfSides, IsFormed, IsJoined, IsUnjoined, IsStopped, Picks}
-use Rattle.mkb_model.proofs.Lists.{none_some, some_is}
 use Rattle.kb_laws.proofs.Renamings.{Back, back_again, answer_instance, normalises_instance, canonical_back}
 use Rattle.kb_laws.proofs.Twins.{Both, both_append, both_map, Twins, AlikeSides, AreListedAlike, lists_both}
 

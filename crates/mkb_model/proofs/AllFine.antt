@@ -1,10 +1,12 @@
 -- What is committed in a possible run of a problem within the limits is fine, and each process has each node in one role.
-use Rattle.std.proofs.Common.{ℕ, zero, suc, ◌+◌, ◌<◌, ◌≡◌, ◌≢◌, ◌⊎◌, inl, inr, refl, sym, ap, ◌∙◌, subst, arith, List, [], ◌∷◌, ◌++◌, filter, flat_map, length, slice_index_or, Contains, All, Bool, true, false, not, Option, Some, None, ⊎_elim}
+use Rattle.std.proofs.Common.{ℕ, ◌+◌, ◌<◌, ◌≡◌, ◌≢◌, ◌⊎◌, inl, inr, refl, sym, ap, ◌∙◌, subst, arith, List, [], ◌∷◌, ◌++◌, filter, flat_map, length, slice_index_or, Contains, All, Bool, true, false, not, Option, Some, None, ⊎_elim}
 use Rattle.std.specs.Prelude.{IsFalse, option_map}
 use Rattle.std.specs.List.{filter_map}
 use Rattle.std.specs.Option.{option_map_or}
 use Rattle.std.proofs.lemmas.List.Elements.{Contains-append_cases, Contains-append_left, Contains-append_right, All-contains}
-use Rattle.kb_term.proofs.Steps.{contains_cases, contains_first}
+use Rattle.kb_lemmas.proofs.Membership.{contains_cases, contains_first, none_in, contains_flat_map_back, contains_flat_map, contains_mapped}
+use Rattle.kb_lemmas.proofs.Booleans.{and_gives_left, and_gives_right}
+use Rattle.kb_lemmas.proofs.Options.{some_is, none_some}
 use Rattle.kb_term.specs.Tree.{Tree}
 use Rattle.kb_term.specs.Pair.{Pair, canonical_pair}
 use Rattle.kb_term.specs.Rule.{Rule, rule_of}
@@ -41,9 +43,9 @@ use Rattle.mkb_model.specs.declared.proposed.Proposed.{Proposed}
 use Rattle.mkb_model.specs.declared.proposed.Proposed.TheVariants.{Facts, Rewrite, One, Both, Refuse, Deduce, Unjoined, Closed, Limit}
 use Rattle.mkb_model.specs.declared.entry.Entry.{Entry}
 use Rattle.mkb_model.specs.declared.entry.Entry.TheVariants.{Take, Commit, Drop, Abandon, Halt}
-use Rattle.mkb_model.proofs.Lists.{clash, decide, false_unless, and_left, and_right, some_is, none_some, none_in, filter_in, in_filter, flat_map_in, in_flat_map, filter_map_in, in_filter_map, in_numbers, map_in}
+use Rattle.mkb_model.proofs.Lists.{clash, decide, false_unless, filter_in, in_filter, filter_map_in, in_filter_map, in_numbers}
 use Rattle.mkb_model.proofs.Roles.{kind_number, KeepsRoles, on_there, put_other, label-with_node, equation-no_rule}
-use Rattle.mkb_model.proofs.Views.{rule_listed}
+use Rattle.mkb_model.proofs.Views.{rule_listed, there_pair}
 use Rattle.mkb_model.proofs.Changes.{Fits}
 use Rattle.mkb_model.proofs.Proper.{IsOrdered}
 use Rattle.mkb_model.proofs.Commits.{orients}
@@ -70,15 +72,10 @@ pub earlier_run : (May : Plain → Job → Type 0) (P : Problem) (n : Settings) 
 earlier_run May P n [] c run m i = none_in i
 earlier_run May P n (x ∷ ms) c run m i = ⊎_elim (λ e. (ms, subst {A = Moment} (λ z. IsRunBy May P n ms z.board) e run.0)) (λ k. earlier_run May P n ms x.board run.0 m k) (contains_cases x ms m i)
 
-pub pair_there : (xs : List PlainNode) (n : ℕ) → n < length xs → (q : Pair) × (pair_in xs n ≡ Some q)
-pair_there [] n l = absurd (omega (arith, l))
-pair_there (x ∷ xs) zero l = (x.pair, refl)
-pair_there (x ∷ xs) (suc n) l = pair_there xs n (omega (arith, l))
-
 -- a rule whose node was there is the same on a later board
 pub rule_back : (b c : Plain) (a : RuleRef) (r : Rule) → KeepsPairs b.nodes c.nodes → a.node < length b.nodes → rule_at c a ≡ Some r → rule_at b a ≡ Some r
 rule_back b c a r keeps l h =
-    let q = pair_there b.nodes a.node l in
+    let q = there_pair b.nodes a.node l in
     ap (option_map (λ q. rule_of q a.dir)) q.1 ∙ sym (ap (option_map (λ q. rule_of q a.dir)) (keeps a.node q.0 q.1)) ∙ h
 
 -- ---- ordered states
@@ -92,7 +89,7 @@ module _ (g : Signature) (b : Plain) (p : Name) (nowhere : (m : ℕ) (j : LabelK
 
   no_equation_of : (e : Tree × Tree) → ¬ Contains (state_of b p).equations e
   no_equation_of e i =
-      let m = map_in (λ (q : Pair). (q.first, q.second)) (filter_map (pair_at b) (filter (is_equation b p) (node_numbers b))) e i in
+      let m = contains_mapped (λ (q : Pair). (q.first, q.second)) (filter_map (pair_at b) (filter (is_equation b p) (node_numbers b))) e i in
       let f = filter_map_in (pair_at b) (filter (is_equation b p) (node_numbers b)) m.0 m.1 in
       nowhere f.0 E (filter_in (is_equation b p) (node_numbers b) f.0 f.1).1
 
@@ -125,7 +122,7 @@ states_ordered P n ms c within run fine p = go (has c.living p) refl
 pub constraints_in : (b : Plain) (p : Name) (a : RuleRef) → Contains (constraints_of b p) a → IsOn b.nodes p a.node (constraint_kind a.dir) × Contains (directions a.node) a
 constraints_in b p a i =
     let f = filter_in (is_constraint b p) (flat_map directions (node_numbers b)) a i in
-    let m = flat_map_in directions (node_numbers b) a f.0 in
+    let m = contains_flat_map_back directions (node_numbers b) a f.0 in
     let e : m.0 ≡ a.node = node m.0 m.2 in
     (f.1, subst {A = ℕ} (λ z. Contains (directions z) a) e m.2)
   where
@@ -133,7 +130,7 @@ constraints_in b p a i =
     node k i = ⊎_elim (λ e. ap (λ (z : RuleRef). z.node) e) (λ j. ⊎_elim (λ e. ap (λ (z : RuleRef). z.node) e) (λ q. none_in q) (contains_cases (record { node = k; dir = 1 }) [] a j)) (contains_cases (record { node = k; dir = 0 }) (record { node = k; dir = 1 } ∷ []) a i)
 
 pub in_constraints : (b : Plain) (p : Name) (a : RuleRef) → IsOn b.nodes p a.node (constraint_kind a.dir) → Contains (directions a.node) a → Contains (constraints_of b p) a
-in_constraints b p a o i = in_filter (is_constraint b p) (flat_map directions (node_numbers b)) a (in_flat_map directions (node_numbers b) a.node a (in_numbers 0 (length b.nodes) a.node (omega arith) (let l = on_there b.nodes p a.node (constraint_kind a.dir) o in omega (arith, l))) i) o
+in_constraints b p a o i = in_filter (is_constraint b p) (flat_map directions (node_numbers b)) a (contains_flat_map directions (node_numbers b) a.node a (in_numbers 0 (length b.nodes) a.node (omega arith) (let l = on_there b.nodes p a.node (constraint_kind a.dir) o in omega (arith, l))) i) o
 
 -- the first of the orders that orders the constraints of the process with the new rule
 abbrev pub FirstWith : List Certificate → Plain → Name → ℕ → ℕ → Certificate → Type 0
@@ -203,9 +200,9 @@ module _ (g : Signature) (before b : Plain) (keeps : KeepsPairs before.nodes b.n
       → (u : NamedRule × NamedRule) → Contains (both_ways (record { ref = d; rule = h.2.0 }) (record { ref = e; rule = h.2.1 })) u → HasNamed g b.nodes p u.0 × HasNamed g b.nodes p u.1
   deduce_named q d e a c ds h p named u i =
       let k = sym (has-minus (meet (label b a.node (rule_kind a.dir)) (label b c.node (rule_kind c.dir))) (done_of b a c) p) ∙ named in
-      let m = sym (has-meet (label b a.node (rule_kind a.dir)) (label b c.node (rule_kind c.dir)) p) ∙ and_right (not (has (done_of b a c) p)) (has (meet (label b a.node (rule_kind a.dir)) (label b c.node (rule_kind c.dir))) p) k in
-      let on_a : IsOn b.nodes p a.node (rule_kind a.dir) = and_right (has (label b c.node (rule_kind c.dir)) p) (has (label b a.node (rule_kind a.dir)) p) m in
-      let on_c : IsOn b.nodes p c.node (rule_kind c.dir) = and_left (has (label b c.node (rule_kind c.dir)) p) (has (label b a.node (rule_kind a.dir)) p) m in
+      let m = sym (has-meet (label b a.node (rule_kind a.dir)) (label b c.node (rule_kind c.dir)) p) ∙ and_gives_right (not (has (done_of b a c) p)) (has (meet (label b a.node (rule_kind a.dir)) (label b c.node (rule_kind c.dir))) p) k in
+      let on_a : IsOn b.nodes p a.node (rule_kind a.dir) = and_gives_right (has (label b c.node (rule_kind c.dir)) p) (has (label b a.node (rule_kind a.dir)) p) m in
+      let on_c : IsOn b.nodes p c.node (rule_kind c.dir) = and_gives_left (has (label b c.node (rule_kind c.dir)) p) (has (label b a.node (rule_kind a.dir)) p) m in
       let x : NamedRule = record { ref = d; rule = h.2.0 } in
       let y : NamedRule = record { ref = e; rule = h.2.1 } in
       let hx : HasNamed g b.nodes p x = at_rule p d h.2.0 h.2.2 (subst {A = RuleRef} (λ z. IsOn b.nodes p z.node (rule_kind z.dir)) h.0 on_a) in
@@ -233,7 +230,7 @@ module _ (g : Signature) (before b : Plain) (keeps : KeepsPairs before.nodes b.n
 
 -- an orienting that is taken names an equation of the process
 pub due_equation : (b : Plain) (p : Name) (n : NodeId) → IsFreeJob b (Orient p n) → is_equation b p n.0 ≡ true
-due_equation b p n free = and_left (is_equation b p n.0) (not (has (label b n.0 X) p)) (and_right (is_working b p) (is_work_due b (Orient p n)) (free_due b (Orient p n) free).3)
+due_equation b p n free = and_gives_left (is_equation b p n.0) (not (has (label b n.0 X) p)) (and_gives_right (is_working b p) (is_work_due b (Orient p n)) (free_due b (Orient p n) free).3)
 
 module _ (P : Problem) (n : Settings) (past : List Moment) (b : Plain) (run : IsPossibleRun P n past b) (s : Stands b) (ordered : (p : Name) → IsOrdered P.signature (state_of b p)) (w t : ℕ) (j : Job) (x : Proposed) (f : IsFinishing past b w t j x) (acts : IsFalse (is_dropped b x)) where
   keeps : KeepsPairs f.before.nodes b.nodes
@@ -252,7 +249,7 @@ module _ (P : Problem) (n : Settings) (past : List Moment) (b : Plain) (run : Is
 
   -- the node of an equation of the process has a pair
   equation_pair : (p : Name) (m : ℕ) → is_equation b p m ≡ true → (q : Pair) × (pair_in b.nodes m ≡ Some q)
-  equation_pair p m o = pair_there b.nodes m (on_there b.nodes p m E o)
+  equation_pair p m o = there_pair b.nodes m (on_there b.nodes p m E o)
 
   pub ready : IsReady P.signature b x
   ready = go j x refl refl f.proposed

@@ -3,6 +3,9 @@ use Rattle.std.proofs.Common.{◌≡◌, ◌⊎◌, inl, inr, refl, sym, ap₂, 
 use Rattle.std.specs.Prelude.{⊤, unwrap_or}
 use Rattle.std.specs.List.{find}
 use Rattle.std.specs.Ordering.{is_eq}
+use Rattle.std.proofs.lemmas.Bool.{and_from}
+use Rattle.kb_label.proofs.Forked.{begins-trans}
+use Rattle.kb_lemmas.proofs.Booleans.{and_gives_left, and_gives_right}
 use Rattle.kb_term.specs.Signature.{Signature, Problem}
 use Rattle.kb_laws.specs.Completion.{KbState, KbReaches, KbFollows, kb_start}
 use Rattle.kb_label.specs.Names.{Name, has, is_beginning, bit_cmp}
@@ -10,7 +13,7 @@ use Rattle.mkb_model.specs.Plain.{Plain, state_of, ancestor}
 use Rattle.mkb_model.specs.Journals.{Moment}
 use Rattle.mkb_model.specs.Headline.{states_before, states_of, EachCompletes}
 use Rattle.mkb_model.specs.Invariants.{AreApart}
-use Rattle.mkb_model.proofs.Lists.{clash, find_in, find_none, and_left, and_right, and_both}
+use Rattle.mkb_model.proofs.Lists.{clash, find_in, find_none}
 use Rattle.mkb_model.proofs.Endings.{has_in, in_has}
 
 -- ---- beginnings of names
@@ -27,16 +30,7 @@ bit_same false true h = clash h refl
 
 pub begins-refl : (p : Name) → is_beginning p p ≡ true
 begins-refl [] = refl
-begins-refl (x ∷ p) = and_both (is_eq (bit_cmp x x)) (is_beginning p p) (bit_refl x) (begins-refl p)
-
-pub begins-trans : (p q r : Name) → is_beginning p q ≡ true → is_beginning q r ≡ true → is_beginning p r ≡ true
-begins-trans [] q r h k = refl
-begins-trans (x ∷ p) [] r h k = clash h refl
-begins-trans (x ∷ p) (y ∷ q) [] h k = clash k refl
-begins-trans (x ∷ p) (y ∷ q) (z ∷ r) h k =
-    let e = bit_same x y (and_left (is_eq (bit_cmp x y)) (is_beginning p q) h) in
-    let f = and_left (is_eq (bit_cmp y z)) (is_beginning q r) k in
-    and_both (is_eq (bit_cmp x z)) (is_beginning p r) (subst {A = Bool} (λ v. is_eq (bit_cmp v z) ≡ true) (sym e) f) (begins-trans p q r (and_right (is_eq (bit_cmp x y)) (is_beginning p q) h) (and_right (is_eq (bit_cmp y z)) (is_beginning q r) k))
+begins-refl (x ∷ p) = and_from (is_eq (bit_cmp x x)) (is_beginning p p) (bit_refl x) (begins-refl p)
 
 -- of two beginnings of one name, one begins the other
 pub two_beginnings : (p q r : Name) → is_beginning p r ≡ true → is_beginning q r ≡ true → (is_beginning p q ≡ true) ⊎ (is_beginning q p ≡ true)
@@ -44,12 +38,12 @@ two_beginnings [] q r h k = inl refl
 two_beginnings (x ∷ p) [] r h k = inr refl
 two_beginnings (x ∷ p) (y ∷ q) [] h k = clash h refl
 two_beginnings (x ∷ p) (y ∷ q) (z ∷ r) h k =
-    let e = bit_same x z (and_left (is_eq (bit_cmp x z)) (is_beginning p r) h) in
-    let f = bit_same y z (and_left (is_eq (bit_cmp y z)) (is_beginning q r) k) in
+    let e = bit_same x z (and_gives_left (is_eq (bit_cmp x z)) (is_beginning p r) h) in
+    let f = bit_same y z (and_gives_left (is_eq (bit_cmp y z)) (is_beginning q r) k) in
     let g : is_eq (bit_cmp x y) ≡ true = subst {A = Bool} (λ v. is_eq (bit_cmp x v) ≡ true) (e ∙ sym f) (bit_refl x) in
     let i : is_eq (bit_cmp y x) ≡ true = subst {A = Bool} (λ v. is_eq (bit_cmp y v) ≡ true) (f ∙ sym e) (bit_refl y) in
-    ⊎_elim (λ j. inl (and_both (is_eq (bit_cmp x y)) (is_beginning p q) g j)) (λ j. inr (and_both (is_eq (bit_cmp y x)) (is_beginning q p) i j))
-    (two_beginnings p q r (and_right (is_eq (bit_cmp x z)) (is_beginning p r) h) (and_right (is_eq (bit_cmp y z)) (is_beginning q r) k))
+    ⊎_elim (λ j. inl (and_from (is_eq (bit_cmp x y)) (is_beginning p q) g j)) (λ j. inr (and_from (is_eq (bit_cmp y x)) (is_beginning q p) i j))
+    (two_beginnings p q r (and_gives_right (is_eq (bit_cmp x z)) (is_beginning p r) h) (and_gives_right (is_eq (bit_cmp y z)) (is_beginning q r) k))
 
 -- the living process that begins the name is its ancestor
 pub ancestor_is : (b : Plain) (p q : Name) → AreApart b.living → has b.living p ≡ true → is_beginning p q ≡ true → ancestor b q ≡ p

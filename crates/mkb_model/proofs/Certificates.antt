@@ -5,7 +5,8 @@ use Rattle.std.specs.Prelude.{⊤, IsFalse, option_map, take}
 use Rattle.std.specs.List.{find}
 use Rattle.std.specs.Option.{option_map_or}
 use Rattle.std.proofs.lemmas.List.Elements.{Contains-append_left, Contains-append_right, Contains-append_cases}
-use Rattle.kb_term.proofs.Steps.{contains_first, contains_behind, contains_cases}
+use Rattle.kb_lemmas.proofs.Membership.{contains_first, contains_behind, contains_cases, none_in}
+use Rattle.kb_lemmas.proofs.Options.{some_is, none_some}
 use Rattle.kb_term.specs.First.{IsFirst}
 use Rattle.kb_term.specs.Tree.{Tree}
 use Rattle.kb_term.specs.Pair.{Pair}
@@ -35,7 +36,7 @@ use Rattle.mkb_model.specs.declared.proposed.Proposed.{Proposed}
 use Rattle.mkb_model.specs.declared.proposed.Proposed.TheVariants.{Facts, Rewrite, One, Both, Refuse, Deduce, Unjoined, Closed, Limit}
 use Rattle.mkb_model.specs.declared.entry.Entry.{Entry}
 use Rattle.mkb_model.specs.declared.entry.Entry.TheVariants.{Take, Commit, Drop, Abandon, Halt}
-use Rattle.mkb_model.proofs.Lists.{clash, decide, some_is, none_some, none_in, filter_map_in, in_filter_map}
+use Rattle.mkb_model.proofs.Lists.{clash, decide, filter_map_in, in_filter_map}
 use Rattle.mkb_model.proofs.Roles.{kind_number, on_there}
 use Rattle.mkb_model.proofs.Views.{rule_listed}
 use Rattle.mkb_model.proofs.Orienting.{OrientRoles, orient-roles}

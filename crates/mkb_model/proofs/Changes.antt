@@ -1,5 +1,7 @@
 -- What a change of roles does to the equations and rules that a process has.
 use Rattle.std.proofs.Common.{ℕ, zero, suc, ◌≡◌, ◌⊎◌, ◌↔◌, inl, inr, refl, sym, ap, ◌∙◌, subst, arith, List, Some, ⊎_elim}
+use Rattle.kb_laws.proofs.CompletionLaws.{same_equation_itself}
+use Rattle.kb_lemmas.proofs.Options.{some_is}
 use Rattle.kb_term.proofs.CanonicalPairs.{canonical_from_same, lesser_cases}
 use Rattle.kb_term.specs.Tree.{Tree}
 use Rattle.kb_term.specs.Pair.{Pair, numbered, IsCanonical, IsTrivial, IsSameEquation}
@@ -9,9 +11,8 @@ use Rattle.mkb_model.specs.Plain.{Plain, PlainNode, rule_kind, constraint_kind, 
 use Rattle.kb_node.specs.declared.node.LabelKind.{LabelKind}
 use Rattle.kb_node.specs.declared.node.LabelKind.TheVariants.{E}
 use Rattle.mkb_model.specs.Ready.{IsOn, KeepsPairs}
-use Rattle.mkb_model.proofs.Lists.{some_is}
 use Rattle.mkb_model.proofs.Roles.{kind_number}
-use Rattle.mkb_model.proofs.Views.{same_itself, same_sym, same_trans, same_turned, rule_sym, rule_trans, rule_of-between, from_side, to_side, EqView, RuleView, equations-view, pair_back}
+use Rattle.mkb_model.proofs.Views.{same_sym, same_trans, same_turned, rule_sym, rule_trans, rule_of-between, from_side, to_side, EqView, RuleView, equations-view, pair_back}
 use Rattle.mkb_model.proofs.Moves.{IsLean}
 
 -- the pairs of the nodes are canonical, not trivial, and no two are the same
@@ -42,7 +43,7 @@ lean_state b p f u h =
 -- ---- rules of one pair
 
 pub between_sides : (q : Pair) (d : ℕ) → IsSameEquation (sides q) (from_side q d, to_side q d)
-between_sides q zero = same_itself (sides q)
+between_sides q zero = same_equation_itself (sides q)
 between_sides q (suc d) = same_turned q.first q.second
 
 -- rules that are variants come from the same equation

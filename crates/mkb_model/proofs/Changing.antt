@@ -5,7 +5,11 @@ use Rattle.std.specs.Prelude.{IsFalse, nat_lt, option_map}
 use Rattle.std.proofs.lemmas.Bool.Decides.{nat_tests}
 use Rattle.std.specs.List.{find}
 use Rattle.std.specs.Option.{option_map_or}
-use Rattle.kb_term.proofs.Steps.{contains_behind, contains_first}
+use Rattle.std.proofs.lemmas.Bool.{and_from, or_left, or_right}
+use Rattle.kb_lemmas.proofs.Membership.{contains_behind, contains_first}
+use Rattle.kb_lemmas.proofs.Lists.{filter_none_of}
+use Rattle.kb_lemmas.proofs.Booleans.{and_gives_left, and_gives_right}
+use Rattle.kb_lemmas.proofs.Options.{some_is, none_some}
 use Rattle.kb_term.specs.View.{tree_of}
 use Rattle.kb_term.specs.Pair.{Pair}
 use Rattle.kb_term.specs.Signature.{Problem, IsWithinLimits}
@@ -38,7 +42,7 @@ use Rattle.mkb_model.specs.declared.entry.Effect.{Effect}
 use Rattle.mkb_model.specs.declared.entry.Entry.TheVariants.{Take}
 use Rattle.mkb_model.proofs.Worked.{sleepers_run}
 use Rattle.mkb_model.proofs.Sleepers.{settled_same}
-use Rattle.mkb_model.proofs.Lists.{all_left_out, clash, decide, and_left, and_right, and_both, or_left, or_right, not_true, not_of_false, not_of_true, some_is, none_some}
+use Rattle.mkb_model.proofs.Lists.{clash, decide, not_true, not_of_false, not_of_true}
 use Rattle.mkb_model.proofs.Roles.{on-gains, on_there}
 use Rattle.mkb_model.proofs.Pairs.{pairs-added}
 use Rattle.mkb_model.proofs.Views.{pair_back}
@@ -73,7 +77,7 @@ none_named (q ∷ l) p h = clash h refl
 module _ (P : Problem) (n : Settings) (within : IsWithinLimits P) (past : List Moment) (b : Plain) (run : IsPossibleRun P n past b) where
   -- who gives up is seen to
   limit_seen : (r : Reason) (l : List Name) (p : Name) → has (not_over b l) p ≡ true → SaysTheSame b (give_up r l b) → ⊥
-  limit_seen r l p h same = clash (given_over IsFreeJob P n past b run r l p h) (same.over p ∙ not_true (and_left (not (is_over b p)) (has l p) (sym (has-filter (λ q. not (is_over b q)) l p) ∙ h)))
+  limit_seen r l p h same = clash (given_over IsFreeJob P n past b run r l p h) (same.over p ∙ not_true (and_gives_left (not (is_over b p)) (has l p) (sym (has-filter (λ q. not (is_over b q)) l p) ∙ h)))
 
   -- a proposal that comes to a limit acts on some process, since facts alone always find room
   acted : (x : Proposed) (r : Reason) → IsFalse (is_dropped b x) → limit_of b x ≡ Some r → (p : Name) × (has (effect_label b x) p ≡ true)
@@ -91,13 +95,13 @@ module _ (P : Problem) (n : Settings) (within : IsWithinLimits P) (past : List M
       go true i = let k = acted x r acts e in inr (record { not_own = foreign x acts all; limit = room x r (foreign x acts all) e; some = k.0; acts = k.1; all_over = all })
         where
           all : (p : Name) → has (effect_label b x) p ≡ true → is_over b p ≡ true
-          all p h = ⊎_elim (λ k. k) (λ k. clash (has-filter (λ q. not (is_over b q)) (effect_label b x) p ∙ and_both (not (is_over b p)) (has (effect_label b x) p) (not_of_false k) h) (none_named (not_over b (effect_label b x)) p i)) (decide (is_over b p))
+          all p h = ⊎_elim (λ k. k) (λ k. clash (has-filter (λ q. not (is_over b q)) (effect_label b x) p ∙ and_from (not (is_over b p)) (has (effect_label b x) p) (not_of_false k) h) (none_named (not_over b (effect_label b x)) p i)) (decide (is_over b p))
 
           -- a limit that the proposal brings acts on some that have not given up
           foreign : (y : Proposed) → IsFalse (is_dropped b y) → ((p : Name) → has (effect_label b y) p ≡ true → is_over b p ≡ true) → own_reason y ≡ None
           foreign (Limit j cause) acts all =
               let k = some_named (not_over b (limit_label b j cause)) acts in
-              clash (all k.0 k.1) (not_true (and_left (not (is_over b k.0)) (has (limit_label b j cause) k.0) (sym (has-filter (λ q. not (is_over b q)) (limit_label b j cause) k.0) ∙ k.1)))
+              clash (all k.0 k.1) (not_true (and_gives_left (not (is_over b k.0)) (has (limit_label b j cause) k.0) (sym (has-filter (λ q. not (is_over b q)) (limit_label b j cause) k.0) ∙ k.1)))
           foreign (Facts fs) acts all = refl
           foreign (Rewrite m v at a kind t) acts all = refl
           foreign (One p m d c) acts all = refl
@@ -121,7 +125,7 @@ module _ (P : Problem) (n : Settings) (within : IsWithinLimits P) (past : List M
 
 -- the names that are added for two rules are found
 added_done : (a c : RuleRef) (l : List Name) (p : Name) → has l p ≡ true → (ds : List Done) → has (done_in (gains_done_in a c l ds) a c) p ≡ true
-added_done a c l p h [] = go (ref_eq a a && ref_eq c c) (and_both (ref_eq a a) (ref_eq c c) (ref_self a) (ref_self c))
+added_done a c l p h [] = go (ref_eq a a && ref_eq c c) (and_from (ref_eq a a) (ref_eq c c) (ref_self a) (ref_self c))
   where
     go : (z : Bool) → z ≡ true → has (cond z l []) p ≡ true
     go true e = h
@@ -204,13 +208,13 @@ module _ (P : Problem) (n : Settings) (within : IsWithinLimits P) (past : List M
       go (Orient p m) (Refuse q k) ei ey h same =
           let on = orients b q k.0 (acts_as (Refuse q k) ey) in
           let gained = (on-gains k.0 X (q ∷ []) b.nodes q k.0 X).1 (inr ((refl, refl), on_there b.nodes q k.0 E on, self q)) in
-          let before_off = not_true (and_right (is_equation f.before p m.0) (not (has (label f.before m.0 X) p)) (and_right (is_working f.before p) (is_work_due f.before (Orient p m)) (due_as (Orient p m) ei))) in
+          let before_off = not_true (and_gives_right (is_equation f.before p m.0) (not (has (label f.before m.0 X) p)) (and_gives_right (is_working f.before p) (is_work_due f.before (Orient p m)) (due_as (Orient p m) ei))) in
           let off = refused_stay P n past b run f.before w t p m (taken_as (Orient p m) ei) (flying_as (Orient p m) ei) m.0 ∙ before_off in
           clash (subst {A = Name} (λ z. has (label b m.0 X) z ≡ true) h.0 (subst {A = NodeId} (λ z. has (label b z.0 X) q ≡ true) h.1 (sym (same.nodes k.0 X q) ∙ gained))) off
       go i (Deduce a c ds) ei ey h same =
           let named = some_named (overlap_label b a c) (acts_as (Deduce a c ds) ey) in
           let both = sym (has-minus (meet (label b a.node (rule_kind a.dir)) (label b c.node (rule_kind c.dir))) (done_of b a c) named.0) ∙ named.1 in
-          clash (sym (same.overlapped a c named.0) ∙ added_done a c (overlap_label b a c) named.0 named.1 b.done) (not_true (and_left (not (has (done_of b a c) named.0)) (has (meet (label b a.node (rule_kind a.dir)) (label b c.node (rule_kind c.dir))) named.0) both))
+          clash (sym (same.overlapped a c named.0) ∙ added_done a c (overlap_label b a c) named.0 named.1 b.done) (not_true (and_gives_left (not (has (done_of b a c) named.0)) (has (meet (label b a.node (rule_kind a.dir)) (label b c.node (rule_kind c.dir))) named.0) both))
       go (Close p) (Unjoined q ds) ei ey h same =
           let past_run = earlier_run IsFreeJob P n past b run (record { board = f.before; entry = Take w t j }) f.taken in
           let stays = (closers_stay P n past b run f.before w t p (taken_as (Close p) ei) (flying_as (Close p) ei)).1 in
@@ -266,7 +270,7 @@ pub idle_commits : (P : Problem) (n : Settings) (past : List Moment) (b : Plain)
 idle_commits P n past b w t e d run c i = ⊎_elim (at Nodes) (at Processes) i.limit
   where
     all : not_over b (effect_label b c.proposal) ≡ []
-    all = all_left_out (λ p. not (is_over b p)) (effect_label b c.proposal) (λ p k. not_of_true (i.all_over p (has_in (effect_label b c.proposal) p k)))
+    all = filter_none_of (λ p. not (is_over b p)) (effect_label b c.proposal) (λ p k. not_of_true (i.all_over p (has_in (effect_label b c.proposal) p k)))
 
     same : (r : Reason) → give_up r (effect_label b c.proposal) b ≡ b
     same r = ap (λ gs. record b { over = gs }) (nobody_more r (not_over b (effect_label b c.proposal)) all b.over (λ g k. ((labelled_run P n past b run).over g k).ordered))

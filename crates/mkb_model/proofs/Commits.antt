@@ -2,6 +2,8 @@
 use Rattle.std.proofs.Common.{ℕ, ◌≡◌, ◌≢◌, ◌↔◌, inl, refl, sym, ap, ◌∙◌, subst, arith, List, [], ◌∷◌, ◌++◌, map, Option, Some, None, ⊎_elim, Bool, true, false, cond, Contains}
 use Rattle.std.specs.Prelude.{⊤, IsFalse}
 use Rattle.std.specs.Option.{option_map_or}
+use Rattle.std.proofs.lemmas.Bool.{and_right}
+use Rattle.kb_lemmas.proofs.Options.{some_is, none_some}
 use Rattle.kb_term.specs.Tree.{Tree}
 use Rattle.kb_term.specs.View.{tree_of}
 use Rattle.kb_term.specs.Pair.{Pair, canonical_pair}
@@ -20,9 +22,9 @@ use Rattle.kb_node.specs.declared.node.LabelKind.TheVariants.{E, X}
 use Rattle.kb_node.specs.declared.job.Deduced.{Deduced}
 use Rattle.mkb_model.specs.declared.proposed.Proposed.{Proposed}
 use Rattle.mkb_model.specs.declared.proposed.Proposed.TheVariants.{Facts, Rewrite, One, Both, Refuse, Deduce, Unjoined, Closed, Limit}
-use Rattle.kb_label.proofs.Members.{has-meet, name_eq-eq, name_eq-refl}
+use Rattle.kb_label.proofs.Members.{has-meet, name_eq-eq}
 use Rattle.mkb_model.specs.Ready.{IsOn, KeepsPairs, OneRole, IsDeducedFrom, IsReady, IsNew}
-use Rattle.mkb_model.proofs.Lists.{clash, decide, false_unless, and_off_right, some_is, none_some}
+use Rattle.mkb_model.proofs.Lists.{clash, decide, false_unless}
 use Rattle.mkb_model.proofs.Roles.{on_there, on-gains, has-one, keeps-with_node, keeps-gains_rule, keeps-gains_equation, keeps-loses, keeps-fork, on-fork, KeepsRoles, keeps_trans, refused-no_rule, refused-no_constraint, kind_number}
 use Rattle.mkb_model.proofs.Pairs.{same_kept, pairs-oriented, pairs-gains, pairs-added, pairs-rewritten, pairs-fork}
 use Rattle.mkb_model.proofs.Views.{SameRoles, same_view, equations-view, rules-view, constraints-view, iff_over, pair_back}
@@ -39,7 +41,7 @@ pub keeps-rewritten : (l : List Name) (n w : ℕ) (at : List ℕ) (a : RuleRef) 
 keeps-rewritten l n w at a kind u z xs q h = moved (canonical_pair u (other_side z w))
   where
     not_met : (m : List Name) → has (meet l m) q ≡ false
-    not_met m = has-meet l m q ∙ and_off_right (has m q) (has l q) h
+    not_met m = has-meet l m q ∙ and_right (has m q) (has l q) h
 
     not_strict : (m : List Name) → has m q ≡ false → has (if_strict kind m) q ≡ false
     not_strict m e = false_unless (has (if_strict kind m) q) (λ i. clash (if_strict-has kind m q i).1 e)
@@ -99,9 +101,6 @@ same_parts b c q he hr hc k = record {
 
 pub is_p : (p q : Name) → has (p ∷ []) q ≡ true → q ≡ p
 is_p p q h = name_eq-eq q p (sym (has-one p q) ∙ h)
-
-self_in : (p : Name) → has (p ∷ []) p ≡ true
-self_in p = has-one p p ∙ name_eq-refl p
 
 -- an orienting commit acts on a process that has the equation
 pub orients : (b : Plain) (p : Name) (n : ℕ) → is_empty (orient_label b p n) ≡ false → is_equation b p n ≡ true

@@ -2,9 +2,8 @@
 use Rattle.std.proofs.Common.{ℕ, zero, suc, ◌+◌, ◌≡◌, ◌≢◌, inl, inr, refl, sym, ap, ◌∙◌, subst, arith, eqb→eq, List, [], ◌∷◌, ◌++◌, map, filter, flat_map, length, Contains, Bool, true, false, cond, ◌==◌, Option, Some, None, ⊎_elim}
 use Rattle.std.specs.Prelude.{⊤, T, option_map, slice_get}
 use Rattle.std.specs.List.{filter_map, cons_option}
-use Rattle.std.proofs.lemmas.Bool.{eq-eqb}
+use Rattle.std.proofs.lemmas.Bool.{eq-eqb, ne_eqb, and_from, and_left, and_right}
 use Rattle.std.proofs.lemmas.List.Elements.{Contains-append_left, Contains-append_right}
-use Rattle.kb_term.proofs.Steps.{contains_cases, contains_behind, contains_first}
 use Rattle.kb_term.proofs.Instances.{instance-variable}
 use Rattle.kb_term.specs.Tree.{Tree, variable}
 use Rattle.kb_term.specs.Rule.{Rule}
@@ -12,13 +11,17 @@ use Rattle.kb_term.specs.Signature.{Problem, IsWithinLimits, IsEquationWithinLim
 use Rattle.kb_term.specs.Proving.{IsPath, IsChain, Reaches, IsJoinable, Proves}
 use Rattle.kb_term.specs.declared.origin.RuleRef.{RuleRef}
 use Rattle.std.proofs.lemmas.List.Elements.{All-contains}
+use Rattle.kb_rewrite.proofs.Irreducible.{step_from}
+use Rattle.kb_lemmas.proofs.Membership.{slice_contains, contains_cases, contains_first, none_in, contains_map, contains_flat_map, contains_flat_map_back}
+use Rattle.kb_lemmas.proofs.Lists.{get_map_back}
+use Rattle.kb_lemmas.proofs.Options.{some_is, none_some}
 use Rattle.kb_rewrite.specs.NormalForm.{NormalisesTo, StrategyStep, IsNormal, form}
 use Rattle.kb_overlap.specs.Overlap.{IsOverlapList}
 use Rattle.kb_cert.specs.Family.{family}
 use Rattle.kb_cert.proofs.Members.{first_contained}
 use Rattle.kb_laws.specs.Complete.{IsCompleteSystem}
 use Rattle.kb_laws.specs.Overlaps.{OverlapsClose, HaveOneNormalForm}
-use Rattle.kb_laws.proofs.Closing.{strategy_step, closed_joins}
+use Rattle.kb_laws.proofs.Closing.{closed_joins}
 use Rattle.kb_laws.proofs.Complete.{complete_state}
 use Rattle.kb_label.specs.Names.{Name}
 use Rattle.kb_label.specs.declared.verdict.Verdict.TheVariants.{Complete}
@@ -29,7 +32,7 @@ use Rattle.mkb_model.specs.Verdicts.{verdict, HasCompleted}
 use Rattle.mkb_model.specs.Headline.{states_before, states_of}
 use Rattle.mkb_model.specs.Journals.{Moment, IsPossibleRun, IsFreeJob}
 use Rattle.mkb_model.specs.GoodAnswers.{IsGoodAnswer}
-use Rattle.mkb_model.proofs.Lists.{false_unless, same_test, and_both, and_off, and_off_right, some_is, none_some, none_in, in_map, in_flat_map, filter_in, flat_map_in, numbers_in}
+use Rattle.mkb_model.proofs.Lists.{same_test, filter_in, numbers_in}
 use Rattle.mkb_model.proofs.Meanings.{verdict_means}
 use Rattle.mkb_model.proofs.Readiness.{named_rule}
 use Rattle.mkb_model.proofs.Ancestors.{ancestor_is, begins-refl}
@@ -51,26 +54,13 @@ named_are f (a ∷ refs) = go (f a) (named_are f refs)
     go None e = e
     go (Some r) e = ap (r ∷◌) e
 
-pub slice_map : {A B : Type 0} (f : A → B) (xs : List A) (i : ℕ) (y : B) → slice_get (map f xs) i ≡ Some y → (x : A) × (slice_get xs i ≡ Some x) × (f x ≡ y)
-slice_map f [] i y h = none_some h
-slice_map f (x ∷ xs) zero y h = (x, refl, some_is h)
-slice_map f (x ∷ xs) (suc i) y h = slice_map f xs i y h
-
-pub slice_in : {A : Type 0} (xs : List A) (i : ℕ) (x : A) → slice_get xs i ≡ Some x → Contains xs x
-slice_in [] i x h = none_some h
-slice_in {A} (y ∷ xs) zero x h = subst {A = A} (Contains (y ∷ xs)) (some_is h) (contains_first y xs)
-slice_in (y ∷ xs) (suc i) x h = contains_behind y xs x (slice_in xs i x h)
-
 -- no two are named the same
 abbrev Apart : {A : Type 0} → (A → RuleRef) → List A → Type 0
 Apart ref [] = ⊤
 Apart {A} ref (x ∷ xs) = ((y : A) → Contains xs y → (ref_eq (ref x) (ref y) ≡ false) × (ref_eq (ref y) (ref x) ≡ false)) × Apart ref xs
 
-not_equal : (n m : ℕ) → n ≢ m → (n == m) ≡ false
-not_equal n m d = false_unless (n == m) (λ e. d (eqb→eq n m (subst {A = Bool} T (sym e) tt)))
-
 pub ref_self : (a : RuleRef) → ref_eq a a ≡ true
-ref_self a = and_both (a.node == a.node) (a.dir == a.dir) (eq-eqb a.node a.node refl) (eq-eqb a.dir a.dir refl)
+ref_self a = and_from (a.node == a.node) (a.dir == a.dir) (eq-eqb a.node a.node refl) (eq-eqb a.dir a.dir refl)
 
 apart_filter : {A : Type 0} (ref : A → RuleRef) (f : A → Bool) (xs : List A) → Apart ref xs → Apart ref (filter f xs)
 apart_filter ref f [] h = tt
@@ -86,16 +76,16 @@ apart_directions n (suc k) = (first, (second, apart_directions (n + 1) k))
   where
     later : (y : RuleRef) → Contains (flat_map directions (numbers_from (n + 1) k)) y → n ≢ y.node
     later y i e =
-        let m = flat_map_in directions (numbers_from (n + 1) k) y i in
+        let m = contains_flat_map_back directions (numbers_from (n + 1) k) y i in
         let r = (numbers_in (n + 1) k m.0 m.1).0 in
         let d : m.0 ≡ y.node = ⊎_elim (λ q. ap (λ (z : RuleRef). z.node) q) (λ q. ⊎_elim (λ q. ap (λ (z : RuleRef). z.node) q) (λ q. none_in q) (contains_cases (record { node = m.0; dir = 1 }) [] y q)) (contains_cases (record { node = m.0; dir = 0 }) (record { node = m.0; dir = 1 } ∷ []) y m.2) in
         omega (arith, r, d, e)
 
     away : (d : ℕ) (y : RuleRef) → Contains (flat_map directions (numbers_from (n + 1) k)) y → (ref_eq (record { node = n; dir = d }) y ≡ false) × (ref_eq y (record { node = n; dir = d }) ≡ false)
-    away d y i = (and_off (n == y.node) (d == y.dir) (not_equal n y.node (later y i)), and_off (y.node == n) (y.dir == d) (not_equal y.node n (λ e. later y i (sym e))))
+    away d y i = (and_left (n == y.node) (d == y.dir) (ne_eqb n y.node (later y i)), and_left (y.node == n) (y.dir == d) (ne_eqb y.node n (λ e. later y i (sym e))))
 
     first : (y : RuleRef) → Contains (record { node = n; dir = 1 } ∷ flat_map directions (numbers_from (n + 1) k)) y → (ref_eq (record { node = n; dir = 0 }) y ≡ false) × (ref_eq y (record { node = n; dir = 0 }) ≡ false)
-    first y i = ⊎_elim (λ e. subst {A = RuleRef} (λ z. (ref_eq (record { node = n; dir = 0 }) z ≡ false) × (ref_eq z (record { node = n; dir = 0 }) ≡ false)) e (and_off_right (n == n) false refl, and_off_right (n == n) false refl)) (λ k. away 0 y k) (contains_cases (record { node = n; dir = 1 }) (flat_map directions (numbers_from (n + 1) k)) y i)
+    first y i = ⊎_elim (λ e. subst {A = RuleRef} (λ z. (ref_eq (record { node = n; dir = 0 }) z ≡ false) × (ref_eq z (record { node = n; dir = 0 }) ≡ false)) e (and_right (n == n) false refl, and_right (n == n) false refl)) (λ k. away 0 y k) (contains_cases (record { node = n; dir = 1 }) (flat_map directions (numbers_from (n + 1) k)) y i)
 
     second : (y : RuleRef) → Contains (flat_map directions (numbers_from (n + 1) k)) y → (ref_eq (record { node = n; dir = 1 }) y ≡ false) × (ref_eq y (record { node = n; dir = 1 }) ≡ false)
     second y i = away 1 y i
@@ -115,8 +105,8 @@ same_number i j = same_test (suc i == suc j) (i == j) (λ e. let q : suc i ≡ s
 names_numbers : (rs : List NamedRule) → Apart (λ (x : NamedRule). x.ref) rs → (i j : ℕ) (x y : NamedRule) → slice_get rs i ≡ Some x → slice_get rs j ≡ Some y → ref_eq x.ref y.ref ≡ (i == j)
 names_numbers [] h i j x y e d = none_some e
 names_numbers (z ∷ rs) h zero zero x y e d = ap (λ (w : NamedRule). ref_eq x.ref w.ref) (sym (some_is d) ∙ some_is e) ∙ ref_self x.ref ∙ sym (eq-eqb 0 0 refl)
-names_numbers (z ∷ rs) h zero (suc j) x y e d = ap (λ (w : NamedRule). ref_eq w.ref y.ref) (sym (some_is e)) ∙ (h.0 y (slice_in rs j y d)).0 ∙ sym (not_equal 0 (suc j) (λ q. omega (arith, q)))
-names_numbers (z ∷ rs) h (suc i) zero x y e d = ap (λ (w : NamedRule). ref_eq x.ref w.ref) (sym (some_is d)) ∙ (h.0 x (slice_in rs i x e)).1 ∙ sym (not_equal (suc i) 0 (λ q. omega (arith, q)))
+names_numbers (z ∷ rs) h zero (suc j) x y e d = ap (λ (w : NamedRule). ref_eq w.ref y.ref) (sym (some_is e)) ∙ (h.0 y (slice_contains rs j y d)).0 ∙ sym (ne_eqb 0 (suc j) (λ q. omega (arith, q)))
+names_numbers (z ∷ rs) h (suc i) zero x y e d = ap (λ (w : NamedRule). ref_eq x.ref w.ref) (sym (some_is d)) ∙ (h.0 x (slice_contains rs i x e)).1 ∙ sym (ne_eqb (suc i) 0 (λ q. omega (arith, q)))
 names_numbers (z ∷ rs) h (suc i) (suc j) x y e d = names_numbers rs h.1 i j x y e d ∙ sym (same_number i j)
 
 -- ---- overlaps
@@ -130,7 +120,7 @@ overlaps_among (x ∷ es) os (here, later, this, rest, is) e i = ⊎_elim
     (contains_cases x es e i)
 
 pub both_in : (rs : List NamedRule) (x y : NamedRule) → Contains rs x → Contains rs y → Contains (all_ways rs) (x, y)
-both_in rs x y i k = in_flat_map (λ x. map (λ y. (x, y)) rs) rs x (x, y) i (in_map (λ z. (x, z)) rs y k)
+both_in rs x y i k = contains_flat_map (λ x. map (λ y. (x, y)) rs) rs x (x, y) i (contains_map (λ z. (x, z)) rs y k)
 
 -- without equations what is joined is equal
 joined_equal : (u v : Tree) → IsJoinedBy [] u v → u ≡ v
@@ -143,15 +133,15 @@ one_form rs rules s t u v e h k q = (u, h.0, k.0, subst {A = List Rule} (λ z. N
 
 overlaps_close : (rs : List NamedRule) (rules : List Rule) (inputs : List (Tree × Tree)) → as_rules rs ≡ rules → Apart (λ (x : NamedRule). x.ref) rs → IsClosed rs [] inputs → OverlapsClose rules
 overlaps_close rs rules inputs e apart closed i j outer inner hi hj =
-    let x = slice_map (λ (r : NamedRule). r.rule) rs i outer (ap (λ zs. slice_get zs i) e ∙ hi) in
-    let y = slice_map (λ (r : NamedRule). r.rule) rs j inner (ap (λ zs. slice_get zs j) e ∙ hj) in
-    let k = overlaps_among (all_ways rs) closed.overlaps closed.all (x.0, y.0) (both_in rs x.0 y.0 (slice_in rs i x.0 x.1) (slice_in rs j y.0 y.1)) in
+    let x = get_map_back (λ (r : NamedRule). r.rule) rs i outer (ap (λ zs. slice_get zs i) e ∙ hi) in
+    let y = get_map_back (λ (r : NamedRule). r.rule) rs j inner (ap (λ zs. slice_get zs j) e ∙ hj) in
+    let k = overlaps_among (all_ways rs) closed.overlaps closed.all (x.0, y.0) (both_in rs x.0 y.0 (slice_contains rs i x.0 x.1) (slice_contains rs j y.0 y.1)) in
     let lists : IsOverlapList outer inner (i == j) k.1.0 = subst {A = Bool} (λ b. IsOverlapList outer inner b k.1.0) (names_numbers rs apart i j x.0 y.0 x.1 y.1) (subst {A = Rule} (λ r. IsOverlapList outer r (ref_eq x.0.ref y.0.ref) k.1.0) y.2 (subst {A = Rule} (λ r. IsOverlapList r y.0.rule (ref_eq x.0.ref y.0.ref) k.1.0) x.2 k.1.1)) in (
       k.1.0,
       lists,
       λ o c.
           let named : NamedOverlap = record { outer = x.0.ref; inner = y.0.ref; overlap = o } in
-          let joins = closed.joined named (k.2 named (subst {A = List NamedOverlap} (λ zs. Contains zs named) (sym k.1.2) (in_map (λ o. record { outer = x.0.ref; inner = y.0.ref; overlap = o }) k.1.0 o c))) in
+          let joins = closed.joined named (k.2 named (subst {A = List NamedOverlap} (λ zs. Contains zs named) (sym k.1.2) (contains_map (λ o. record { outer = x.0.ref; inner = y.0.ref; overlap = o }) k.1.0 o c))) in
           (joins.0.0, joins.0.1, joins.1, one_form rs rules joins.0.0 joins.0.1 joins.2.0 joins.2.1 e joins.2.2 joins.2.3 (joined_equal joins.2.0 joins.2.1 joins.2.4)),
     )
 
@@ -168,7 +158,7 @@ normal_stays rules (y ∷ path) u x h (step, k) = absurd (h y step)
 
 strategy_chain : (rules : List Rule) (path : List Tree) (s t : Tree) → IsPath (StrategyStep rules) path s t → IsChain rules path s t
 strategy_chain rules [] s t e = e
-strategy_chain rules (u ∷ path) s t (h, k) = (strategy_step rules s u h, strategy_chain rules path u t k)
+strategy_chain rules (u ∷ path) s t (h, k) = (step_from rules s u h, strategy_chain rules path u t k)
 
 -- an equation proves its own sides
 proves_itself : (es : List (Tree × Tree)) (e : Tree × Tree) → Contains es e → Proves es e.0 e.1

@@ -2,7 +2,8 @@
 use Rattle.std.proofs.Common.{ℕ, zero, suc, ◌≡◌, ◌⊎◌, inl, inr, refl, sym, ap, ap₂, ◌∙◌, subst, List, [], ◌∷◌, map, length, Contains, Bool, true, false, cond, Option, Some, None, ⊎_elim}
 use Rattle.std.specs.Prelude.{Ok, option_and_then}
 use Rattle.std.proofs.lemmas.List.Elements.{Contains-append_cases}
-use Rattle.kb_term.proofs.Steps.{contains_cases, contains_behind, contains_first}
+use Rattle.kb_lemmas.proofs.Membership.{contains_cases, contains_behind, contains_first, none_in, contains_mapped, contains_flat_map_back}
+use Rattle.kb_lemmas.proofs.Options.{some_is, none_some}
 use Rattle.kb_term.specs.Tree.{Tree, Trees, variable, apply, no_trees, more_trees, list_of}
 use Rattle.kb_term.specs.Position.{subtree_at, replace_at, argument}
 use Rattle.kb_term.specs.Substitution.{instance, instances, rename}
@@ -23,7 +24,6 @@ use Rattle.mkb_model.specs.Jobs.{ref_eq}
 use Rattle.mkb_model.specs.Plain.{PlainNode, rule_kind, pair_in, sides}
 use Rattle.mkb_model.specs.Proposals.{NamedRule, NamedOverlap, OverlapsOfAll, AreDeduced, both_ways, all_ways, Picks}
 use Rattle.mkb_model.specs.Ready.{IsOn, IsDeducedFrom}
-use Rattle.mkb_model.proofs.Lists.{some_is, none_some, none_in, map_in, flat_map_in}
 use Rattle.mkb_model.proofs.Rewriting.{some_canonical}
 use Rattle.mkb_model.proofs.Fitting.{canonical_same, deduced_from}
 
@@ -98,7 +98,7 @@ pub named_overlap : (es : List (NamedRule × NamedRule)) (os : List NamedOverlap
     → (e : NamedRule × NamedRule) × Contains es e × (o.outer ≡ e.0.ref) × (o.inner ≡ e.1.ref) × IsOverlapOrLimit e.0.rule e.1.rule o.overlap
 named_overlap [] os h o i = none_in (subst {A = List NamedOverlap} (λ xs. Contains xs o) h i)
 named_overlap (e ∷ es) os (here, later, (found, lists, is), rest, all) o i = ⊎_elim
-    (λ k. let m = map_in (λ x. record { outer = e.0.ref; inner = e.1.ref; overlap = x }) found o (subst {A = List NamedOverlap} (λ xs. Contains xs o) is k) in
+    (λ k. let m = contains_mapped (λ x. record { outer = e.0.ref; inner = e.1.ref; overlap = x }) found o (subst {A = List NamedOverlap} (λ xs. Contains xs o) is k) in
     (e, contains_first e es, sym (ap (λ (z : NamedOverlap). z.outer) m.2), sym (ap (λ (z : NamedOverlap). z.inner) m.2), subst {A = Listed} (IsOverlapOrLimit e.0.rule e.1.rule) (ap (λ (z : NamedOverlap). z.overlap) m.2) (listed_overlap e.0.rule e.1.rule (overlap_positions e.0.rule (ref_eq e.0.ref e.1.ref)) found lists m.0 m.1)))
     (λ k. let r = named_overlap es later rest o k in (r.0, contains_behind e es r.0 r.1, r.2, r.3, r.4))
     (Contains-append_cases here later o (subst {A = List NamedOverlap} (λ xs. Contains xs o) all i))
@@ -181,8 +181,8 @@ both_ways_in x y e = go (ref_eq x.ref y.ref)
 
 pub all_ways_in : (rs : List NamedRule) (e : NamedRule × NamedRule) → Contains (all_ways rs) e → Contains rs e.0 × Contains rs e.1
 all_ways_in rs e i =
-    let f = flat_map_in (λ x. map (λ y. (x, y)) rs) rs e i in
-    let m = map_in (λ y. (f.0, y)) rs e f.2 in
+    let f = contains_flat_map_back (λ x. map (λ y. (x, y)) rs) rs e i in
+    let m = contains_mapped (λ y. (f.0, y)) rs e f.2 in
     (subst {A = NamedRule} (Contains rs) (ap (λ (z : NamedRule × NamedRule). z.0) m.2) f.1, subst {A = NamedRule} (Contains rs) (ap (λ (z : NamedRule × NamedRule). z.1) m.2) m.1)
 
 pub picks_in : {A : Type 0} (P : A → Type 0) (xs ys : List A) → Picks P xs ys → (y : A) → Contains ys y → Contains xs y

@@ -1,7 +1,10 @@
 -- A ticket is dropped only where a commit came since its take, and a closing never.
-use Rattle.std.proofs.Common.{ℕ, zero, suc, ◌≡◌, ◌≢◌, ◌⊎◌, inl, inr, refl, sym, ap, ◌∙◌, subst, List, [], ◌∷◌, ◌++◌, Contains, Bool, true, false, cond, not, ◌&&◌, ◌||◌, ◌==◌, Option, Some, None, ⊎_elim}
+use Rattle.std.proofs.Common.{ℕ, zero, suc, ◌≡◌, ◌≢◌, ◌⊎◌, inl, inr, refl, sym, ap, ◌∙◌, subst, List, [], ◌∷◌, ◌++◌, Bool, true, false, cond, not, ◌&&◌, ◌||◌, ◌==◌, Option, Some, None, ⊎_elim}
 use Rattle.std.specs.List.{list_any}
-use Rattle.kb_term.proofs.Steps.{contains_cases}
+use Rattle.std.proofs.lemmas.Bool.{and_from, or_cases, or_left, or_right}
+use Rattle.mkb_model.proofs.Orienting.{self}
+use Rattle.kb_lemmas.proofs.Membership.{split_at}
+use Rattle.kb_lemmas.proofs.Booleans.{and_gives_left, and_gives_right}
 use Rattle.kb_term.specs.Tree.{Tree}
 use Rattle.kb_term.specs.Pair.{Pair}
 use Rattle.kb_term.specs.Signature.{Problem}
@@ -9,7 +12,7 @@ use Rattle.kb_term.specs.declared.origin.RuleRef.{RuleRef}
 use Rattle.kb_term.specs.declared.origin.Found.{Found}
 use Rattle.kb_term.specs.declared.origin.Found.TheVariants.{No, Variant, Strict}
 use Rattle.kb_label.specs.Names.{Name, has, is_empty, join, meet}
-use Rattle.kb_label.proofs.Members.{has-filter, has-join, has-meet, has-minus, name_eq-refl}
+use Rattle.kb_label.proofs.Members.{has-filter, has-join, has-meet, has-minus}
 use Rattle.kb_node.specs.declared.job.Job.{Job}
 use Rattle.kb_node.specs.declared.job.Job.TheVariants.{Reduce, Orient, Overlap, Close}
 use Rattle.kb_node.specs.declared.node.NodeId.{NodeId}
@@ -25,7 +28,7 @@ use Rattle.mkb_model.specs.declared.proposed.Proposed.{Proposed}
 use Rattle.mkb_model.specs.declared.proposed.Proposed.TheVariants.{Facts, Rewrite, One, Both, Refuse, Deduce, Unjoined, Closed, Limit}
 use Rattle.mkb_model.specs.declared.entry.Entry.{Entry}
 use Rattle.mkb_model.specs.declared.entry.Entry.TheVariants.{Take, Commit, Drop, Abandon, Halt}
-use Rattle.mkb_model.proofs.Lists.{clash, and_left, and_right, and_both, or_one, or_left, or_right, not_true, not_of_false, none_in, any_in, filter_in}
+use Rattle.mkb_model.proofs.Lists.{clash, not_true, not_of_false, any_in, filter_in}
 use Rattle.mkb_model.proofs.Readiness.{named_rule}
 use Rattle.mkb_model.proofs.Flyers.{taken_free, free_due, due_working}
 use Rattle.mkb_model.proofs.Resting.{IsBit, rules_in}
@@ -38,16 +41,13 @@ not_empty : (l : List Name) (p : Name) → has l p ≡ true → is_empty l ≡ f
 not_empty [] p h = clash h refl
 not_empty (q ∷ l) p h = refl
 
-has_itself : (p : Name) → has (p ∷ []) p ≡ true
-has_itself p = or_left _ false (name_eq-refl p)
-
 in_not_over : (b : Plain) (l : List Name) (p : Name) → has l p ≡ true → is_over b p ≡ false → has (not_over b l) p ≡ true
-in_not_over b l p h o = has-filter (λ q. not (is_over b q)) l p ∙ and_both (not (is_over b p)) (has l p) (not_of_false o) h
+in_not_over b l p h o = has-filter (λ q. not (is_over b q)) l p ∙ and_from (not (is_over b p)) (has l p) (not_of_false o) h
 
 -- a redex that the process may use acts on it
 rewrite_named : (b : Plain) (p : Name) (n w : ℕ) (a : RuleRef) (kind : Found) → is_rule b p a ≡ true → is_node_of b p n ≡ true → IsBit w → is_usable b p n w kind ≡ true → has (rewrite_label b n w a kind) p ≡ true
 rewrite_named b p n w a kind rule node side usable = has-meet (label b a.node (rule_kind a.dir)) (join (label b n E) (join (label b n (rule_kind (other w))) (if_strict kind (label b n (rule_kind w))))) p
-    ∙ and_both (has (join (label b n E) (join (label b n (rule_kind (other w))) (if_strict kind (label b n (rule_kind w))))) p) (is_rule b p a) (go kind usable) rule
+    ∙ and_from (has (join (label b n E) (join (label b n (rule_kind (other w))) (if_strict kind (label b n (rule_kind w))))) p) (is_rule b p a) (go kind usable) rule
   where
     by_equation : (l : List Name) → is_equation b p n ≡ true → has (join (label b n E) l) p ≡ true
     by_equation l e = has-join (label b n E) l p ∙ or_left (is_equation b p n) (has l p) e
@@ -71,9 +71,9 @@ rewrite_named b p n w a kind rule node side usable = has-meet (label b a.node (r
 
     go : (k : Found) → is_usable b p n w k ≡ true → has (join (label b n E) (join (label b n (rule_kind (other w))) (if_strict k (label b n (rule_kind w))))) p ≡ true
     go No u = clash u refl
-    go Variant u = ⊎_elim (λ e. by_equation (join (label b n (rule_kind (other w))) []) e) (λ e. by_right [] e) (or_one (is_equation b p n) (is_rule b p (record { node = n; dir = other w })) u)
-    go Strict u = ⊎_elim (λ e. by_equation (join (label b n (rule_kind (other w))) (label b n (rule_kind w))) e) (λ e. of_rule (or_one (is_rule b p (record { node = n; dir = 0 })) (is_rule b p (record { node = n; dir = 1 })) e))
-        (or_one (is_equation b p n) (is_rule b p (record { node = n; dir = 0 }) || is_rule b p (record { node = n; dir = 1 })) node)
+    go Variant u = ⊎_elim (λ e. by_equation (join (label b n (rule_kind (other w))) []) e) (λ e. by_right [] e) (or_cases (is_equation b p n) (is_rule b p (record { node = n; dir = other w })) u)
+    go Strict u = ⊎_elim (λ e. by_equation (join (label b n (rule_kind (other w))) (label b n (rule_kind w))) e) (λ e. of_rule (or_cases (is_rule b p (record { node = n; dir = 0 })) (is_rule b p (record { node = n; dir = 1 })) e))
+        (or_cases (is_equation b p n) (is_rule b p (record { node = n; dir = 0 }) || is_rule b p (record { node = n; dir = 1 })) node)
 
 redex_named : (b : Plain) (p : Name) (n w : ℕ) (a : RuleRef) (kind : Found) (pair : Pair) (at : List ℕ) (t : Tree) → is_node_of b p n ≡ true → IsUsableRedex (named_rules b (reducers b p n)) pair (is_usable b p n) w at a kind t → has (rewrite_label b n w a kind) p ≡ true
 redex_named b p n w a kind pair at t node r =
@@ -83,11 +83,11 @@ redex_named b p n w a kind pair at t node r =
 
 overlap_named : (b : Plain) (p : Name) (a c : RuleRef) → is_work_due b (Overlap p a c) ≡ true → has (overlap_label b a c) p ≡ true
 overlap_named b p a c due =
-    let both = and_left (is_rule b p a && is_rule b p c) (ref_le a c && not (has (done_of b a c) p)) due in
-    let rest = and_right (is_rule b p a && is_rule b p c) (ref_le a c && not (has (done_of b a c) p)) due in
+    let both = and_gives_left (is_rule b p a && is_rule b p c) (ref_le a c && not (has (done_of b a c) p)) due in
+    let rest = and_gives_right (is_rule b p a && is_rule b p c) (ref_le a c && not (has (done_of b a c) p)) due in
     has-minus (meet (label b a.node (rule_kind a.dir)) (label b c.node (rule_kind c.dir))) (done_of b a c) p
-    ∙ and_both (not (has (done_of b a c) p)) (has (meet (label b a.node (rule_kind a.dir)) (label b c.node (rule_kind c.dir))) p) (and_right (ref_le a c) (not (has (done_of b a c) p)) rest)
-    (has-meet (label b a.node (rule_kind a.dir)) (label b c.node (rule_kind c.dir)) p ∙ and_both (is_rule b p c) (is_rule b p a) (and_right (is_rule b p a) (is_rule b p c) both) (and_left (is_rule b p a) (is_rule b p c) both))
+    ∙ and_from (not (has (done_of b a c) p)) (has (meet (label b a.node (rule_kind a.dir)) (label b c.node (rule_kind c.dir))) p) (and_gives_right (ref_le a c) (not (has (done_of b a c) p)) rest)
+    (has-meet (label b a.node (rule_kind a.dir)) (label b c.node (rule_kind c.dir)) p ∙ and_from (is_rule b p c) (is_rule b p a) (and_gives_right (is_rule b p a) (is_rule b p c) both) (and_gives_left (is_rule b p a) (is_rule b p c) both))
 
 orient_named : (b : Plain) (p : Name) (n : ℕ) → is_equation b p n ≡ true → is_empty (orient_label b p n) ≡ false
 orient_named b p n e = go (is_equation b p n) e
@@ -100,28 +100,28 @@ orient_named b p n e = go (is_equation b p n) e
 
 module _ (b : Plain) (j : Job) (due : is_due b j ≡ true) where
   working : is_over b (process_of j) ≡ false
-  working = not_true (and_right (has b.living (process_of j)) (not (is_over b (process_of j))) (due_working b j due))
+  working = not_true (and_gives_right (has b.living (process_of j)) (not (is_over b (process_of j))) (due_working b j due))
 
 acts_at_take : (b : Plain) (j : Job) (x : Proposed) → is_due b j ≡ true → Proposes b j x → is_dropped b x ≡ false
 acts_at_take b j (Facts fs) due h = refl
 acts_at_take b (Reduce p n) (Rewrite m w at a kind t) due h =
-    let node = and_left (is_node_of b p n.0) (is_reducible b p n.0) (and_right (is_working b p) (is_work_due b (Reduce p n)) due) in
+    let node = and_gives_left (is_node_of b p n.0) (is_reducible b p n.0) (and_gives_right (is_working b p) (is_work_due b (Reduce p n)) due) in
     not_empty (rewrite_label b m.0 w a kind) p (subst {A = NodeId} (λ z. has (rewrite_label b z.0 w a kind) p ≡ true) (sym h.0) (redex_named b p n.0 w a kind h.1.0 at _ node h.1.2.first.is_redex))
 acts_at_take b (Reduce p n) (Limit i cause) due h =
-    let node = and_left (is_node_of b p n.0) (is_reducible b p n.0) (and_right (is_working b p) (is_work_due b (Reduce p n)) due) in
+    let node = and_gives_left (is_node_of b p n.0) (is_reducible b p n.0) (and_gives_right (is_working b p) (is_work_due b (Reduce p n)) due) in
     let named = redex_named b p n.0 h.1.2.side h.1.2.rule h.1.2.kind h.1.0 h.1.2.at h.1.2.result node h.1.2.first.is_redex in
     subst {A = Job} (λ z. is_empty (not_over b (limit_label b z cause)) ≡ false) (sym h.0)
     (not_empty (not_over b (redex_label b n.0 cause.redex)) p (in_not_over b (redex_label b n.0 cause.redex) p (subst {A = Option (ℕ × RuleRef × Found)} (λ z. has (redex_label b n.0 z) p ≡ true) (sym h.1.2.redex_is) named) (working b (Reduce p n) due)))
-acts_at_take b (Orient p n) (One q m d c) due h = subst {A = Name} (λ z. is_empty (orient_label b z m.0) ≡ false) (sym h.0) (subst {A = NodeId} (λ z. is_empty (orient_label b p z.0) ≡ false) (sym h.1) (orient_named b p n.0 (and_left (is_equation b p n.0) (not (has (label b n.0 X) p)) (and_right (is_working b p) (is_work_due b (Orient p n)) due))))
-acts_at_take b (Orient p n) (Both q m c0 c1) due h = subst {A = Name} (λ z. is_empty (orient_label b z m.0) ≡ false) (sym h.0) (subst {A = NodeId} (λ z. is_empty (orient_label b p z.0) ≡ false) (sym h.1) (orient_named b p n.0 (and_left (is_equation b p n.0) (not (has (label b n.0 X) p)) (and_right (is_working b p) (is_work_due b (Orient p n)) due))))
-acts_at_take b (Orient p n) (Refuse q m) due h = subst {A = Name} (λ z. is_empty (orient_label b z m.0) ≡ false) (sym h.0) (subst {A = NodeId} (λ z. is_empty (orient_label b p z.0) ≡ false) (sym h.1) (orient_named b p n.0 (and_left (is_equation b p n.0) (not (has (label b n.0 X) p)) (and_right (is_working b p) (is_work_due b (Orient p n)) due))))
+acts_at_take b (Orient p n) (One q m d c) due h = subst {A = Name} (λ z. is_empty (orient_label b z m.0) ≡ false) (sym h.0) (subst {A = NodeId} (λ z. is_empty (orient_label b p z.0) ≡ false) (sym h.1) (orient_named b p n.0 (and_gives_left (is_equation b p n.0) (not (has (label b n.0 X) p)) (and_gives_right (is_working b p) (is_work_due b (Orient p n)) due))))
+acts_at_take b (Orient p n) (Both q m c0 c1) due h = subst {A = Name} (λ z. is_empty (orient_label b z m.0) ≡ false) (sym h.0) (subst {A = NodeId} (λ z. is_empty (orient_label b p z.0) ≡ false) (sym h.1) (orient_named b p n.0 (and_gives_left (is_equation b p n.0) (not (has (label b n.0 X) p)) (and_gives_right (is_working b p) (is_work_due b (Orient p n)) due))))
+acts_at_take b (Orient p n) (Refuse q m) due h = subst {A = Name} (λ z. is_empty (orient_label b z m.0) ≡ false) (sym h.0) (subst {A = NodeId} (λ z. is_empty (orient_label b p z.0) ≡ false) (sym h.1) (orient_named b p n.0 (and_gives_left (is_equation b p n.0) (not (has (label b n.0 X) p)) (and_gives_right (is_working b p) (is_work_due b (Orient p n)) due))))
 acts_at_take b (Overlap p d e) (Deduce a c ds) due h = subst {A = RuleRef} (λ z. is_empty (overlap_label b z c) ≡ false) (sym h.0) (subst {A = RuleRef} (λ z. is_empty (overlap_label b d z) ≡ false) (sym h.1)
-    (not_empty (overlap_label b d e) p (overlap_named b p d e (and_right (is_working b p) (is_work_due b (Overlap p d e)) due))))
+    (not_empty (overlap_label b d e) p (overlap_named b p d e (and_gives_right (is_working b p) (is_work_due b (Overlap p d e)) due))))
 acts_at_take b (Overlap p a c) (Limit i cause) due h = subst {A = Job} (λ z. is_empty (not_over b (limit_label b z cause)) ≡ false) (sym h.0)
-    (not_empty (not_over b (overlap_label b a c)) p (in_not_over b (overlap_label b a c) p (overlap_named b p a c (and_right (is_working b p) (is_work_due b (Overlap p a c)) due)) (working b (Overlap p a c) due)))
+    (not_empty (not_over b (overlap_label b a c)) p (in_not_over b (overlap_label b a c) p (overlap_named b p a c (and_gives_right (is_working b p) (is_work_due b (Overlap p a c)) due)) (working b (Overlap p a c) due)))
 acts_at_take b (Close p) (Unjoined q ds) due h = refl
 acts_at_take b (Close p) (Closed q) due h = refl
-acts_at_take b (Close p) (Limit i cause) due h = subst {A = Job} (λ z. is_empty (not_over b (limit_label b z cause)) ≡ false) (sym h.0) (not_empty (not_over b (p ∷ [])) p (in_not_over b (p ∷ []) p (has_itself p) (working b (Close p) due)))
+acts_at_take b (Close p) (Limit i cause) due h = subst {A = Job} (λ z. is_empty (not_over b (limit_label b z cause)) ≡ false) (sym h.0) (not_empty (not_over b (p ∷ [])) p (in_not_over b (p ∷ []) p (self p) (working b (Close p) due)))
 acts_at_take b (Orient p n) (Limit i cause) due h = absurd h
 acts_at_take b (Orient p n) (Rewrite m w at a kind t) due h = absurd h
 acts_at_take b (Overlap p d e) (Rewrite m w at a kind t) due h = absurd h
@@ -199,10 +199,6 @@ dropped_quiet : (b c : Plain) (x : Proposed) → IsQuiet b c → is_dropped c x 
 dropped_quiet b c x q = dropped_by b c x ∙ ap (λ ns. is_dropped (record b { nodes = ns; done = c.done; over = c.over }) x) q.nodes
     ∙ ap (λ ds. is_dropped (record b { nodes = b.nodes; done = ds; over = c.over }) x) q.done ∙ ap (λ gs. is_dropped (record b { nodes = b.nodes; done = b.done; over = gs }) x) q.over
 
-split_at : {A : Type 0} (xs : List A) (x : A) → Contains xs x → (later : List A) × (earlier : List A) × (xs ≡ later ++ x ∷ earlier)
-split_at [] x i = none_in i
-split_at {A} (y ∷ xs) x i = ⊎_elim (λ e. ([], xs, ap (λ (z : A). z ∷ xs) e)) (λ k. let r = split_at xs x k in (y ∷ r.0, r.1, ap (y ∷◌) r.2)) (contains_cases y xs x i)
-
 -- between a ticket's take and its drop a commit came
 pub drops_follow_commits : (P : Problem) (n : Settings) (past : List Moment) (b : Plain) (w t : ℕ) (p : Name) (c : Plain) → IsPossibleRun P n past b → (d : IsDropping past b w t p c) → CommitCameSince past d.finishing.before w t d.job
 drops_follow_commits P n past b w t p c run d = go (list_any (λ (m : Moment). is_commit m.entry) s.0) refl
@@ -227,7 +223,7 @@ closings_commit P n past b w t p c run d q e = go d.proposal (subst {A = Job} (�
     go : (x : Proposed) → Proposes d.finishing.before (Close q) x → is_dropped b x ≡ true → ⊥
     go (Unjoined r ds) h idle = clash idle refl
     go (Closed r) h idle = clash idle refl
-    go (Limit i cause) h idle = clash idle (subst {A = Job} (λ z. is_empty (not_over b (limit_label b z cause)) ≡ false) (sym h.0) (not_empty (not_over b (q ∷ [])) q (in_not_over b (q ∷ []) q (has_itself q) rest)))
+    go (Limit i cause) h idle = clash idle (subst {A = Job} (λ z. is_empty (not_over b (limit_label b z cause)) ≡ false) (sym h.0) (not_empty (not_over b (q ∷ [])) q (in_not_over b (q ∷ []) q (self q) rest)))
     go (Facts fs) h idle = absurd h
     go (Rewrite m v at a kind u) h idle = absurd h
     go (One r m k s) h idle = absurd h

@@ -1,6 +1,7 @@
 -- The whole run on no equations at all: one close, and the process is complete.
-use Rattle.std.specs.Prelude.{List, [], ◌∷◌, refl, Contains}
+use Rattle.std.specs.Prelude.{List, [], ◌∷◌, refl}
 use Rattle.std.proofs.Common.{arith}
+use Rattle.kb_lemmas.proofs.Membership.{none_in}
 use Rattle.kb_term.specs.Signature.{Problem}
 use Rattle.kb_label.specs.Names.{Name}
 use Rattle.mkb_model.specs.Plain.{Plain}
@@ -12,9 +13,6 @@ use Rattle.mkb_model.specs.declared.proposed.Proposed.TheVariants.{Closed}
 use Rattle.mkb_model.specs.declared.entry.Effect.TheVariants.{Made}
 use Rattle.mkb_model.specs.declared.entry.Entry.{Entry}
 use Rattle.mkb_model.specs.declared.entry.Entry.TheVariants.{Take, Commit}
-
-none_in : {X : Type 0} {x : X} {P : Type 0} → Contains [] x → P
-none_in c = absurd (omega (arith, c.1))
 
 abbrev row2 : Problem
 row2 = record { signature = []; equations = [] }

@@ -3,7 +3,10 @@ use Rattle.std.proofs.Common.{◌≡◌, ◌≢◌, ◌⊎◌, inl, inr, refl, s
 use Rattle.std.specs.Prelude.{option_map, option_and_then}
 use Rattle.std.specs.List.{find, list_any, list_all}
 use Rattle.std.proofs.lemmas.List.Elements.{Contains-append_cases, Contains-append_left, Contains-append_right}
-use Rattle.kb_term.proofs.Steps.{contains_cases, contains_behind, contains_first}
+use Rattle.std.proofs.lemmas.Bool.{and_from, or_cases, or_left, or_right}
+use Rattle.kb_lemmas.proofs.Membership.{contains_cases, contains_behind, contains_first, none_in, contains_mapped, contains_flat_map_back, contains_flat_map}
+use Rattle.kb_lemmas.proofs.Booleans.{and_gives_left, and_gives_right}
+use Rattle.kb_lemmas.proofs.Options.{none_some}
 use Rattle.kb_term.specs.declared.origin.RuleRef.{RuleRef}
 use Rattle.kb_label.specs.Names.{Name, has, name_eq}
 use Rattle.mkb_model.specs.Jobs.{is_free}
@@ -25,7 +28,7 @@ use Rattle.mkb_model.specs.declared.entry.Entry.{Entry}
 use Rattle.mkb_model.specs.declared.entry.Entry.TheVariants.{Take, Commit, Drop, Abandon, Halt}
 use Rattle.kb_label.proofs.Members.{name_eq-eq, name_eq-refl}
 use Rattle.mkb_model.specs.Journals.{IsLeaving}
-use Rattle.mkb_model.proofs.Lists.{clash, decide, false_unless, and_left, and_right, and_both, or_one, or_left, or_right, not_of_false, not_of_true, none_some, none_in, filter_in, in_filter, map_in, flat_map_in, in_flat_map, find_in, find_none, none_any, all_of}
+use Rattle.mkb_model.proofs.Lists.{clash, decide, false_unless, not_of_false, not_of_true, filter_in, in_filter, find_in, find_none, none_any, all_of}
 
 -- ---- names in lists
 
@@ -35,7 +38,7 @@ has_in (q ∷ l) p c = ⊎_elim (λ e. or_left (name_eq p q) (has l p) (subst {A
 
 pub in_has : (l : List Name) (p : Name) → has l p ≡ true → Contains l p
 in_has [] p h = clash h refl
-in_has (q ∷ l) p h = ⊎_elim (λ e. subst {A = Name} (Contains (q ∷ l)) (sym (name_eq-eq p q e)) (contains_first q l)) (λ d. contains_behind q l p (in_has l p d)) (or_one (name_eq p q) (has l p) h)
+in_has (q ∷ l) p h = ⊎_elim (λ e. subst {A = Name} (Contains (q ∷ l)) (sym (name_eq-eq p q e)) (contains_first q l)) (λ d. contains_behind q l p (in_has l p d)) (or_cases (name_eq p q) (has l p) h)
 
 -- ---- what a verdict says
 
@@ -63,7 +66,7 @@ verdict-stays May past b Halt c v f h = (tt, subst {A = Plain} (λ z. verdict z 
 
 over_has_reason : (gs : List GivenUp) (p : Name) → list_any (λ (g : GivenUp). has g.names p) gs ≡ true → (r : Reason) × (over_in gs p ≡ Some r)
 over_has_reason [] p h = clash h refl
-over_has_reason (g ∷ gs) p h = go (has g.names p) refl (λ k. over_has_reason gs p k) (or_one (has g.names p) (list_any (λ (g : GivenUp). has g.names p) gs) h)
+over_has_reason (g ∷ gs) p h = go (has g.names p) refl (λ k. over_has_reason gs p k) (or_cases (has g.names p) (list_any (λ (g : GivenUp). has g.names p) gs) h)
   where
     go : (x : Bool) → has g.names p ≡ x → (list_any (λ (g : GivenUp). has g.names p) gs ≡ true → (r : Reason) × (over_in gs p ≡ Some r)) → (has g.names p ≡ true) ⊎ (list_any (λ (g : GivenUp). has g.names p) gs ≡ true)
         → (r : Reason) × (cond x (Some g.reason) (over_in gs p) ≡ Some r)
@@ -80,23 +83,23 @@ work_is_own b p j c w h = ⊎_elim reduces (λ d. ⊎_elim orients overlaps (Con
     due i e f = subst {A = Job} (λ z. is_due b z ≡ true) e (f (subst {A = Job} (λ z. is_work_due b z ≡ true) (sym e) h))
 
     reduces : Contains (map (λ n. Reduce p (record { 0 = n })) (node_numbers b)) j → is_due b j ≡ true
-    reduces d = let r = map_in (λ n. Reduce p (record { 0 = n })) (node_numbers b) j d in due (Reduce p (record { 0 = r.0 })) r.2 (λ k. and_both (is_working b p) (is_work_due b (Reduce p (record { 0 = r.0 }))) w k)
+    reduces d = let r = contains_mapped (λ n. Reduce p (record { 0 = n })) (node_numbers b) j d in due (Reduce p (record { 0 = r.0 })) r.2 (λ k. and_from (is_working b p) (is_work_due b (Reduce p (record { 0 = r.0 }))) w k)
 
     orients : Contains (map (λ n. Orient p (record { 0 = n })) (node_numbers b)) j → is_due b j ≡ true
-    orients d = let r = map_in (λ n. Orient p (record { 0 = n })) (node_numbers b) j d in due (Orient p (record { 0 = r.0 })) r.2 (λ k. and_both (is_working b p) (is_work_due b (Orient p (record { 0 = r.0 }))) w k)
+    orients d = let r = contains_mapped (λ n. Orient p (record { 0 = n })) (node_numbers b) j d in due (Orient p (record { 0 = r.0 })) r.2 (λ k. and_from (is_working b p) (is_work_due b (Orient p (record { 0 = r.0 }))) w k)
 
     overlaps : Contains (flat_map (λ (a : RuleRef). map (Overlap p a) (rules_of b p)) (rules_of b p)) j → is_due b j ≡ true
     overlaps d =
-        let q = flat_map_in (λ (a : RuleRef). map (Overlap p a) (rules_of b p)) (rules_of b p) j d in
-        let r = map_in (Overlap p q.0) (rules_of b p) j q.2 in
-        due (Overlap p q.0 r.0) r.2 (λ k. and_both (is_working b p) (is_work_due b (Overlap p q.0 r.0)) w k)
+        let q = contains_flat_map_back (λ (a : RuleRef). map (Overlap p a) (rules_of b p)) (rules_of b p) j d in
+        let r = contains_mapped (Overlap p q.0) (rules_of b p) j q.2 in
+        due (Overlap p q.0 r.0) r.2 (λ k. and_from (is_working b p) (is_work_due b (Overlap p q.0 r.0)) w k)
 
 module _ (b : Plain) (waits : SleepersWait b) (no_verdict : verdict b ≡ None) (none_free : free_jobs b ≡ []) (nothing_flies : b.flight ≡ []) where
   all_free : (j : Job) → is_free (flying_jobs b) j ≡ true
   all_free j = subst {A = List Ticket} (λ ts. is_free (map (λ (t : Ticket). t.job) ts) j ≡ true) (sym nothing_flies) refl
 
   none_due : (p : Name) → Contains (awake b) p → (j : Job) → ¬ Contains (due_jobs_of b p) j
-  none_due p i j c = none_in (subst {A = List Job} (λ js. Contains js j) none_free (in_filter (is_free (flying_jobs b)) (due_jobs b) j (in_flat_map (due_jobs_of b) (awake b) p j i c) (all_free j)))
+  none_due p i j c = none_in (subst {A = List Job} (λ js. Contains js j) none_free (in_filter (is_free (flying_jobs b)) (due_jobs b) j (contains_flat_map (due_jobs_of b) (awake b) p j i c) (all_free j)))
 
   is_none : {A : Type 0} (js : List A) → ((j : A) → ¬ Contains js j) → no_members js ≡ true
   is_none [] h = refl
@@ -111,30 +114,30 @@ module _ (b : Plain) (waits : SleepersWait b) (no_verdict : verdict b ≡ None) 
 
   -- a process that is awake and has not given up has failed
   awake_failed : (p : Name) → Contains (awake b) p → is_over b p ≡ false → is_failed b p ≡ true
-  awake_failed p up o = and_both (not (is_over b p)) (not (no_members (equations_of b p)) && no_members (due_jobs_of b p)) (not_of_false o)
-      (and_both (not (no_members (equations_of b p))) (no_members (due_jobs_of b p)) (not_of_false (false_unless (no_members (equations_of b p)) (λ e. clash (and_both (no_members (equations_of b p)) (has b.closed p) e closed) (not_complete p i))))
+  awake_failed p up o = and_from (not (is_over b p)) (not (no_members (equations_of b p)) && no_members (due_jobs_of b p)) (not_of_false o)
+      (and_from (not (no_members (equations_of b p))) (no_members (due_jobs_of b p)) (not_of_false (false_unless (no_members (equations_of b p)) (λ e. clash (and_from (no_members (equations_of b p)) (has b.closed p) e closed) (not_complete p i))))
       (is_none (due_jobs_of b p) (none_due p up)))
     where
       i : Contains b.living p
       i = (filter_in (λ q. not (has b.asleep q)) b.living p up).0
 
       works : is_working b p ≡ true
-      works = and_both (has b.living p) (not (is_over b p)) (has_in b.living p i) (not_of_false o)
+      works = and_from (has b.living p) (not (is_over b p)) (has_in b.living p i) (not_of_false o)
 
       no_work : list_any (is_work_due b) (work_of b p) ≡ false
       no_work = none_any (is_work_due b) (work_of b p) (λ j c. false_unless (is_work_due b j) (λ h. none_due p up j (in_filter (is_due b) (work_of b p ++ Close p ∷ []) j (Contains-append_left (work_of b p) (Close p ∷ []) j c) (work_is_own b p j c works h))))
 
       closed : has b.closed p ≡ true
       closed = ⊎_elim (λ h. h) (λ h. absurd (none_due p up (Close p) (in_filter (is_due b) (work_of b p ++ Close p ∷ []) (Close p) (Contains-append_right (work_of b p) (Close p ∷ []) (Close p) (contains_first (Close p) []))
-          (and_both (is_working b p) (is_close_due b p) works (and_both (not (list_any (is_work_due b) (work_of b p))) (not (has b.closed p)) (not_of_false no_work) (not_of_false h)))))) (decide (has b.closed p))
+          (and_from (is_working b p) (is_close_due b p) works (and_from (not (list_any (is_work_due b) (work_of b p))) (not (has b.closed p)) (not_of_false no_work) (not_of_false h)))))) (decide (has b.closed p))
 
   -- no active process is awake, so none sleeps
   none_works : working b b.asleep ≡ []
   none_works = no_members_is (working b b.asleep) (is_none (working b b.asleep) (λ p c. let f = filter_in (is_active b) (awake b) p c in inactive p f.0 f.1 (decide (is_over b p))))
     where
       inactive : (p : Name) → Contains (awake b) p → is_active b p ≡ true → (is_over b p ≡ true) ⊎ (is_over b p ≡ false) → ⊥
-      inactive p i a (inl o) = clash (and_right (not (is_failed b p)) (not (is_over b p)) a) (not_of_true o)
-      inactive p i a (inr o) = clash (and_left (not (is_failed b p)) (not (is_over b p)) a) (not_of_true (awake_failed p i o))
+      inactive p i a (inl o) = clash (and_gives_right (not (is_failed b p)) (not (is_over b p)) a) (not_of_true o)
+      inactive p i a (inr o) = clash (and_gives_left (not (is_failed b p)) (not (is_over b p)) a) (not_of_true (awake_failed p i o))
 
   none_waits : (p : Name) → has b.asleep p ≡ true → is_active b p ≡ false
   none_waits = waits.none_waits (let e = ap length none_works in omega (arith, e))
@@ -142,7 +145,7 @@ module _ (b : Plain) (waits : SleepersWait b) (no_verdict : verdict b ≡ None) 
   -- a process that has not given up has failed
   failed_unless_over : (p : Name) → Contains b.living p → is_over b p ≡ false → is_failed b p ≡ true
   failed_unless_over p i o = ⊎_elim
-      (λ s. false_unless_not (λ k. clash (and_both (not (is_failed b p)) (not (is_over b p)) (not_of_false k) (not_of_false o)) (none_waits p s)))
+      (λ s. false_unless_not (λ k. clash (and_from (not (is_failed b p)) (not (is_over b p)) (not_of_false k) (not_of_false o)) (none_waits p s)))
       (λ s. awake_failed p (in_filter (λ q. not (has b.asleep q)) b.living p i (not_of_false s)) o)
       (decide (has b.asleep p))
     where

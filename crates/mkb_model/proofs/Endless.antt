@@ -1,5 +1,6 @@
 -- Rules that halt on a term rewrite it to no instance of itself, and none of them its own right side.
 use Rattle.std.proofs.Common.{ℕ, zero, suc, ◌≤◌, ◌≡◌, ◌≢◌, refl, sym, ap, ◌∙◌, subst, arith, List, [], ◌∷◌, length, Contains, ⊎_elim}
+use Rattle.kb_lemmas.proofs.Membership.{contains_cases, contains_first, none_in}
 use Rattle.kb_term.specs.Tree.{Tree, Trees, variable, apply, more_trees}
 use Rattle.kb_term.specs.Substitution.{instance}
 use Rattle.kb_term.specs.Rule.{Rule}
@@ -7,10 +8,9 @@ use Rattle.kb_term.specs.Proving.{RewritesAt, Step, IsChain, Halts}
 use Rattle.kb_laws.proofs.Renamings.{rewrites_instance}
 use Rattle.kb_term.proofs.Instances.{instance-instance, instance-variable}
 use Rattle.kb_term.proofs.Steps as Positioned
-use Rattle.kb_term.proofs.Steps.{StepIn, at_root, inside, here, there, contains_cases, contains_first}
+use Rattle.kb_term.proofs.Steps.{StepIn, at_root, inside, here, there}
 use Rattle.kb_term.proofs.Relation.{Steps}
 use Rattle.kb_term.proofs.Bridge.{step_from_position, halts_from}
-use Rattle.mkb_model.proofs.Lists.{none_in}
 
 pub step_instance : (rules : List Rule) (d : ℕ → Tree) (t u : Tree) → Step rules t u → Step rules (instance d t) (instance d u)
 step_instance rules d t u (rule, i, p, h) = (rule, i, p, rewrites_instance d rule p t u h)

@@ -3,8 +3,10 @@ use Rattle.std.proofs.Common.{ℕ, ◌≡◌, ◌≢◌, ◌⊎◌, inl, inr, re
 use Rattle.std.specs.Prelude.{is_none, option_map}
 use Rattle.std.specs.List.{find, list_any}
 use Rattle.std.specs.Option.{option_map_or}
-use Rattle.std.proofs.lemmas.Bool.{eq-eqb}
-use Rattle.kb_term.proofs.Steps.{contains_cases, contains_behind, contains_first}
+use Rattle.std.proofs.lemmas.Bool.{eq-eqb, and_from, and_left}
+use Rattle.kb_lemmas.proofs.Membership.{contains_cases, contains_behind, contains_first, none_in, contains_mapped, contains_map, contains_flat_map}
+use Rattle.kb_lemmas.proofs.Booleans.{and_gives_right}
+use Rattle.kb_lemmas.proofs.Options.{none_some}
 use Rattle.kb_term.specs.Substitution.{instance}
 use Rattle.kb_term.specs.Tree.{variable}
 use Rattle.kb_term.specs.Rule.{Rule}
@@ -32,7 +34,7 @@ use Rattle.mkb_model.specs.declared.proposed.Proposed.TheVariants.{Facts, Rewrit
 use Rattle.mkb_model.specs.declared.entry.Effect.{Effect}
 use Rattle.mkb_model.specs.declared.entry.Ticket.{Ticket}
 use Rattle.mkb_model.specs.declared.entry.Entry.TheVariants.{Take, Commit}
-use Rattle.mkb_model.proofs.Lists.{clash, and_right, and_both, and_off, none_some, none_in, in_filter, map_in, in_map, in_flat_map, in_filter_map, any_in, find_none, false_unless}
+use Rattle.mkb_model.proofs.Lists.{clash, in_filter, in_filter_map, any_in, find_none, false_unless}
 use Rattle.mkb_model.proofs.Flights.{flight_clear}
 use Rattle.mkb_model.proofs.Flyers.{two_clear}
 use Rattle.mkb_model.proofs.Resting.{known_rule, known_holds}
@@ -54,7 +56,7 @@ pub missing_some : (b : Plain) (p : Name) (m : NodeId) (fs : List Fact) → is_d
 missing_some b p m fs due facts h = open_one (known b m.0 w a) refl (any_side.2)
   where
     reducible : is_reducible b p m.0 ≡ true
-    reducible = and_right (is_node_of b p m.0) (is_reducible b p m.0) (and_right (is_working b p) (is_work_due b (Reduce p m)) due)
+    reducible = and_gives_right (is_node_of b p m.0) (is_reducible b p m.0) (and_gives_right (is_working b p) (is_work_due b (Reduce p m)) due)
 
     any_rule : (a : RuleRef) × Contains (reducers b p m.0) a × (list_any (λ w. is_open b p m.0 w (known b m.0 w a)) (0 ∷ 1 ∷ []) ≡ true)
     any_rule = any_in (λ (a : RuleRef). list_any (λ w. is_open b p m.0 w (known b m.0 w a)) (0 ∷ 1 ∷ [])) (reducers b p m.0) reducible
@@ -91,12 +93,12 @@ missing_some b p m fs due facts h = open_one (known b m.0 w a) refl (any_side.2)
         usable v e u k.1 r.0 r.1 k.0
 
     in_unknown : known b m.0 w a ≡ None → Contains (unknown b p m.0) (w, a)
-    in_unknown e = in_flat_map (λ w. map (λ a. (w, a)) (filter (λ a. is_none (known b m.0 w a)) (reducers b p m.0))) (0 ∷ 1 ∷ []) w (w, a) any_side.1
-        (in_map (λ a. (w, a)) (filter (λ a. is_none (known b m.0 w a)) (reducers b p m.0)) a (in_filter (λ a. is_none (known b m.0 w a)) (reducers b p m.0) a any_rule.1 (ap (λ (o : Option Found). is_none o) e)))
+    in_unknown e = contains_flat_map (λ w. map (λ a. (w, a)) (filter (λ a. is_none (known b m.0 w a)) (reducers b p m.0))) (0 ∷ 1 ∷ []) w (w, a) any_side.1
+        (contains_map (λ a. (w, a)) (filter (λ a. is_none (known b m.0 w a)) (reducers b p m.0)) a (in_filter (λ a. is_none (known b m.0 w a)) (reducers b p m.0) a any_rule.1 (ap (λ (o : Option Found). is_none o) e)))
 
     open_one : (o : Option Found) → known b m.0 w a ≡ o → is_open b p m.0 w o ≡ true → IsMissing b p m.0 fs
     open_one None e u =
-        let k = map_in (λ (f : Fact). (f.side, f.rule)) fs (w, a) (subst {A = List (ℕ × RuleRef)} (λ xs. Contains xs (w, a)) (sym h.2.are_unknown) (in_unknown e)) in
+        let k = contains_mapped (λ (f : Fact). (f.side, f.rule)) fs (w, a) (subst {A = List (ℕ × RuleRef)} (λ xs. Contains xs (w, a)) (sym h.2.are_unknown) (in_unknown e)) in
         (k.0, k.1, h.2.at_node k.0 k.1, ap (λ (x : ℕ × RuleRef). known b m.0 x.0 x.1) k.2 ∙ e)
     open_one (Some v) e u = absurd (known_one v e u)
 
@@ -178,7 +180,7 @@ missing_stays P n ms c run before w t p m i k v a e = since P n ms c run before 
         other : (fs : List Fact) → Proposes f.finishing.before f.job (Facts fs) → (g : Fact) → Contains fs g → is_about m.0 v a g ≡ false
         other fs h g i =
             let r = about_node f.finishing.before f.job fs h in
-            and_off (g.node.0 == m.0) ((g.side == v) && ref_eq g.rule a) (false_unless (g.node.0 == m.0) (λ q. apart r.0 r.1 r.2 (sym (equal g.node.0 m.0 q) ∙ r.3 g i)))
+            and_left (g.node.0 == m.0) ((g.side == v) && ref_eq g.rule a) (false_unless (g.node.0 == m.0) (λ q. apart r.0 r.1 r.2 (sym (equal g.node.0 m.0 q) ∙ r.3 g i)))
           where
             equal : (x y : ℕ) → (x == y) ≡ true → x ≡ y
             equal x y q = grind arith
@@ -186,5 +188,5 @@ missing_stays P n ms c run before w t p m i k v a e = since P n ms c run before 
 -- a fact that is added is known
 pub added_known : (b c : Plain) (fs : List Fact) (g : Fact) → c.facts ≡ b.facts ++ fs → Contains fs g → find (is_about g.node.0 g.side g.rule) b.facts ≡ None → known c g.node.0 g.side g.rule ≢ None
 added_known b c fs g e i h k =
-    let about : is_about g.node.0 g.side g.rule g ≡ true = and_both (g.node.0 == g.node.0) ((g.side == g.side) && ref_eq g.rule g.rule) (eq-eqb g.node.0 g.node.0 refl) (and_both (g.side == g.side) (ref_eq g.rule g.rule) (eq-eqb g.side g.side refl) (ref_self g.rule)) in
+    let about : is_about g.node.0 g.side g.rule g ≡ true = and_from (g.node.0 == g.node.0) ((g.side == g.side) && ref_eq g.rule g.rule) (eq-eqb g.node.0 g.node.0 refl) (and_from (g.side == g.side) (ref_eq g.rule g.rule) (eq-eqb g.side g.side refl) (ref_self g.rule)) in
     clash about (find_none (is_about g.node.0 g.side g.rule) fs (sym (found_later (is_about g.node.0 g.side g.rule) b.facts fs h) ∙ sym (ap (find (is_about g.node.0 g.side g.rule)) e) ∙ none_of_map (find (is_about g.node.0 g.side g.rule) c.facts) k) g i)

@@ -3,6 +3,9 @@ use Rattle.std.proofs.Common.{ℕ, zero, suc, ◌+◌, ◌≡◌, ◌⊎◌, inl
 use Rattle.std.specs.Prelude.{⊤, Result, Ok, Err, option_to_list}
 use Rattle.std.specs.Option.{option_map_or}
 use Rattle.std.specs.Ordering.{ordering_index}
+use Rattle.std.proofs.lemmas.Bool.{or_left, or_right}
+use Rattle.kb_lemmas.proofs.Membership.{contains_cases, contains_behind, contains_first, none_in, contains_mapped, contains_map, contains_flat_map_back}
+use Rattle.kb_lemmas.proofs.Options.{some_is, none_some}
 use Rattle.kb_term.specs.Tree.{Tree, tree_eq, tree_cmp}
 use Rattle.kb_term.specs.View.{tree_of}
 use Rattle.kb_term.specs.Pair.{Pair, canonical, numbered, canonical_pair, IsCanonical, IsTrivial, IsSameEquation}
@@ -15,7 +18,6 @@ use Rattle.kb_term.specs.declared.origin.Found.{Found}
 use Rattle.kb_term.specs.declared.origin.Origin.{Origin}
 use Rattle.kb_term.specs.declared.origin.Origin.TheVariants.{Input, Rewrite as ByRewrite, Overlap as ByOverlap}
 use Rattle.kb_term.proofs.Compared.{tree-is_eq}
-use Rattle.kb_term.proofs.Steps.{contains_cases, contains_behind, contains_first}
 use Rattle.kb_term.proofs.CanonicalPairs.{canonical_from_same, lesser_cases, flip, tree_flip}
 use Rattle.kb_label.specs.Names.{Name, root, child}
 use Rattle.mkb_model.specs.Plain.{Plain, PlainNode, pair_at, pair_in, sides}
@@ -32,7 +34,7 @@ use Rattle.mkb_model.specs.declared.proposed.Proposed.TheVariants.{Facts, Rewrit
 use Rattle.mkb_model.specs.declared.entry.Entry.{Entry}
 use Rattle.mkb_model.specs.declared.entry.Entry.TheVariants.{Take, Commit, Drop, Abandon, Halt}
 use Rattle.mkb_model.specs.Ready.{KeepsPairs}
-use Rattle.mkb_model.proofs.Lists.{clash, or_left, or_right, some_is, none_some, none_in, map_in, in_map, flat_map_in}
+use Rattle.mkb_model.proofs.Lists.{clash}
 use Rattle.mkb_model.proofs.Pairs.{SamePairs, pairs_trans, pairs-loses, pairs-oriented, pairs-gains, pairs-gains_equation, pairs-gains_rule, pairs-fork, pair_eq-refl}
 use Rattle.mkb_model.proofs.Views.{numbered_variant}
 use Rattle.mkb_model.proofs.Changes.{Fits}
@@ -164,8 +166,8 @@ pub deduced_from : (ds : List Deduced) (os : List NamedOverlap) → AreDeduced d
     → (o : NamedOverlap) × Contains os o × (s : Tree) × (t : Tree) × (o.overlap.sides ≡ Ok (s, t)) × (canonical_pair s t ≡ Some d.pair) × (o.outer ≡ d.outer) × (o.inner ≡ d.inner) × (o.overlap.position ≡ d.position)
 deduced_from ds os h d i =
     let f : Deduced → RuleRef × RuleRef × List ℕ × Pair = λ d. (d.outer, d.inner, d.position, d.pair) in
-    let j = subst {A = List (RuleRef × RuleRef × List ℕ × Pair)} (λ ts. Contains ts (f d)) h (in_map f ds d i) in
-    let k = flat_map_in (λ (o : NamedOverlap). deduced_pair o o.overlap.sides) os (f d) j in
+    let j = subst {A = List (RuleRef × RuleRef × List ℕ × Pair)} (λ ts. Contains ts (f d)) h (contains_map f ds d i) in
+    let k = contains_flat_map_back (λ (o : NamedOverlap). deduced_pair o o.overlap.sides) os (f d) j in
     let r = go k.0 k.0.overlap.sides refl k.2 in
     (k.0, k.1, r.0, r.1, r.2, r.3, r.4, r.5, r.6)
   where
@@ -176,7 +178,7 @@ deduced_from ds os h d i =
     go : (o : NamedOverlap) (r : Result (Tree × Tree) TermLimit) → o.overlap.sides ≡ r → Contains (deduced_pair o r) (d.outer, d.inner, d.position, d.pair) → (s : Tree) × (t : Tree) × (o.overlap.sides ≡ Ok (s, t)) × (canonical_pair s t ≡ Some d.pair) × (o.outer ≡ d.outer) × (o.inner ≡ d.inner) × (o.overlap.position ≡ d.position)
     go o (Err l) e c = none_in c
     go o (Ok (s, t)) e c =
-        let m = map_in (λ q. (o.outer, o.inner, o.overlap.position, q)) (option_to_list (canonical_pair s t)) (d.outer, d.inner, d.position, d.pair) c in
+        let m = contains_mapped (λ q. (o.outer, o.inner, o.overlap.position, q)) (option_to_list (canonical_pair s t)) (d.outer, d.inner, d.position, d.pair) c in
         (s, t, e, in_list (canonical_pair s t) d.pair (subst {A = Pair} (Contains (option_to_list (canonical_pair s t))) (ap (λ (z : RuleRef × RuleRef × List ℕ × Pair). z.3) m.2) m.1), ap (λ (z : RuleRef × RuleRef × List ℕ × Pair). z.0) m.2, ap (λ (z : RuleRef × RuleRef × List ℕ × Pair). z.1) m.2, ap (λ (z : RuleRef × RuleRef × List ℕ × Pair). z.2) m.2)
 
 pub proposed_pairs : (b : Plain) (j : Job) (x : Proposed) → Proposes b j x → HasPairs x

@@ -5,6 +5,7 @@ use Rattle.std.specs.Option.{option_map_or}
 use Rattle.std.proofs.lemmas.List.Kept.{AllPairs-filter}
 use Rattle.std.proofs.lemmas.List.Quantifiers.{all_pairs_push}
 use Rattle.std.proofs.lemmas.List.Elements.{Contains-get_or}
+use Rattle.kb_lemmas.proofs.Membership.{contains_map}
 use Rattle.kb_term.specs.Signature.{Problem}
 use Rattle.mkb_model.specs.Jobs.{clashes, is_free}
 use Rattle.mkb_model.specs.Plain.{Plain}
@@ -19,7 +20,7 @@ use Rattle.mkb_model.specs.declared.proposed.Proposed.TheVariants.{Facts, Rewrit
 use Rattle.mkb_model.specs.declared.entry.Ticket.{Ticket}
 use Rattle.mkb_model.specs.declared.entry.Entry.{Entry}
 use Rattle.mkb_model.specs.declared.entry.Entry.TheVariants.{Take, Commit, Drop, Abandon, Halt}
-use Rattle.mkb_model.proofs.Lists.{filter_in, any_none, not_true, in_map}
+use Rattle.mkb_model.proofs.Lists.{filter_in, any_none, not_true}
 use Rattle.mkb_model.specs.declared.settings.Settings.{Settings}
 
 applied_flight : (b : Plain) (x : Proposed) → (applied b x).flight ≡ b.flight
@@ -49,7 +50,7 @@ clear_landed t ts h = AllPairs-filter (λ (t u : Ticket). IsFalse (clashes u.job
 
 clear_taken : (b : Plain) (w t : ℕ) (j : Job) → IsFreeJob b j → FlightIsClear b → FlightIsClear (in_flight w t j b)
 clear_taken b w t j free h = all_pairs_push (λ (t u : Ticket). IsFalse (clashes u.job t.job)) b.flight (record { number = t; worker = w; job = j }) h
-    (λ k d l. any_none (clashes j) (flying_jobs b) (not_true (filter_in (is_free (flying_jobs b)) (due_jobs b) j free).1) (get_or b.flight k d).job (in_map (λ (t : Ticket). t.job) b.flight (get_or b.flight k d) (Contains-get_or b.flight k d l)))
+    (λ k d l. any_none (clashes j) (flying_jobs b) (not_true (filter_in (is_free (flying_jobs b)) (due_jobs b) j free).1) (get_or b.flight k d).job (contains_map (λ (t : Ticket). t.job) b.flight (get_or b.flight k d) (Contains-get_or b.flight k d l)))
 
 clear_follow : (past : List Moment) (b : Plain) (e : Entry) (c : Plain) → Follows IsFreeJob past b e c → FlightIsClear b → FlightIsClear c
 clear_follow past b (Take w t j) c f h = subst {A = Plain} FlightIsClear (sym f.leads_to) (clear_taken b w t j f.picked h)

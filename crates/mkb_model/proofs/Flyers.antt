@@ -5,7 +5,8 @@ use Rattle.std.specs.Option.{option_map_or}
 use Rattle.std.proofs.lemmas.Bool.{eq-eqb}
 use Rattle.std.proofs.lemmas.List.{get_or_default}
 use Rattle.std.proofs.lemmas.List.Elements.{Contains-append_cases}
-use Rattle.kb_term.proofs.Steps.{contains_cases}
+use Rattle.kb_lemmas.proofs.Membership.{contains_cases, none_in, contains_flat_map_back}
+use Rattle.kb_lemmas.proofs.Booleans.{and_gives_left}
 use Rattle.kb_term.specs.Signature.{Problem}
 use Rattle.kb_label.specs.Names.{Name, has, name_eq}
 use Rattle.kb_label.proofs.Members.{name_eq-eq, name_eq-refl}
@@ -24,7 +25,7 @@ use Rattle.mkb_model.specs.declared.proposed.Proposed.TheVariants.{Facts, Rewrit
 use Rattle.mkb_model.specs.declared.entry.Ticket.{Ticket}
 use Rattle.mkb_model.specs.declared.entry.Entry.{Entry}
 use Rattle.mkb_model.specs.declared.entry.Entry.TheVariants.{Take, Commit, Drop, Abandon, Halt}
-use Rattle.mkb_model.proofs.Lists.{clash, false_unless, and_left, none_in, filter_in, flat_map_in, equal_or_more, not_true}
+use Rattle.mkb_model.proofs.Lists.{clash, false_unless, filter_in, equal_or_more, not_true}
 use Rattle.mkb_model.proofs.Roles.{below}
 use Rattle.mkb_model.proofs.Flights.{effect_flight, flight_clear}
 use Rattle.mkb_model.proofs.Labels.{other_lives}
@@ -73,18 +74,18 @@ owners_differ b clear t u i k d ht hu e = ⊎_elim
 pub free_due : (b : Plain) (j : Job) → IsFreeJob b j → (p : Name) × (has b.living p ≡ true) × Contains (work_of b p ++ Close p ∷ []) j × (is_due b j ≡ true)
 free_due b j free =
     let f = filter_in (is_free (flying_jobs b)) (due_jobs b) j free in
-    let r = flat_map_in (due_jobs_of b) (awake b) j f.0 in
+    let r = contains_flat_map_back (due_jobs_of b) (awake b) j f.0 in
     let d = filter_in (is_due b) (work_of b r.0 ++ Close r.0 ∷ []) j r.2 in
     (r.0, has_in b.living r.0 (filter_in (λ q. not (has b.asleep q)) b.living r.0 r.1).0, d.0, d.1)
 
 pub due_working : (b : Plain) (j : Job) → is_due b j ≡ true → is_working b (process_of j) ≡ true
-due_working b (Reduce p n) h = and_left (is_working b p) (is_work_due b (Reduce p n)) h
-due_working b (Orient p n) h = and_left (is_working b p) (is_work_due b (Orient p n)) h
-due_working b (Overlap p a c) h = and_left (is_working b p) (is_work_due b (Overlap p a c)) h
-due_working b (Close p) h = and_left (is_working b p) (is_close_due b p) h
+due_working b (Reduce p n) h = and_gives_left (is_working b p) (is_work_due b (Reduce p n)) h
+due_working b (Orient p n) h = and_gives_left (is_working b p) (is_work_due b (Orient p n)) h
+due_working b (Overlap p a c) h = and_gives_left (is_working b p) (is_work_due b (Overlap p a c)) h
+due_working b (Close p) h = and_gives_left (is_working b p) (is_close_due b p) h
 
 pub free_lives : (b : Plain) (j : Job) → IsFreeJob b j → has b.living (process_of j) ≡ true
-free_lives b j free = and_left (has b.living (process_of j)) (not (is_over b (process_of j))) (due_working b j (free_due b j free).3)
+free_lives b j free = and_gives_left (has b.living (process_of j)) (not (is_over b (process_of j))) (due_working b j (free_due b j free).3)
 
 more_tickets : (m : Moment) (ms : List Moment) → tickets ms ≤ tickets (m ∷ ms)
 more_tickets m ms = go (is_take m.entry)

@@ -1,5 +1,5 @@
 -- The whole run on one equation a == b: a fork, an overlap without pairs, and a close.
-use Rattle.std.specs.Prelude.{ℕ, zero, suc, ◌<◌, List, [], ◌∷◌, ◌++◌, Bool, true, false, ◌≡◌, refl, Contains, All, Option, Some, None, map, slice_index_or}
+use Rattle.std.specs.Prelude.{ℕ, zero, suc, ◌<◌, List, [], ◌∷◌, ◌++◌, Bool, true, false, ◌≡◌, refl, Contains, Option, Some, None, map, slice_index_or}
 use Rattle.std.proofs.Common.{arith, ap, sym, subst}
 use Rattle.kb_term.specs.Tree.{Tree, variable, apply}
 use Rattle.kb_term.specs.Position.{subtree_at}
@@ -25,18 +25,9 @@ use Rattle.mkb_model.specs.declared.entry.Entry.{Entry}
 use Rattle.mkb_model.specs.declared.entry.Entry.TheVariants.{Take, Commit}
 use Rattle.mkb_model.proofs.Rows.{row3, node, rule, constant, e, p0}
 use mathlib.Core.Bool.{true≢false}
+use Rattle.kb_lemmas.proofs.Membership.{all_none, all_one, none_in}
 
 -- ---- lists of no and of one member
-
-pub none_in : {X : Type 0} {x : X} {P : Type 0} → Contains [] x → P
-none_in c = absurd (omega (arith, c.1))
-
-all_of_none : {X : Type 0} (P : X → Type 0) → All P []
-all_of_none P k d h = absurd (omega (arith, h))
-
-pub all_of_one : {X : Type 0} (P : X → Type 0) (x : X) → P x → All P (x ∷ [])
-all_of_one P x p zero d h = p
-all_of_one P x p (suc k) d h = absurd (omega (arith, h))
 
 pub one_in : {X : Type 0} {x y : X} → Contains (x ∷ []) y → x ≡ y
 one_in {X} {x} {y} c = go c.0 c.1 c.2
@@ -122,18 +113,18 @@ forking = (
   refl,
   refl,
   (
-    all_of_one (λ (r : Rule). LpoGreater (0 ∷ 1 ∷ []) r.left r.right) a_to_b a_above_b,
+    all_one (λ (r : Rule). LpoGreater (0 ∷ 1 ∷ []) r.left r.right) a_to_b a_above_b,
     [],
     Lpo (1 ∷ 0 ∷ []) ∷ (map Linear (interpretations row3.signature) ++ map Kbo (kbo_orders row3.signature)),
     refl,
-    all_of_none (λ (c : Certificate). ¬ Orders c (a_to_b ∷ [])),
+    all_none (λ (c : Certificate). ¬ Orders c (a_to_b ∷ [])),
   ),
   (
-    all_of_one (λ (r : Rule). LpoGreater (1 ∷ 0 ∷ []) r.left r.right) b_to_a b_above_a,
+    all_one (λ (r : Rule). LpoGreater (1 ∷ 0 ∷ []) r.left r.right) b_to_a b_above_a,
     Lpo (0 ∷ 1 ∷ []) ∷ [],
     map Linear (interpretations row3.signature) ++ map Kbo (kbo_orders row3.signature),
     refl,
-    all_of_one (λ (c : Certificate). ¬ Orders c (b_to_a ∷ [])) (Lpo (0 ∷ 1 ∷ [])) not_first,
+    all_one (λ (c : Certificate). ¬ Orders c (b_to_a ∷ [])) (Lpo (0 ∷ 1 ∷ [])) not_first,
   ),
 )
 
@@ -186,10 +177,10 @@ a_steps = (
 )
 
 a_form : NormalisesTo (a_to_b ∷ []) a (form b 1)
-a_form = (b ∷ [], ((a_steps, refl), all_of_one (λ (t : Tree). term_limit t ≡ None) b refl), refl, omega arith, b_normal)
+a_form = (b ∷ [], ((a_steps, refl), all_one (λ (t : Tree). term_limit t ≡ None) b refl), refl, omega arith, b_normal)
 
 b_form : NormalisesTo (a_to_b ∷ []) b (form b 0)
-b_form = ([], (refl, all_of_none (λ (t : Tree). term_limit t ≡ None)), refl, omega arith, b_normal)
+b_form = ([], (refl, all_none (λ (t : Tree). term_limit t ≡ None)), refl, omega arith, b_normal)
 
 abbrev pub rules4 : List NamedRule
 rules4 = record { ref = rule 0 0; rule = a_to_b } ∷ []

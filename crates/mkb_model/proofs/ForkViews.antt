@@ -1,16 +1,18 @@
 -- The views of process 0 in the run on a == b are a completion run: an equation that becomes a rule at the fork.
 use Rattle.std.specs.Prelude.{List, [], ◌∷◌, ◌≡◌, ◌⊎◌, refl, Contains}
 use Rattle.std.proofs.Common.{arith, sym, subst, inl, inr}
+use Rattle.mkb_model.proofs.Moves.{same_state}
+use Rattle.kb_lemmas.proofs.Membership.{none_in, all_one}
 use Rattle.kb_term.specs.Rule.{Rule, IsVariantRule}
 use Rattle.kb_lpo.specs.PathOrder.{LpoGreater}
-use Rattle.kb_laws.specs.Completion.{KbState, KbStep, KbReaches, IsKbRun, IsSameState, Has, Keeps, Gains}
+use Rattle.kb_laws.specs.Completion.{KbState, KbStep, KbReaches, IsKbRun, Has, Keeps, Gains}
 use Rattle.mkb_model.proofs.MemberSteps.{orient, Loses}
 use Rattle.kb_term.specs.Pair.{IsSameEquation}
 use Rattle.kb_cert.specs.declared.family.Family.TheVariants.{Stated}
 use Rattle.kb_cert.specs.declared.certificate.Certificate.TheVariants.{Lpo}
 use Rattle.mkb_model.specs.Headline.{states_of}
 use Rattle.mkb_model.proofs.Rows.{row3, p0}
-use Rattle.mkb_model.proofs.ForkRun.{none_in, all_of_one, one_in, a, b, a_to_b, a_above_b, board6, moment1, moment2, moment3, moment4, moment5, moment6}
+use Rattle.mkb_model.proofs.ForkRun.{one_in, a, b, a_to_b, a_above_b, board6, moment1, moment2, moment3, moment4, moment5, moment6}
 
 abbrev before : KbState
 before = record { equations = (a, b) ∷ []; rules = []; constraints = [] }
@@ -51,11 +53,8 @@ gains_only {X} Same x y = (there, back)
     back (z, c, t) = inr (subst {A = X} (λ z. Same z y) (sym (one_in c)) t)
 
 forks : KbStep row3.signature before after
-forks = orient a b (Lpo (0 ∷ 1 ∷ []), (Stated, (0, omega arith, refl)), all_of_one (λ (r : Rule). LpoGreater (0 ∷ 1 ∷ []) r.left r.right) a_to_b a_above_b)
+forks = orient a b (Lpo (0 ∷ 1 ∷ []), (Stated, (0, omega arith, refl)), all_one (λ (r : Rule). LpoGreater (0 ∷ 1 ∷ []) r.left r.right) a_to_b a_above_b)
     (loses_only IsSameEquation (a, b) same_ab) (gains_only IsVariantRule a_to_b) (gains_only IsVariantRule a_to_b)
-
-same_state : (s : KbState) → IsSameState s s
-same_state s = record { equations = keeps IsSameEquation s.equations; rules = keeps IsVariantRule s.rules; constraints = keeps IsVariantRule s.constraints }
 
 row3_run : IsKbRun row3 (states_of (moment6 ∷ moment5 ∷ moment4 ∷ moment3 ∷ moment2 ∷ moment1 ∷ []) board6 p0)
 row3_run =

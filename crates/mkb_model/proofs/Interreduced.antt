@@ -1,7 +1,8 @@
 -- Where rules are reduced by one another and each pair of an overlap that doesn't join is a rule or an equation already, all overlaps join.
 use Rattle.std.proofs.Common.{ℕ, ◌≡◌, ◌≢◌, ◌⊎◌, inl, inr, refl, sym, ap, ◌∙◌, subst, List, [], ◌∷◌, Contains, Bool, true, false, Option, Some, None, ⊎_elim}
 use Rattle.std.specs.Prelude.{Result, Ok, option_to_list}
-use Rattle.kb_term.proofs.Steps.{contains_cases, contains_behind, contains_first}
+use Rattle.kb_lemmas.proofs.Membership.{contains_cases, contains_behind, contains_first, none_in, contains_map, contains_mapped, contains_flat_map}
+use Rattle.kb_lemmas.proofs.Options.{some_is}
 use Rattle.kb_term.specs.Tree.{Tree, variable, apply, variables_of}
 use Rattle.kb_term.specs.Position.{subtree_at, replace_at, function_positions_of, function_positions_in}
 use Rattle.kb_term.specs.Substitution.{instance, IsVariant}
@@ -20,7 +21,7 @@ use Rattle.kb_node.specs.declared.job.Deduced.{Deduced}
 use Rattle.mkb_model.specs.Jobs.{ref_eq}
 use Rattle.mkb_model.specs.Plain.{sides}
 use Rattle.mkb_model.specs.Proposals.{NamedRule, NamedOverlap, as_rules, HasForm, IsJoinedBy, IsUnjoined, IsUnjoining, AreDeduced, Picks, all_ways, OverlapsOf, deduced_pair}
-use Rattle.mkb_model.proofs.Lists.{decide, some_is, none_in, in_map, map_in, in_flat_map}
+use Rattle.mkb_model.proofs.Lists.{decide}
 use Rattle.mkb_model.proofs.Rewriting.{trivial_none, some_canonical}
 use Rattle.mkb_model.proofs.Fitting.{canonical_same}
 use Rattle.mkb_model.proofs.Views.{rule_sym, rule_trans}
@@ -52,8 +53,8 @@ deduced_to : (ds : List Deduced) (os : List NamedOverlap) → AreDeduced ds os �
 deduced_to ds os h o i e sided z c =
     let t : RuleRef × RuleRef × List ℕ × Pair = (o.outer, o.inner, o.overlap.position, z) in
     let here : Contains (deduced_pair o o.overlap.sides) t = subst {A = Result (Tree × Tree) TermLimit} (λ r. Contains (deduced_pair o r) t) (sym sided)
-    (in_map (λ q. (o.outer, o.inner, o.overlap.position, q)) (option_to_list (canonical_pair e.0 e.1)) z (subst {A = Option Pair} (λ q. Contains (option_to_list q) z) (sym c) (contains_first z []))) in
-    let m = map_in (λ (d : Deduced). (d.outer, d.inner, d.position, d.pair)) ds t (subst {A = List (RuleRef × RuleRef × List ℕ × Pair)} (λ ts. Contains ts t) (sym h) (in_flat_map (λ (o : NamedOverlap). deduced_pair o o.overlap.sides) os o t i here)) in
+    (contains_map (λ q. (o.outer, o.inner, o.overlap.position, q)) (option_to_list (canonical_pair e.0 e.1)) z (subst {A = Option Pair} (λ q. Contains (option_to_list q) z) (sym c) (contains_first z []))) in
+    let m = contains_mapped (λ (d : Deduced). (d.outer, d.inner, d.position, d.pair)) ds t (subst {A = List (RuleRef × RuleRef × List ℕ × Pair)} (λ ts. Contains ts t) (sym h) (contains_flat_map (λ (o : NamedOverlap). deduced_pair o o.overlap.sides) os o t i here)) in
     (m.0, m.1, ap (λ (x : RuleRef × RuleRef × List ℕ × Pair). x.3) m.2)
 
 -- ---- reduced rules
@@ -90,10 +91,10 @@ root_position (apply f ts) h = contains_first [] (function_positions_in ts 1)
 
 module _ (rs : List NamedRule) (eqs : List (Tree × Tree)) (reduced : AreReduced rs eqs) (pairs : List Deduced) (u : IsUnjoining rs eqs pairs) (held : (d : Deduced) → Contains pairs d → IsHeld rs eqs d.pair) where
   hold : HoldVariables (as_rules rs)
-  hold rule i = let m = map_in (λ (r : NamedRule). r.rule) rs rule i in subst {A = Rule} (λ z. (n : ℕ) → Contains (variables_of z.right) n → Contains (variables_of z.left) n) m.2 (reduced.are_rules m.0 m.1).holds_variables
+  hold rule i = let m = contains_mapped (λ (r : NamedRule). r.rule) rs rule i in subst {A = Rule} (λ z. (n : ℕ) → Contains (variables_of z.right) n → Contains (variables_of z.left) n) m.2 (reduced.are_rules m.0 m.1).holds_variables
 
   in_rules : (x : NamedRule) → Contains rs x → Contains (as_rules rs) x.rule
-  in_rules x i = in_map (λ (r : NamedRule). r.rule) rs x i
+  in_rules x i = contains_map (λ (r : NamedRule). r.rule) rs x i
 
   -- ---- two rules with one left side
 
@@ -235,7 +236,7 @@ module _ (rs : List NamedRule) (eqs : List (Tree × Tree)) (reduced : AreReduced
             let a = shifted_apart x.rule y.rule in
             let z = unifies_apart x.rule y.rule _ a [] x.rule.left f.m f.k (subterm_root x.rule.left) meets in
             none _ x.rule.left a refl (z.0, z.1)
-        go (inr (o, i, at, h)) = never o at h (k.2 (record { outer = x.ref; inner = y.ref; overlap = o }) (subst {A = List NamedOverlap} (λ zs. Contains zs (record { outer = x.ref; inner = y.ref; overlap = o })) (sym k.1.2) (in_map (λ o. record { outer = x.ref; inner = y.ref; overlap = o }) k.1.0 o i)))
+        go (inr (o, i, at, h)) = never o at h (k.2 (record { outer = x.ref; inner = y.ref; overlap = o }) (subst {A = List NamedOverlap} (λ zs. Contains zs (record { outer = x.ref; inner = y.ref; overlap = o })) (sym k.1.2) (contains_map (λ o. record { outer = x.ref; inner = y.ref; overlap = o }) k.1.0 o i)))
 
   -- ---- a rule between the two sides
 

@@ -1,10 +1,13 @@
 -- In a run the known facts are true, and none is of a strict redex.
 use Rattle.std.proofs.Common.{ℕ, ◌≡◌, ◌≢◌, ◌⊎◌, inl, inr, refl, sym, ap, ◌∙◌, subst, List, [], ◌∷◌, map, filter, Option, Some, None, ⊎_elim, Contains}
-use Rattle.std.specs.Prelude.{option_map, option_and_then, is_none}
+use Rattle.std.specs.Prelude.{option_map, is_none}
 use Rattle.std.specs.Option.{option_map_or}
 use Rattle.std.proofs.lemmas.List.Elements.{Contains-append_cases}
-use Rattle.kb_term.specs.Tree.{Tree, variable, apply}
-use Rattle.kb_term.specs.Position.{subtree_at, replace_at, argument, with_argument}
+use Rattle.kb_term.proofs.Subtrees.{replace-there}
+use Rattle.kb_lemmas.proofs.Membership.{contains_cases, none_in, contains_map, contains_mapped, contains_flat_map_back}
+use Rattle.kb_lemmas.proofs.Options.{none_some}
+use Rattle.kb_term.specs.Tree.{Tree}
+use Rattle.kb_term.specs.Position.{subtree_at}
 use Rattle.kb_term.specs.Substitution.{instance}
 use Rattle.kb_term.specs.Pair.{Pair}
 use Rattle.kb_term.specs.Rule.{Rule, rule_of}
@@ -15,7 +18,6 @@ use Rattle.kb_term.specs.Proving.{RewritesAt}
 use Rattle.kb_term.specs.declared.origin.RuleRef.{RuleRef}
 use Rattle.kb_term.specs.declared.origin.Found.{Found}
 use Rattle.kb_term.specs.declared.origin.Found.TheVariants.{Strict}
-use Rattle.kb_term.proofs.Steps.{contains_cases}
 use Rattle.mkb_model.specs.Plain.{Plain, rule_at, known, pair_in}
 use Rattle.mkb_model.specs.DueJobs.{reducers}
 use Rattle.mkb_model.specs.Effects.{applied, effect, limit_of, give_up, effect_label}
@@ -31,26 +33,15 @@ use Rattle.mkb_model.specs.declared.proposed.Proposed.TheVariants.{Facts, Rewrit
 use Rattle.mkb_model.specs.declared.entry.Entry.{Entry}
 use Rattle.mkb_model.specs.declared.entry.Entry.TheVariants.{Take, Commit, Drop, Abandon, Halt}
 use Rattle.mkb_model.specs.Ready.{KeepsPairs}
-use Rattle.mkb_model.proofs.Lists.{none_some, none_in, in_map, map_in, flat_map_in}
 use Rattle.mkb_model.proofs.Readiness.{named_rule}
 use Rattle.mkb_model.proofs.Fitting.{pairs_follow, pairs_stay}
 use Rattle.mkb_model.specs.declared.settings.Settings.{Settings}
-
--- what stands at a position can be replaced
-pub replaceable : (p : List ℕ) (t u v : Tree) → subtree_at t p ≡ Some u → (w : Tree) × (replace_at t p v ≡ Some w)
-replaceable [] t u v h = (v, refl)
-replaceable (i ∷ p) (variable n) u v h = none_some h
-replaceable (i ∷ p) (apply f ts) u v h = go (argument ts i) (λ x k. replaceable p x u v k) h
-  where
-    go : (o : Option Tree) → ((x : Tree) → subtree_at x p ≡ Some u → (w : Tree) × (replace_at x p v ≡ Some w)) → option_and_then (λ t. subtree_at t p) o ≡ Some u → (w : Tree) × (option_and_then (λ t. option_map (λ x. apply f (with_argument ts i x)) (replace_at t p v)) o ≡ Some w)
-    go None ih k = none_some k
-    go (Some x) ih k = let r = ih x k in (apply f (with_argument ts i r.0), ap (option_map (λ x. apply f (with_argument ts i x))) r.1)
 
 -- a rule rewrites what its left side is encompassed by
 pub encompassed_rewrites : (t : Tree) (rule : Rule) → Encompasses t rule.left → (p : List ℕ) × (u : Tree) × RewritesAt rule p t u
 encompassed_rewrites t rule (p, (u, there, (m, e))) =
     let h : subtree_at t p ≡ Some (instance m rule.left) = there ∙ ap Some (sym e) in
-    let r = replaceable p t (instance m rule.left) (instance m rule.right) h in
+    let r = replace-there p t (instance m rule.left) (instance m rule.right) h in
     (p, r.0, (m, record { redex = h; result = r.1 }))
 
 -- ---- facts
@@ -82,9 +73,9 @@ facts_true b (Reduce p n) fs (pair, there, missing) f i = (
 
     sided : (f.side ≡ 0) ⊎ (f.side ≡ 1)
     sided =
-        let c = subst {A = List (ℕ × RuleRef)} (λ xs. Contains xs (f.side, f.rule)) missing.are_unknown (in_map (λ (f : Fact). (f.side, f.rule)) fs f i) in
-        let w = flat_map_in (λ w. map (λ a. (w, a)) (filter (λ a. is_none (known b n.0 w a)) (reducers b p n.0))) (0 ∷ 1 ∷ []) (f.side, f.rule) c in
-        let m = map_in (λ a. (w.0, a)) (filter (λ a. is_none (known b n.0 w.0 a)) (reducers b p n.0)) (f.side, f.rule) w.2 in
+        let c = subst {A = List (ℕ × RuleRef)} (λ xs. Contains xs (f.side, f.rule)) missing.are_unknown (contains_map (λ (f : Fact). (f.side, f.rule)) fs f i) in
+        let w = contains_flat_map_back (λ w. map (λ a. (w, a)) (filter (λ a. is_none (known b n.0 w a)) (reducers b p n.0))) (0 ∷ 1 ∷ []) (f.side, f.rule) c in
+        let m = contains_mapped (λ a. (w.0, a)) (filter (λ a. is_none (known b n.0 w.0 a)) (reducers b p n.0)) (f.side, f.rule) w.2 in
         let e : w.0 ≡ f.side = ap (λ (x : ℕ × RuleRef). x.0) m.2 in
         ⊎_elim (λ k. inl (sym e ∙ sym k)) (λ k. inr (sym e ∙ sym (⊎_elim (λ z. z) (λ z. none_in z) (contains_cases 1 [] w.0 k)))) (contains_cases 0 (1 ∷ []) w.0 w.1)
 facts_true b (Orient p n) fs h f i = absurd h

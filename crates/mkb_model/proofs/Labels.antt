@@ -1,5 +1,7 @@
 -- What keeps a list of names a label: in name order, and of living processes.
 use Rattle.std.proofs.Common.{ℕ, ◌≤◌, ◌<◌, ◌≡◌, ◌≢◌, ◌⊎◌, inl, inr, refl, sym, ◌∙◌, subst, List, [], ◌∷◌, map, filter, length, Bool, true, false, not, ◌&&◌, ◌||◌, Option, Some, None, ⊎_elim}
+use Rattle.std.proofs.lemmas.Bool.{and_from, or_cases, or_left, or_right}
+use Rattle.kb_lemmas.proofs.Booleans.{and_gives_right, and_gives_left}
 use Rattle.kb_term.specs.Tree.{Tree}
 use Rattle.kb_term.specs.Pair.{Pair, canonical_pair}
 use Rattle.kb_term.specs.declared.origin.RuleRef.{RuleRef}
@@ -18,7 +20,7 @@ use Rattle.kb_node.specs.declared.node.LabelKind.TheVariants.{R0, R1, E}
 use Rattle.kb_node.specs.declared.job.Deduced.{Deduced}
 use Rattle.mkb_model.specs.Plain.{PlainNode, label_at, rule_kind, constraint_kind, other}
 use Rattle.mkb_model.specs.Effects.{with_label, loses, gains, gains_equation, gains_rule, with_node, node_of, oriented, added, moved_to, rewritten, direction, if_strict, forked_node}
-use Rattle.mkb_model.proofs.Lists.{clash, and_right, and_left, and_both, or_one, or_left, or_right, not_of_false, false_unless}
+use Rattle.mkb_model.proofs.Lists.{clash, not_of_false, false_unless}
 use Rattle.mkb_model.proofs.Roles.{below, put_same, put_other, put_beyond, here_or_other, IsHere, label-with_node, label-fork, has-one}
 
 -- the names are in order, and each is one of the living
@@ -34,15 +36,15 @@ module _ (living : List Name) where
   label-one p h = record { ordered = tt; lives = λ q k. subst {A = Name} (λ z. has living z ≡ true) (sym (name_eq-eq q p (sym (has-one p q) ∙ k))) h }
 
   pub label-filter : (f : Name → Bool) (l : List Name) → IsLabelOf living l → IsLabelOf living (filter f l)
-  label-filter f l h = record { ordered = ordered-filter f l h.ordered; lives = λ p k. h.lives p (and_right (f p) (has l p) (sym (has-filter f l p) ∙ k)) }
+  label-filter f l h = record { ordered = ordered-filter f l h.ordered; lives = λ p k. h.lives p (and_gives_right (f p) (has l p) (sym (has-filter f l p) ∙ k)) }
 
   pub label-join : (l m : List Name) → IsLabelOf living l → IsLabelOf living m → IsLabelOf living (join l m)
-  label-join l m h k = record { ordered = ordered-join l m k.ordered; lives = λ p i. ⊎_elim (λ j. h.lives p j) (λ j. k.lives p j) (or_one (has l p) (has m p) (sym (has-join l m p) ∙ i)) }
+  label-join l m h k = record { ordered = ordered-join l m k.ordered; lives = λ p i. ⊎_elim (λ j. h.lives p j) (λ j. k.lives p j) (or_cases (has l p) (has m p) (sym (has-join l m p) ∙ i)) }
 
   pub label-add : (p : Name) (l : List Name) → has living p ≡ true → IsLabelOf living l → IsLabelOf living (add p l)
   label-add p l n h = record {
     ordered = ordered-add p l h.ordered;
-    lives = λ q i. ⊎_elim (λ j. subst {A = Name} (λ z. has living z ≡ true) (sym (name_eq-eq q p j)) n) (λ j. h.lives q j) (or_one (name_eq q p) (has l q) (sym (has-add p l q) ∙ i));
+    lives = λ q i. ⊎_elim (λ j. subst {A = Name} (λ z. has living z ≡ true) (sym (name_eq-eq q p j)) n) (λ j. h.lives q j) (or_cases (name_eq q p) (has l q) (sym (has-add p l q) ∙ i));
   }
 
   pub label-strict : (kind : Found) (l : List Name) → IsLabelOf living l → IsLabelOf living (if_strict kind l)
@@ -65,7 +67,7 @@ other_lives p q living d n = go (has living p) refl
   where
     go : (x : Bool) → has living p ≡ x → has (relabel p living) q ≡ true
     go true e = has-relabel p q living e ∙ or_right (name_eq q (child p false)) (name_eq q (child p true) || (not (name_eq q p) && has living q))
-        (or_right (name_eq q (child p true)) (not (name_eq q p) && has living q) (and_both (not (name_eq q p)) (has living q) (not_of_false d) n))
+        (or_right (name_eq q (child p true)) (not (name_eq q p) && has living q) (and_from (not (name_eq q p)) (has living q) (not_of_false d) n))
     go false e = subst {A = List Name} (λ l. has l q ≡ true) (sym (relabel-absent p living e)) n
 
 pub label-relabel : (p : Name) (living l : List Name) → IsLabelOf living l → IsLabelOf (relabel p living) (relabel p l)
@@ -78,9 +80,9 @@ label-relabel p living l h = go (has l p) refl
       ordered = subst {A = List Name} IsInNameOrder (sym (relabelled p l e)) (ordered-add (child p false) (add (child p true) (minus l (p ∷ []))) (ordered-add (child p true) (minus l (p ∷ [])) (ordered-filter (λ q. not (has (p ∷ []) q)) l h.ordered)));
       lives = λ q k. ⊎_elim (λ s. subst {A = Name} (λ z. has (relabel p living) z ≡ true) (sym (name_eq-eq q (child p false) s)) (child_lives p false living (h.lives p e)))
           (λ i. ⊎_elim (λ s. subst {A = Name} (λ z. has (relabel p living) z ≡ true) (sym (name_eq-eq q (child p true) s)) (child_lives p true living (h.lives p e)))
-          (λ s. other_lives p q living (false_unless (name_eq q p) (λ r. clash (and_left (not (name_eq q p)) (has l q) s) (subst {A = Bool} (λ z. not z ≡ false) (sym r) refl))) (h.lives q (and_right (not (name_eq q p)) (has l q) s)))
-          (or_one (name_eq q (child p true)) (not (name_eq q p) && has l q) i))
-          (or_one (name_eq q (child p false)) (name_eq q (child p true) || (not (name_eq q p) && has l q)) (sym (has-relabel p q l e) ∙ k));
+          (λ s. other_lives p q living (false_unless (name_eq q p) (λ r. clash (and_gives_left (not (name_eq q p)) (has l q) s) (subst {A = Bool} (λ z. not z ≡ false) (sym r) refl))) (h.lives q (and_gives_right (not (name_eq q p)) (has l q) s)))
+          (or_cases (name_eq q (child p true)) (not (name_eq q p) && has l q) i))
+          (or_cases (name_eq q (child p false)) (name_eq q (child p true) || (not (name_eq q p) && has l q)) (sym (has-relabel p q l e) ∙ k));
     }
 
 -- ---- nodes

@@ -1,10 +1,12 @@
 -- Members of lists that are filtered, mapped, joined and searched; small facts on tests.
-use Rattle.std.proofs.Common.{ℕ, zero, suc, ◌+◌, ◌≤◌, ◌<◌, ◌≡◌, ◌⊎◌, inl, inr, refl, sym, ap, ◌∙◌, subst, arith, List, [], ◌∷◌, map, filter, flat_map, Contains, Bool, true, false, cond, not, ◌&&◌, ◌||◌, Option, Some, None, ⊎_elim}
+use Rattle.std.proofs.Common.{ℕ, zero, suc, ◌+◌, ◌≤◌, ◌<◌, ◌≡◌, ◌⊎◌, inl, inr, refl, sym, ap, ◌∙◌, subst, arith, List, [], ◌∷◌, filter, Contains, Bool, true, false, cond, not, Option, Some, None, ⊎_elim}
 use Rattle.std.specs.List.{find, list_any, list_all, filter_map, cons_option}
-use Rattle.std.proofs.lemmas.List.Elements.{Contains-append_cases, Contains-append_left, Contains-append_right}
-use Rattle.kb_term.proofs.Steps.{contains_cases, contains_behind, contains_first}
 use Rattle.mkb_model.specs.Plain.{numbers_from}
 use mathlib.Core.Bool.{true≢false}
+use Rattle.std.proofs.lemmas.Bool.{and_from, or_cases, or_left, or_right}
+use Rattle.kb_lemmas.proofs.Booleans.{and_gives_left, and_gives_right}
+use Rattle.kb_lemmas.proofs.Options.{none_some, some_is}
+use Rattle.kb_lemmas.proofs.Membership.{none_in, contains_cases, contains_behind, contains_first}
 
 -- ---- tests
 
@@ -18,50 +20,6 @@ decide false = inr refl
 pub false_unless : (x : Bool) → ¬ (x ≡ true) → x ≡ false
 false_unless true h = absurd (h refl)
 false_unless false h = refl
-
-pub and_left : (x y : Bool) → (x && y) ≡ true → x ≡ true
-and_left true y h = refl
-and_left false y h = absurd (true≢false (sym h))
-
-pub and_right : (x y : Bool) → (x && y) ≡ true → y ≡ true
-and_right true y h = h
-and_right false y h = absurd (true≢false (sym h))
-
-pub and_both : (x y : Bool) → x ≡ true → y ≡ true → (x && y) ≡ true
-and_both true y h k = k
-and_both false y h k = absurd (true≢false (sym h))
-
-pub and_false : (x y : Bool) → (x && y) ≡ false → (x ≡ false) ⊎ (y ≡ false)
-and_false true y h = inr h
-and_false false y h = inl refl
-
-pub and_off : (x y : Bool) → x ≡ false → (x && y) ≡ false
-and_off true y h = absurd (true≢false h)
-and_off false y h = refl
-
-pub and_off_right : (x y : Bool) → y ≡ false → (x && y) ≡ false
-and_off_right true y h = h
-and_off_right false y h = refl
-
-pub or_one : (x y : Bool) → (x || y) ≡ true → (x ≡ true) ⊎ (y ≡ true)
-or_one true y h = inl refl
-or_one false y h = inr h
-
-pub or_left : (x y : Bool) → x ≡ true → (x || y) ≡ true
-or_left true y h = refl
-or_left false y h = absurd (true≢false (sym h))
-
-pub or_right : (x y : Bool) → y ≡ true → (x || y) ≡ true
-or_right true y h = refl
-or_right false y h = h
-
-pub or_none : (x y : Bool) → (x || y) ≡ false → (x ≡ false) × (y ≡ false)
-or_none true y h = absurd (true≢false h)
-or_none false y h = (refl, h)
-
-pub or_off : (x y : Bool) → x ≡ false → y ≡ false → (x || y) ≡ false
-or_off true y h k = absurd (true≢false h)
-or_off false y h k = k
 
 pub not_true : {x : Bool} → not x ≡ true → x ≡ false
 not_true {x = true} h = absurd (true≢false (sym h))
@@ -85,16 +43,7 @@ same_test true y f g = sym (f refl)
 same_test false true f g = g refl
 same_test false false f g = refl
 
-pub some_is : {A : Type 0} {x y : A} → Some x ≡ Some y → x ≡ y
-some_is h = cc
-
-pub none_some : {A : Type 0} {x : A} {P : Type 0} → None ≡ Some x → P
-none_some h = absurd (cc)
-
 -- ---- members
-
-pub none_in : {X : Type 0} {x : X} {P : Type 0} → Contains [] x → P
-none_in c = absurd (omega (arith, c.1))
 
 pub filter_in : {X : Type 0} (p : X → Bool) (xs : List X) (x : X) → Contains (filter p xs) x → Contains xs x × (p x ≡ true)
 filter_in p [] x c = none_in c
@@ -114,22 +63,6 @@ in_filter {X} p (y ∷ ys) x c h = go (λ k. in_filter p ys x k h) (p y) refl (c
     go ih false e (inl q) = clash (subst {A = X} (λ z. p z ≡ true) (sym q) h) e
     go ih false e (inr k) = ih k
 
-pub map_in : {X Y : Type 0} (f : X → Y) (xs : List X) (y : Y) → Contains (map f xs) y → (x : X) × Contains xs x × (f x ≡ y)
-map_in f [] y c = none_in c
-map_in f (x ∷ xs) y c = ⊎_elim (λ e. (x, contains_first x xs, e)) (λ d. let r = map_in f xs y d in (r.0, contains_behind x xs r.0 r.1, r.2)) (contains_cases (f x) (map f xs) y c)
-
-pub in_map : {X Y : Type 0} (f : X → Y) (xs : List X) (x : X) → Contains xs x → Contains (map f xs) (f x)
-in_map f [] x c = none_in c
-in_map {X} f (y ∷ ys) x c = ⊎_elim (λ e. subst {A = X} (λ z. Contains (f y ∷ map f ys) (f z)) e (contains_first (f y) (map f ys))) (λ d. contains_behind (f y) (map f ys) (f x) (in_map f ys x d)) (contains_cases y ys x c)
-
-pub flat_map_in : {X Y : Type 0} (f : X → List Y) (xs : List X) (y : Y) → Contains (flat_map f xs) y → (x : X) × Contains xs x × Contains (f x) y
-flat_map_in f [] y c = none_in c
-flat_map_in f (x ∷ xs) y c = ⊎_elim (λ e. (x, contains_first x xs, e)) (λ d. let r = flat_map_in f xs y d in (r.0, contains_behind x xs r.0 r.1, r.2)) (Contains-append_cases (f x) (flat_map f xs) y c)
-
-pub in_flat_map : {X Y : Type 0} (f : X → List Y) (xs : List X) (x : X) (y : Y) → Contains xs x → Contains (f x) y → Contains (flat_map f xs) y
-in_flat_map f [] x y c d = none_in c
-in_flat_map {X} f (z ∷ zs) x y c d = ⊎_elim (λ e. Contains-append_left (f z) (flat_map f zs) y (subst {A = X} (λ w. Contains (f w) y) (sym e) d)) (λ k. Contains-append_right (f z) (flat_map f zs) y (in_flat_map f zs x y k d)) (contains_cases z zs x c)
-
 pub filter_map_in : {X Y : Type 0} (f : X → Option Y) (xs : List X) (y : Y) → Contains (filter_map f xs) y → (x : X) × Contains xs x × (f x ≡ Some y)
 filter_map_in f [] y c = none_in c
 filter_map_in {X} {Y} f (x ∷ xs) y c = go (λ d. let r = filter_map_in f xs y d in (r.0, contains_behind x xs r.0 r.1, r.2)) (f x) refl c
@@ -147,15 +80,6 @@ in_filter_map {X} {Y} f (z ∷ zs) x y c h = go (λ k. in_filter_map f zs x y k 
     go ih None e (inr k) = ih k
     go ih (Some w) e (inl q) = subst {A = Y} (Contains (w ∷ filter_map f zs)) (some_is (sym e ∙ ap f q ∙ h)) (contains_first w (filter_map f zs))
     go ih (Some w) e (inr k) = contains_behind w (filter_map f zs) y (ih k)
-
--- where no element passes the test, none is kept
-pub all_left_out : {A : Type 0} (f : A → Bool) (xs : List A) → ((x : A) → Contains xs x → f x ≡ false) → filter f xs ≡ []
-all_left_out f [] h = refl
-all_left_out {A} f (x ∷ xs) h = go (f x) (h x (contains_first x xs)) (all_left_out f xs (λ y i. h y (contains_behind x xs y i)))
-  where
-    go : (y : Bool) → y ≡ false → filter f xs ≡ [] → cond y (x ∷ filter f xs) (filter f xs) ≡ []
-    go true e k = clash refl e
-    go false e k = k
 
 pub find_in : {X : Type 0} (p : X → Bool) (xs : List X) (x : X) → find p xs ≡ Some x → Contains xs x × (p x ≡ true)
 find_in p [] x h = none_some h
@@ -176,7 +100,7 @@ find_none {X} p (y ∷ ys) h x c = go (λ k d. find_none p ys k x d) (p y) refl 
 
 pub any_in : {X : Type 0} (p : X → Bool) (xs : List X) → list_any p xs ≡ true → (x : X) × Contains xs x × (p x ≡ true)
 any_in p [] h = clash h refl
-any_in p (y ∷ ys) h = ⊎_elim (λ e. (y, contains_first y ys, e)) (λ k. let r = any_in p ys k in (r.0, contains_behind y ys r.0 r.1, r.2)) (or_one (p y) (list_any p ys) h)
+any_in p (y ∷ ys) h = ⊎_elim (λ e. (y, contains_first y ys, e)) (λ k. let r = any_in p ys k in (r.0, contains_behind y ys r.0 r.1, r.2)) (or_cases (p y) (list_any p ys) h)
 
 pub in_any : {X : Type 0} (p : X → Bool) (xs : List X) (x : X) → Contains xs x → p x ≡ true → list_any p xs ≡ true
 in_any p [] x c h = none_in c
@@ -190,11 +114,11 @@ none_any p xs h = false_unless (list_any p xs) (λ e. let r = any_in p xs e in c
 
 pub all_of : {X : Type 0} (p : X → Bool) (xs : List X) → ((x : X) → Contains xs x → p x ≡ true) → list_all p xs ≡ true
 all_of p [] h = refl
-all_of p (y ∷ ys) h = and_both (p y) (list_all p ys) (h y (contains_first y ys)) (all_of p ys (λ x c. h x (contains_behind y ys x c)))
+all_of p (y ∷ ys) h = and_from (p y) (list_all p ys) (h y (contains_first y ys)) (all_of p ys (λ x c. h x (contains_behind y ys x c)))
 
 pub of_all : {X : Type 0} (p : X → Bool) (xs : List X) → list_all p xs ≡ true → (x : X) → Contains xs x → p x ≡ true
 of_all p [] h x c = none_in c
-of_all {X} p (y ∷ ys) h x c = ⊎_elim (λ e. subst {A = X} (λ z. p z ≡ true) e (and_left (p y) (list_all p ys) h)) (λ k. of_all p ys (and_right (p y) (list_all p ys) h) x k) (contains_cases y ys x c)
+of_all {X} p (y ∷ ys) h x c = ⊎_elim (λ e. subst {A = X} (λ z. p z ≡ true) e (and_gives_left (p y) (list_all p ys) h)) (λ k. of_all p ys (and_gives_right (p y) (list_all p ys) h) x k) (contains_cases y ys x c)
 
 -- ---- numbers in a row
 

@@ -6,7 +6,8 @@ use Rattle.std.proofs.lemmas.Bool.{leb-false}
 use Rattle.std.proofs.lemmas.List.Kept.{AllPairs-filter}
 use Rattle.std.proofs.lemmas.List.Quantifiers.{all_pairs_push}
 use Rattle.std.proofs.lemmas.List.Elements.{Contains-get_or, Contains-append_cases}
-use Rattle.kb_term.proofs.Steps.{contains_cases}
+use Rattle.kb_lemmas.proofs.Membership.{contains_cases, none_in}
+use Rattle.kb_lemmas.proofs.Options.{none_some}
 use Rattle.kb_term.specs.Signature.{Problem}
 use Rattle.kb_label.specs.Names.{Name, has, relabel}
 use Rattle.kb_label.specs.Forks.{IsForked, at_first, at_fork}
@@ -25,7 +26,7 @@ use Rattle.mkb_model.specs.declared.proposed.Proposed.TheVariants.{Facts, Rewrit
 use Rattle.mkb_model.specs.declared.entry.Ticket.{Ticket}
 use Rattle.mkb_model.specs.declared.entry.Entry.{Entry}
 use Rattle.mkb_model.specs.declared.entry.Entry.TheVariants.{Take, Commit, Drop, Abandon, Halt}
-use Rattle.mkb_model.proofs.Lists.{none_in, filter_in, none_some, equal_or_more}
+use Rattle.mkb_model.proofs.Lists.{filter_in, equal_or_more}
 use Rattle.mkb_model.proofs.Flights.{effect_flight}
 use Rattle.mkb_model.proofs.Meanings.{budget_left}
 use Rattle.mkb_model.specs.declared.settings.Settings.{Settings}

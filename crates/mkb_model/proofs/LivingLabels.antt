@@ -3,7 +3,7 @@ use Rattle.std.proofs.Common.{ℕ, ◌+◌, ◌≡◌, refl, sym, ap, ◌∙◌,
 use Rattle.std.specs.Prelude.{⊤, IsFalse}
 use Rattle.std.specs.Option.{option_map_or}
 use Rattle.std.proofs.lemmas.Option.{slice_get-get_or}
-use Rattle.kb_term.proofs.Steps.{contains_cases, contains_behind, contains_first}
+use Rattle.kb_lemmas.proofs.Membership.{contains_cases, contains_behind, contains_first, none_in, contains_mapped}
 use Rattle.kb_term.specs.Tree.{Tree}
 use Rattle.kb_term.specs.View.{tree_of}
 use Rattle.kb_term.specs.Pair.{Pair, canonical_pair}
@@ -29,7 +29,6 @@ use Rattle.mkb_model.specs.declared.proposed.Proposed.TheVariants.{Facts, Rewrit
 use Rattle.mkb_model.specs.declared.entry.Ticket.{Ticket}
 use Rattle.mkb_model.specs.declared.entry.Entry.{Entry}
 use Rattle.mkb_model.specs.declared.entry.Entry.TheVariants.{Take, Commit, Drop, Abandon, Halt}
-use Rattle.mkb_model.proofs.Lists.{none_in, map_in}
 use Rattle.mkb_model.proofs.Labels.{IsLabelOf, AreLabels, label-none, label-one, label-filter, label-join, label-add, label-relabel, child_lives, labels-gains, labels-gains_equation, labels-with_node, labels-oriented, labels-added, labels-rewritten, labels-fork}
 use Rattle.mkb_model.proofs.Commits.{orients}
 use Rattle.mkb_model.proofs.Sleepers.{label_settled}
@@ -123,7 +122,7 @@ labelled_over b r l h k = record {
   nodes = h.nodes;
   done = h.done;
   closed = h.closed;
-  over = λ g i. let m = map_in (λ (g : GivenUp). cond (reason_eq g.reason r) (record g { names = join g.names (not_over b l) }) g) b.over g i in
+  over = λ g i. let m = contains_mapped (λ (g : GivenUp). cond (reason_eq g.reason r) (record g { names = join g.names (not_over b l) }) g) b.over g i in
       subst {A = GivenUp} (λ z. IsLabelOf b.living z.names) m.2 (go m.0 (reason_eq m.0.reason r) (h.over m.0 m.1));
   asleep = h.asleep;
 }
@@ -144,9 +143,9 @@ labelled_applied b (Both p n c0 c1) acts l h = record {
   alive = (label-relabel p b.living b.living (record { ordered = h.alive; lives = λ q k. k })).ordered;
   nodes = labels-oriented (relabel p b.living) (child p true) (record { node = n.0; dir = 1 }) (oriented (child p false) (record { node = n.0; dir = 0 }) (map (forked_node p) b.nodes)) (child_lives p true b.living lives)
       (labels-oriented (relabel p b.living) (child p false) (record { node = n.0; dir = 0 }) (map (forked_node p) b.nodes) (child_lives p false b.living lives) (labels-fork p b.living b.nodes h.nodes));
-  done = λ d i. let m = map_in (λ (d : Done). record d { names = relabel p d.names }) b.done d i in subst {A = Done} (λ z. IsLabelOf (relabel p b.living) z.names) m.2 (label-relabel p b.living m.0.names (h.done m.0 m.1));
+  done = λ d i. let m = contains_mapped (λ (d : Done). record d { names = relabel p d.names }) b.done d i in subst {A = Done} (λ z. IsLabelOf (relabel p b.living) z.names) m.2 (label-relabel p b.living m.0.names (h.done m.0 m.1));
   closed = label-relabel p b.living b.closed h.closed;
-  over = λ g i. let m = map_in (λ (g : GivenUp). record g { names = relabel p g.names }) b.over g i in subst {A = GivenUp} (λ z. IsLabelOf (relabel p b.living) z.names) m.2 (label-relabel p b.living m.0.names (h.over m.0 m.1));
+  over = λ g i. let m = contains_mapped (λ (g : GivenUp). record g { names = relabel p g.names }) b.over g i in subst {A = GivenUp} (λ z. IsLabelOf (relabel p b.living) z.names) m.2 (label-relabel p b.living m.0.names (h.over m.0 m.1));
   asleep = label-relabel p b.living b.asleep h.asleep;
 }
   where
@@ -186,7 +185,7 @@ labelled_opening P n = record {
   nodes = labelled_inputs 1 P.equations [] (λ m j. label-none (root ∷ []));
   done = λ d i. none_in i;
   closed = label-none (root ∷ []);
-  over = λ g i. let m = map_in {Y = GivenUp} (λ r. record { reason = r; names = [] }) (Nodes ∷ Processes ∷ Size ∷ Depth ∷ Variables ∷ Steps ∷ []) g i in subst {A = GivenUp} (λ z. IsLabelOf (root ∷ []) z.names) m.2 (label-none (root ∷ []));
+  over = λ g i. let m = contains_mapped {Y = GivenUp} (λ r. record { reason = r; names = [] }) (Nodes ∷ Processes ∷ Size ∷ Depth ∷ Variables ∷ Steps ∷ []) g i in subst {A = GivenUp} (λ z. IsLabelOf (root ∷ []) z.names) m.2 (label-none (root ∷ []));
   asleep = label-none (root ∷ []);
 }
 

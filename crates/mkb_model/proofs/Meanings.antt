@@ -2,9 +2,11 @@
 use Rattle.std.proofs.Common.{ℕ, ◌≡◌, ◌≢◌, inl, inr, refl, sym, subst, arith, eqb→eq, List, [], ◌∷◌, ◌++◌, map, flat_map, length, Contains, Bool, true, false, cond, not, ◌&&◌, ◌||◌, ◌==◌, Option, Some, None, ⊎_elim}
 use Rattle.std.specs.Prelude.{T, option_map, option_and_then}
 use Rattle.std.specs.List.{find, list_any, list_all}
-use Rattle.std.proofs.lemmas.Bool.{eq-eqb}
+use Rattle.std.proofs.lemmas.Bool.{eq-eqb, and_from, and_cases, or_cases, or_left}
 use Rattle.std.proofs.lemmas.List.Elements.{Contains-append_left, Contains-append_right}
-use Rattle.kb_term.proofs.Steps.{contains_first}
+use Rattle.kb_lemmas.proofs.Membership.{contains_first, none_in, contains_map}
+use Rattle.kb_lemmas.proofs.Booleans.{and_gives_left, and_gives_right}
+use Rattle.kb_lemmas.proofs.Options.{some_is, none_some}
 use Rattle.kb_term.specs.declared.origin.RuleRef.{RuleRef}
 use Rattle.kb_label.specs.Names.{Name, has}
 use Rattle.kb_label.specs.declared.verdict.Reason.{Reason}
@@ -19,7 +21,7 @@ use Rattle.mkb_model.specs.DueJobs.{is_due, is_work_due, is_close_due, is_workin
 use Rattle.mkb_model.specs.Effects.{first_some, some_if}
 use Rattle.mkb_model.specs.Verdicts.{verdict, is_complete, first_over, HasFailed, HaveGivenUp, VerdictMeans}
 use Rattle.mkb_model.specs.Sleeping.{is_failed, no_members}
-use Rattle.mkb_model.proofs.Lists.{clash, false_unless, and_left, and_right, and_both, and_false, or_one, or_left, not_true, not_false, not_of_false, some_is, none_some, none_in, in_filter, in_map, find_in, none_any, of_all, in_numbers}
+use Rattle.mkb_model.proofs.Lists.{clash, false_unless, not_true, not_false, not_of_false, in_filter, find_in, none_any, of_all, in_numbers}
 use Rattle.mkb_model.proofs.Roles.{on_there}
 use Rattle.mkb_model.proofs.Endings.{has_in, in_has, nones, no_members_is, work_is_own}
 
@@ -27,16 +29,16 @@ use Rattle.mkb_model.proofs.Endings.{has_in, in_has, nones, no_members_is, work_
 
 module _ (b : Plain) (p : Name) (lives : has b.living p ≡ true) (failed : is_failed b p ≡ true) where
   not_over : is_over b p ≡ false
-  not_over = not_true (and_left (not (is_over b p)) (not (no_members (equations_of b p)) && no_members (due_jobs_of b p)) failed)
+  not_over = not_true (and_gives_left (not (is_over b p)) (not (no_members (equations_of b p)) && no_members (due_jobs_of b p)) failed)
 
   rest : (not (no_members (equations_of b p)) && no_members (due_jobs_of b p)) ≡ true
-  rest = and_right (not (is_over b p)) (not (no_members (equations_of b p)) && no_members (due_jobs_of b p)) failed
+  rest = and_gives_right (not (is_over b p)) (not (no_members (equations_of b p)) && no_members (due_jobs_of b p)) failed
 
   no_job : due_jobs_of b p ≡ []
-  no_job = no_members_is (due_jobs_of b p) (and_right (not (no_members (equations_of b p))) (no_members (due_jobs_of b p)) rest)
+  no_job = no_members_is (due_jobs_of b p) (and_gives_right (not (no_members (equations_of b p))) (no_members (due_jobs_of b p)) rest)
 
   working : is_working b p ≡ true
-  working = and_both (has b.living p) (not (is_over b p)) lives (not_of_false not_over)
+  working = and_from (has b.living p) (not (is_over b p)) lives (not_of_false not_over)
 
   none_due : (j : Job) → Contains (work_of b p ++ Close p ∷ []) j → is_due b j ≡ false
   none_due j c = false_unless (is_due b j) (λ h. none_in (subst {A = List Job} (λ js. Contains js j) no_job (in_filter (is_due b) (work_of b p ++ Close p ∷ []) j c h)))
@@ -57,22 +59,22 @@ module _ (b : Plain) (p : Name) (lives : has b.living p ≡ true) (failed : is_f
   overlaps = flat_map (λ (a : RuleRef). map (Overlap p a) (rules_of b p)) (rules_of b p)
 
   refused : (n : ℕ) → is_equation b p n ≡ true → has (label b n X) p ≡ true
-  refused n e = ⊎_elim (λ h. clash e h) (λ h. not_false h) (and_false (is_equation b p n) (not (has (label b n X) p))
-      (no_work (Orient p (record { 0 = n })) (Contains-append_right reduces (orients ++ overlaps) (Orient p (record { 0 = n })) (Contains-append_left orients overlaps (Orient p (record { 0 = n })) (in_map (λ n. Orient p (record { 0 = n })) (node_numbers b) n (there n e))))))
+  refused n e = ⊎_elim (λ h. clash e h) (λ h. not_false h) (and_cases (is_equation b p n) (not (has (label b n X) p))
+      (no_work (Orient p (record { 0 = n })) (Contains-append_right reduces (orients ++ overlaps) (Orient p (record { 0 = n })) (Contains-append_left orients overlaps (Orient p (record { 0 = n })) (contains_map (λ n. Orient p (record { 0 = n })) (node_numbers b) n (there n e))))))
 
   irreducible : (n : ℕ) → is_equation b p n ≡ true → is_reducible b p n ≡ false
-  irreducible n e = ⊎_elim (λ h. clash (or_left (is_equation b p n) (is_rule b p (record { node = n; dir = 0 }) || is_rule b p (record { node = n; dir = 1 })) e) h) (λ h. h) (and_false (is_node_of b p n) (is_reducible b p n)
-      (no_work (Reduce p (record { 0 = n })) (Contains-append_left reduces (orients ++ overlaps) (Reduce p (record { 0 = n })) (in_map (λ n. Reduce p (record { 0 = n })) (node_numbers b) n (there n e)))))
+  irreducible n e = ⊎_elim (λ h. clash (or_left (is_equation b p n) (is_rule b p (record { node = n; dir = 0 }) || is_rule b p (record { node = n; dir = 1 })) e) h) (λ h. h) (and_cases (is_node_of b p n) (is_reducible b p n)
+      (no_work (Reduce p (record { 0 = n })) (Contains-append_left reduces (orients ++ overlaps) (Reduce p (record { 0 = n })) (contains_map (λ n. Reduce p (record { 0 = n })) (node_numbers b) n (there n e)))))
 
   closed : has b.closed p ≡ true
-  closed = ⊎_elim (λ h. clash working h) (λ h. ⊎_elim (λ k. clash (not_of_false (none_any (is_work_due b) (work_of b p) no_work)) k) (λ k. not_false k) (and_false (not (list_any (is_work_due b) (work_of b p))) (not (has b.closed p)) h))
-      (and_false (is_working b p) (is_close_due b p) (none_due (Close p) (Contains-append_right (work_of b p) (Close p ∷ []) (Close p) (contains_first (Close p) []))))
+  closed = ⊎_elim (λ h. clash working h) (λ h. ⊎_elim (λ k. clash (not_of_false (none_any (is_work_due b) (work_of b p) no_work)) k) (λ k. not_false k) (and_cases (not (list_any (is_work_due b) (work_of b p))) (not (has b.closed p)) h))
+      (and_cases (is_working b p) (is_close_due b p) (none_due (Close p) (Contains-append_right (work_of b p) (Close p ∷ []) (Close p) (contains_first (Close p) []))))
 
   -- a failed process that lives is closed, and its equations are refused and have no redex
   pub has_failed : HasFailed b p
   has_failed = record {
     not_over = not_over;
-    some_equation = λ e. clash (subst {A = List ℕ} (λ ns. no_members ns ≡ true) (sym e) refl) (not_true (and_left (not (no_members (equations_of b p))) (no_members (due_jobs_of b p)) rest));
+    some_equation = λ e. clash (subst {A = List ℕ} (λ ns. no_members ns ≡ true) (sym e) refl) (not_true (and_gives_left (not (no_members (equations_of b p))) (no_members (due_jobs_of b p)) rest));
     no_job = no_job;
     closed = closed;
     refused = refused;
@@ -104,7 +106,7 @@ verdict_means b v h = go v (comes_of (find (is_complete b) b.living) (list_all (
     over : (r : Reason) (o : Option Name) → first_over b ≡ o → option_and_then (over_reason b) o ≡ Some r → list_all (λ p. is_failed b p || is_over b p) b.living ≡ true → HaveGivenUp b r
     over r None e k all = none_some k
     over r (Some q) e k all = record {
-      each = λ p lives. ⊎_elim (λ i. inl (has_failed b p lives i)) (λ i. inr i) (or_one (is_failed b p) (is_over b p) (of_all (λ p. is_failed b p || is_over b p) b.living all p (in_has b.living p lives)));
+      each = λ p lives. ⊎_elim (λ i. inl (has_failed b p lives i)) (λ i. inr i) (or_cases (is_failed b p) (is_over b p) (of_all (λ p. is_failed b p || is_over b p) b.living all p (in_has b.living p lives)));
       some = q;
       lives = has_in b.living q (find_in (is_over b) b.living q e).0;
       reason = k;
@@ -113,7 +115,7 @@ verdict_means b v h = go v (comes_of (find (is_complete b) b.living) (list_all (
     go : (v : Verdict) → ComesOf (find (is_complete b) b.living) (list_all (is_failed b) b.living) (b.commits == b.settings.budget) (list_all (λ p. is_failed b p || is_over b p) b.living) (option_and_then (over_reason b) (first_over b)) v → VerdictMeans b v
     go (Complete p) c =
         let f = find_in (is_complete b) b.living p c in
-        record { lives = has_in b.living p f.0; closed = and_right (no_members (equations_of b p)) (has b.closed p) f.1; no_equation = no_members_is (equations_of b p) (and_left (no_members (equations_of b p)) (has b.closed p) f.1) }
+        record { lives = has_in b.living p f.0; closed = and_gives_right (no_members (equations_of b p)) (has b.closed p) f.1; no_equation = no_members_is (equations_of b p) (and_gives_left (no_members (equations_of b p)) (has b.closed p) f.1) }
     go AllFailed c = λ p lives. has_failed b p lives (of_all (is_failed b) b.living c p (in_has b.living p lives))
     go (IsSpent Commits) c = eqb→eq b.commits b.settings.budget (subst {A = Bool} T (sym c) tt)
     go (IsSpent (Over r)) c = over r (first_over b) refl c.1 c.0

@@ -1,5 +1,6 @@
 -- Steps of completion from what a list loses member by member: sameness can be decided, so a list without a member can be made.
 use Rattle.std.proofs.Common.{ℕ, ◌≡◌, ◌⊎◌, ◌↔◌, inl, inr, refl, sym, ap, ap₂, ◌∙◌, subst, arith, List, [], ◌∷◌, Contains, ⊎_elim}
+use Rattle.kb_lemmas.proofs.Membership.{contains_cases, contains_behind, contains_first}
 use Rattle.kb_term.specs.Tree.{Tree}
 use Rattle.kb_term.specs.Substitution.{IsVariant}
 use Rattle.kb_term.specs.Rule.{Rule, rule_between, IsVariantRule}
@@ -9,7 +10,6 @@ use Rattle.kb_term.specs.Proving.{Step, RewritesAt}
 use Rattle.kb_cert.specs.Family.{IsOrderable}
 use Rattle.kb_laws.specs.Completion.{KbState, KbStep, Has, Keeps, Gains, GainsEquation, KeepsEquations, KeepsRules, KeepsConstraints, GainsRule, GainsConstraint}
 use Rattle.kb_laws.specs.Completion as Completion
-use Rattle.kb_term.proofs.Steps.{contains_cases, contains_behind, contains_first}
 use Rattle.kb_term.proofs.Instances.{trees_decide}
 use Rattle.kb_term.proofs.Variants.{numbered_from_variants, variants_from_numbered}
 use Rattle.kb_term.proofs.CanonicalPairs.{canonical_from_same, same_from_canonical}

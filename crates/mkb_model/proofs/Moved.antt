@@ -1,5 +1,6 @@
 -- A rewriting changes a label: its pair goes to another node, since rules that halt rewrite no side to a variant of itself.
 use Rattle.std.proofs.Common.{ℕ, ◌≡◌, ◌≢◌, inl, inr, refl, sym, ap, ◌∙◌, subst, List, true, Option, Some, None, ⊎_elim}
+use Rattle.kb_lemmas.proofs.Options.{some_is}
 use Rattle.kb_term.specs.Tree.{Tree, variable}
 use Rattle.kb_term.specs.Substitution.{instance, rename}
 use Rattle.kb_term.specs.Pair.{Pair, canonical_pair, IsSameEquation}
@@ -22,7 +23,6 @@ use Rattle.mkb_model.specs.Plain.{Plain, PlainNode, label_at, rule_kind, other, 
 use Rattle.mkb_model.specs.Effects.{with_node, node_of, gains_equation, gains_rule, direction, if_strict, rewritten}
 use Rattle.mkb_model.specs.Limits.{AreLimited}
 use Rattle.mkb_model.specs.Ready.{IsOn, OneRole, IsRewriteOn}
-use Rattle.mkb_model.proofs.Lists.{some_is}
 use Rattle.mkb_model.proofs.Roles.{on-gains_equation, on-gains_rule, keeps-with_node}
 use Rattle.mkb_model.proofs.Pairs.{pairs-with_node, node-with_node}
 use Rattle.mkb_model.proofs.Views.{same_trans, rule_listed}

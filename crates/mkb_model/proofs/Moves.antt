@@ -1,7 +1,8 @@
 -- Steps of completion between states that differ in few equations and rules.
 use Rattle.std.proofs.Common.{ℕ, ◌≡◌, ◌⊎◌, ◌↔◌, inl, inr, refl, sym, ap, subst, arith, List, [], ◌∷◌, ◌++◌, Some, ⊎_elim, Contains}
 use Rattle.std.proofs.lemmas.List.Elements.{Contains-append_cases, Contains-append_left, Contains-append_right}
-use Rattle.kb_term.proofs.Steps.{contains_cases, contains_first}
+use Rattle.kb_laws.proofs.CompletionLaws.{same_equation_itself}
+use Rattle.kb_lemmas.proofs.Membership.{contains_cases, contains_first}
 use Rattle.kb_term.specs.Tree.{Tree, variable}
 use Rattle.kb_term.specs.Signature.{Signature, IsWellFormed}
 use Rattle.kb_term.specs.Substitution.{IsVariant}
@@ -10,7 +11,7 @@ use Rattle.kb_term.specs.Proving.{Step, IsPath, RewritesAt}
 use Rattle.kb_laws.specs.Completion.{KbState, KbStep, deduce, IsSameState, Has, Keeps, KbReaches}
 use Rattle.mkb_model.proofs.MemberSteps.{delete, simplify, compose, collapse, Loses, Replaces}
 use Rattle.kb_term.specs.Pair.{IsSameEquation}
-use Rattle.mkb_model.proofs.Views.{same_itself, same_sym, same_trans, same_turned}
+use Rattle.mkb_model.proofs.Views.{same_sym, same_trans, same_turned}
 
 -- steps from one state to another
 abbrev pub Steps : Signature → KbState → KbState → Type 0
@@ -84,7 +85,7 @@ module _ (g : Signature) (b : KbState) (lean : IsLean b) where
   -- the trivial equation of u is deleted
   deleted : (u : Tree) → KbStep g (with_equation b (u, u)) b
   deleted u = delete u (
-    ((has_more b.equations (u, u) (u, u)).1 (inr (same_itself (u, u)))),
+    ((has_more b.equations (u, u) (u, u)).1 (inr (same_equation_itself (u, u)))),
     λ y. ((λ h. ⊎_elim (λ k. k) (λ k. absurd (h.1 k)) ((has_more b.equations (u, u) y).0 h.0)), λ h. ((has_more b.equations (u, u) y).1 (inl h), λ s. lean u (has_same b.equations y (u, u) h (same_sym (u, u) y s)))),
   )
       (λ y. ((λ h. h), λ h. h)) (λ y. ((λ h. h), λ h. h))
@@ -110,7 +111,7 @@ module _ (g : Signature) (b : KbState) (lean : IsLean b) where
       let k : KbStep g a (with_equation b (s, t)) = first (with_equation b (s, t)) (λ y. has_more b.equations (s, t) y) refl refl in
       step_more g a (with_equation b (s, t)) b k (one_step g (with_equation b (s, t)) b (subst {A = Tree} (λ z. KbStep g (with_equation b (s, z)) b) h (deleted s)))
   settled a (s, t) (inr (inr (new, inl r))) first =
-      step_more g a (with_equation b (s, t)) b (first (with_equation b (s, t)) (λ y. has_more b.equations (s, t) y) refl refl) (absorbed s t (s, t) (same_itself (s, t)) new r)
+      step_more g a (with_equation b (s, t)) b (first (with_equation b (s, t)) (λ y. has_more b.equations (s, t) y) refl refl) (absorbed s t (s, t) (same_equation_itself (s, t)) new r)
   settled a (s, t) (inr (inr (new, inr r))) first =
       step_more g a (with_equation b (s, t)) b (first (with_equation b (s, t)) (λ y. has_more b.equations (s, t) y) refl refl) (absorbed t s (s, t) (same_turned s t) new r)
 

@@ -2,7 +2,10 @@
 use Rattle.std.proofs.Common.{ℕ, ◌≡◌, refl, sym, ap, ◌∙◌, subst, List, [], ◌∷◌, ◌++◌, Contains, false, Some}
 use Rattle.std.specs.Prelude.{slice_get}
 use Rattle.std.proofs.lemmas.Option.{slice_get-get_or}
-use Rattle.kb_term.proofs.Steps.{contains_first, occurs_from, occurs_to}
+use Rattle.kb_lemmas.proofs.Membership.{contains_first, contains_map, slice_contains}
+use Rattle.kb_lemmas.proofs.Options.{some_is}
+use Rattle.kb_lemmas.proofs.Lists.{get_map_back}
+use Rattle.kb_term.proofs.Steps.{occurs_from, occurs_to}
 use Rattle.kb_term.specs.Tree.{Tree, variable, apply}
 use Rattle.kb_term.specs.Position.{positions_of}
 use Rattle.kb_term.specs.Substitution.{instance}
@@ -13,8 +16,7 @@ use Rattle.kb_rewrite.specs.NormalForm.{IsNormal, IsRedex, Encompasses, Strategy
 use Rattle.kb_rewrite.proofs.Irreducible.{step_from}
 use Rattle.kb_rewrite.proofs.Determined.{answers_once}
 use Rattle.mkb_model.specs.Proposals.{NamedRule, as_rules, HasForm}
-use Rattle.mkb_model.proofs.Lists.{clash, in_map, some_is}
-use Rattle.mkb_model.proofs.Completed.{slice_map, slice_in}
+use Rattle.mkb_model.proofs.Lists.{clash}
 use Rattle.mkb_model.proofs.Endless.{step_instance}
 
 -- two substitutions that agree on a term agree on each term with no other variables
@@ -74,7 +76,7 @@ pub first_step : (rs : List NamedRule) (x : NamedRule) → Contains rs x → (m 
 first_step rs x i m s u e h = go h.1.0 h.1.1.0
   where
     in_rules : Contains (as_rules rs) x.rule
-    in_rules = in_map (λ (r : NamedRule). r.rule) rs x i
+    in_rules = contains_map (λ (r : NamedRule). r.rule) rs x i
 
     redex : IsRedex (as_rules rs) false s [] in_rules.0
     redex = record { rule = x.rule; there = slice_there (as_rules rs) x.rule in_rules; matches = (s, refl, (m, e)); strict = λ k. clash k refl }
@@ -85,11 +87,11 @@ first_step rs x i m s u e h = go h.1.0 h.1.1.0
     go : (path : List Tree) → IsPath (StrategyStep (as_rules rs)) path s u → FirstStep rs s u
     go [] q = absurd (h.1.4 (instance m x.rule.right) (x.rule, in_rules, [], (m, record { redex = ap Some (sym q ∙ sym e); result = refl })))
     go (t ∷ path) (k, rest) =
-        let named = slice_map (λ (r : NamedRule). r.rule) rs k.1 k.2.redex.rule k.2.redex.there in
+        let named = get_map_back (λ (r : NamedRule). r.rule) rs k.1 k.2.redex.rule k.2.redex.there in
         let r = made k.0 k.2.redex.rule t (root_step (as_rules rs) s t in_rules.0 redex k) k.3 in
         record {
           by = named.0;
-          listed = slice_in rs k.1 named.0 named.1;
+          listed = slice_contains rs k.1 named.0 named.1;
           m = r.0;
           matches = ap (λ (z : Rule). instance r.0 z.left) named.2 ∙ r.1;
           path = path;

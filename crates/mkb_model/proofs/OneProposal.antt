@@ -16,9 +16,12 @@ use Rattle.kb_term.specs.declared.origin.RuleRef.{RuleRef}
 use Rattle.kb_term.specs.declared.origin.Found.{Found}
 use Rattle.kb_term.specs.declared.origin.Found.TheVariants.{No, Variant, Strict}
 use Rattle.std.specs.Ordering.{ordering_then}
-use Rattle.kb_term.proofs.CanonicalPairs.{nat_equal, then_equal}
+use Rattle.kb_lemmas.proofs.Booleans.{then_equal}
+use Rattle.kb_lemmas.proofs.Membership.{contains_behind, contains_first, contains_map, contains_mapped}
+use Rattle.kb_lemmas.proofs.Options.{none_some, some_is}
+use Rattle.kb_term.proofs.CanonicalPairs.{nat_equal}
 use Rattle.kb_term.proofs.Instances.{instance-agree, agree_at}
-use Rattle.kb_term.proofs.Steps.{contains_behind, contains_first, occurs_from, occurs_to}
+use Rattle.kb_term.proofs.Steps.{occurs_from, occurs_to}
 use Rattle.kb_overlap.specs.Trace.{side}
 use Rattle.kb_cert.specs.Family.{Orders}
 use Rattle.kb_cert.specs.declared.certificate.Certificate.{Certificate}
@@ -37,7 +40,7 @@ use Rattle.mkb_model.specs.DueJobs.{reducers, is_usable}
 use Rattle.mkb_model.specs.Proposals.{Proposes, NamedRule, named_rules, as_rules, rules_on, equations_on, redex_cmp, IsFirstRedex, IsIrreducible, AreMissingFacts, unknown, NamedOverlap, both_ways, all_ways, OrientsBy, reason_of, own_limit, FirstThat, HaveForms, PassesFirst, IsFormed, IsJoined, IsUnjoined, IsStopped, IsUnjoining, IsClosed, IsOverlapStop, IsInputStop, IsDeducing, IsLargeOverlap, AllOverlaps, Picks}
 use Rattle.mkb_model.specs.declared.proposed.Proposed.{Proposed}
 use Rattle.mkb_model.specs.declared.proposed.Proposed.TheVariants.{Facts, Rewrite, One, Both, Refuse, Deduce, Unjoined, Closed, Limit}
-use Rattle.mkb_model.proofs.Lists.{none_some, some_is, filter_in, in_map, map_in, in_filter_map}
+use Rattle.mkb_model.proofs.Lists.{filter_in, in_filter_map}
 use Rattle.mkb_model.proofs.Readiness.{named_rule}
 use Rattle.mkb_model.proofs.Completed.{named_are}
 use Rattle.mkb_model.proofs.Unique.{neither, redex_flip}
@@ -145,7 +148,7 @@ first_redex_one b refs pair usable w v at pos a c k l t u held f g = record { si
     rewrites = subst {A = Rule} (λ z. RewritesAt z at (side pair w) u) (sym rule) (subst {A = List ℕ} (λ z. RewritesAt g.is_redex.rule z (side pair w) u) (sym e.1) (subst {A = ℕ} (λ z. RewritesAt g.is_redex.rule pos (side pair z) u) (sym e.0) g.is_redex.rewrites))
 
     among : Contains (as_rules (named_rules b refs)) f.is_redex.rule
-    among = in_map (λ (r : NamedRule). r.rule) (named_rules b refs) (record { ref = a; rule = f.is_redex.rule }) f.is_redex.listed
+    among = contains_map (λ (r : NamedRule). r.rule) (named_rules b refs) (record { ref = a; rule = f.is_redex.rule }) f.is_redex.listed
 
 lists_one : {A K : Type 0} (key : A → K) (xs ys : List A) → map key xs ≡ map key ys → ((x y : A) → Contains xs x → Contains ys y → key x ≡ key y → x ≡ y) → xs ≡ ys
 lists_one key [] [] h same = refl
@@ -199,7 +202,7 @@ one_node b n x y h k = some_is (sym k ∙ h)
 module _ (b : Plain) (p : Name) (holds : HoldVariables (rules_at b (rules_of b p))) where
   reducers_hold : (n : ℕ) → HoldVariables (as_rules (named_rules b (reducers b p n)))
   reducers_hold n rule i =
-      let m = map_in (λ (r : NamedRule). r.rule) (named_rules b (reducers b p n)) rule i in
+      let m = contains_mapped (λ (r : NamedRule). r.rule) (named_rules b (reducers b p n)) rule i in
       let k = named_rule b (reducers b p n) m.0.ref m.0.rule m.1 in
       let there : rule_at b m.0.ref ≡ Some m.0.rule = ap (option_map (λ q. rule_of q m.0.ref.dir)) k.1.1 ∙ ap Some k.1.2 in
       holds rule (in_filter_map (rule_at b) (rules_of b p) m.0.ref rule (filter_in (λ (c : RuleRef). not (c.node == n)) (rules_of b p) m.0.ref k.0).0 (there ∙ ap Some m.2))

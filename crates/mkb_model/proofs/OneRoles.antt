@@ -2,6 +2,7 @@
 use Rattle.std.proofs.Common.{ℕ, zero, suc, ◌≡◌, ◌≢◌, refl, sym, ◌∙◌, subst, List, [], ◌∷◌, map, Option, Some, None, ⊎_elim, Bool, true, false}
 use Rattle.std.specs.Prelude.{IsFalse}
 use Rattle.std.specs.Option.{option_map_or}
+use Rattle.kb_lemmas.proofs.Options.{some_is, none_some}
 use Rattle.kb_term.specs.Tree.{Tree}
 use Rattle.kb_term.specs.View.{tree_of}
 use Rattle.kb_term.specs.Pair.{Pair, canonical_pair}
@@ -20,7 +21,7 @@ use Rattle.mkb_model.specs.declared.proposed.Proposed.{Proposed}
 use Rattle.mkb_model.specs.declared.proposed.Proposed.TheVariants.{Facts, Rewrite, One, Both, Refuse, Deduce, Unjoined, Closed, Limit}
 use Rattle.kb_label.proofs.Members.{name_eq-eq}
 use Rattle.mkb_model.specs.Ready.{IsOn, IsRole, OneRole, IsRewriteOn, IsReady, IsNew}
-use Rattle.mkb_model.proofs.Lists.{decide, some_is, none_some}
+use Rattle.mkb_model.proofs.Lists.{decide}
 use Rattle.mkb_model.proofs.Roles.{on_there, kinds_decide, on-gains, equation-no_rule}
 use Rattle.mkb_model.proofs.Views.{SameRoles, rule_sym, rule_trans, rule_of-between, rules-view, rule_listed}
 use Rattle.mkb_model.proofs.Changes.{Fits}

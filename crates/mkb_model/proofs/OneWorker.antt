@@ -1,6 +1,9 @@
 -- The journal of one worker alone is one.
 use Rattle.std.proofs.Common.{ℕ, ◌≡◌, ◌⊎◌, inl, inr, refl, sym, ap, ap₂, ◌∙◌, subst, arith, List, [], ◌∷◌, ◌++◌, true, ◌&&◌, ◌==◌, ⊎_elim}
 use Rattle.std.specs.Prelude.{IsSome}
+use Rattle.std.proofs.lemmas.Bool.{eqb-true}
+use Rattle.kb_lemmas.proofs.Options.{some_is, none_some}
+use Rattle.kb_lemmas.proofs.Booleans.{and_gives_left, and_gives_right}
 use Rattle.kb_term.specs.Signature.{Problem, IsWithinLimits}
 use Rattle.kb_term.proofs.Subtrees.{some_value}
 use Rattle.kb_node.specs.declared.job.Job.{Job}
@@ -9,7 +12,7 @@ use Rattle.mkb_model.specs.Verdicts.{verdict}
 use Rattle.mkb_model.specs.Journals.{Moment, takes, ends, move_of, Follows, IsRun, IsFirstJob, IsTaking, opening, journal_of, is_end_of, takes_in_turn, Alone}
 use Rattle.mkb_model.specs.declared.entry.Entry.{Entry}
 use Rattle.mkb_model.specs.declared.entry.Entry.TheVariants.{Take, Commit, Drop, Abandon, Halt}
-use Rattle.mkb_model.proofs.Lists.{clash, some_is, none_some, and_left, and_right}
+use Rattle.mkb_model.proofs.Lists.{clash}
 use Rattle.mkb_model.proofs.Selections.{legal-possible}
 use Rattle.mkb_model.proofs.OneJournal.{follow_one}
 use Rattle.mkb_model.specs.declared.settings.Settings.{Settings}
@@ -55,9 +58,9 @@ turned (Take w t j ∷ e ∷ J) h = inr (record {
   job = j;
   end = e;
   rest = J;
-  parts = ap (λ (v : ℕ). Take v t j ∷ e ∷ J) (is_one w (and_left (w == 1) (is_end_of t e && takes_in_turn J) h));
-  ended = and_left (is_end_of t e) (takes_in_turn J) (and_right (w == 1) (is_end_of t e && takes_in_turn J) h);
-  in_turn = and_right (is_end_of t e) (takes_in_turn J) (and_right (w == 1) (is_end_of t e && takes_in_turn J) h);
+  parts = ap (λ (v : ℕ). Take v t j ∷ e ∷ J) (is_one w (and_gives_left (w == 1) (is_end_of t e && takes_in_turn J) h));
+  ended = and_gives_left (is_end_of t e) (takes_in_turn J) (and_gives_right (w == 1) (is_end_of t e && takes_in_turn J) h);
+  in_turn = and_gives_right (is_end_of t e) (takes_in_turn J) (and_gives_right (w == 1) (is_end_of t e && takes_in_turn J) h);
 })
 turned (Take w t j ∷ []) h = clash h refl
 turned (Commit w t e ∷ J) h = clash h refl
@@ -65,12 +68,9 @@ turned (Drop w t p ∷ J) h = clash h refl
 turned (Abandon w t ∷ J) h = clash h refl
 turned (Halt ∷ J) h = clash h refl
 
-same_number : (s t : ℕ) → (s == t) ≡ true → s ≡ t
-same_number s t h = grind arith
-
 end_move : (t : ℕ) (e : Entry) → is_end_of t e ≡ true → move_of e ≡ ends t
-end_move t (Commit w s e) h = ap ends (same_number s t h)
-end_move t (Drop w s p) h = ap ends (same_number s t h)
+end_move t (Commit w s e) h = ap ends (eqb-true s t h)
+end_move t (Drop w s p) h = ap ends (eqb-true s t h)
 end_move t (Take w s j) h = clash h refl
 end_move t (Abandon w s) h = clash h refl
 end_move t Halt h = clash h refl
@@ -98,10 +98,10 @@ module _ (P : Problem) (n : Settings) (within : IsWithinLimits P) where
       (turned K hk)
     where
       is_ended : is_end_of t e ≡ true
-      is_ended = and_left (is_end_of t e) (takes_in_turn J) (and_right (w == 1) (is_end_of t e && takes_in_turn J) hj)
+      is_ended = and_gives_left (is_end_of t e) (takes_in_turn J) (and_gives_right (w == 1) (is_end_of t e && takes_in_turn J) hj)
 
       rest : takes_in_turn J ≡ true
-      rest = and_right (is_end_of t e) (takes_in_turn J) (and_right (w == 1) (is_end_of t e && takes_in_turn J) hj)
+      rest = and_gives_right (is_end_of t e) (takes_in_turn J) (and_gives_right (w == 1) (is_end_of t e && takes_in_turn J) hj)
 
       taken : List Moment
       taken = record { board = b; entry = Take w t j } ∷ past
@@ -117,7 +117,7 @@ module _ (P : Problem) (n : Settings) (within : IsWithinLimits P) where
 
           first : (Take w t j ≡ Take 1 u.ticket u.job) × (g.0 ≡ h.0)
           first = step_one past b run (Take w t j) (Take 1 u.ticket u.job) g.0 h.0 g.1 h.1
-              (ap (λ v. takes v t j) (is_one w (and_left (w == 1) (is_end_of t e && takes_in_turn J) hj)) ∙ ap₂ (λ m i. takes 1 m i) numbers (some_is (sym g.1.picked ∙ h.1.picked)))
+              (ap (λ v. takes v t j) (is_one w (and_gives_left (w == 1) (is_end_of t e && takes_in_turn J) hj)) ∙ ap₂ (λ m i. takes 1 m i) numbers (some_is (sym g.1.picked ∙ h.1.picked)))
 
           later : Goes taken g.0 (u.end ∷ u.rest) ns d
           later = subst {A = Plain} (λ z. Goes taken z (u.end ∷ u.rest) ns d) (sym first.1) (subst {A = Entry} (λ x. Goes (record { board = b; entry = x } ∷ past) h.0 (u.end ∷ u.rest) ns d) (sym first.0) h.2)

@@ -1,6 +1,9 @@
 -- The state of the first process on the opening board is reached from the problem: the trivial equations are deleted.
 use Rattle.std.proofs.Common.{ℕ, ◌+◌, ◌≡◌, ◌≢◌, ◌⊎◌, ◌↔◌, inl, inr, refl, sym, ap, ap₂, ◌∙◌, subst, true, List, [], ◌∷◌, ◌++◌, Option, Some, None, ⊎_elim, Contains}
 use Rattle.std.proofs.lemmas.List.Elements.{Contains-append_cases, Contains-append_left, Contains-append_right}
+use Rattle.kb_laws.proofs.CompletionLaws.{same_equation_itself}
+use Rattle.kb_lemmas.proofs.Membership.{contains_cases, contains_behind, contains_first, none_in}
+use Rattle.kb_lemmas.proofs.Options.{some_is, none_some}
 use Rattle.kb_term.specs.Tree.{Tree}
 use Rattle.kb_term.specs.Pair.{Pair, canonical, canonical_pair, IsSameEquation}
 use Rattle.kb_term.specs.Signature.{Signature, Problem}
@@ -9,7 +12,6 @@ use Rattle.kb_laws.specs.Completion.{KbState, KbReaches, Keeps, kb_start}
 use Rattle.mkb_model.specs.Ready.{IsOn, KeepsPairs, AllFine}
 use Rattle.mkb_model.proofs.MemberSteps.{delete}
 use Rattle.kb_term.specs.declared.origin.Origin.TheVariants.{Input}
-use Rattle.kb_term.proofs.Steps.{contains_cases, contains_behind, contains_first}
 use Rattle.kb_term.proofs.Instances.{trees_decide}
 use Rattle.kb_term.proofs.CanonicalPairs.{canonical_from_same, same_from_canonical}
 use Rattle.kb_label.specs.Names.{Name, root, has}
@@ -20,10 +22,10 @@ use Rattle.mkb_model.specs.Headline.{EachCompletes}
 use Rattle.kb_node.specs.declared.node.LabelKind.{LabelKind}
 use Rattle.kb_node.specs.declared.node.LabelKind.TheVariants.{R0, R1, E}
 use Rattle.kb_node.specs.declared.job.Job.{Job}
-use Rattle.mkb_model.proofs.Lists.{clash, some_is, none_some, none_in}
+use Rattle.mkb_model.proofs.Lists.{clash}
 use Rattle.mkb_model.proofs.Roles.{keeps-with_node, equation-no_rule, equation-no_constraint}
 use Rattle.mkb_model.proofs.Pairs.{pairs_trans, same_kept, pairs-with_node, pairs-gains_equation, node-with_node}
-use Rattle.mkb_model.proofs.Views.{same_itself, same_sym, same_trans, EqView, equations-view, rules-view, constraints-view, pair_back}
+use Rattle.mkb_model.proofs.Views.{same_sym, same_trans, EqView, equations-view, rules-view, constraints-view, pair_back}
 use Rattle.mkb_model.proofs.Moves.{HasEq, IsLean, has_same}
 use Rattle.mkb_model.proofs.Changes.{lean_state}
 use Rattle.mkb_model.proofs.Rewriting.{trivial_none, some_canonical}
@@ -120,7 +122,7 @@ deleting g b lean (t ∷ ts) trivial a eqs rules constraints = go (has_decides t
     c = record a { equations = b.equations ++ ts }
 
     more : HasEq a.equations t
-    more = (eqs t).1 (inr (t, contains_first t ts, same_itself t))
+    more = (eqs t).1 (inr (t, contains_first t ts, same_equation_itself t))
 
     equal : t.0 ≡ t.1
     equal = trivial t (contains_first t ts)

@@ -3,7 +3,8 @@ use Rattle.std.proofs.Common.{ℕ, ◌<◌, ◌≡◌, ◌⊎◌, ◌↔◌, inl
 use Rattle.std.specs.Prelude.{⊤, option_map}
 use Rattle.std.proofs.lemmas.List.Elements.{Contains-append_left, Contains-append_right, filter_map-append}
 use Rattle.std.specs.List.{filter_map, cons_option}
-use Rattle.kb_term.proofs.Steps.{contains_cases, contains_first}
+use Rattle.kb_laws.proofs.CompletionLaws.{variant_itself}
+use Rattle.kb_lemmas.proofs.Membership.{contains_cases, contains_first}
 use Rattle.kb_laws.proofs.Orderable.{orderable_variants}
 use Rattle.kb_term.specs.Tree.{Tree}
 use Rattle.kb_term.specs.Pair.{Pair, IsSameEquation}
@@ -21,7 +22,7 @@ use Rattle.kb_node.specs.declared.node.LabelKind.{LabelKind}
 use Rattle.kb_node.specs.declared.node.LabelKind.TheVariants.{E}
 use Rattle.kb_label.proofs.Members.{name_eq-refl}
 use Rattle.mkb_model.proofs.Roles.{on-gains, on-loses, length-put, has-one, equation-no_rule, equation-no_constraint, rule-no_constraint, KeepsRoles, keeps_trans, keeps-gains, keeps-loses}
-use Rattle.mkb_model.proofs.Views.{same_sym, same_trans, rule_itself, rule_sym, rule_trans, rule_of-between, from_side, to_side, EqView, RuleView, SameRoles, equations-view, rules-view, constraints-view}
+use Rattle.mkb_model.proofs.Views.{same_sym, same_trans, rule_sym, rule_trans, rule_of-between, from_side, to_side, EqView, RuleView, SameRoles, equations-view, rules-view, constraints-view}
 use Rattle.mkb_model.proofs.Changes.{Fits, between_sides, rule_by_kind, constraint_by_kind, eq_change, rule_change}
 
 -- the equation of the node is lost, its rule in a direction is gained, and the rule is a constraint too
@@ -133,7 +134,7 @@ orient_step g b c p q a r roles keeps fits there on orders = orient s t orderabl
         each : (x : Rule) → Contains (rule_between (from_side r a.dir) (to_side r a.dir) ∷ (state_of b p).constraints) x → Has IsVariantRule (rules_at b (constraints_of b p ++ a ∷ [])) x
         each x i = ⊎_elim
             (λ e. (rule_of r a.dir, subst {A = List Rule} (λ zs. Contains zs (rule_of r a.dir)) (sym (filter_map-append (rule_at b) (constraints_of b p) (a ∷ []))) (Contains-append_right (filter_map (rule_at b) (constraints_of b p)) (filter_map (rule_at b) (a ∷ [])) (rule_of r a.dir) last), subst {A = Rule} (IsVariantRule (rule_of r a.dir)) e (rule_of-between r a.dir)))
-            (λ k. (x, subst {A = List Rule} (λ zs. Contains zs x) (sym (filter_map-append (rule_at b) (constraints_of b p) (a ∷ []))) (Contains-append_left (filter_map (rule_at b) (constraints_of b p)) (filter_map (rule_at b) (a ∷ [])) x k), rule_itself x))
+            (λ k. (x, subst {A = List Rule} (λ zs. Contains zs x) (sym (filter_map-append (rule_at b) (constraints_of b p) (a ∷ []))) (Contains-append_left (filter_map (rule_at b) (constraints_of b p)) (filter_map (rule_at b) (a ∷ [])) x k), variant_itself x))
             (contains_cases (rule_between (from_side r a.dir) (to_side r a.dir)) (state_of b p).constraints x i)
           where
             last : Contains (filter_map (rule_at b) (a ∷ [])) (rule_of r a.dir)

@@ -2,7 +2,7 @@
 use Rattle.std.proofs.Common.{ℕ, ◌+◌, ◌≤◌, ◌≡◌, ◌⊎◌, inl, inr, sym, ◌∙◌, subst, arith, List, [], ◌∷◌, ◌++◌, map, Contains, Bool, true, false, cond, not, ◌==◌, Option, Some, None, ⊎_elim}
 use Rattle.std.specs.Option.{option_map_or}
 use Rattle.std.proofs.lemmas.List.Elements.{Contains-append_cases}
-use Rattle.kb_term.proofs.Steps.{contains_cases, contains_behind, contains_first}
+use Rattle.kb_lemmas.proofs.Membership.{contains_cases, contains_behind, contains_first, none_in, contains_map}
 use Rattle.kb_term.specs.Tree.{Tree}
 use Rattle.kb_term.specs.View.{tree_of}
 use Rattle.kb_term.specs.Pair.{Pair, canonical_pair}
@@ -27,7 +27,7 @@ use Rattle.mkb_model.specs.declared.proposed.Proposed.{Proposed}
 use Rattle.mkb_model.specs.declared.proposed.Proposed.TheVariants.{Facts, Rewrite, One, Both, Refuse, Deduce, Unjoined, Closed, Limit}
 use Rattle.mkb_model.specs.declared.entry.Entry.{Entry}
 use Rattle.mkb_model.specs.declared.entry.Entry.TheVariants.{Take, Commit, Drop, Abandon, Halt}
-use Rattle.mkb_model.proofs.Lists.{none_in, filter_in, in_map}
+use Rattle.mkb_model.proofs.Lists.{filter_in}
 use Rattle.mkb_model.proofs.Fitting.{deduced_from, effect_cases}
 use Rattle.mkb_model.proofs.Rewritings.{lost_nodes, moved_nodes}
 use Rattle.mkb_model.proofs.Readiness.{named_rule}
@@ -169,4 +169,4 @@ formed_run P n (m ∷ ms) c (run, f) = go m.entry f (formed_run P n ms m.board r
 
 -- the origin of each node of a board of a possible run names sides and directions that are 0 or 1
 pub origins_of_form : (P : Problem) (n : Settings) (ms : List Moment) (c : Plain) → IsPossibleRun P n ms c → (x : PlainNode) → Contains c.nodes x → IsOriginOfForm x.origin
-origins_of_form P n ms c run x i = formed_run P n ms c run (x.pair, x.origin) (in_map (λ (y : PlainNode). (y.pair, y.origin)) c.nodes x i)
+origins_of_form P n ms c run x i = formed_run P n ms c run (x.pair, x.origin) (contains_map (λ (y : PlainNode). (y.pair, y.origin)) c.nodes x i)

@@ -2,7 +2,9 @@
 use Rattle.std.proofs.Common.{ℕ, zero, suc, ◌+◌, ◌≡◌, ◌⊎◌, inl, inr, refl, sym, ap, ◌∙◌, subst, arith, List, [], ◌∷◌, ◌++◌, map, length, Contains, Bool, true, false, cond, Option, Some, None, ⊎_elim}
 use Rattle.std.specs.Prelude.{IsFalse, Result, Ok, option_map, slice_get, take}
 use Rattle.std.specs.Option.{option_map_or}
-use Rattle.kb_term.proofs.Steps.{contains_behind, contains_first}
+use Rattle.std.proofs.lemmas.Bool.{or_left}
+use Rattle.kb_lemmas.proofs.Membership.{contains_behind, contains_first}
+use Rattle.kb_lemmas.proofs.Options.{some_is, none_some}
 use Rattle.kb_term.specs.Tree.{Tree}
 use Rattle.kb_term.specs.View.{tree_of}
 use Rattle.kb_term.specs.Pair.{Pair, canonical_pair}
@@ -32,7 +34,7 @@ use Rattle.mkb_model.specs.declared.proposed.Proposed.{Proposed}
 use Rattle.mkb_model.specs.declared.proposed.Proposed.TheVariants.{Facts, Rewrite, One, Both, Refuse, Deduce, Unjoined, Closed, Limit}
 use Rattle.mkb_model.specs.declared.entry.Entry.{Entry}
 use Rattle.mkb_model.specs.declared.entry.Entry.TheVariants.{Take, Commit, Drop, Abandon, Halt}
-use Rattle.mkb_model.proofs.Lists.{clash, or_left, some_is, none_some}
+use Rattle.mkb_model.proofs.Lists.{clash}
 use Rattle.mkb_model.proofs.Pairs.{pairs-with_node}
 use Rattle.mkb_model.proofs.Views.{rule_listed}
 use Rattle.mkb_model.proofs.Proper.{IsOrdered}

@@ -1,7 +1,8 @@
 -- On each board of a run the list of those that gave up has each reason, so giving up for one is seen.
 use Rattle.std.proofs.Common.{◌≡◌, refl, sym, ap, ◌∙◌, subst, arith, List, [], ◌∷◌, map, Contains, Bool, true, false, cond, Option, Some, None}
 use Rattle.std.specs.Option.{option_map_or}
-use Rattle.std.proofs.lemmas.Bool.{eq-eqb}
+use Rattle.std.proofs.lemmas.Bool.{eq-eqb, or_right}
+use Rattle.kb_lemmas.proofs.Membership.{contains_mapped, contains_map}
 use Rattle.kb_term.specs.Signature.{Problem}
 use Rattle.kb_label.specs.Names.{Name, has, join, relabel}
 use Rattle.kb_label.specs.declared.verdict.Reason.{Reason}
@@ -15,7 +16,7 @@ use Rattle.mkb_model.specs.declared.proposed.Proposed.{Proposed}
 use Rattle.mkb_model.specs.declared.proposed.Proposed.TheVariants.{Facts, Rewrite, One, Both, Refuse, Deduce, Unjoined, Closed, Limit}
 use Rattle.mkb_model.specs.declared.entry.Entry.{Entry}
 use Rattle.mkb_model.specs.declared.entry.Entry.TheVariants.{Take, Commit, Drop, Abandon, Halt}
-use Rattle.mkb_model.proofs.Lists.{or_right, map_in, in_map, in_any}
+use Rattle.mkb_model.proofs.Lists.{in_any}
 use Rattle.mkb_model.specs.declared.settings.Settings.{Settings}
 
 abbrev reasons : List GivenUp → List Reason
@@ -72,8 +73,8 @@ each_reason Steps = (5, omega arith, refl)
 -- who gives up has given up afterwards
 pub given_over : (May : Plain → Job → Type 0) (P : Problem) (n : Settings) (ms : List Moment) (b : Plain) → IsRunBy May P n ms b → (r : Reason) (l : List Name) (p : Name) → has (not_over b l) p ≡ true → is_over (give_up r l b) p ≡ true
 given_over May P n ms b run r l p h =
-    let m = map_in (λ (g : GivenUp). g.reason) b.over r (subst {A = List Reason} (λ rs. Contains rs r) (sym (reasons_run May P n ms b run)) (each_reason r)) in
-    in_any (λ (g : GivenUp). has g.names p) (map given b.over) (given m.0) (in_map given b.over m.0 m.1) (named m.0 (reason_eq m.0.reason r) (eq-eqb (reason_number m.0.reason) (reason_number r) (ap reason_number m.2)))
+    let m = contains_mapped (λ (g : GivenUp). g.reason) b.over r (subst {A = List Reason} (λ rs. Contains rs r) (sym (reasons_run May P n ms b run)) (each_reason r)) in
+    in_any (λ (g : GivenUp). has g.names p) (map given b.over) (given m.0) (contains_map given b.over m.0 m.1) (named m.0 (reason_eq m.0.reason r) (eq-eqb (reason_number m.0.reason) (reason_number r) (ap reason_number m.2)))
   where
     given : GivenUp → GivenUp
     given g = cond (reason_eq g.reason r) (record g { names = join g.names (not_over b l) }) g

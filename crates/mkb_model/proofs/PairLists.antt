@@ -4,6 +4,8 @@ use Rattle.std.specs.Prelude.{◌||◌, option_to_list, option_and_then}
 use Rattle.std.specs.List.{list_any}
 use Rattle.std.specs.Option.{option_map_or}
 use Rattle.std.proofs.lemmas.List.{map-append, length-map, length-append}
+use Rattle.std.proofs.lemmas.Bool.{ltb-false}
+use Rattle.kb_lemmas.proofs.Options.{none_some}
 use Rattle.kb_label.specs.Names.{Name, root, child, join, minus}
 use Rattle.kb_label.specs.declared.verdict.Reason.{Reason}
 use Rattle.kb_label.specs.declared.verdict.Reason.TheVariants.{Nodes, Processes}
@@ -27,12 +29,10 @@ use Rattle.mkb_model.specs.declared.proposed.Proposed.{Proposed}
 use Rattle.mkb_model.specs.declared.proposed.Proposed.TheVariants.{Facts, Rewrite, One, Both, Refuse, Deduce, Unjoined, Closed, Limit}
 use Rattle.mkb_model.specs.declared.entry.Entry.{Entry}
 use Rattle.mkb_model.specs.declared.entry.Entry.TheVariants.{Take, Commit, Drop, Abandon, Halt}
-use Rattle.mkb_model.proofs.Lists.{none_some}
 use Rattle.mkb_model.proofs.Pairs.{pair-put_in}
 use Rattle.mkb_model.proofs.Roles.{length-put}
 use Rattle.mkb_model.proofs.Adding.{add_one}
 use Rattle.mkb_model.proofs.Rewritings.{lost_nodes, moved_nodes}
-use Rattle.mkb_model.proofs.Sizes.{not_more}
 use Rattle.mkb_model.specs.declared.settings.Settings.{Settings}
 
 -- the pairs of the nodes
@@ -141,7 +141,7 @@ length-applied b (Limit j cause) = refl
 
 -- a commit that meets no limit finds room
 room_found : (b : Plain) (x : Proposed) → limit_of b x ≡ None → length (with_nodes (wanted b x) b.nodes) ≤ most_nodes
-room_found b x e = not_more most_nodes (length (with_nodes (wanted b x) b.nodes)) (go (own_reason x) (is_crowded b x) (is_full b x) e)
+room_found b x e = ltb-false most_nodes (length (with_nodes (wanted b x) b.nodes)) (go (own_reason x) (is_crowded b x) (is_full b x) e)
   where
     go : (o : Option Reason) (c f : Bool) → first_some (o ∷ some_if c Processes ∷ some_if f Nodes ∷ []) ≡ None → f ≡ false
     go (Some r) c f h = none_some (sym h)

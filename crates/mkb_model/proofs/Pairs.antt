@@ -1,6 +1,8 @@
 -- The pairs of the nodes: they stay where they are, and new ones come at the end.
 use Rattle.std.proofs.Common.{ℕ, zero, suc, ◌+◌, ◌<◌, ◌≡◌, ◌⊎◌, inl, inr, refl, ap, ◌∙◌, arith, List, [], ◌∷◌, ◌++◌, map, Bool, true, false, cond, length, Option, Some, None, Ordering, Less, Equal, Greater, is_eq}
 use Rattle.std.specs.List.{list_any}
+use Rattle.std.proofs.lemmas.Bool.{or_cases, or_right, or_left}
+use Rattle.kb_lemmas.proofs.Options.{none_some}
 use Rattle.kb_term.specs.Tree.{Tree}
 use Rattle.kb_term.specs.Pair.{Pair, pair_cmp}
 use Rattle.kb_term.specs.declared.origin.RuleRef.{RuleRef}
@@ -15,7 +17,7 @@ use Rattle.kb_node.specs.declared.node.LabelKind.TheVariants.{R0, R1, E, C0, C1,
 use Rattle.kb_node.specs.declared.job.Deduced.{Deduced}
 use Rattle.kb_term.proofs.CanonicalPairs.{pair_equal, pair_flip, flip}
 use Rattle.mkb_model.specs.Ready.{KeepsPairs}
-use Rattle.mkb_model.proofs.Lists.{clash, or_one, or_right, or_left, none_some}
+use Rattle.mkb_model.proofs.Lists.{clash}
 
 pub pairs_trans : (xs ys zs : List PlainNode) → KeepsPairs xs ys → KeepsPairs ys zs → KeepsPairs xs zs
 pairs_trans xs ys zs h k n q e = k n q (h n q e)
@@ -95,7 +97,7 @@ pair_eq-refl p = go (pair_cmp p p) (pair_flip p p)
 -- the node that is found has the pair, and is below the length
 pub found_node : (xs : List PlainNode) (p : Pair) → is_present xs p ≡ true → (pair_in xs (node_of xs p) ≡ Some p) × (node_of xs p < length xs)
 found_node [] p h = clash h refl
-found_node (x ∷ xs) p h = go (pair_eq x.pair p) refl (λ k. found_node xs p k) (or_one (pair_eq x.pair p) (list_any (λ (y : PlainNode). pair_eq y.pair p) xs) h)
+found_node (x ∷ xs) p h = go (pair_eq x.pair p) refl (λ k. found_node xs p k) (or_cases (pair_eq x.pair p) (list_any (λ (y : PlainNode). pair_eq y.pair p) xs) h)
   where
     go : (b : Bool) → pair_eq x.pair p ≡ b → (is_present xs p ≡ true → (pair_in xs (node_of xs p) ≡ Some p) × (node_of xs p < length xs)) → (pair_eq x.pair p ≡ true) ⊎ (is_present xs p ≡ true)
         → (pair_in (x ∷ xs) (cond b 0 (node_of xs p + 1)) ≡ Some p) × (cond b 0 (node_of xs p + 1) < length (x ∷ xs))

@@ -2,6 +2,7 @@
 use Rattle.std.proofs.Common.{ℕ, ◌≡◌, refl, sym, ap, ◌∙◌, subst, List, not, ◌==◌, Option, Some, None, Contains}
 use Rattle.std.specs.Prelude.{option_map}
 use Rattle.std.proofs.lemmas.Bool.{eq-eqb}
+use Rattle.kb_lemmas.proofs.Options.{some_is, none_some}
 use Rattle.kb_term.specs.View.{tree_of}
 use Rattle.kb_term.specs.Pair.{Pair}
 use Rattle.kb_term.specs.Signature.{Signature}
@@ -20,7 +21,7 @@ use Rattle.kb_node.specs.declared.job.Job.TheVariants.{Reduce}
 use Rattle.mkb_model.specs.declared.proposed.Proposed.TheVariants.{Rewrite}
 use Rattle.kb_term.specs.declared.term.Term.{Term}
 use Rattle.mkb_model.specs.Ready.{IsOn, KeepsPairs, IsRewriteOn, IsReady}
-use Rattle.mkb_model.proofs.Lists.{clash, some_is, none_some, filter_in, filter_map_in, not_true}
+use Rattle.mkb_model.proofs.Lists.{clash, filter_in, filter_map_in, not_true}
 use Rattle.mkb_model.proofs.Views.{rules-view, rule_listed}
 use Rattle.mkb_model.proofs.Rewriting.{rule_of-other}
 use Rattle.mkb_model.proofs.Proper.{IsOrdered, composed_differs}

@@ -5,7 +5,9 @@ use Rattle.std.specs.Prelude.{IsFalse}
 use Rattle.std.specs.List.{list_any}
 use Rattle.std.specs.Option.{option_map_or}
 use Rattle.std.proofs.lemmas.List.Elements.{Contains-append_cases}
-use Rattle.kb_term.proofs.Steps.{contains_cases}
+use Rattle.std.proofs.lemmas.Bool.{or_cases}
+use Rattle.kb_lemmas.proofs.Membership.{contains_cases, none_in}
+use Rattle.kb_lemmas.proofs.Booleans.{and_gives_left, and_gives_right}
 use Rattle.kb_term.specs.Signature.{Problem}
 use Rattle.kb_label.specs.Names.{Name, has, name_eq}
 use Rattle.kb_label.specs.declared.verdict.Reason.{Reason}
@@ -27,7 +29,7 @@ use Rattle.mkb_model.specs.declared.proposed.Proposed.TheVariants.{Facts, Rewrit
 use Rattle.mkb_model.specs.declared.entry.Ticket.{Ticket}
 use Rattle.mkb_model.specs.declared.entry.Entry.{Entry}
 use Rattle.mkb_model.specs.declared.entry.Entry.TheVariants.{Take, Commit, Drop, Abandon, Halt}
-use Rattle.mkb_model.proofs.Lists.{clash, decide, and_left, and_right, or_one, not_true, none_in, any_none}
+use Rattle.mkb_model.proofs.Lists.{clash, decide, not_true, any_none}
 use Rattle.mkb_model.proofs.Flights.{effect_flight, flight_clear}
 use Rattle.mkb_model.proofs.Living.{living_forked}
 use Rattle.mkb_model.proofs.Fitting.{pairs_stay}
@@ -49,20 +51,20 @@ pub record IsResting (b : Plain) : Type 0 where
 -- what is closed for a process that may be closed
 pub due_rests : (b : Plain) (p : Name) → is_due b (Close p) ≡ true → Rests b p × (has b.closed p ≡ false)
 due_rests b p h =
-    let w = and_left (is_working b p) (is_close_due b p) h in
-    let c = and_right (is_working b p) (is_close_due b p) h in (
+    let w = and_gives_left (is_working b p) (is_close_due b p) h in
+    let c = and_gives_right (is_working b p) (is_close_due b p) h in (
       rests_from b p (record {
-        not_over = not_true (and_right (has b.living p) (not (is_over b p)) w);
-        no_work = any_none (is_work_due b) (work_of b p) (not_true (and_left (not (list_any (is_work_due b) (work_of b p))) (not (has b.closed p)) c));
+        not_over = not_true (and_gives_right (has b.living p) (not (is_over b p)) w);
+        no_work = any_none (is_work_due b) (work_of b p) (not_true (and_gives_left (not (list_any (is_work_due b) (work_of b p))) (not (has b.closed p)) c));
       }),
-      not_true (and_right (not (list_any (is_work_due b) (work_of b p))) (not (has b.closed p)) c),
+      not_true (and_gives_right (not (list_any (is_work_due b) (work_of b p))) (not (has b.closed p)) c),
     )
 
 -- no own job of a closed process may be taken
 not_due : (b : Plain) (j : Job) → is_due b j ≡ true → is_own j ≡ true → has b.closed (process_of j) ≡ true → Rests b (process_of j) → ⊥
 not_due b (Orient p n) h own c r =
-    let k = and_right (is_working b p) (is_work_due b (Orient p n)) h in
-    clash (r.refused n.0 (and_left (is_equation b p n.0) (not (has (label b n.0 X) p)) k)) (not_true (and_right (is_equation b p n.0) (not (has (label b n.0 X) p)) k))
+    let k = and_gives_right (is_working b p) (is_work_due b (Orient p n)) h in
+    clash (r.refused n.0 (and_gives_left (is_equation b p n.0) (not (has (label b n.0 X) p)) k)) (not_true (and_gives_right (is_equation b p n.0) (not (has (label b n.0 X) p)) k))
 not_due b (Close p) h own c r = clash c (due_rests b p h).1
 not_due b (Reduce p n) h own c r = clash own refl
 not_due b (Overlap p a e) h own c r = clash own refl
@@ -105,7 +107,7 @@ Closes b x c p = (x ≡ Closed p) × (Rests b p → Rests c p)
 
 applied_closed : (b : Plain) (x : Proposed) (p : Name) → has (applied b x).closed p ≡ true → (has b.closed p ≡ true) ⊎ (Closes b x (settle (counted (applied b x))) p ⊎ IsForkOfClosed b x)
 applied_closed b (Both q n c0 c1) p h = ⊎_elim (λ e. inr (inr e)) (λ e. inl (subst {A = List Name} (λ l. has l p ≡ true) (relabel-absent q b.closed e) h)) (decide (has b.closed q))
-applied_closed b (Closed q) p h = ⊎_elim (λ e. inr (inl (ap Closed (sym (name_eq-eq p q e)), λ r. record { not_over = r.not_over; reduced = r.reduced; refused = r.refused; overlapped = r.overlapped }))) (λ e. inl e) (or_one (name_eq p q) (has b.closed p) (sym (has-add q b.closed p) ∙ h))
+applied_closed b (Closed q) p h = ⊎_elim (λ e. inr (inl (ap Closed (sym (name_eq-eq p q e)), λ r. record { not_over = r.not_over; reduced = r.reduced; refused = r.refused; overlapped = r.overlapped }))) (λ e. inl e) (or_cases (name_eq p q) (has b.closed p) (sym (has-add q b.closed p) ∙ h))
 applied_closed b (Facts fs) p h = inl h
 applied_closed b (Rewrite n w at a kind t) p h = inl h
 applied_closed b (One q n d c) p h = inl h

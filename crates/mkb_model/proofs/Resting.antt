@@ -2,9 +2,11 @@
 use Rattle.std.proofs.Common.{ℕ, zero, suc, ◌<◌, ◌≡◌, ◌≢◌, ◌⊎◌, inl, inr, refl, sym, ap, ◌∙◌, subst, arith, eqb→eq, List, [], ◌∷◌, ◌++◌, map, flat_map, length, Contains, Bool, true, false, cond, not, ◌&&◌, ◌||◌, ◌==◌, Option, Some, None, ⊎_elim}
 use Rattle.std.specs.Prelude.{⊤, T, option_map}
 use Rattle.std.specs.List.{find, list_any}
-use Rattle.std.proofs.lemmas.Bool.{eq-eqb}
+use Rattle.std.proofs.lemmas.Bool.{eq-eqb, and_from, and_cases, and_right, or_cases, or_left, or_right, or_from}
 use Rattle.std.proofs.lemmas.List.Elements.{Contains-append_cases, Contains-append_left, Contains-append_right}
-use Rattle.kb_term.proofs.Steps.{contains_cases, contains_behind, contains_first}
+use Rattle.kb_lemmas.proofs.Membership.{contains_cases, contains_behind, contains_first, none_in, contains_mapped, contains_map, contains_flat_map_back, contains_flat_map}
+use Rattle.kb_lemmas.proofs.Booleans.{and_gives_left, and_gives_right}
+use Rattle.kb_lemmas.proofs.Options.{some_is, none_some}
 use Rattle.kb_term.specs.Tree.{Tree}
 use Rattle.kb_term.specs.View.{tree_of}
 use Rattle.kb_term.specs.Substitution.{instance}
@@ -32,7 +34,7 @@ use Rattle.mkb_model.specs.Proposals.{named_rules, IsUsableRedex, Proposes}
 use Rattle.mkb_model.specs.Ready.{IsOn, KeepsPairs}
 use Rattle.mkb_model.specs.declared.proposed.Proposed.{Proposed}
 use Rattle.mkb_model.specs.declared.proposed.Proposed.TheVariants.{Facts, Rewrite, One, Both, Refuse, Deduce, Unjoined, Closed, Limit}
-use Rattle.mkb_model.proofs.Lists.{clash, false_unless, and_left, and_right, and_both, and_false, and_off_right, or_one, or_left, or_right, or_off, not_true, not_false, not_of_false, some_is, none_some, none_in, in_filter, filter_in, map_in, in_map, flat_map_in, in_flat_map, find_in, any_none, none_any, in_numbers}
+use Rattle.mkb_model.proofs.Lists.{clash, false_unless, not_true, not_false, not_of_false, in_filter, filter_in, find_in, any_none, none_any, in_numbers}
 use Rattle.mkb_model.proofs.Roles.{on_there, has-one}
 use Rattle.mkb_model.proofs.Rewriting.{source_of}
 use Rattle.mkb_model.proofs.Readiness.{named_rule}
@@ -54,12 +56,12 @@ pub record Rests (b : Plain) (p : Name) : Type 0 where
 
 node_there : (b : Plain) (p : Name) (n : ℕ) → is_node_of b p n ≡ true → n < length b.nodes
 node_there b p n h = ⊎_elim (λ o. on_there b.nodes p n E o)
-    (λ o. ⊎_elim (λ u. on_there b.nodes p n R0 u) (λ u. on_there b.nodes p n R1 u) (or_one (is_rule b p (record { node = n; dir = 0 })) (is_rule b p (record { node = n; dir = 1 })) o))
-    (or_one (is_equation b p n) (is_rule b p (record { node = n; dir = 0 }) || is_rule b p (record { node = n; dir = 1 })) h)
+    (λ o. ⊎_elim (λ u. on_there b.nodes p n R0 u) (λ u. on_there b.nodes p n R1 u) (or_cases (is_rule b p (record { node = n; dir = 0 })) (is_rule b p (record { node = n; dir = 1 })) o))
+    (or_cases (is_equation b p n) (is_rule b p (record { node = n; dir = 0 }) || is_rule b p (record { node = n; dir = 1 })) h)
 
 -- the rules of a process are those that it has, in the two directions
 pub in_rules : (b : Plain) (p : Name) (a : RuleRef) → IsBit a.dir → is_rule b p a ≡ true → Contains (rules_of b p) a
-in_rules b p a d h = in_filter (is_rule b p) (flat_map directions (node_numbers b)) a (in_flat_map directions (node_numbers b) a.node a (in_numbers 0 (length b.nodes) a.node (omega arith) (let l = on_there b.nodes p a.node (rule_kind a.dir) h in omega (arith, l))) (go a.dir d refl)) h
+in_rules b p a d h = in_filter (is_rule b p) (flat_map directions (node_numbers b)) a (contains_flat_map directions (node_numbers b) a.node a (in_numbers 0 (length b.nodes) a.node (omega arith) (let l = on_there b.nodes p a.node (rule_kind a.dir) h in omega (arith, l))) (go a.dir d refl)) h
   where
     go : (e : ℕ) → IsBit e → a.dir ≡ e → Contains (directions a.node) a
     go e (inl q) k = subst {A = ℕ} (λ z. Contains (directions a.node) (record { node = a.node; dir = z })) (sym (k ∙ q)) (contains_first (record { node = a.node; dir = 0 }) (record { node = a.node; dir = 1 } ∷ []))
@@ -68,7 +70,7 @@ in_rules b p a d h = in_filter (is_rule b p) (flat_map directions (node_numbers 
 pub rules_in : (b : Plain) (p : Name) (a : RuleRef) → Contains (rules_of b p) a → IsBit a.dir × (is_rule b p a ≡ true)
 rules_in b p a i =
     let f = filter_in (is_rule b p) (flat_map directions (node_numbers b)) a i in
-    let m = flat_map_in directions (node_numbers b) a f.0 in (
+    let m = contains_flat_map_back directions (node_numbers b) a f.0 in (
       ⊎_elim (λ e. inl (sym (ap (λ (z : RuleRef). z.dir) e))) (λ k. ⊎_elim (λ e. inr (sym (ap (λ (z : RuleRef). z.dir) e))) (λ q. none_in q) (contains_cases (record { node = m.0; dir = 1 }) [] a k)) (contains_cases (record { node = m.0; dir = 0 }) (record { node = m.0; dir = 1 } ∷ []) a m.2),
       f.1,
     )
@@ -86,12 +88,12 @@ pub rests_from : (b : Plain) (p : Name) → IsAtRest b p → Rests b p
 rests_from b p h = record {
   not_over = h.not_over;
   reduced = λ n w a node side d rule away.
-      let closed = ⊎_elim (λ k. clash node k) (λ k. k) (and_false (is_node_of b p n) (is_reducible b p n) (h.no_work (Reduce p (record { 0 = n })) (Contains-append_left (reduces b p) (orients b p ++ overlaps b p) (Reduce p (record { 0 = n })) (in_map (λ n. Reduce p (record { 0 = n })) (node_numbers b) n (there n (node_there b p n node)))))) in
+      let closed = ⊎_elim (λ k. clash node k) (λ k. k) (and_cases (is_node_of b p n) (is_reducible b p n) (h.no_work (Reduce p (record { 0 = n })) (Contains-append_left (reduces b p) (orients b p ++ overlaps b p) (Reduce p (record { 0 = n })) (contains_map (λ n. Reduce p (record { 0 = n })) (node_numbers b) n (there n (node_there b p n node)))))) in
       let here = any_none (λ (a : RuleRef). list_any (λ w. is_open b p n w (known b n w a)) (0 ∷ 1 ∷ [])) (reducers b p n) closed a (in_filter (λ (a : RuleRef). not (a.node == n)) (rules_of b p) a (in_rules b p a d rule) (not_of_false (false_unless (a.node == n) (λ e. away (eqb→eq a.node n (subst {A = Bool} T (sym e) tt)))))) in
       settled n w a (known b n w a) refl (any_none (λ w. is_open b p n w (known b n w a)) (0 ∷ 1 ∷ []) here w (bit w side));
-  refused = λ n e. ⊎_elim (λ k. clash e k) (λ k. not_false k) (and_false (is_equation b p n) (not (has (label b n X) p)) (h.no_work (Orient p (record { 0 = n })) (Contains-append_right (reduces b p) (orients b p ++ overlaps b p) (Orient p (record { 0 = n })) (Contains-append_left (orients b p) (overlaps b p) (Orient p (record { 0 = n })) (in_map (λ n. Orient p (record { 0 = n })) (node_numbers b) n (there n (on_there b.nodes p n E e)))))));
-  overlapped = λ a c d e ha hc le. ⊎_elim (λ k. clash (and_both (is_rule b p a) (is_rule b p c) ha hc) k) (λ k. ⊎_elim (λ l. clash le l) (λ l. not_false l) (and_false (ref_le a c) (not (has (done_of b a c) p)) k))
-      (and_false (is_rule b p a && is_rule b p c) (ref_le a c && not (has (done_of b a c) p)) (h.no_work (Overlap p a c) (Contains-append_right (reduces b p) (orients b p ++ overlaps b p) (Overlap p a c) (Contains-append_right (orients b p) (overlaps b p) (Overlap p a c) (in_flat_map (λ (a : RuleRef). map (Overlap p a) (rules_of b p)) (rules_of b p) a (Overlap p a c) (in_rules b p a d ha) (in_map (Overlap p a) (rules_of b p) c (in_rules b p c e hc)))))));
+  refused = λ n e. ⊎_elim (λ k. clash e k) (λ k. not_false k) (and_cases (is_equation b p n) (not (has (label b n X) p)) (h.no_work (Orient p (record { 0 = n })) (Contains-append_right (reduces b p) (orients b p ++ overlaps b p) (Orient p (record { 0 = n })) (Contains-append_left (orients b p) (overlaps b p) (Orient p (record { 0 = n })) (contains_map (λ n. Orient p (record { 0 = n })) (node_numbers b) n (there n (on_there b.nodes p n E e)))))));
+  overlapped = λ a c d e ha hc le. ⊎_elim (λ k. clash (and_from (is_rule b p a) (is_rule b p c) ha hc) k) (λ k. ⊎_elim (λ l. clash le l) (λ l. not_false l) (and_cases (ref_le a c) (not (has (done_of b a c) p)) k))
+      (and_cases (is_rule b p a && is_rule b p c) (ref_le a c && not (has (done_of b a c) p)) (h.no_work (Overlap p a c) (Contains-append_right (reduces b p) (orients b p ++ overlaps b p) (Overlap p a c) (Contains-append_right (orients b p) (overlaps b p) (Overlap p a c) (contains_flat_map (λ (a : RuleRef). map (Overlap p a) (rules_of b p)) (rules_of b p) a (Overlap p a c) (in_rules b p a d ha) (contains_map (Overlap p a) (rules_of b p) c (in_rules b p c e hc)))))));
 }
   where
     there : (n : ℕ) → n < length b.nodes → Contains (node_numbers b) n
@@ -116,28 +118,28 @@ rests_to b p h = record { not_over = h.not_over; no_work = λ j i. ⊎_elim (at_
         let f = filter_in (λ (a : RuleRef). not (a.node == n)) (rules_of b p) a i in
         let r = rules_in b p a f.0 in
         let away : a.node ≢ n = λ e. clash (eq-eqb a.node n e) (not_true f.1) in
-        or_off (is_open b p n 0 (known b n 0 a)) (is_open b p n 1 (known b n 1 a) || false) (shut n 0 a (h.reduced n 0 a node (inl refl) r.0 r.1 away))
-        (or_off (is_open b p n 1 (known b n 1 a)) false (shut n 1 a (h.reduced n 1 a node (inr refl) r.0 r.1 away)) refl))
+        or_from (is_open b p n 0 (known b n 0 a)) (is_open b p n 1 (known b n 1 a) || false) (shut n 0 a (h.reduced n 0 a node (inl refl) r.0 r.1 away))
+        (or_from (is_open b p n 1 (known b n 1 a)) false (shut n 1 a (h.reduced n 1 a node (inr refl) r.0 r.1 away)) refl))
 
     at_reduce : (j : Job) → Contains (reduces b p) j → is_work_due b j ≡ false
     at_reduce j i =
-        let m = map_in (λ n. Reduce p (record { 0 = n })) (node_numbers b) j i in
-        subst {A = Job} (λ z. is_work_due b z ≡ false) m.2 (false_unless (is_node_of b p m.0 && is_reducible b p m.0) (λ e. clash (and_right (is_node_of b p m.0) (is_reducible b p m.0) e) (irreducible m.0 (and_left (is_node_of b p m.0) (is_reducible b p m.0) e))))
+        let m = contains_mapped (λ n. Reduce p (record { 0 = n })) (node_numbers b) j i in
+        subst {A = Job} (λ z. is_work_due b z ≡ false) m.2 (false_unless (is_node_of b p m.0 && is_reducible b p m.0) (λ e. clash (and_gives_right (is_node_of b p m.0) (is_reducible b p m.0) e) (irreducible m.0 (and_gives_left (is_node_of b p m.0) (is_reducible b p m.0) e))))
 
     at_orient : (j : Job) → Contains (orients b p) j → is_work_due b j ≡ false
     at_orient j i =
-        let m = map_in (λ n. Orient p (record { 0 = n })) (node_numbers b) j i in
-        subst {A = Job} (λ z. is_work_due b z ≡ false) m.2 (false_unless (is_equation b p m.0 && not (has (label b m.0 X) p)) (λ e. clash (h.refused m.0 (and_left (is_equation b p m.0) (not (has (label b m.0 X) p)) e)) (not_true (and_right (is_equation b p m.0) (not (has (label b m.0 X) p)) e))))
+        let m = contains_mapped (λ n. Orient p (record { 0 = n })) (node_numbers b) j i in
+        subst {A = Job} (λ z. is_work_due b z ≡ false) m.2 (false_unless (is_equation b p m.0 && not (has (label b m.0 X) p)) (λ e. clash (h.refused m.0 (and_gives_left (is_equation b p m.0) (not (has (label b m.0 X) p)) e)) (not_true (and_gives_right (is_equation b p m.0) (not (has (label b m.0 X) p)) e))))
 
     at_overlap : (j : Job) → Contains (overlaps b p) j → is_work_due b j ≡ false
     at_overlap j i =
-        let q = flat_map_in (λ (a : RuleRef). map (Overlap p a) (rules_of b p)) (rules_of b p) j i in
-        let m = map_in (Overlap p q.0) (rules_of b p) j q.2 in
+        let q = contains_flat_map_back (λ (a : RuleRef). map (Overlap p a) (rules_of b p)) (rules_of b p) j i in
+        let m = contains_mapped (Overlap p q.0) (rules_of b p) j q.2 in
         let ra = rules_in b p q.0 q.1 in
         let rc = rules_in b p m.0 m.1 in
         subst {A = Job} (λ z. is_work_due b z ≡ false) m.2 (false_unless ((is_rule b p q.0 && is_rule b p m.0) && (ref_le q.0 m.0 && not (has (done_of b q.0 m.0) p)))
-        (λ e. let k = and_right (is_rule b p q.0 && is_rule b p m.0) (ref_le q.0 m.0 && not (has (done_of b q.0 m.0) p)) e in
-        clash (h.overlapped q.0 m.0 ra.0 rc.0 ra.1 rc.1 (and_left (ref_le q.0 m.0) (not (has (done_of b q.0 m.0) p)) k)) (not_true (and_right (ref_le q.0 m.0) (not (has (done_of b q.0 m.0) p)) k))))
+        (λ e. let k = and_gives_right (is_rule b p q.0 && is_rule b p m.0) (ref_le q.0 m.0 && not (has (done_of b q.0 m.0) p)) e in
+        clash (h.overlapped q.0 m.0 ra.0 rc.0 ra.1 rc.1 (and_gives_left (ref_le q.0 m.0) (not (has (done_of b q.0 m.0) p)) k)) (not_true (and_gives_right (ref_le q.0 m.0) (not (has (done_of b q.0 m.0) p)) k))))
 
 -- a process of which nothing changes stays at rest
 pub rests_unmoved : (b c : Plain) (p : Name) → IsUnmoved b c p → Rests b p → Rests c p
@@ -201,9 +203,9 @@ known_fact b n w a v h = go (find (λ (f : Fact). (f.node.0 == n) && ((f.side ==
     go None e k = none_some k
     go (Some f) e k =
         let i = find_in (λ (f : Fact). (f.node.0 == n) && ((f.side == w) && ref_eq f.rule a)) b.facts f e in
-        let r = and_right (f.node.0 == n) ((f.side == w) && ref_eq f.rule a) i.1 in
-        let q = and_right (f.side == w) (ref_eq f.rule a) r in
-        (f, i.0, equal f.node.0 n (and_left (f.node.0 == n) ((f.side == w) && ref_eq f.rule a) i.1), equal f.side w (and_left (f.side == w) (ref_eq f.rule a) r), equal f.rule.node a.node (and_left (f.rule.node == a.node) (f.rule.dir == a.dir) q), equal f.rule.dir a.dir (and_right (f.rule.node == a.node) (f.rule.dir == a.dir) q), some_is k)
+        let r = and_gives_right (f.node.0 == n) ((f.side == w) && ref_eq f.rule a) i.1 in
+        let q = and_gives_right (f.side == w) (ref_eq f.rule a) r in
+        (f, i.0, equal f.node.0 n (and_gives_left (f.node.0 == n) ((f.side == w) && ref_eq f.rule a) i.1), equal f.side w (and_gives_left (f.side == w) (ref_eq f.rule a) r), equal f.rule.node a.node (and_gives_left (f.rule.node == a.node) (f.rule.dir == a.dir) q), equal f.rule.dir a.dir (and_gives_right (f.rule.node == a.node) (f.rule.dir == a.dir) q), some_is k)
 
 same_ref : (x a : RuleRef) → x.node ≡ a.node → x.dir ≡ a.dir → x ≡ a
 same_ref x a e d = subst {A = ℕ} (λ z. record { node = z; dir = x.dir } ≡ a) (sym e) (subst {A = ℕ} (λ z. record { node = a.node; dir = z } ≡ a) (sym d) refl)
@@ -265,8 +267,8 @@ rewrite_unnamed b p n w a kind facts rest r = false_unless (has (rewrite_label b
 overlap_unnamed : (b : Plain) (p : Name) (a c : RuleRef) → Rests b p → IsBit a.dir → IsBit c.dir → ref_le a c ≡ true → has (overlap_label b a c) p ≡ false
 overlap_unnamed b p a c rest da dc le = false_unless (has (overlap_label b a c) p) (λ h.
     let k = sym (has-minus (meet (label b a.node (rule_kind a.dir)) (label b c.node (rule_kind c.dir))) (done_of b a c) p) ∙ h in
-    let m = sym (has-meet (label b a.node (rule_kind a.dir)) (label b c.node (rule_kind c.dir)) p) ∙ and_right (not (has (done_of b a c) p)) (has (meet (label b a.node (rule_kind a.dir)) (label b c.node (rule_kind c.dir))) p) k in
-    clash (rest.overlapped a c da dc (and_right (is_rule b p c) (is_rule b p a) m) (and_left (is_rule b p c) (is_rule b p a) m) le) (not_true (and_left (not (has (done_of b a c) p)) (has (meet (label b a.node (rule_kind a.dir)) (label b c.node (rule_kind c.dir))) p) k)))
+    let m = sym (has-meet (label b a.node (rule_kind a.dir)) (label b c.node (rule_kind c.dir)) p) ∙ and_gives_right (not (has (done_of b a c) p)) (has (meet (label b a.node (rule_kind a.dir)) (label b c.node (rule_kind c.dir))) p) k in
+    clash (rest.overlapped a c da dc (and_gives_right (is_rule b p c) (is_rule b p a) m) (and_gives_left (is_rule b p c) (is_rule b p a) m) le) (not_true (and_gives_left (not (has (done_of b a c) p)) (has (meet (label b a.node (rule_kind a.dir)) (label b c.node (rule_kind c.dir))) p) k)))
 
 -- the rules of an overlap that is taken have directions, and the first is not after the second
 abbrev overlapped_of : Job → Option (RuleRef × RuleRef)
@@ -278,25 +280,25 @@ AreOrdered a c = IsBit a.dir × IsBit c.dir × (ref_le a c ≡ true)
 
 pub overlap_ordered : (b : Plain) (q p : Name) (a c : RuleRef) → Contains (work_of b p ++ Close p ∷ []) (Overlap q a c) → is_due b (Overlap q a c) ≡ true → AreOrdered a c
 overlap_ordered b q p a c i due =
-    let k = and_right (is_working b q) (is_work_due b (Overlap q a c)) due in
+    let k = and_gives_right (is_working b q) (is_work_due b (Overlap q a c)) due in
     let o = bits (Contains-append_cases (work_of b p) (Close p ∷ []) (Overlap q a c) i) in
-    (o.0, o.1, and_left (ref_le a c) (not (has (done_of b a c) q)) (and_right (is_rule b q a && is_rule b q c) (ref_le a c && not (has (done_of b a c) q)) k))
+    (o.0, o.1, and_gives_left (ref_le a c) (not (has (done_of b a c) q)) (and_gives_right (is_rule b q a && is_rule b q c) (ref_le a c && not (has (done_of b a c) q)) k))
   where
     no_kind : {A : Type 0} (j : Job) → j ≡ Overlap q a c → kind_number j ≢ 2 → A
     no_kind j e d = absurd (d (ap kind_number e))
 
     at : Contains (overlaps b p) (Overlap q a c) → IsBit a.dir × IsBit c.dir
     at k =
-        let f = flat_map_in (λ (a : RuleRef). map (Overlap p a) (rules_of b p)) (rules_of b p) (Overlap q a c) k in
-        let m = map_in (Overlap p f.0) (rules_of b p) (Overlap q a c) f.2 in
+        let f = contains_flat_map_back (λ (a : RuleRef). map (Overlap p a) (rules_of b p)) (rules_of b p) (Overlap q a c) k in
+        let m = contains_mapped (Overlap p f.0) (rules_of b p) (Overlap q a c) f.2 in
         let e : (f.0, m.0) ≡ (a, c) = some_is (ap overlapped_of m.2) in
         (subst {A = RuleRef} (λ z. IsBit z.dir) (ap (λ (z : RuleRef × RuleRef). z.0) e) (rules_in b p f.0 f.1).0, subst {A = RuleRef} (λ z. IsBit z.dir) (ap (λ (z : RuleRef × RuleRef). z.1) e) (rules_in b p m.0 m.1).0)
 
     bits : Contains (work_of b p) (Overlap q a c) ⊎ Contains (Close p ∷ []) (Overlap q a c) → IsBit a.dir × IsBit c.dir
     bits (inr k) = ⊎_elim (λ e. no_kind (Close p) e (λ z. omega (arith, z))) (λ z. none_in z) (contains_cases (Close p) [] (Overlap q a c) k)
     bits (inl k) = ⊎_elim
-        (λ l. let m = map_in (λ n. Reduce p (record { 0 = n })) (node_numbers b) (Overlap q a c) l in no_kind (Reduce p (record { 0 = m.0 })) m.2 (λ z. omega (arith, z)))
-        (λ l. ⊎_elim (λ o. let m = map_in (λ n. Orient p (record { 0 = n })) (node_numbers b) (Overlap q a c) o in no_kind (Orient p (record { 0 = m.0 })) m.2 (λ z. omega (arith, z))) at (Contains-append_cases (orients b p) (overlaps b p) (Overlap q a c) l))
+        (λ l. let m = contains_mapped (λ n. Reduce p (record { 0 = n })) (node_numbers b) (Overlap q a c) l in no_kind (Reduce p (record { 0 = m.0 })) m.2 (λ z. omega (arith, z)))
+        (λ l. ⊎_elim (λ o. let m = contains_mapped (λ n. Orient p (record { 0 = n })) (node_numbers b) (Overlap q a c) o in no_kind (Orient p (record { 0 = m.0 })) m.2 (λ z. omega (arith, z))) at (Contains-append_cases (orients b p) (overlaps b p) (Overlap q a c) l))
         (Contains-append_cases (reduces b p) (orients b p ++ overlaps b p) (Overlap q a c) k)
 
 -- what was known of the job when it was taken
@@ -321,7 +323,7 @@ orient_unnamed b q p n d = go (is_equation b q n)
     go false = refl
 
 not_over_unnamed : (b : Plain) (l : List Name) (p : Name) → has l p ≡ false → has (not_over b l) p ≡ false
-not_over_unnamed b l p h = has-filter (λ q. not (is_over b q)) l p ∙ and_off_right (not (is_over b p)) (has l p) h
+not_over_unnamed b l p h = has-filter (λ q. not (is_over b q)) l p ∙ and_right (not (is_over b p)) (has l p) h
 
 -- what the job of another process proposes does not act on a process at rest
 pub rest_unnamed : (before b : Plain) (j : Job) (x : Proposed) (p : Name) → Proposes before j x → IsKnownJob j → KeepsPairs before.nodes b.nodes → FactsHold b → Rests b p → (is_own j ≡ true → process_of j ≢ p) → has (effect_label b x) p ≡ false

@@ -1,7 +1,11 @@
 -- A rewriting is a run of completion of each process that it acts on: it simplifies an equation, or composes or collapses a rule.
-use Rattle.std.proofs.Common.{ℕ, zero, suc, ◌≡◌, ◌≢◌, ◌⊎◌, ◌↔◌, inl, inr, refl, sym, ap, ◌∙◌, subst, arith, List, Some, None, ⊎_elim, Bool, true, false, cond, ◌==◌, Ordering, Less, Equal, Greater}
-use Rattle.std.specs.Ordering.{ordering_index}
-use Rattle.kb_term.specs.Tree.{Tree, tree_eq, tree_cmp}
+use Rattle.std.proofs.Common.{ℕ, zero, suc, ◌≡◌, ◌≢◌, ◌⊎◌, ◌↔◌, inl, inr, refl, sym, ap, ◌∙◌, subst, arith, List, Some, None, ⊎_elim, Bool, true, false, cond}
+use Rattle.std.proofs.lemmas.Bool.{and_from, or_cases}
+use Rattle.kb_laws.proofs.CompletionLaws.{same_equation_itself}
+use Rattle.kb_term.proofs.OwnPair.{tree_eq-true}
+use Rattle.kb_lemmas.proofs.Booleans.{and_gives_left, and_gives_right}
+use Rattle.kb_lemmas.proofs.Options.{some_is, none_some}
+use Rattle.kb_term.specs.Tree.{Tree, tree_eq}
 use Rattle.kb_term.specs.Pair.{Pair, canonical, numbered, canonical_pair, IsSameEquation}
 use Rattle.kb_term.specs.Rule.{rule_of, IsVariantRule, rule_between}
 use Rattle.kb_overlap.specs.Trace.{side, other_side}
@@ -14,30 +18,21 @@ use Rattle.mkb_model.specs.Effects.{loses, rewrite_label, direction, is_strict, 
 use Rattle.kb_node.specs.declared.node.LabelKind.{LabelKind}
 use Rattle.kb_node.specs.declared.node.LabelKind.TheVariants.{R0, R1, E, C0, C1, X}
 use Rattle.kb_label.proofs.Members.{has-meet, has-join}
-use Rattle.kb_term.proofs.Compared.{tree-is_eq}
-use Rattle.kb_term.proofs.CanonicalPairs.{lesser_cases, tree_equal}
+use Rattle.kb_term.proofs.CanonicalPairs.{lesser_cases}
 use Rattle.mkb_model.specs.Ready.{IsOn, IsRole, OneRole}
-use Rattle.mkb_model.proofs.Lists.{clash, false_unless, and_left, and_right, and_both, or_one, some_is, none_some}
+use Rattle.mkb_model.proofs.Lists.{clash, false_unless}
 use Rattle.mkb_model.proofs.Roles.{on-loses, kind_number}
 use Rattle.mkb_model.proofs.Pairs.{pair_eq-eq, pair_eq-refl}
-use Rattle.mkb_model.proofs.Views.{same_itself, same_turned, rule_sym, rule_trans, rule_of-between, numbered_variant, from_side, to_side}
+use Rattle.mkb_model.proofs.Views.{same_turned, rule_sym, rule_trans, rule_of-between, numbered_variant, from_side, to_side}
 use Rattle.mkb_model.proofs.Adding.{rule_role}
 
 -- ---- small facts
-
-pub trees_equal : (s t : Tree) → tree_eq s t ≡ true → s ≡ t
-trees_equal s t h = tree_equal s t (is_equal (tree_cmp s t) (sym (tree-is_eq s t) ∙ h))
-  where
-    is_equal : (o : Ordering) → (ordering_index o == 1) ≡ true → o ≡ Equal
-    is_equal Less e = clash e refl
-    is_equal Equal e = refl
-    is_equal Greater e = clash e refl
 
 pub trivial_none : (s t : Tree) → canonical_pair s t ≡ None → s ≡ t
 trivial_none s t h = go (tree_eq s t) refl h
   where
     go : (b : Bool) → tree_eq s t ≡ b → cond b None (Some (canonical s t)) ≡ None → s ≡ t
-    go true e k = trees_equal s t e
+    go true e k = tree_eq-true s t e
     go false e k = none_some (sym k)
 
 pub some_canonical : (s t : Tree) (z : Pair) → canonical_pair s t ≡ Some z → canonical s t ≡ z
@@ -56,7 +51,7 @@ other_to q zero = refl
 other_to q (suc w) = refl
 
 pub side_pair : (q : Pair) (w : ℕ) → IsSameEquation (sides q) (side q w, other_side q w)
-side_pair q zero = same_itself (sides q)
+side_pair q zero = same_equation_itself (sides q)
 side_pair q (suc w) = same_turned q.first q.second
 
 pub rule_of-side : (q : Pair) (w : ℕ) → IsVariantRule (rule_of q w) (rule_between (side q w) (other_side q w))
@@ -144,12 +139,12 @@ has-if_strict Strict l p e h = h
 pub source_of : (b : Plain) (n w : ℕ) (a : RuleRef) (kind : Found) (p : Name) → has (rewrite_label b n w a kind) p ≡ true → IsOn b.nodes p a.node (rule_kind a.dir) × ((s : LabelKind) × IsSource w kind s × IsOn b.nodes p n s)
 source_of b n w a kind p h =
     let k = sym (has-meet (label b a.node (rule_kind a.dir)) (join (label b n E) (join (label b n (rule_kind (other w))) (if_strict kind (label b n (rule_kind w))))) p) ∙ h in
-    let i = sym (has-join (label b n E) (join (label b n (rule_kind (other w))) (if_strict kind (label b n (rule_kind w)))) p) ∙ and_left (has (join (label b n E) (join (label b n (rule_kind (other w))) (if_strict kind (label b n (rule_kind w))))) p) (has (label b a.node (rule_kind a.dir)) p) k in (
-      and_right (has (join (label b n E) (join (label b n (rule_kind (other w))) (if_strict kind (label b n (rule_kind w))))) p) (has (label b a.node (rule_kind a.dir)) p) k,
+    let i = sym (has-join (label b n E) (join (label b n (rule_kind (other w))) (if_strict kind (label b n (rule_kind w)))) p) ∙ and_gives_left (has (join (label b n E) (join (label b n (rule_kind (other w))) (if_strict kind (label b n (rule_kind w))))) p) (has (label b a.node (rule_kind a.dir)) p) k in (
+      and_gives_right (has (join (label b n E) (join (label b n (rule_kind (other w))) (if_strict kind (label b n (rule_kind w))))) p) (has (label b a.node (rule_kind a.dir)) p) k,
       ⊎_elim (λ o. (E, inl refl, o))
           (λ o. ⊎_elim (λ u. (rule_kind (other w), inr (inl refl), u)) (λ u. let v = if_strict-has kind (label b n (rule_kind w)) p u in (rule_kind w, inr (inr (refl, v.0)), v.1))
-          (or_one (has (label b n (rule_kind (other w))) p) (has (if_strict kind (label b n (rule_kind w))) p) (sym (has-join (label b n (rule_kind (other w))) (if_strict kind (label b n (rule_kind w))) p) ∙ o)))
-          (or_one (has (label b n E) p) (has (join (label b n (rule_kind (other w))) (if_strict kind (label b n (rule_kind w)))) p) i),
+          (or_cases (has (label b n (rule_kind (other w))) p) (has (if_strict kind (label b n (rule_kind w))) p) (sym (has-join (label b n (rule_kind (other w))) (if_strict kind (label b n (rule_kind w))) p) ∙ o)))
+          (or_cases (has (label b n E) p) (has (join (label b n (rule_kind (other w))) (if_strict kind (label b n (rule_kind w)))) p) i),
     )
 
 -- the roles of a process of the label, after the sources lost it
@@ -189,7 +184,7 @@ module _ (l : List Name) (n w : ℕ) (kind : Found) (xs : List PlainNode) (p : N
 
   -- who gains what
   pub gains_from : (k : LabelKind) → IsRole k → ¬ (k ≡ s) → has (meet l (label_at xs n k)) p ≡ false
-  gains_from k rk h = false_unless (has (meet l (label_at xs n k)) p) (λ e. h (one n k s rk (source_role w kind s source) (and_left (has (label_at xs n k) p) (has l p) (sym (has-meet l (label_at xs n k) p) ∙ e)) on))
+  gains_from k rk h = false_unless (has (meet l (label_at xs n k)) p) (λ e. h (one n k s rk (source_role w kind s source) (and_gives_left (has (label_at xs n k) p) (has l p) (sym (has-meet l (label_at xs n k) p) ∙ e)) on))
 
   pub gains_own : has (meet l (label_at xs n s)) p ≡ true
-  gains_own = has-meet l (label_at xs n s) p ∙ and_both (has (label_at xs n s) p) (has l p) on named
+  gains_own = has-meet l (label_at xs n s) p ∙ and_from (has (label_at xs n s) p) (has l p) on named

@@ -1,6 +1,7 @@
 -- The three cases of a rewriting: an equation is simplified, a rule composed, a rule collapsed.
 use Rattle.std.proofs.Common.{ℕ, ◌<◌, ◌≡◌, ◌≢◌, ◌⊎◌, ◌↔◌, inl, inr, refl, sym, ap, ◌∙◌, subst, List, length, Some, ⊎_elim, Contains, true, false}
 use Rattle.std.specs.Prelude.{⊤}
+use Rattle.kb_lemmas.proofs.Options.{some_is}
 use Rattle.kb_term.specs.Tree.{Tree}
 use Rattle.kb_term.specs.Pair.{Pair, IsSameEquation}
 use Rattle.kb_term.specs.Signature.{Signature}
@@ -16,7 +17,7 @@ use Rattle.mkb_model.specs.Effects.{gains_equation, is_strict}
 use Rattle.kb_node.specs.declared.node.LabelKind.{LabelKind}
 use Rattle.kb_node.specs.declared.node.LabelKind.TheVariants.{R0, R1, E}
 use Rattle.mkb_model.specs.Ready.{IsOn, KeepsPairs, IsRewriteOn}
-use Rattle.mkb_model.proofs.Lists.{clash, decide, some_is}
+use Rattle.mkb_model.proofs.Lists.{clash, decide}
 use Rattle.mkb_model.proofs.Roles.{numbers_decide, on-gains_equation, KeepsRoles}
 use Rattle.mkb_model.proofs.Views.{same_sym, same_trans, rule_sym, rule_trans, EqView, RuleView, iff_over, pair_back, equations-view, rules-view, constraints-view, rule_listed}
 use Rattle.mkb_model.proofs.Moves.{Steps, HasEq, HasRule, IsSettled, simplified, composed, collapsed}

@@ -1,5 +1,8 @@
 -- In which roles a process has the nodes, before and after each change of labels.
 use Rattle.std.proofs.Common.{ℕ, zero, suc, ◌≤◌, ◌<◌, ◌≡◌, ◌≢◌, ◌⊎◌, ◌↔◌, inl, inr, refl, sym, ap, ◌∙◌, subst, arith, List, [], ◌∷◌, ◌++◌, map, Bool, true, false, cond, not, ◌&&◌, ◌||◌, length, ⊎_elim}
+use Rattle.std.proofs.Math.Bool.{or-false}
+use Rattle.std.proofs.lemmas.Bool.{and_from, or_cases, or_left, or_right}
+use Rattle.kb_lemmas.proofs.Booleans.{and_gives_left, and_gives_right}
 use Rattle.kb_term.specs.Pair.{Pair}
 use Rattle.kb_term.specs.declared.origin.RuleRef.{RuleRef}
 use Rattle.kb_term.specs.declared.origin.Origin.{Origin}
@@ -10,7 +13,7 @@ use Rattle.kb_node.specs.declared.node.LabelKind.{LabelKind}
 use Rattle.kb_node.specs.declared.node.LabelKind.TheVariants.{R0, R1, E, C0, C1, X}
 use Rattle.kb_label.proofs.Members.{has-minus, has-join, has-add, name_eq-refl}
 use Rattle.mkb_model.specs.Ready.{IsOn}
-use Rattle.mkb_model.proofs.Lists.{clash, false_unless, and_left, and_right, and_both, or_one, or_left, or_right, not_true, not_of_false}
+use Rattle.mkb_model.proofs.Lists.{clash, false_unless, not_true, not_of_false}
 
 -- ---- kinds of label
 
@@ -148,7 +151,7 @@ on-gains n k l xs q m j = (to (here_or_other n k m j) (below n (length xs)), fro
     to (inr h) (inl b) o = inl (sym (ap (λ z. has z q) (put_other xs n m k j (join (label_at xs n k) l) h)) ∙ o)
     to (inl (e, f)) (inl b) o =
         ⊎_elim (λ h. inl (rw (e, f) h)) (λ h. inr ((e, f), b, h))
-        (or_one (has (label_at xs n k) q) (has l q) (sym (has-join (label_at xs n k) l q) ∙ sym (ap (λ z. has z q) (put_same xs n k (join (label_at xs n k) l) b)) ∙ (rw (e, f) at o)))
+        (or_cases (has (label_at xs n k) q) (has l q) (sym (has-join (label_at xs n k) l q) ∙ sym (ap (λ z. has z q) (put_same xs n k (join (label_at xs n k) l) b)) ∙ (rw (e, f) at o)))
 
     from : IsHere n k m j ⊎ ((m ≢ n) ⊎ (j ≢ k)) → IsOn xs q m j ⊎ (IsHere n k m j × (n < length xs) × (has l q ≡ true)) → IsOn (gains n k l xs) q m j
     from (inr h) (inl o) = ap (λ z. has z q) (put_other xs n m k j (join (label_at xs n k) l) h) ∙ o
@@ -169,14 +172,14 @@ on-loses n k l xs q m j = (to (here_or_other n k m j) (below n (length xs)), fro
         absurd (let u = on_there xs q m j o' in omega (arith, u, b, e))
     to (inl (e, f)) (inl b) o =
         let h : (not (has l q) && has (label_at xs n k) q) ≡ true = sym (has-minus (label_at xs n k) l q) ∙ sym (ap (λ z. has z q) (put_same xs n k (minus (label_at xs n k) l) b)) ∙ (rw (e, f) at o) in
-        (rw (e, f) (and_right (not (has l q)) (has (label_at xs n k) q) h), λ i. clash i.1 (not_true (and_left (not (has l q)) (has (label_at xs n k) q) h)))
+        (rw (e, f) (and_gives_right (not (has l q)) (has (label_at xs n k) q) h), λ i. clash i.1 (not_true (and_gives_left (not (has l q)) (has (label_at xs n k) q) h)))
 
     from : IsHere n k m j ⊎ ((m ≢ n) ⊎ (j ≢ k)) → IsOn xs q m j × ¬ (IsHere n k m j × (has l q ≡ true)) → IsOn (loses n k l xs) q m j
     from (inr h) (o, g) = ap (λ z. has z q) (put_other xs n m k j (minus (label_at xs n k) l) h) ∙ o
     from (inl (e, f)) (o, g) =
         let o' : IsOn xs q n k = (rw (e, f) at o) in
         rw (e, f) (ap (λ z. has z q) (put_same xs n k (minus (label_at xs n k) l) (on_there xs q n k o')) ∙ has-minus (label_at xs n k) l q
-        ∙ and_both (not (has l q)) (has (label_at xs n k) q) (not_of_false (false_unless (has l q) (λ t. g ((e, f), t)))) o')
+        ∙ and_from (not (has l q)) (has (label_at xs n k) q) (not_of_false (false_unless (has l q) (λ t. g ((e, f), t)))) o')
 
 -- an equation is gained by those that have the node as no rule
 pub on-gains_equation : (n : ℕ) (l : List Name) (xs : List PlainNode) (q : Name) (m : ℕ) (j : LabelKind)
@@ -189,13 +192,13 @@ on-gains_equation n l xs q m j = (
     to : IsHere n E m j × (n < length xs) × (has (minus (minus l (label_at xs n R0)) (label_at xs n R1)) q ≡ true) → IsHere n E m j × (n < length xs) × (has l q ≡ true) × (¬ IsOn xs q n R0) × (¬ IsOn xs q n R1)
     to (i, b, h) =
         let h1 = sym (has-minus (minus l (label_at xs n R0)) (label_at xs n R1) q) ∙ h in
-        let h2 = and_right (not (has (label_at xs n R1) q)) (has (minus l (label_at xs n R0)) q) h1 in
+        let h2 = and_gives_right (not (has (label_at xs n R1) q)) (has (minus l (label_at xs n R0)) q) h1 in
         let h3 = sym (has-minus l (label_at xs n R0) q) ∙ h2 in (
           i,
           b,
-          and_right (not (has (label_at xs n R0) q)) (has l q) h3,
-          (λ t. clash t (not_true (and_left (not (has (label_at xs n R0) q)) (has l q) h3))),
-          λ t. clash t (not_true (and_left (not (has (label_at xs n R1) q)) (has (minus l (label_at xs n R0)) q) h1)),
+          and_gives_right (not (has (label_at xs n R0) q)) (has l q) h3,
+          (λ t. clash t (not_true (and_gives_left (not (has (label_at xs n R0) q)) (has l q) h3))),
+          λ t. clash t (not_true (and_gives_left (not (has (label_at xs n R1) q)) (has (minus l (label_at xs n R0)) q) h1)),
         )
 
     from : IsHere n E m j × (n < length xs) × (has l q ≡ true) × (¬ IsOn xs q n R0) × (¬ IsOn xs q n R1) → IsHere n E m j × (n < length xs) × (has (minus (minus l (label_at xs n R0)) (label_at xs n R1)) q ≡ true)
@@ -203,8 +206,8 @@ on-gains_equation n l xs q m j = (
       i,
       b,
       has-minus (minus l (label_at xs n R0)) (label_at xs n R1) q
-          ∙ and_both (not (has (label_at xs n R1) q)) (has (minus l (label_at xs n R0)) q) (not_of_false (false_unless (has (label_at xs n R1) q) n1))
-          (has-minus l (label_at xs n R0) q ∙ and_both (not (has (label_at xs n R0) q)) (has l q) (not_of_false (false_unless (has (label_at xs n R0) q) n0)) h),
+          ∙ and_from (not (has (label_at xs n R1) q)) (has (minus l (label_at xs n R0)) q) (not_of_false (false_unless (has (label_at xs n R1) q) n1))
+          (has-minus l (label_at xs n R0) q ∙ and_from (not (has (label_at xs n R0) q)) (has l q) (not_of_false (false_unless (has (label_at xs n R0) q) n0)) h),
     )
 
 pub on-gains_rule : (a : RuleRef) (l : List Name) (xs : List PlainNode) (q : Name) (m : ℕ) (j : LabelKind)
@@ -272,10 +275,6 @@ label-fork p (x ∷ xs) zero C0 = refl
 label-fork p (x ∷ xs) zero C1 = refl
 label-fork p (x ∷ xs) zero X = refl
 label-fork p (x ∷ xs) (suc m) j = label-fork p xs m j
-
-pub or-false : (x : Bool) → (x || false) ≡ x
-or-false true = refl
-or-false false = refl
 
 pub has-one : (p q : Name) → has (p ∷ []) q ≡ name_eq q p
 has-one p q = or-false (name_eq q p)

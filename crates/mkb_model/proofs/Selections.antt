@@ -2,7 +2,8 @@
 use Rattle.std.proofs.Common.{◌≡◌, ◌⊎◌, inl, inr, refl, sym, subst, List, [], ◌∷◌, Contains, Bool, true, false, cond, Option, Some, None, Ordering, ⊎_elim}
 use Rattle.std.specs.Option.{option_map_or}
 use Rattle.std.specs.Ordering.{is_le}
-use Rattle.kb_term.proofs.Steps.{contains_behind, contains_first}
+use Rattle.kb_lemmas.proofs.Membership.{contains_behind, contains_first}
+use Rattle.kb_lemmas.proofs.Options.{some_is, none_some}
 use Rattle.kb_term.specs.Signature.{Problem}
 use Rattle.mkb_model.specs.Jobs.{least, lesser, job_cmp}
 use Rattle.mkb_model.specs.Plain.{Plain, cost, weight}
@@ -11,7 +12,6 @@ use Rattle.mkb_model.specs.Journals.{Moment, Follows, IsRunBy, IsRun, IsPossible
 use Rattle.kb_node.specs.declared.job.Job.{Job}
 use Rattle.mkb_model.specs.declared.entry.Entry.{Entry}
 use Rattle.mkb_model.specs.declared.entry.Entry.TheVariants.{Take, Commit, Drop, Abandon, Halt}
-use Rattle.mkb_model.proofs.Lists.{some_is, none_some}
 use Rattle.mkb_model.specs.declared.settings.Settings.{Settings}
 
 lesser_cases : {A : Type 0} (cmp : A → A → Ordering) (x y : A) → (lesser cmp x y ≡ x) ⊎ (lesser cmp x y ≡ y)

@@ -2,6 +2,9 @@
 use Rattle.std.proofs.Common.{◌≡◌, ◌≢◌, ◌⊎◌, inl, inr, refl, sym, ◌∙◌, subst, List, [], ◌∷◌, Option, Some, None, ⊎_elim, Bool, true, false, cond, not}
 use Rattle.std.specs.Prelude.{IsFalse}
 use Rattle.std.specs.Option.{option_map_or}
+use Rattle.std.proofs.lemmas.Bool.{or_cases}
+use Rattle.kb_label.proofs.Forked.{begins-trans}
+use Rattle.kb_lemmas.proofs.Booleans.{and_gives_left, and_gives_right}
 use Rattle.kb_term.specs.Signature.{Signature, Problem}
 use Rattle.kb_laws.specs.Completion.{KbState, KbReaches, IsSameState}
 use Rattle.kb_label.specs.Names.{Name, has, name_eq, is_beginning, child, relabel, add, minus}
@@ -17,13 +20,13 @@ use Rattle.mkb_model.specs.declared.entry.Entry.TheVariants.{Take, Commit, Drop,
 use Rattle.kb_label.proofs.Members.{has-add, has-minus, name_eq-eq, name_eq-refl}
 use Rattle.mkb_model.specs.Ready.{IsFine, CommitsFine, AllFine}
 use Rattle.mkb_model.specs.Invariants.{AreApart}
-use Rattle.mkb_model.proofs.Lists.{clash, false_unless, and_left, and_right, or_one, not_true}
+use Rattle.mkb_model.proofs.Lists.{clash, false_unless, not_true}
 use Rattle.mkb_model.proofs.Roles.{has-one}
 use Rattle.mkb_model.proofs.Moves.{reaches_same, same_state}
 use Rattle.mkb_model.proofs.Changes.{Fits}
 use Rattle.mkb_model.proofs.Commits.{IsApartFrom, applied_reaches, fork_reaches, orients}
 use Rattle.mkb_model.proofs.Fitting.{HasPairs, fits-applied, fits_run, proposed_pairs}
-use Rattle.mkb_model.proofs.Ancestors.{begins-refl, begins-trans, two_beginnings, Simulates, Simulating}
+use Rattle.mkb_model.proofs.Ancestors.{begins-refl, two_beginnings, Simulates, Simulating}
 use Rattle.mkb_model.specs.declared.settings.Settings.{Settings}
 
 -- ---- children
@@ -60,9 +63,9 @@ forked_names p l q lives h = go (has l p) lives h
     go true e k = ⊎_elim (λ i. inl (false, name_eq-eq q (child p false) i))
         (λ i. ⊎_elim (λ j. inl (true, name_eq-eq q (child p true) j))
         (λ j. let m = sym (has-minus l (p ∷ []) q) ∙ j in
-        inr (and_right (not (has (p ∷ []) q)) (has l q) m, λ r. clash (has-one p q ∙ subst {A = Name} (λ z. name_eq z p ≡ true) (sym r) (name_eq-refl p)) (not_true (and_left (not (has (p ∷ []) q)) (has l q) m))))
-        (or_one (name_eq q (child p true)) (has (minus l (p ∷ [])) q) (sym (has-add (child p true) (minus l (p ∷ [])) q) ∙ i)))
-        (or_one (name_eq q (child p false)) (has (add (child p true) (minus l (p ∷ []))) q) (sym (has-add (child p false) (add (child p true) (minus l (p ∷ []))) q) ∙ k))
+        inr (and_gives_right (not (has (p ∷ []) q)) (has l q) m, λ r. clash (has-one p q ∙ subst {A = Name} (λ z. name_eq z p ≡ true) (sym r) (name_eq-refl p)) (not_true (and_gives_left (not (has (p ∷ []) q)) (has l q) m))))
+        (or_cases (name_eq q (child p true)) (has (minus l (p ∷ [])) q) (sym (has-add (child p true) (minus l (p ∷ [])) q) ∙ i)))
+        (or_cases (name_eq q (child p false)) (has (add (child p true) (minus l (p ∷ []))) q) (sym (has-add (child p false) (add (child p true) (minus l (p ∷ []))) q) ∙ k))
 
 module _ (p : Name) (l : List Name) (lives : has l p ≡ true) (apart : AreApart l) where
   -- a child and another name: neither begins the other

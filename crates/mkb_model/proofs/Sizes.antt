@@ -1,9 +1,11 @@
 -- In a possible run of a problem within the limits the pair of each node is within the limits.
-use Rattle.std.proofs.Common.{ℕ, zero, suc, ◌+◌, ◌≤◌, ◌≡◌, refl, sym, ap, ap₂, ◌∙◌, subst, arith, ◌||◌, List, [], ◌∷◌, ◌++◌, map, length, Contains, Bool, true, false, cond, Option, Some, None, ⊎_elim}
+use Rattle.std.proofs.Common.{ℕ, zero, suc, ◌+◌, ◌≡◌, refl, sym, ap, ap₂, ◌∙◌, subst, arith, ◌||◌, List, [], ◌∷◌, ◌++◌, map, length, Contains, Bool, true, false, cond, Option, Some, None, ⊎_elim}
 use Rattle.std.specs.Prelude.{max, nat_lt, Ok, IsFalse, option_and_then, option_to_list}
 use Rattle.std.specs.Option.{option_map_or}
 use Rattle.std.proofs.lemmas.List.Elements.{All-contains}
-use Rattle.kb_term.proofs.Steps.{contains_cases, contains_behind, contains_first}
+use Rattle.std.proofs.lemmas.Bool.{or_parts, ltb-false}
+use Rattle.kb_lemmas.proofs.Membership.{contains_cases, contains_behind, contains_first, none_in, contains_mapped}
+use Rattle.kb_lemmas.proofs.Options.{some_is, none_some}
 use Rattle.kb_laws.proofs.Cleaning.{length-instances}
 use Rattle.mkb_model.proofs.Variables.{step_few}
 use Rattle.kb_term.specs.declared.limit.Limit.TheVariants.{Size, Depth, Variables}
@@ -40,7 +42,6 @@ use Rattle.mkb_model.specs.Ready.{IsRewriteOn, KeepsPairs}
 use Rattle.mkb_model.specs.Proposals.{NamedRule, NamedOverlap, OverlapsOfAll, AreDeduced}
 use Rattle.mkb_model.proofs.Fitting.{deduced_from, effect_cases, pairs_stay}
 use Rattle.mkb_model.proofs.Deductions.{HasNamed, named_overlap, picks_in, well_unifier, well_subtree, well_instance}
-use Rattle.mkb_model.proofs.Lists.{some_is, none_some, none_in, map_in}
 use Rattle.mkb_model.proofs.Pairs.{SamePairs, pairs-gains, pairs-loses, pairs-gains_equation, pairs-gains_rule, pairs-fork, pairs-oriented}
 use Rattle.mkb_model.proofs.Adding.{add_one, with_pair}
 use Rattle.mkb_model.proofs.Rewriting.{some_canonical}
@@ -198,20 +199,13 @@ step_well g r p s t over w h = keeps_well g (r ∷ []) (all_from (IsRuleOver g) 
 
 -- ---- limits that aren't passed
 
-pub not_more : (m n : ℕ) → nat_lt m n ≡ false → n ≤ m
-not_more m n h = grind arith
-
 two_none : (a b : Bool) → first_limit (limit_if a Size ∷ limit_if b Depth ∷ []) ≡ None → (a ≡ false) × (b ≡ false)
 two_none true b e = none_some (sym e)
 two_none false true e = none_some (sym e)
 two_none false false e = (refl, refl)
 
 pub within_term : (t : Tree) → term_limit t ≡ None → IsWithin t
-within_term t e = let k = two_none (nat_lt 512 (tree_size t)) (nat_lt 64 (tree_depth t)) e in record { size = not_more 512 (tree_size t) k.0; depth = not_more 64 (tree_depth t) k.1 }
-
-neither : (a b : Bool) → (a || b) ≡ false → (a ≡ false) × (b ≡ false)
-neither true b e = absurd (cc)
-neither false b e = (refl, e)
+within_term t e = let k = two_none (nat_lt 512 (tree_size t)) (nat_lt 64 (tree_depth t)) e in record { size = ltb-false 512 (tree_size t) k.0; depth = ltb-false 64 (tree_depth t) k.1 }
 
 last_none : (a b c : Bool) → first_limit (limit_if a Size ∷ limit_if b Depth ∷ limit_if c Variables ∷ []) ≡ None → c ≡ false
 last_none true b c e = none_some (sym e)
@@ -227,12 +221,12 @@ first_two false false c e = (refl, refl)
 within_pair : (s t : Tree) → pair_limit s t ≡ None → ArePairWithin s t
 within_pair s t e =
     let k = first_two (nat_lt 512 (tree_size s) || nat_lt 512 (tree_size t)) (nat_lt 64 (tree_depth s) || nat_lt 64 (tree_depth t)) _ e in
-    let a = neither (nat_lt 512 (tree_size s)) (nat_lt 512 (tree_size t)) k.0 in
-    let b = neither (nat_lt 64 (tree_depth s)) (nat_lt 64 (tree_depth t)) k.1 in
+    let a = or_parts (nat_lt 512 (tree_size s)) (nat_lt 512 (tree_size t)) k.0 in
+    let b = or_parts (nat_lt 64 (tree_depth s)) (nat_lt 64 (tree_depth t)) k.1 in
     record {
-      first = record { size = not_more 512 (tree_size s) a.0; depth = not_more 64 (tree_depth s) b.0 };
-      second = record { size = not_more 512 (tree_size t) a.1; depth = not_more 64 (tree_depth t) b.1 };
-      few = not_more 64 (length (variables_of_pair s t)) (last_none _ _ _ e);
+      first = record { size = ltb-false 512 (tree_size s) a.0; depth = ltb-false 64 (tree_depth s) b.0 };
+      second = record { size = ltb-false 512 (tree_size t) a.1; depth = ltb-false 64 (tree_depth t) b.1 };
+      few = ltb-false 64 (length (variables_of_pair s t)) (last_none _ _ _ e);
     }
 
 third_none : (a b c : Option TermLimit) → first_limit (a ∷ b ∷ c ∷ []) ≡ None → c ≡ None
@@ -278,7 +272,7 @@ overlap_limited g xs p x y o hx hy l u v sided z h =
 overlaps_limited : (g : Signature) (xs : List PlainNode) (p : Name) (es : List (NamedRule × NamedRule)) (all some : List NamedOverlap) (ds : List Deduced) → OverlapsOfAll es all → ((o : NamedOverlap) → Contains some o → Contains all o)
     → ((e : NamedRule × NamedRule) → Contains es e → HasNamed g xs p e.0 × HasNamed g xs p e.1) → AreDeduced ds some → (q : Pair) → Contains (map (λ (d : Deduced). d.pair) ds) q → IsLimitedPair g q
 overlaps_limited g xs p es all some ds lists sub named proposed q i =
-    let m = map_in (λ (d : Deduced). d.pair) ds q i in
+    let m = contains_mapped (λ (d : Deduced). d.pair) ds q i in
     let r = deduced_from ds some proposed m.0 m.1 in
     let k = named_overlap es all lists r.0 (sub r.0 r.1) in
     let h = named k.0 k.1 in

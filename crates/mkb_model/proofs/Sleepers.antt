@@ -2,6 +2,9 @@
 use Rattle.std.proofs.Common.{ℕ, zero, suc, ◌+◌, ◌-◌, ◌≤◌, ◌≡◌, ◌⊎◌, inl, inr, refl, sym, ap, ◌∙◌, subst, arith, List, [], ◌∷◌, filter, length, cond, Bool, true, false, not, ◌&&◌, ◌||◌, Option, Some, None, ⊎_elim}
 use Rattle.std.specs.Option.{option_map_or}
 use Rattle.std.specs.Fn.{iterate}
+use Rattle.std.proofs.lemmas.Bool.{and_from}
+use Rattle.kb_lemmas.proofs.Lists.{filter_none_of}
+use Rattle.kb_lemmas.proofs.Booleans.{and_gives_left, and_gives_right}
 use Rattle.kb_term.specs.Signature.{Problem}
 use Rattle.kb_label.specs.Names.{Name, has, name_eq, add, minus, IsInNameOrder}
 use Rattle.kb_label.proofs.Members.{name_eq-eq, has-filter, has-add, has-minus}
@@ -13,7 +16,7 @@ use Rattle.mkb_model.specs.Sleeping.{most_awake, is_active, process_cmp, working
 use Rattle.mkb_model.specs.Invariants.{SleepersWait}
 use Rattle.mkb_model.specs.Journals.{opening}
 use Rattle.mkb_model.specs.declared.settings.Settings.{Settings}
-use Rattle.mkb_model.proofs.Lists.{all_left_out, clash, and_left, and_right, and_both, false_unless}
+use Rattle.mkb_model.proofs.Lists.{clash, false_unless}
 use Rattle.mkb_model.proofs.Labels.{IsLabelOf, label-filter, label-add}
 use Rattle.mkb_model.proofs.Selections.{least-in, least-none}
 use Rattle.mkb_model.proofs.Endings.{has_in}
@@ -55,10 +58,10 @@ module _ (b : Plain) (alive : IsInNameOrder b.living) where
   one_more p l active lives sleeps = ap length e ∙ length-add p (working b l) absent
     where
       absent : has (working b l) p ≡ false
-      absent = false_unless (has (working b l) p) (λ h. clash (and_left (not (has l p)) (has b.living p) (and_right (is_active b p) (not (has l p) && has b.living p) (sym (in_working b l p) ∙ h))) (ap not sleeps))
+      absent = false_unless (has (working b l) p) (λ h. clash (and_gives_left (not (has l p)) (has b.living p) (and_gives_right (is_active b p) (not (has l p) && has b.living p) (sym (in_working b l p) ∙ h))) (ap not sleeps))
 
       at : (q : Name) (x : Bool) → name_eq q p ≡ x → (is_active b q && (not (not (x || false) && has l q) && has b.living q)) ≡ (x || (is_active b q && (not (has l q) && has b.living q)))
-      at q true k = subst {A = Name} (λ z. (is_active b z && (true && has b.living z)) ≡ true) (sym (name_eq-eq q p k)) (and_both (is_active b p) (has b.living p) active lives)
+      at q true k = subst {A = Name} (λ z. (is_active b z && (true && has b.living z)) ≡ true) (sym (name_eq-eq q p k)) (and_from (is_active b p) (has b.living p) active lives)
       at q false k = refl
 
       e : working b (minus l (p ∷ [])) ≡ add p (working b l)
@@ -75,7 +78,7 @@ module _ (b : Plain) (alive : IsInNameOrder b.living) where
       go None e = h
       go (Some p) e =
           let w = has_in (working b l) p (least-in (λ x y. process_cmp b y x) (working b l) p e) in
-          label-add b.living p l (and_right (not (has l p)) (has b.living p) (and_right (is_active b p) (not (has l p) && has b.living p) (sym (in_working b l p) ∙ w))) h
+          label-add b.living p l (and_gives_right (not (has l p)) (has b.living p) (and_gives_right (is_active b p) (not (has l p) && has b.living p) (sym (in_working b l p) ∙ w))) h
 
   pub label_awake : (l : List Name) → IsLabelOf b.living l → IsLabelOf b.living (with_one_awake b l)
   label_awake l h = go (least (process_cmp b) (waiting b l))
@@ -119,8 +122,8 @@ module _ (b : Plain) (alive : IsInNameOrder b.living) where
           subst {A = List Name} (IsWoken (length (working b l)) (suc n)) (sym (nobody_wakes b n l none)) (omega arith, inl none)
       go (Some p) e ih =
           let w = sym (in_waiting b l p) ∙ has_in (waiting b l) p (least-in (process_cmp b) (waiting b l) p e) in
-          let s = and_right (is_active b p) (has l p) w in
-          let r = one_more p l (and_left (is_active b p) (has l p) w) (h.lives p s) s in
+          let s = and_gives_right (is_active b p) (has l p) w in
+          let r = one_more p l (and_gives_left (is_active b p) (has l p) w) (h.lives p s) s in
           (let k = ih.0 in omega (arith, r, k), ⊎_elim inl (λ k. inr (omega (arith, r, k))) ih.1)
 
   settled_woken : IsLabelOf b.living b.asleep → IsWoken (length (working b (rested b))) (most_awake - length (working b (rested b))) (settled b)
@@ -133,7 +136,7 @@ module _ (b : Plain) (alive : IsInNameOrder b.living) where
   sleepers_settled h = record {
     few = let k = (settled_woken h).0 in let m = at_most in omega (arith, k, m);
     none_waits = λ l p s. ⊎_elim
-        (λ e. false_unless (is_active b p) (λ a. clash (in_waiting b (settled b) p ∙ and_both (is_active b p) (has (settled b) p) a s) (ap (λ w. has w p) e)))
+        (λ e. false_unless (is_active b p) (λ a. clash (in_waiting b (settled b) p ∙ and_from (is_active b p) (has (settled b) p) a s) (ap (λ w. has w p) e)))
         (λ e. let m = at_most in absurd (omega (arith, e, l, m)))
         (settled_woken h).1;
   }
@@ -167,4 +170,4 @@ settled_same b h = ap (λ l. iterate (with_one_awake b) (most_awake - length (wo
 
     go : (n : ℕ) → most_awake - length (working b b.asleep) ≡ n → iterate (with_one_awake b) n b.asleep ≡ b.asleep
     go zero e = refl
-    go (suc n) e = nobody_wakes b (suc n) b.asleep (all_left_out (is_active b) b.asleep (λ p c. h.none_waits (omega (arith, e)) p (has_in b.asleep p c)))
+    go (suc n) e = nobody_wakes b (suc n) b.asleep (filter_none_of (is_active b) b.asleep (λ p c. h.none_waits (omega (arith, e)) p (has_in b.asleep p c)))

@@ -3,7 +3,7 @@ use Rattle.std.proofs.Common.{ℕ, zero, suc, ◌≡◌, ◌≢◌, ◌↔◌, i
 use Rattle.std.specs.Prelude.{⊤}
 use Rattle.std.specs.Option.{option_map_or}
 use Rattle.std.proofs.lemmas.List.Elements.{Contains-append_cases}
-use Rattle.kb_term.proofs.Steps.{contains_cases}
+use Rattle.kb_lemmas.proofs.Membership.{contains_cases, none_in}
 use Rattle.kb_term.specs.Tree.{Tree}
 use Rattle.kb_term.specs.View.{tree_of}
 use Rattle.kb_term.specs.Pair.{Pair, canonical_pair}
@@ -34,7 +34,6 @@ use Rattle.mkb_model.specs.declared.entry.Effect.{Effect}
 use Rattle.mkb_model.specs.declared.entry.Ticket.{Ticket}
 use Rattle.mkb_model.specs.declared.entry.Entry.{Entry}
 use Rattle.mkb_model.specs.declared.entry.Entry.TheVariants.{Take, Commit, Drop, Abandon, Halt}
-use Rattle.mkb_model.proofs.Lists.{none_in}
 use Rattle.mkb_model.proofs.Roles.{KeepsRoles, keeps_trans, keeps-gains, has-one, put_other, label-with_node, refused-no_constraint}
 use Rattle.mkb_model.proofs.Flights.{effect_flight}
 use Rattle.mkb_model.proofs.Fitting.{pairs_stay}

@@ -2,8 +2,12 @@
 use Rattle.std.proofs.Common.{ℕ, zero, suc, ◌+◌, ◌-◌, ◌≤◌, ◌<◌, ◌≡◌, refl, sym, ap, ap₂, ◌∙◌, subst, arith, List, [], ◌∷◌, ◌++◌, map, filter, flat_map, length, Contains, Bool, true, false, cond, Option, None, ⊎_elim}
 use Rattle.std.specs.Prelude.{option_map}
 use Rattle.std.specs.List.{filter_map, cons_option}
-use Rattle.std.proofs.lemmas.List.{append_assoc, append-nil}
-use Rattle.kb_term.proofs.Steps.{contains_cases, contains_behind, contains_first}
+use Rattle.std.proofs.lemmas.List.{append-nil}
+use Rattle.std.proofs.lemmas.Grind.{flat_map-append}
+use Rattle.mkb_model.proofs.Views.{there_pair}
+use Rattle.kb_lemmas.proofs.Lists.{filter_none_of}
+use Rattle.kb_lemmas.proofs.Membership.{contains_cases, contains_behind, contains_first, none_in, contains_flat_map_back}
+use Rattle.kb_lemmas.proofs.Options.{none_some}
 use Rattle.kb_term.specs.Tree.{Tree}
 use Rattle.kb_term.specs.Rule.{rule_of}
 use Rattle.kb_term.specs.Signature.{Problem}
@@ -21,7 +25,7 @@ use Rattle.mkb_model.specs.declared.proposed.Proposed.{Proposed}
 use Rattle.mkb_model.specs.declared.proposed.Proposed.TheVariants.{Closed}
 use Rattle.mkb_model.specs.declared.entry.Entry.{Entry}
 use Rattle.mkb_model.specs.declared.entry.Entry.TheVariants.{Take, Commit, Drop, Abandon, Halt}
-use Rattle.mkb_model.proofs.Lists.{clash, false_unless, none_some, none_in, filter_in, flat_map_in, numbers_in}
+use Rattle.mkb_model.proofs.Lists.{clash, false_unless, filter_in, numbers_in}
 use Rattle.mkb_model.proofs.Roles.{KeepsRoles, below, on_there}
 use Rattle.mkb_model.proofs.Pairs.{pairs_trans}
 use Rattle.mkb_model.proofs.Fitting.{pairs_stay, effect_cases}
@@ -32,7 +36,7 @@ use Rattle.mkb_model.proofs.Unmoved.{role_tests}
 use Rattle.mkb_model.proofs.Resting.{rules_in}
 use Rattle.mkb_model.proofs.Restful.{stands_run, resting_run, stays, effect_closed, closing_job, not_forked, IsForkOfClosed}
 use Rattle.mkb_model.proofs.Staying.{closers_stay}
-use Rattle.mkb_model.proofs.AllFine.{pair_there, earlier_run}
+use Rattle.mkb_model.proofs.AllFine.{earlier_run}
 use Rattle.mkb_model.specs.declared.settings.Settings.{Settings}
 
 -- ---- lists
@@ -50,18 +54,6 @@ filter_append {A} f (x ∷ xs) ys = go (f x) (filter_append f xs ys)
     go true e = ap (x ∷◌) e
     go false e = e
 
-flat_map_append : {A B : Type 0} (f : A → List B) (xs ys : List A) → flat_map f (xs ++ ys) ≡ flat_map f xs ++ flat_map f ys
-flat_map_append f [] ys = refl
-flat_map_append f (x ∷ xs) ys = ap (f x ++◌) (flat_map_append f xs ys) ∙ sym (append_assoc (f x) (flat_map f xs) (flat_map f ys))
-
-filter_nothing : {A : Type 0} (f : A → Bool) (xs : List A) → ((x : A) → Contains xs x → f x ≡ false) → filter f xs ≡ []
-filter_nothing f [] h = refl
-filter_nothing {A} f (x ∷ xs) h = go (f x) (h x (contains_first x xs)) (filter_nothing f xs (λ y i. h y (contains_behind x xs y i)))
-  where
-    go : (b : Bool) → b ≡ false → filter f xs ≡ [] → cond b (x ∷ filter f xs) (filter f xs) ≡ []
-    go true e k = clash refl e
-    go false e k = k
-
 filter_same : {A : Type 0} (f k : A → Bool) → ((x : A) → f x ≡ k x) → (xs : List A) → filter f xs ≡ filter k xs
 filter_same f k h [] = refl
 filter_same {A} f k h (x ∷ xs) = ap₂ (λ (b : Bool) (ys : List A). cond b (x ∷ ys) ys) (h x) (filter_same f k h xs)
@@ -77,7 +69,7 @@ no_pair (x ∷ xs) (suc n) l = no_pair xs n (omega (arith, l))
 
 -- a board that keeps the pairs has as many nodes
 longer : (xs ys : List PlainNode) → KeepsPairs xs ys → length xs ≤ length ys
-longer xs ys h = ⊎_elim (λ l. let q = pair_there xs (length ys) l in none_some (sym (no_pair ys (length ys) (omega arith)) ∙ h (length ys) q.0 q.1)) (λ l. l) (below (length ys) (length xs))
+longer xs ys h = ⊎_elim (λ l. let q = there_pair xs (length ys) l in none_some (sym (no_pair ys (length ys) (omega arith)) ∙ h (length ys) q.0 q.1)) (λ l. l) (below (length ys) (length xs))
 
 -- ---- who keeps its roles
 
@@ -94,15 +86,15 @@ module _ (b c : Plain) (p : Name) (roles : KeepsRoles b.nodes c.nodes p) (keeps 
   pub same_equations : equations_of c p ≡ equations_of b p
   same_equations = ap (filter (is_equation c p)) numbers_more ∙ filter_append (is_equation c p) (node_numbers b) (numbers_from (0 + length b.nodes) more)
       ∙ ap₂ (λ (x y : List ℕ). x ++ y) (filter_same (is_equation c p) (is_equation b p) (λ n. role_tests b c p roles n E) (node_numbers b))
-      (filter_nothing (is_equation c p) (numbers_from (0 + length b.nodes) more) (λ n i. false_unless (is_equation c p n) (λ o. let l = on_there b.nodes p n E ((roles n E).0 o) in let r = (numbers_in (0 + length b.nodes) more n i).0 in absurd (omega (arith, l, r)))))
+      (filter_none_of (is_equation c p) (numbers_from (0 + length b.nodes) more) (λ n i. false_unless (is_equation c p n) (λ o. let l = on_there b.nodes p n E ((roles n E).0 o) in let r = (numbers_in (0 + length b.nodes) more n i).0 in absurd (omega (arith, l, r)))))
       ∙ append-nil (equations_of b p)
 
   pub same_rules : rules_of c p ≡ rules_of b p
-  same_rules = ap (λ ns. filter (is_rule c p) (flat_map directions ns)) numbers_more ∙ ap (filter (is_rule c p)) (flat_map_append directions (node_numbers b) (numbers_from (0 + length b.nodes) more))
+  same_rules = ap (λ ns. filter (is_rule c p) (flat_map directions ns)) numbers_more ∙ ap (filter (is_rule c p)) (flat_map-append directions (node_numbers b) (numbers_from (0 + length b.nodes) more))
       ∙ filter_append (is_rule c p) (flat_map directions (node_numbers b)) (flat_map directions (numbers_from (0 + length b.nodes) more))
       ∙ ap₂ (λ (x y : List RuleRef). x ++ y) (filter_same (is_rule c p) (is_rule b p) (λ a. role_tests b c p roles a.node (rule_kind a.dir)) (flat_map directions (node_numbers b)))
-      (filter_nothing (is_rule c p) (flat_map directions (numbers_from (0 + length b.nodes) more)) (λ a i. false_unless (is_rule c p a) (λ o.
-      let m = flat_map_in directions (numbers_from (0 + length b.nodes) more) a i in
+      (filter_none_of (is_rule c p) (flat_map directions (numbers_from (0 + length b.nodes) more)) (λ a i. false_unless (is_rule c p a) (λ o.
+      let m = contains_flat_map_back directions (numbers_from (0 + length b.nodes) more) a i in
       let l = on_there b.nodes p a.node (rule_kind a.dir) ((roles a.node (rule_kind a.dir)).0 o) in
       let r = (numbers_in (0 + length b.nodes) more m.0 m.1).0 in
       let e = node m.0 a m.2 in
@@ -113,7 +105,7 @@ module _ (b c : Plain) (p : Name) (roles : KeepsRoles b.nodes c.nodes p) (keeps 
       node k a i = ⊎_elim (λ e. ap (λ (z : RuleRef). z.node) e) (λ j. ⊎_elim (λ e. ap (λ (z : RuleRef). z.node) e) (λ q. none_in q) (contains_cases (record { node = k; dir = 1 }) [] a j)) (contains_cases (record { node = k; dir = 0 }) (record { node = k; dir = 1 } ∷ []) a i)
 
   same_pair : (n : ℕ) → n < length b.nodes → pair_in c.nodes n ≡ pair_in b.nodes n
-  same_pair n l = let q = pair_there b.nodes n l in keeps n q.0 q.1 ∙ sym q.1
+  same_pair n l = let q = there_pair b.nodes n l in keeps n q.0 q.1 ∙ sym q.1
 
   pub same_rules_on : rules_on c p ≡ rules_on b p
   same_rules_on = ap (named_rules c) same_rules ∙ filter_map_same (λ a. option_map {U = NamedRule} (λ r. record { ref = a; rule = r }) (rule_at c a)) (λ a. option_map {U = NamedRule} (λ r. record { ref = a; rule = r }) (rule_at b a)) (rules_of b p)

@@ -1,11 +1,14 @@
 -- At most one possible run has a given journal.
 use Rattle.mkb_model.specs.Sleeping.{settle}
-use Rattle.std.proofs.Common.{ℕ, ◌+◌, ◌<◌, ◌≡◌, ◌≢◌, ◌⊎◌, inl, inr, refl, sym, ap, ap₂, ◌∙◌, subst, arith, List, [], ◌∷◌, ◌++◌, map, filter, Contains, Bool, true, false, cond, not, get_or, Option, Some, None, Ordering, Less, Equal, Greater, ⊎_elim}
+use Rattle.std.proofs.Common.{ℕ, ◌+◌, ◌<◌, ◌≡◌, ◌≢◌, ◌⊎◌, inl, inr, refl, sym, ap, ap₂, ◌∙◌, subst, arith, List, [], ◌∷◌, map, filter, Contains, Bool, true, false, cond, not, get_or, Option, Some, None, Ordering, Less, Equal, Greater, ⊎_elim}
 use Rattle.std.specs.Prelude.{AllPairs}
 use Rattle.std.specs.Option.{option_map_or}
 use Rattle.std.specs.Ordering.{ordering_then, nat_cmp}
 use Rattle.std.proofs.lemmas.List.{get_or_default}
-use Rattle.kb_term.proofs.Steps.{contains_cases}
+use Rattle.kb_lemmas.proofs.Lists.{same_end, no_end}
+use Rattle.kb_lemmas.proofs.Booleans.{then_equal}
+use Rattle.kb_lemmas.proofs.Membership.{contains_cases, none_in}
+use Rattle.kb_lemmas.proofs.Options.{some_is}
 use Rattle.kb_term.proofs.CanonicalPairs.{flip, nat_flip, nat_equal, then_flip}
 use Rattle.kb_term.specs.Tree.{Tree}
 use Rattle.kb_term.specs.View.{tree_of}
@@ -35,7 +38,6 @@ use Rattle.mkb_model.specs.declared.entry.Ticket.{Ticket}
 use Rattle.mkb_model.specs.declared.entry.Effect.TheVariants.{Over, Made}
 use Rattle.mkb_model.specs.declared.entry.Entry.{Entry}
 use Rattle.mkb_model.specs.declared.entry.Entry.TheVariants.{Take, Commit, Drop, Abandon, Halt}
-use Rattle.mkb_model.proofs.Lists.{some_is, none_in}
 use Rattle.mkb_model.proofs.Roles.{below}
 use Rattle.mkb_model.proofs.Lists.{equal_or_more}
 use Rattle.mkb_model.proofs.Readiness.{named_rule}
@@ -62,11 +64,6 @@ pub neither : (o : Ordering) → o ≢ Greater → flip o ≢ Greater → o ≡ 
 neither Less h k = absurd (k refl)
 neither Equal h k = refl
 neither Greater h k = absurd (h refl)
-
-then_equal : (a b : Ordering) → ordering_then a b ≡ Equal → (a ≡ Equal) × (b ≡ Equal)
-then_equal Less b e = absurd (cc)
-then_equal Equal b e = (refl, e)
-then_equal Greater b e = absurd (cc)
 
 same_ref : (a c : RuleRef) → a.node ≡ c.node → a.dir ≡ c.dir → a ≡ c
 same_ref a c e d = subst {A = ℕ} (λ z. record { node = z; dir = a.dir } ≡ c) (sym e) (subst {A = ℕ} (λ z. record { node = c.node; dir = z } ≡ c) (sym d) refl)
@@ -253,20 +250,6 @@ follow_once P n past b run (Commit w t e) c d f g = f.leads_to ∙ ap (landed t)
 follow_once P n past b run (Drop w t p) c d f g = f.leads_to ∙ sym g.leads_to
 follow_once P n past b run (Abandon w t) c d f g = f.leads_to ∙ sym g.leads_to
 follow_once P n past b run Halt c d f g = f.1 ∙ sym g.1
-
-no_end : {A : Type 0} (xs : List A) (x : A) {Q : Type 0} → xs ++ x ∷ [] ≡ [] → Q
-no_end [] x e = absurd (cc)
-no_end (y ∷ xs) x e = absurd (cc)
-
-same_end : {A : Type 0} (xs ys : List A) (x y : A) → xs ++ x ∷ [] ≡ ys ++ y ∷ [] → (xs ≡ ys) × (x ≡ y)
-same_end [] [] x y e = (refl, let h : x ≡ y = cc in h)
-same_end [] (z ∷ ys) x y e = let h : [] ≡ ys ++ y ∷ [] = cc in no_end ys y (sym h)
-same_end (z ∷ xs) [] x y e = let h : xs ++ x ∷ [] ≡ [] = cc in no_end xs x h
-same_end {A} (z ∷ xs) (w ∷ ys) x y e =
-    let h : z ≡ w = cc in
-    let t : xs ++ x ∷ [] ≡ ys ++ y ∷ [] = cc in
-    let r = same_end xs ys x y t in
-    (ap₂ (λ (a : A) (l : List A). a ∷ l) h r.0, r.1)
 
 -- a journal decides the run and its board
 pub runs_once : (P : Problem) (n : Settings) (ms ns : List Moment) (c d : Plain) → IsPossibleRun P n ms c → IsPossibleRun P n ns d → journal_of ms ≡ journal_of ns → (ms ≡ ns) × (c ≡ d)

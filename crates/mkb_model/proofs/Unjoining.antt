@@ -2,7 +2,10 @@
 use Rattle.std.proofs.Common.{ℕ, zero, suc, ◌≡◌, ◌≢◌, ◌⊎◌, inl, inr, refl, sym, ap, ◌∙◌, subst, arith, eqb→eq, List, [], ◌∷◌, length, Contains, Bool, true, false, ◌||◌, ◌==◌, Some, ⊎_elim}
 use Rattle.std.specs.Prelude.{T, option_map}
 use Rattle.std.specs.List.{filter_map}
-use Rattle.kb_term.proofs.Steps.{contains_cases}
+use Rattle.std.proofs.lemmas.Bool.{or_left, or_right}
+use Rattle.kb_lemmas.proofs.Membership.{contains_cases, none_in, contains_mapped, contains_map}
+use Rattle.kb_lemmas.proofs.Booleans.{and_gives_left, and_gives_right}
+use Rattle.kb_lemmas.proofs.Options.{some_is}
 use Rattle.kb_term.specs.Tree.{Tree, variable}
 use Rattle.kb_term.specs.Substitution.{instance, rename, IsVariant}
 use Rattle.kb_term.specs.Pair.{Pair}
@@ -30,7 +33,7 @@ use Rattle.mkb_model.specs.Effects.{added}
 use Rattle.mkb_model.specs.Proposals.{NamedRule, as_rules, rules_on, equations_on, IsUnjoining}
 use Rattle.mkb_model.specs.Invariants.{FactsHold}
 use Rattle.mkb_model.specs.Ready.{IsOn, IsRole, OneRole}
-use Rattle.mkb_model.proofs.Lists.{clash, decide, and_left, and_right, or_left, or_right, some_is, none_in, filter_in, in_filter, map_in, in_map, filter_map_in, in_filter_map, in_numbers}
+use Rattle.mkb_model.proofs.Lists.{clash, decide, filter_in, in_filter, filter_map_in, in_filter_map, in_numbers}
 use Rattle.mkb_model.proofs.Roles.{kind_number, numbers_decide, on_there, equation-no_rule, keeps-with_node}
 use Rattle.mkb_model.proofs.Pairs.{pairs-added}
 use Rattle.mkb_model.proofs.Views.{from_side, to_side, rule_of-between, rule_listed}
@@ -71,7 +74,7 @@ to_is q zero = refl
 to_is q (suc d) = refl
 
 same_ref : (a c : RuleRef) → ref_eq a c ≡ true → (a.node ≡ c.node) × (a.dir ≡ c.dir)
-same_ref a c h = (equal a.node c.node (and_left (a.node == c.node) (a.dir == c.dir) h), equal a.dir c.dir (and_right (a.node == c.node) (a.dir == c.dir) h))
+same_ref a c h = (equal a.node c.node (and_gives_left (a.node == c.node) (a.dir == c.dir) h), equal a.dir c.dir (and_gives_right (a.node == c.node) (a.dir == c.dir) h))
   where
     equal : (x y : ℕ) → (x == y) ≡ true → x ≡ y
     equal x y e = eqb→eq x y (subst {A = Bool} T (sym e) tt)
@@ -131,7 +134,7 @@ module _ (g : Signature) (b : Plain) (p : Name) (rest : Rests b p) (facts : Fact
 
   -- a rule that steps is one of the process
   by_rule : (rule : Rule) → Contains (as_rules (rules_on b p)) rule → (y : NamedRule) × Contains (rules_on b p) y × (y.rule ≡ rule)
-  by_rule rule i = map_in (λ (r : NamedRule). r.rule) (rules_on b p) rule i
+  by_rule rule i = contains_mapped (λ (r : NamedRule). r.rule) (rules_on b p) rule i
 
   right_normal : (x : NamedRule) → Contains (rules_on b p) x → IsNormal (as_rules (rules_on b p)) x.rule.right
   right_normal x i u (rule, c, at, h) = go (by_rule rule c)
@@ -195,7 +198,7 @@ module _ (g : Signature) (b : Plain) (p : Name) (rest : Rests b p) (facts : Fact
 
   equations_normal : (e : Tree × Tree) → Contains (equations_on b p) e → IsNormal (as_rules (rules_on b p)) e.0 × IsNormal (as_rules (rules_on b p)) e.1
   equations_normal e i =
-      let m = map_in sides (filter_map (pair_at b) (equations_of b p)) e i in
+      let m = contains_mapped sides (filter_map (pair_at b) (equations_of b p)) e i in
       let f = filter_map_in (pair_at b) (equations_of b p) m.0 m.1 in
       let k = filter_in (is_equation b p) (node_numbers b) f.0 f.1 in (
         subst {A = Tree} (IsNormal (as_rules (rules_on b p))) (ap (λ (z : Tree × Tree). z.0) m.2) (equation_sides f.0 m.0 k.1 f.2 0 (inl refl)),
@@ -217,7 +220,7 @@ module _ (g : Signature) (b : Plain) (p : Name) (rest : Rests b p) (facts : Fact
 
   -- a pair whose node the process has is held
   held : (z : Pair) (m : ℕ) (j : LabelKind) → IsRole j → IsOn b.nodes p m j → pair_in b.nodes m ≡ Some z → IsHeld (rules_on b p) (equations_on b p) z
-  held z m E role on there = inl (in_map sides (filter_map (pair_at b) (equations_of b p)) z (in_filter_map (pair_at b) (equations_of b p) m z (in_filter (is_equation b p) (node_numbers b) m (in_numbers 0 (length b.nodes) m (omega arith) (let l = on_there b.nodes p m E on in omega (arith, l))) on) there))
+  held z m E role on there = inl (contains_map sides (filter_map (pair_at b) (equations_of b p)) z (in_filter_map (pair_at b) (equations_of b p) m z (in_filter (is_equation b p) (node_numbers b) m (in_numbers 0 (length b.nodes) m (omega arith) (let l = on_there b.nodes p m E on in omega (arith, l))) on) there))
   held z m R0 role on there = inr (record { ref = record { node = m; dir = 0 }; rule = rule_of z 0 }, rule_on z m 0 (inl refl) on there, inl (rule_of-between z 0))
   held z m R1 role on there = inr (record { ref = record { node = m; dir = 1 }; rule = rule_of z 1 }, rule_on z m 1 (inr refl) on there, inr (rule_of-between z 1))
   held z m C0 role on there = absurd role

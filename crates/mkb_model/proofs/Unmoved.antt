@@ -3,6 +3,9 @@ use Rattle.std.proofs.Common.{ℕ, ◌≡◌, ◌≢◌, refl, sym, ap, ◌∙�
 use Rattle.std.specs.Prelude.{IsFalse, option_map}
 use Rattle.std.specs.List.{find, list_any}
 use Rattle.std.specs.Option.{option_map_or}
+use Rattle.std.proofs.lemmas.Bool.{and_right}
+use Rattle.std.proofs.Math.Bool.{or-false}
+use Rattle.kb_lemmas.proofs.Options.{none_some}
 use Rattle.kb_term.specs.View.{tree_of}
 use Rattle.kb_term.specs.Pair.{Pair}
 use Rattle.kb_term.specs.declared.origin.RuleRef.{RuleRef}
@@ -19,8 +22,8 @@ use Rattle.mkb_model.specs.Effects.{applied, effect, limit_of, give_up, effect_l
 use Rattle.mkb_model.specs.Invariants.{AreApart}
 use Rattle.mkb_model.specs.declared.proposed.Proposed.{Proposed}
 use Rattle.mkb_model.specs.declared.proposed.Proposed.TheVariants.{Facts, Rewrite, One, Both, Refuse, Deduce, Unjoined, Closed, Limit}
-use Rattle.mkb_model.proofs.Lists.{clash, none_some, and_off_right, same_test}
-use Rattle.mkb_model.proofs.Roles.{KeepsRoles, keeps-gains, relabel-other, or-false, has-one}
+use Rattle.mkb_model.proofs.Lists.{clash, same_test}
+use Rattle.mkb_model.proofs.Roles.{KeepsRoles, keeps-gains, relabel-other, has-one}
 use Rattle.mkb_model.proofs.Orienting.{keeps-oriented}
 use Rattle.mkb_model.proofs.Adding.{keeps-added}
 use Rattle.mkb_model.proofs.Commits.{IsApartFrom, keeps-rewritten, fork_other, orients}
@@ -131,7 +134,7 @@ unmoved_over : (b : Plain) (r : Reason) (l : List Name) (p : Name) → has l p �
 unmoved_over b r l p h = record { roles = same_roles b.nodes p; done = λ a e. refl; closed = refl; over = over_mapped p (λ (g : GivenUp). cond (reason_eq g.reason r) (record g { names = join g.names (not_over b l) }) g) (λ g. go g (reason_eq g.reason r)) b.over; known = λ n w a v k. k }
   where
     not_in : has (not_over b l) p ≡ false
-    not_in = has-filter (λ q. not (is_over b q)) l p ∙ and_off_right (not (is_over b p)) (has l p) h
+    not_in = has-filter (λ q. not (is_over b q)) l p ∙ and_right (not (is_over b p)) (has l p) h
 
     go : (g : GivenUp) (x : Bool) → has (cond x (record g { names = join g.names (not_over b l) }) g).names p ≡ has g.names p
     go g true = has-join g.names (not_over b l) p ∙ ap (λ z. has g.names p || z) not_in ∙ or-false (has g.names p)

@@ -1,7 +1,9 @@
 -- Variables: lists of few different ones, and that steps bring none.
-use Rattle.std.proofs.Common.{ℕ, ◌≤◌, ◌<◌, ◌≡◌, ◌∙◌, refl, sym, ap, subst, arith, List, [], ◌∷◌, ◌++◌, filter, length, Contains, Bool, true, false, not, cond, ◌==◌, ⊎_elim, eq-eqb, eqb-true, ne_eqb}
+use Rattle.std.proofs.Common.{ℕ, ◌≤◌, ◌≡◌, ◌∙◌, refl, sym, ap, subst, arith, List, [], ◌∷◌, ◌++◌, filter, length, Contains, Bool, true, false, not, cond, ◌==◌, ⊎_elim, eq-eqb, eqb-true, ne_eqb}
 use Rattle.std.specs.List.{list_any}
 use Rattle.std.proofs.lemmas.List.Elements.{Contains-append_cases, Contains-append_left, Contains-append_right}
+use Rattle.kb_lemmas.proofs.Lists.{filter_lost}
+use Rattle.kb_lemmas.proofs.Membership.{contains_behind, contains_first, none_in}
 use Rattle.kb_term.specs.Tree.{Tree, variable, apply, no_trees, variables_of}
 use Rattle.kb_term.specs.Substitution.{instance}
 use Rattle.kb_term.specs.Pair.{distinct, variables_of_pair}
@@ -10,26 +12,10 @@ use Rattle.kb_term.specs.Proving.{RewritesAt}
 use Rattle.kb_term.proofs.NameList.{IsUnique, unique-distinct}
 use Rattle.kb_term.proofs.Distinct.{has}
 use Rattle.kb_term.proofs.Variants.{filter_kept, distinct_in, in_distinct}
-use Rattle.kb_term.proofs.Steps.{contains_cases, contains_behind, contains_first, occurs_from, occurs_to, Occurs}
+use Rattle.kb_term.proofs.Steps.{occurs_from, occurs_to, Occurs}
 use Rattle.kb_term.proofs.Instances.{instance-variable, instance-agree, agree_at}
-use Rattle.mkb_model.proofs.Lists.{none_in, any_in, in_any, clash}
+use Rattle.mkb_model.proofs.Lists.{any_in, in_any, clash}
 use Rattle.kb_laws.proofs.Renamings.{Back, rewrites_back}
-
-filter_less : (p : ℕ → Bool) (xs : List ℕ) → length (filter p xs) ≤ length xs
-filter_less p [] = omega arith
-filter_less p (x ∷ xs) = go (p x) (filter_less p xs)
-  where
-    go : (b : Bool) → length (filter p xs) ≤ length xs → length (cond b (x ∷ filter p xs) (filter p xs)) ≤ length (x ∷ xs)
-    go true h = omega arith
-    go false h = omega arith
-
-filter_lost : (p : ℕ → Bool) (xs : List ℕ) (y : ℕ) → Contains xs y → p y ≡ false → length (filter p xs) < length xs
-filter_lost p [] y c e = none_in c
-filter_lost p (x ∷ xs) y c e = go (p x) refl (filter_less p xs) (filter_lost p xs y)
-  where
-    go : (b : Bool) → p x ≡ b → length (filter p xs) ≤ length xs → (Contains xs y → p y ≡ false → length (filter p xs) < length xs) → length (cond b (x ∷ filter p xs) (filter p xs)) < length (x ∷ xs)
-    go false q h rest = omega arith
-    go true q h rest = ⊎_elim (λ s. clash q (ap p s ∙ e)) (λ d. let r = rest d e in omega arith) (contains_cases x xs y c)
 
 has_there : (x : ℕ) (xs : List ℕ) → Contains xs x → has x xs ≡ true
 has_there x [] c = none_in c

@@ -2,7 +2,6 @@
 use Rattle.std.proofs.Common.{ℕ, zero, suc, ◌<◌, ◌≡◌, ◌⊎◌, ◌↔◌, inl, inr, refl, sym, ap, ◌∙◌, subst, arith, List, [], ◌∷◌, filter, flat_map, length, get_or, Option, Some, None, Contains}
 use Rattle.std.specs.Prelude.{option_map}
 use Rattle.std.specs.List.{filter_map}
-use Rattle.kb_term.proofs.Steps.{contains_behind, contains_first}
 use Rattle.kb_term.proofs.CanonicalPairs.{canonical_from_same, same_from_canonical}
 use Rattle.kb_term.proofs.Variants.{numbered_from_variants, variants_from_numbered, unnumbered}
 use Rattle.kb_term.specs.Tree.{Tree, variables_of}
@@ -15,14 +14,13 @@ use Rattle.mkb_model.specs.Plain.{Plain, PlainNode, pair_at, rule_at, label_at, 
 use Rattle.kb_node.specs.declared.node.LabelKind.{LabelKind}
 use Rattle.kb_node.specs.declared.node.LabelKind.TheVariants.{E}
 use Rattle.std.proofs.lemmas.List.Elements.{Contains-append_left, Contains-append_right}
+use Rattle.kb_lemmas.proofs.Membership.{contains_behind, contains_first, contains_mapped, contains_map, contains_flat_map}
+use Rattle.kb_lemmas.proofs.Options.{some_is, none_some}
 use Rattle.mkb_model.specs.Ready.{IsOn, KeepsPairs}
-use Rattle.mkb_model.proofs.Lists.{some_is, none_some, filter_in, in_filter, map_in, in_map, in_flat_map, filter_map_in, in_filter_map, in_numbers}
+use Rattle.mkb_model.proofs.Lists.{filter_in, in_filter, filter_map_in, in_filter_map, in_numbers}
 use Rattle.mkb_model.proofs.Roles.{on_there}
 
 -- ---- sameness
-
-pub same_itself : (d : Tree × Tree) → IsSameEquation d d
-same_itself d = same_from_canonical d.0 d.1 d.0 d.1 refl
 
 pub same_sym : (d e : Tree × Tree) → IsSameEquation d e → IsSameEquation e d
 same_sym d e h = same_from_canonical e.0 e.1 d.0 d.1 (sym (canonical_from_same d.0 d.1 e.0 e.1 h))
@@ -32,9 +30,6 @@ same_trans d e f h k = same_from_canonical d.0 d.1 f.0 f.1 (canonical_from_same 
 
 pub same_turned : (s t : Tree) → IsSameEquation (s, t) (t, s)
 same_turned s t = inr (variants_from_numbered s t s t refl)
-
-pub rule_itself : (r : Rule) → IsVariantRule r r
-rule_itself r = variants_from_numbered r.left r.right r.left r.right refl
 
 pub rule_sym : (q r : Rule) → IsVariantRule q r → IsVariantRule r q
 rule_sym q r h = variants_from_numbered r.left r.right q.left q.right (sym (numbered_from_variants q.left q.right r.left r.right h))
@@ -79,7 +74,7 @@ equations-view b p e = (to, from)
   where
     to : Has IsSameEquation (state_of b p).equations e → EqView b.nodes p e
     to (y, c, s) =
-        let m = map_in (λ (q : Pair). (q.first, q.second)) (filter_map (pair_at b) (equations_of b p)) y c in
+        let m = contains_mapped (λ (q : Pair). (q.first, q.second)) (filter_map (pair_at b) (equations_of b p)) y c in
         let f = filter_map_in (pair_at b) (equations_of b p) m.0 m.1 in
         let g = filter_in (is_equation b p) (node_numbers b) f.0 f.1 in
         (f.0, m.0, g.1, f.2, subst {A = Tree × Tree} (λ z. IsSameEquation z e) (sym m.2) s)
@@ -87,7 +82,7 @@ equations-view b p e = (to, from)
     from : EqView b.nodes p e → Has IsSameEquation (state_of b p).equations e
     from (n, q, o, h, s) = (
       (q.first, q.second),
-      in_map (λ (q : Pair). (q.first, q.second)) (filter_map (pair_at b) (equations_of b p)) q
+      contains_map (λ (q : Pair). (q.first, q.second)) (filter_map (pair_at b) (equations_of b p)) q
           (in_filter_map (pair_at b) (equations_of b p) n q (in_filter (is_equation b p) (node_numbers b) n (in_numbers 0 (length b.nodes) n (omega arith) (let l = on_there b.nodes p n E o in omega (arith, l))) o) h),
       s,
     )
@@ -106,7 +101,7 @@ module _ (b : Plain) (p : Name) (kind : ℕ → LabelKind) (kind_more : (d : ℕ
 
   in_listed : (n d : ℕ) → IsOn b.nodes p n (kind d) → (d ≡ 0) ⊎ (d ≡ 1) → Contains listed (record { node = n; dir = d })
   in_listed n d o k = in_filter (λ (a : RuleRef). has (label_at b.nodes a.node (kind a.dir)) p) (flat_map directions (node_numbers b)) (record { node = n; dir = d })
-      (in_flat_map directions (node_numbers b) n (record { node = n; dir = d }) (in_numbers 0 (length b.nodes) n (omega arith) (let l = on_there b.nodes p n (kind d) o in omega (arith, l))) (direction_in d k)) o
+      (contains_flat_map directions (node_numbers b) n (record { node = n; dir = d }) (in_numbers 0 (length b.nodes) n (omega arith) (let l = on_there b.nodes p n (kind d) o in omega (arith, l))) (direction_in d k)) o
     where
       direction_in : (d : ℕ) → (d ≡ 0) ⊎ (d ≡ 1) → Contains (directions n) (record { node = n; dir = d })
       direction_in d (inl e) = subst {A = ℕ} (λ z. Contains (directions n) (record { node = n; dir = z })) (sym e) (contains_first (record { node = n; dir = 0 }) (record { node = n; dir = 1 } ∷ []))

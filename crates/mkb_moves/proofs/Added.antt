@@ -1,6 +1,7 @@
 -- The pairs of overlaps become equations of the processes of the label, but for those that are rules of theirs.
 use Rattle.std.proofs.Common.{ℕ, ◌≡◌, ◌≢◌, ◌⊎◌, ◌↔◌, inl, inr, refl, sym, ap, ◌∙◌, subst, List, [], ◌∷◌, Bool, true, false, cond, ◌&&◌, ⊎_elim, Contains, Some}
-use Rattle.kb_term.proofs.Steps.{contains_cases, contains_first, contains_behind}
+use Rattle.std.proofs.lemmas.Bool.{and_from, or_right}
+use Rattle.kb_lemmas.proofs.Membership.{contains_cases, contains_first, contains_behind, none_in}
 use Rattle.kb_term.specs.Signature.{Problem}
 use Rattle.kb_term.specs.declared.origin.RuleRef.{RuleRef}
 use Rattle.kb_term.specs.declared.origin.Origin.TheVariants.{Overlap as ByOverlap}
@@ -17,7 +18,6 @@ use Rattle.mkb_model.specs.Ready.{IsOn}
 use Rattle.mkb_model.specs.declared.entry.Effect.TheVariants.{Made}
 use Rattle.mkb_model.specs.declared.proposed.Proposed.TheVariants.{Deduce, Unjoined}
 use Rattle.mkb_model.specs.declared.settings.Settings.{Settings}
-use Rattle.mkb_model.proofs.Lists.{none_in, and_both, or_right}
 use Rattle.mkb_model.proofs.Roles.{keeps-with_node, equation-no_rule, equation-no_constraint}
 use Rattle.mkb_model.proofs.Pairs.{pairs-added, pairs-gains_equation, node-with_node}
 use Rattle.mkb_model.proofs.Changes.{Fits}
@@ -105,7 +105,7 @@ deduced b c p l ds named e fits = record {
 
 -- the rules are noted as overlapped
 gains_these : (p : Name) (a c : RuleRef) (l : List Name) → has l p ≡ true → (ds : List Done) → has (done_in (gains_done_in a c l ds) a c) p ≡ true
-gains_these p a c l h [] = ap (λ (z : Bool). has (cond z l []) p) (and_both (ref_eq a a) (ref_eq c c) (ref_self a) (ref_self c)) ∙ h
+gains_these p a c l h [] = ap (λ (z : Bool). has (cond z l []) p) (and_from (ref_eq a a) (ref_eq c c) (ref_self a) (ref_self c)) ∙ h
 gains_these p a c l h (d ∷ ds) = go (ref_eq d.first a && ref_eq d.second c) refl (gains_these p a c l h ds)
   where
     go : (z : Bool) → (ref_eq d.first a && ref_eq d.second c) ≡ z → has (done_in (gains_done_in a c l ds) a c) p ≡ true → has (done_in (cond z (record d { names = join d.names l } ∷ ds) (d ∷ gains_done_in a c l ds)) a c) p ≡ true

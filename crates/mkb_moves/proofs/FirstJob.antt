@@ -4,7 +4,8 @@ use Rattle.std.specs.Option.{option_map_or}
 use Rattle.std.specs.Ordering.{ordering_then, MatchOrdering}
 use Rattle.std.proofs.lemmas.Cmp.{ranked}
 use Rattle.std.proofs.lemmas.List.Elements.{Contains-append_cases}
-use Rattle.kb_term.proofs.Steps.{contains_cases}
+use Rattle.kb_lemmas.proofs.Membership.{contains_cases, none_in, contains_mapped, contains_map, contains_flat_map_back}
+use Rattle.kb_lemmas.proofs.Options.{some_is, none_some}
 use Rattle.kb_term.specs.declared.origin.RuleRef.{RuleRef}
 use Rattle.kb_linear.specs.Numbers.{IsLess}
 use Rattle.kb_linear.proofs.Within.{less_self}
@@ -18,7 +19,7 @@ use Rattle.mkb_model.specs.Jobs.{process_of, kind_number, job_numbers, numbers_c
 use Rattle.mkb_model.specs.Plain.{Plain, cost, weight, node_numbers, rules_of}
 use Rattle.mkb_model.specs.DueJobs.{work_of, is_due, due_jobs, due_jobs_of, flying_jobs, awake, free_jobs, first_job}
 use Rattle.mkb_model.specs.declared.entry.Ticket.{Ticket}
-use Rattle.mkb_model.proofs.Lists.{not_true, some_is, none_some, none_in, filter_in, map_in, in_map, flat_map_in, any_none}
+use Rattle.mkb_model.proofs.Lists.{not_true, filter_in, any_none}
 use Rattle.mkb_model.proofs.Selections.{least-in, least-none}
 use Rattle.mkb_model.proofs.Flyers.{free_lives}
 use Rattle.mkb_moves.specs.Order.{IsNameBefore, IsLessOr, IsNameBeforeOr, IsBefore, MayBeTaken}
@@ -232,15 +233,15 @@ process_in b p j c = ⊎_elim (λ d. ⊎_elim reduced (λ e. ⊎_elim oriented o
     overlaps = flat_map (λ (a : RuleRef). map (Overlap p a) (rules_of b p)) (rules_of b p)
 
     reduced : Contains reduces j → process_of j ≡ p
-    reduced d = let m = map_in (λ n. Reduce p (record { 0 = n })) (node_numbers b) j d in sym (ap process_of m.2)
+    reduced d = let m = contains_mapped (λ n. Reduce p (record { 0 = n })) (node_numbers b) j d in sym (ap process_of m.2)
 
     oriented : Contains orients j → process_of j ≡ p
-    oriented d = let m = map_in (λ n. Orient p (record { 0 = n })) (node_numbers b) j d in sym (ap process_of m.2)
+    oriented d = let m = contains_mapped (λ n. Orient p (record { 0 = n })) (node_numbers b) j d in sym (ap process_of m.2)
 
     overlapped : Contains overlaps j → process_of j ≡ p
     overlapped d =
-        let q = flat_map_in (λ (a : RuleRef). map (Overlap p a) (rules_of b p)) (rules_of b p) j d in
-        let m = map_in (Overlap p q.0) (rules_of b p) j q.2 in
+        let q = contains_flat_map_back (λ (a : RuleRef). map (Overlap p a) (rules_of b p)) (rules_of b p) j d in
+        let m = contains_mapped (Overlap p q.0) (rules_of b p) j q.2 in
         sym (ap process_of m.2)
 
 -- a free job may be taken
@@ -249,14 +250,14 @@ free_may b j c = record {
   due = due.1;
   lives = free_lives b j c;
   awake = subst {A = Name} (λ z. has b.asleep z ≡ false) (sym (process_in b owner.0 j due.0)) (not_true up.1);
-  clear = λ t i. any_none (clashes j) (flying_jobs b) (not_true free.1) t.job (in_map (λ (t : Ticket). t.job) b.flight t i);
+  clear = λ t i. any_none (clashes j) (flying_jobs b) (not_true free.1) t.job (contains_map (λ (t : Ticket). t.job) b.flight t i);
 }
   where
     free : Contains (due_jobs b) j × (is_free (flying_jobs b) j ≡ true)
     free = filter_in (is_free (flying_jobs b)) (due_jobs b) j c
 
     owner : (p : Name) × Contains (awake b) p × Contains (due_jobs_of b p) j
-    owner = flat_map_in (due_jobs_of b) (awake b) j free.0
+    owner = contains_flat_map_back (due_jobs_of b) (awake b) j free.0
 
     up : Contains b.living owner.0 × (not (has b.asleep owner.0) ≡ true)
     up = filter_in (λ q. not (has b.asleep q)) b.living owner.0 owner.1

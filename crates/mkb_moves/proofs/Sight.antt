@@ -1,13 +1,14 @@
 -- What a process sees of two boards is the same where each label names it alike; and its lists told by labels.
 use Rattle.std.proofs.Common.{ℕ, zero, suc, ◌+◌, ◌≤◌, ◌≡◌, ◌↔◌, inl, inr, refl, sym, ap, ap₂, ◌∙◌, subst, arith, List, [], ◌∷◌, filter, flat_map, length, Contains, Bool, false, cond, ⊎_elim}
-use Rattle.kb_term.proofs.Steps.{contains_cases}
+use Rattle.kb_lemmas.proofs.Membership.{contains_cases, none_in, contains_flat_map_back}
+use Rattle.kb_lemmas.proofs.Lists.{filter_none_of}
 use Rattle.kb_term.specs.declared.origin.RuleRef.{RuleRef}
 use Rattle.kb_label.specs.Names.{Name, has}
 use Rattle.kb_node.specs.declared.node.LabelKind.{LabelKind}
 use Rattle.kb_node.specs.declared.node.LabelKind.TheVariants.{R0, R1, E, C0, C1}
 use Rattle.mkb_model.specs.Plain.{Plain, PlainNode, label_at, rule_kind, constraint_kind, numbers_from, node_numbers, directions, is_equation, is_rule, is_constraint, equations_of, rules_of, constraints_of, view}
 use Rattle.mkb_model.specs.Ready.{IsOn}
-use Rattle.mkb_model.proofs.Lists.{none_in, filter_in, in_filter, flat_map_in, in_numbers, numbers_in, all_left_out, same_test}
+use Rattle.mkb_model.proofs.Lists.{filter_in, in_filter, in_numbers, numbers_in, same_test}
 use Rattle.mkb_model.proofs.Roles.{label_beyond, on_there, kind_number, KeepsRoles}
 use Rattle.mkb_model.proofs.Resting.{IsBit, in_rules, rules_in}
 use Rattle.mkb_model.proofs.AllFine.{constraints_in, in_constraints}
@@ -18,19 +19,19 @@ use Rattle.mkb_moves.specs.Moves.{HasNoRule}
 
 -- what is kept of a row does not depend on its end, past which nothing is kept
 kept_numbers : (f g : ℕ → Bool) → ((m : ℕ) → f m ≡ g m) → (i k l : ℕ) → ((m : ℕ) → i + k ≤ m → f m ≡ false) → ((m : ℕ) → i + l ≤ m → g m ≡ false) → filter f (numbers_from i k) ≡ filter g (numbers_from i l)
-kept_numbers f g e i zero l hf hg = sym (all_left_out g (numbers_from i l) (λ m c. sym (e m) ∙ hf m (let r = numbers_in i l m c in omega (arith, r.0))))
-kept_numbers f g e i (suc k) zero hf hg = all_left_out f (numbers_from i (suc k)) (λ m c. e m ∙ hg m (let r = numbers_in i (suc k) m c in omega (arith, r.0)))
+kept_numbers f g e i zero l hf hg = sym (filter_none_of g (numbers_from i l) (λ m c. sym (e m) ∙ hf m (let r = numbers_in i l m c in omega (arith, r.0))))
+kept_numbers f g e i (suc k) zero hf hg = filter_none_of f (numbers_from i (suc k)) (λ m c. e m ∙ hg m (let r = numbers_in i (suc k) m c in omega (arith, r.0)))
 kept_numbers f g e i (suc k) (suc l) hf hg = ap₂ (λ (b : Bool) (xs : List ℕ). cond b (i ∷ xs) xs) (e i) (kept_numbers f g e (i + 1) k l (λ m h. hf m (omega (arith, h))) (λ m h. hg m (omega (arith, h))))
 
 node_in : (ns : List ℕ) (a : RuleRef) → Contains (flat_map directions ns) a → Contains ns a.node
 node_in ns a c =
-    let r = flat_map_in directions ns a c in
+    let r = contains_flat_map_back directions ns a c in
     subst {A = ℕ} (Contains ns) (⊎_elim (λ e. ap (λ (z : RuleRef). z.node) e) (λ d. ⊎_elim (λ e. ap (λ (z : RuleRef). z.node) e) (λ d. none_in d) (contains_cases (record { node = r.0; dir = 1 }) [] a d)) (contains_cases (record { node = r.0; dir = 0 }) (record { node = r.0; dir = 1 } ∷ []) a r.2)) r.1
 
 -- the same for both directions of each node
 kept_rules : (f g : RuleRef → Bool) → ((a : RuleRef) → f a ≡ g a) → (i k l : ℕ) → ((a : RuleRef) → i + k ≤ a.node → f a ≡ false) → ((a : RuleRef) → i + l ≤ a.node → g a ≡ false) → filter f (flat_map directions (numbers_from i k)) ≡ filter g (flat_map directions (numbers_from i l))
-kept_rules f g e i zero l hf hg = sym (all_left_out g (flat_map directions (numbers_from i l)) (λ a c. sym (e a) ∙ hf a (let r = numbers_in i l a.node (node_in (numbers_from i l) a c) in omega (arith, r.0))))
-kept_rules f g e i (suc k) zero hf hg = all_left_out f (flat_map directions (numbers_from i (suc k))) (λ a c. e a ∙ hg a (let r = numbers_in i (suc k) a.node (node_in (numbers_from i (suc k)) a c) in omega (arith, r.0)))
+kept_rules f g e i zero l hf hg = sym (filter_none_of g (flat_map directions (numbers_from i l)) (λ a c. sym (e a) ∙ hf a (let r = numbers_in i l a.node (node_in (numbers_from i l) a c) in omega (arith, r.0))))
+kept_rules f g e i (suc k) zero hf hg = filter_none_of f (flat_map directions (numbers_from i (suc k))) (λ a c. e a ∙ hg a (let r = numbers_in i (suc k) a.node (node_in (numbers_from i (suc k)) a c) in omega (arith, r.0)))
 kept_rules f g e i (suc k) (suc l) hf hg =
     let a0 : RuleRef = record { node = i; dir = 0 } in
     let a1 : RuleRef = record { node = i; dir = 1 } in

@@ -1,5 +1,6 @@
 -- What a rewriting does to the roles in which a process of its label has the nodes.
 use Rattle.std.proofs.Common.{ℕ, zero, suc, arith, ◌<◌, ◌≡◌, ◌≢◌, ◌⊎◌, ◌↔◌, inl, inr, refl, sym, ap, ◌∙◌, subst, List, length, Option, Some, None, true, false, ⊎_elim}
+use Rattle.kb_lemmas.proofs.Options.{none_some, some_is}
 use Rattle.kb_term.specs.Tree.{Tree}
 use Rattle.kb_term.specs.Pair.{Pair}
 use Rattle.kb_overlap.specs.Trace.{other_side}
@@ -13,7 +14,7 @@ use Rattle.kb_node.specs.declared.node.LabelKind.TheVariants.{R0, R1, E}
 use Rattle.mkb_model.specs.Plain.{PlainNode, label_at, rule_kind, other, pair_in}
 use Rattle.mkb_model.specs.Effects.{with_node, node_of, loses, gains_rule, gains_equation, direction, is_strict, if_strict}
 use Rattle.mkb_model.specs.Ready.{IsOn, OneRole}
-use Rattle.mkb_model.proofs.Lists.{clash, false_unless, none_some, some_is}
+use Rattle.mkb_model.proofs.Lists.{clash, false_unless}
 use Rattle.mkb_model.proofs.Roles.{kind_number, on-gains_rule, keeps-with_node, keeps-gains_rule, keeps-gains_equation, equation-no_rule, KeepsRoles, keeps_trans, length-put}
 use Rattle.mkb_model.proofs.Pairs.{pairs-gains_equation, pairs-gains_rule, node-with_node}
 use Rattle.mkb_model.proofs.Changes.{Fits}

@@ -2,6 +2,7 @@
 use Rattle.std.proofs.Common.{ℕ, ◌≡◌, refl, sym, ap, ◌∙◌, subst, arith, eqb→eq, List, [], ◌∷◌, ◌++◌, map, Bool, true, false, cond, not, ◌||◌, Some, ⊎_elim}
 use Rattle.std.specs.Prelude.{T}
 use Rattle.std.specs.List.{list_any}
+use Rattle.std.proofs.lemmas.Bool.{and_from, or_cases, or_left, or_right, or_parts}
 use Rattle.kb_term.specs.Signature.{Problem}
 use Rattle.kb_label.specs.Names.{Name, has, join, name_eq}
 use Rattle.kb_label.specs.declared.verdict.Reason.{Reason}
@@ -14,7 +15,7 @@ use Rattle.mkb_model.specs.Journals.{Moment, IsPossibleRun, IsCommitting, IsFree
 use Rattle.mkb_model.specs.declared.entry.Effect.TheVariants.{Over, Made}
 use Rattle.mkb_model.specs.declared.proposed.Proposed.TheVariants.{Facts, Closed}
 use Rattle.mkb_model.specs.declared.settings.Settings.{Settings}
-use Rattle.mkb_model.proofs.Lists.{clash, decide, and_both, or_one, or_left, or_right, or_none, not_of_false}
+use Rattle.mkb_model.proofs.Lists.{clash, decide, not_of_false}
 use Rattle.mkb_model.proofs.OverReasons.{given_over}
 use Rattle.mkb_moves.specs.Moves.{GivesUp}
 use Rattle.mkb_moves.proofs.Makes.{making, stopping}
@@ -47,7 +48,7 @@ module _ (r : Reason) (l : List Name) (p : Name) where
 
   still_over : (gs : List GivenUp) → list_any (λ (g : GivenUp). has g.names p) gs ≡ true → list_any (λ (g : GivenUp). has g.names p) (map more gs) ≡ true
   still_over [] h = clash h refl
-  still_over (g ∷ gs) h = ⊎_elim (λ k. or_left (has (more g).names p) (list_any (λ (g : GivenUp). has g.names p) (map more gs)) (named (reason_eq g.reason r) k)) (λ k. or_right (has (more g).names p) (list_any (λ (g : GivenUp). has g.names p) (map more gs)) (still_over gs k)) (or_one (has g.names p) (list_any (λ (g : GivenUp). has g.names p) gs) h)
+  still_over (g ∷ gs) h = ⊎_elim (λ k. or_left (has (more g).names p) (list_any (λ (g : GivenUp). has g.names p) (map more gs)) (named (reason_eq g.reason r) k)) (λ k. or_right (has (more g).names p) (list_any (λ (g : GivenUp). has g.names p) (map more gs)) (still_over gs k)) (or_cases (has g.names p) (list_any (λ (g : GivenUp). has g.names p) gs) h)
     where
       named : (x : Bool) → has g.names p ≡ true → has (cond x (record g { names = join g.names l }) g).names p ≡ true
       named true k = has-join g.names l p ∙ or_left (has g.names p) (has l p) k
@@ -59,7 +60,7 @@ module _ (r : Reason) (l : List Name) (p : Name) where
   new_reason (g ∷ gs) none h = go (reason_eq g.reason r) refl h (λ k. new_reason gs apart.1 k)
     where
       apart : (has g.names p ≡ false) × (list_any (λ (g : GivenUp). has g.names p) gs ≡ false)
-      apart = or_none (has g.names p) (list_any (λ (g : GivenUp). has g.names p) gs) none
+      apart = or_parts (has g.names p) (list_any (λ (g : GivenUp). has g.names p) gs) none
 
       pick : (s : Reason) (y : Bool) → (y ≡ true → s ≡ r) → (y || list_any (λ (g : GivenUp). has g.names p) (map more gs)) ≡ true → (list_any (λ (g : GivenUp). has g.names p) (map more gs) ≡ true → over_in (map more gs) p ≡ Some r) → cond y (Some s) (over_in (map more gs) p) ≡ Some r
       pick s true f k ih = ap Some (f refl)
@@ -81,4 +82,4 @@ limit_stops P n past b run w t r next f p named = subst {A = Plain} (λ z. Gives
   where
     fresh : is_over b p ≡ false → is_over (give_up r (effect_label b f.proposal) b) p ≡ true
     fresh k = given_over IsFreeJob P n past b run r (effect_label b f.proposal) p
-        (has-filter (λ q. not (is_over b q)) (effect_label b f.proposal) p ∙ and_both (not (is_over b p)) (has (effect_label b f.proposal) p) (not_of_false k) named)
+        (has-filter (λ q. not (is_over b q)) (effect_label b f.proposal) p ∙ and_from (not (is_over b p)) (has (effect_label b f.proposal) p) (not_of_false k) named)

@@ -1,5 +1,6 @@
 -- A process that failed is stuck.
 use Rattle.std.proofs.Common.{ℕ, ◌≡◌, ◌≢◌, refl, subst, List, true, false, ◌||◌, Some}
+use Rattle.std.proofs.lemmas.Bool.{or_left}
 use Rattle.kb_term.specs.Signature.{Problem, IsWithinLimits}
 use Rattle.kb_term.specs.declared.origin.Found.{Found}
 use Rattle.kb_term.specs.declared.origin.Found.TheVariants.{No, Variant, Strict}
@@ -14,7 +15,7 @@ use Rattle.kb_label.specs.declared.verdict.Verdict.TheVariants.{AllFailed}
 use Rattle.mkb_model.specs.Journals.{Moment, IsPossibleRun, IsFreeJob}
 use Rattle.mkb_model.specs.Ready.{IsOn}
 use Rattle.mkb_model.specs.declared.settings.Settings.{Settings}
-use Rattle.mkb_model.proofs.Lists.{clash, or_left}
+use Rattle.mkb_model.proofs.Lists.{clash}
 use Rattle.mkb_model.proofs.Roles.{equation-no_rule}
 use Rattle.mkb_model.proofs.Adding.{rule_role}
 use Rattle.mkb_model.proofs.Meanings.{has_failed, verdict_means}

@@ -3,6 +3,8 @@ use Rattle.std.proofs.Common.{ℕ, zero, suc, ◌+◌, ◌≤◌, ◌≡◌, ◌
 use Rattle.std.specs.Prelude.{option_map, IsTrue}
 use Rattle.std.proofs.lemmas.Option.{slice_get-map}
 use Rattle.std.proofs.lemmas.List.Elements.{filter-append}
+use Rattle.kb_lemmas.proofs.Membership.{slice_contains}
+use Rattle.kb_lemmas.proofs.Options.{some_of_map}
 use Rattle.kb_term.specs.Tree.{Tree}
 use Rattle.kb_term.specs.Pair.{Pair}
 use Rattle.kb_term.specs.declared.origin.RuleRef.{RuleRef}
@@ -13,7 +15,6 @@ use Rattle.kb_cert.proofs.Members.{first_contained}
 use Rattle.kb_cert.specs.declared.certificate.Certificate.{Certificate}
 use Rattle.kb_laws.specs.Complete.{IsCompleteSystem}
 use Rattle.kb_laws.specs.Overlaps.{OverlapsClose, HaveOneNormalForm}
-use Rattle.kb_laws.proofs.Closing.{slice_contains}
 use Rattle.kb_label.specs.Names.{Name, has}
 use Rattle.kb_label.specs.declared.verdict.Verdict.TheVariants.{Complete}
 use Rattle.mkb_model.specs.Plain.{Plain, PlainNode, orders_of, numbers_from, directions, is_rule, is_constraint, rules_of, constraints_of, rules_at, pair_in, certificate_of}
@@ -33,7 +34,7 @@ use Rattle.mkb_model.proofs.Sizes.{limited_run}
 use Rattle.mkb_model.proofs.Completed.{good_answer}
 use Rattle.mkb_report.specs.Reports.{IsReached, pairs_of}
 use Rattle.mkb_report.proofs.OneWay.{one_way}
-use Rattle.mkb_report.proofs.Traces.{OriginsAreRight, node_pair, follows_alike, mapped_is}
+use Rattle.mkb_report.proofs.Traces.{OriginsAreRight, node_pair, follows_alike}
 
 -- the process lives, its rules are a complete system for the problem by its certificate, which orders its constraints, and what the checker looks at besides
 pub record IsGoodProcess (b : Plain) (p : Name) : Type 0 where
@@ -66,7 +67,7 @@ pair_of_first xs n m = ap (λ (ys : List (Pair × Origin)). node_pair ys m) (tak
 
 origins_right : (b : Plain) → PairsFollow b → ((x : PlainNode) → Contains b.nodes x → IsOriginOfForm x.origin) → OriginsAreRight b.problem.equations (pairs_of b)
 origins_right b h formed n x e =
-    let y = mapped_is (λ (z : PlainNode). (z.pair, z.origin)) (slice_get b.nodes n) x (sym (slice_get-map (λ (z : PlainNode). (z.pair, z.origin)) b.nodes n) ∙ e) in (
+    let y = some_of_map (λ (z : PlainNode). (z.pair, z.origin)) (slice_get b.nodes n) x (sym (slice_get-map (λ (z : PlainNode). (z.pair, z.origin)) b.nodes n) ∙ e) in (
       subst (λ (z : Pair × Origin). IsOriginOfForm z.1) y.2 (formed y.0 (slice_contains b.nodes n y.0 y.1)),
       follows_alike b.problem.equations (pair_in (take n b.nodes)) (node_pair (take n (pairs_of b))) x.1 x.0 (λ m. sym (pair_of_first b.nodes n m))
           (subst (λ (z : Pair × Origin). FollowsBy b.problem.equations (pair_in (take n b.nodes)) z.1 z.0) y.2 (h n y.0 y.1)),

@@ -6,6 +6,7 @@ use Rattle.std.proofs.lemmas.List.{length-map, length-take, map-append, take_mor
 use Rattle.std.proofs.lemmas.Option.{slice_get_within, get_or_from_slice_get}
 use Rattle.std.proofs.lemmas.List.Elements.{filter-append}
 use Rattle.std.proofs.lemmas.List.Concat.{flat_map-append}
+use Rattle.kb_lemmas.proofs.Options.{some_of_map}
 use Rattle.kb_label.specs.Names.{Name, has, is_empty}
 use Rattle.kb_term.specs.declared.origin.RuleRef.{RuleRef}
 use Rattle.kb_node.specs.Labelled.{Node, is_dead_under}
@@ -13,7 +14,6 @@ use Rattle.mkb_model.specs.Plain.{Plain, GivenUp, numbers_from, directions, is_r
 use Rattle.mkb_model.specs.Sleeping.{no_members}
 use Rattle.mkb_rules.specs.Parts.{plain_node, plain_nodes}
 use Rattle.mkb_report.specs.Summaries.{is_dead}
-use Rattle.mkb_report.proofs.Traces.{mapped_is}
 
 module _ {X : Type 0} (F : X → Bool) where
   -- one more member, and the count of those that pass
@@ -53,7 +53,7 @@ module _ (xs : List (Node (List Name))) (i : ℕ) where
   pub dead_next : (log : List Name) (r : Bool) → option_map (is_dead_under {L = List Name} {K = List Name} (λ log l. l) log) (slice_get xs i) ≡ Some r
       → length (filter is_dead (plain_nodes (take (i + 1) xs))) ≡ length (filter is_dead (plain_nodes (take i xs))) + cond r 1 0
   dead_next log r e =
-      let x = mapped_is (is_dead_under {L = List Name} {K = List Name} (λ log l. l) log) (slice_get xs i) r e in
+      let x = some_of_map (is_dead_under {L = List Name} {K = List Name} (λ log l. l) log) (slice_get xs i) r e in
       let at : get_or xs i x.0 ≡ x.0 = get_or_from_slice_get xs i x.0 x.0 x.1 in
       ap (λ ys. length (filter is_dead (plain_nodes ys))) (take_more xs i x.0 (slice_get_within xs i x.0 x.1))
       ∙ ap (λ ys. length (filter is_dead ys)) (map-append plain_node (take i xs) (get_or xs i x.0 ∷ []))

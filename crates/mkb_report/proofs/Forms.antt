@@ -4,6 +4,9 @@ use Rattle.std.specs.Prelude.{nat_le, option_and_then}
 use Rattle.std.specs.List.{list_all}
 use Rattle.std.proofs.lemmas.Option.{slice_get_within}
 use Rattle.std.proofs.lemmas.List.Elements.{All-contains}
+use Rattle.std.proofs.lemmas.Bool.{le-leb, and_from}
+use Rattle.kb_lemmas.proofs.Membership.{contains_first, contains_behind, slice_contains}
+use Rattle.kb_lemmas.proofs.Options.{none_some, some_is, some_of_map}
 use Rattle.kb_term.specs.Tree.{Tree, Trees, variable, apply, no_trees, more_trees, list_of, tree_eq, tree_depth, trees_depth}
 use Rattle.kb_term.specs.Position.{argument, subtree_at}
 use Rattle.kb_term.specs.Substitution.{instances, rename}
@@ -15,27 +18,23 @@ use Rattle.kb_term.specs.declared.origin.Origin.{Origin}
 use Rattle.kb_term.specs.declared.origin.Origin.TheVariants.{Input, Rewrite, Overlap}
 use Rattle.kb_term.proofs.CanonicalPairs.{canonical_from_same}
 use Rattle.kb_term.proofs.OwnPair.{tree_eq-true, numbered_apart}
-use Rattle.kb_term.proofs.Steps.{contains_first, contains_behind}
 use Rattle.kb_term.proofs.Variants.{numbered_renamed}
 use Rattle.kb_overlap.specs.Trace.{item, side, IsRightOrigin}
 use Rattle.kb_text.specs.Terms.{IsPairForm}
 use Rattle.kb_trace.specs.Reached.{cites, with_numbers}
 use Rattle.kb_trace.specs.TraceText.{is_up_to, is_position, is_cited, is_origin}
-use Rattle.kb_trace.proofs.StepForms.{IsUpTo, is_up_to-true, true_le}
+use Rattle.kb_trace.proofs.StepForms.{IsUpTo, is_up_to-true}
 use Rattle.kb_laws.proofs.Cleaning.{length-instances}
-use Rattle.kb_laws.proofs.Closing.{slice_contains}
 use Rattle.kb_laws.proofs.LoneRule.{rule_same}
 use Rattle.kb_checker.specs.Answers.{IsRuleForm}
 use Rattle.mkb_model.specs.Limits.{IsLimitedPair}
-use Rattle.mkb_model.proofs.Lists.{and_both, none_some, some_is}
 use Rattle.mkb_model.proofs.Sizes.{numbered_within, turned}
-use Rattle.mkb_report.proofs.Traces.{mapped_is}
 
 -- ---- positions
 
 arity_most : (g : Signature) → All (λ (f : SymbolEntry). f.arity ≤ 8) g → (f n : ℕ) → HasArity g f n → n ≤ 8
 arity_most g h f n a =
-    let e = mapped_is (λ (s : SymbolEntry). s.arity) (slice_get g f) n a in
+    let e = some_of_map (λ (s : SymbolEntry). s.arity) (slice_get g f) n a in
     let most : e.0.arity ≤ 8 = All-contains (λ (s : SymbolEntry). s.arity ≤ 8) g e.0 h (slice_contains g f e.0 e.1) in
     omega (arith, most, e.2)
 
@@ -61,11 +60,11 @@ position_is g h (i ∷ p) (apply f ts) u w e = go (λ v k. position_is g h p v u
         let r = argument_is g ts i v a in
         let m = arity_most g h f (length (list_of ts)) w.0 in
         let s = ih v (r.3 w.1) k in
-        (omega (arith, s.0, r.2), and_both (is_up_to 8 i) (list_all (is_up_to 8) p) (is_up_to-true 8 i r.0 (omega (arith, r.1, m))) s.1)
+        (omega (arith, s.0, r.2), and_from (is_up_to 8 i) (list_all (is_up_to 8) p) (is_up_to-true 8 i r.0 (omega (arith, r.1, m))) s.1)
 
 -- a position of a term within the limits has at most 63 argument numbers, from 1 to 8
 position_form : (g : Signature) → All (λ (f : SymbolEntry). f.arity ≤ 8) g → (p : List ℕ) (t u : Tree) → IsWellFormed g t → tree_depth t ≤ 64 → subtree_at t p ≡ Some u → is_position p ≡ true
-position_form g h p t u w d e = let r = position_is g h p t u w e in and_both (nat_le (length p) 63) (list_all (is_up_to 8) p) (true_le (length p) 63 (omega (arith, r.0, d))) r.1
+position_form g h p t u w d e = let r = position_is g h p t u w e in and_from (nat_le (length p) 63) (list_all (is_up_to 8) p) (le-leb (length p) 63 (omega (arith, r.0, d))) r.1
 
 -- ---- sides and rules of pairs
 
@@ -126,7 +125,7 @@ item_within xs zero x e = none_some e
 item_within xs (suc i) x e = (omega arith, omega (arith, slice_get_within xs i x e))
 
 cited_form : (r : RuleRef) → IsUpTo 4096 r.node → r.dir ≤ 1 → is_cited r ≡ true
-cited_form r n d = and_both (is_up_to 4096 r.node) (nat_le r.dir 1) (is_up_to-true 4096 r.node n.low n.high) (true_le r.dir 1 d)
+cited_form r n d = and_from (is_up_to 4096 r.node) (nat_le r.dir 1) (is_up_to-true 4096 r.node n.low n.high) (le-leb r.dir 1 d)
 
 -- a right origin of nodes within the limits has the form of a step's origin, where what it cites has numbers from 1 to 4,096
 pub origin_form : (es : List (Tree × Tree)) (g : Signature) → length es ≤ 256 → All (λ (f : SymbolEntry). f.arity ≤ 8) g → (e : ℕ → Option Pair) → ((m : ℕ) (q : Pair) → e m ≡ Some q → IsLimitedPair g q) → (f : ℕ → ℕ)
@@ -137,17 +136,17 @@ origin_form es g few arities e limited f (Rewrite a w p b) q (form, r) cited =
     let second = cited b.node (contains_behind a (b.node ∷ []) b.node (contains_first b.node [])) in
     let s = side_limited g r.0 w (limited a r.0 r.2) in
     let rule : RuleRef = record { node = f b.node; dir = b.dir } in
-    and_both (is_up_to 4096 (f a) && nat_le w 1 && is_position p) (is_cited rule)
-    (and_both (is_up_to 4096 (f a) && nat_le w 1) (is_position p)
-    (and_both (is_up_to 4096 (f a)) (nat_le w 1) (is_up_to-true 4096 (f a) first.low first.high) (true_le w 1 form.0))
+    and_from (is_up_to 4096 (f a) && nat_le w 1 && is_position p) (is_cited rule)
+    (and_from (is_up_to 4096 (f a) && nat_le w 1) (is_position p)
+    (and_from (is_up_to 4096 (f a)) (nat_le w 1) (is_up_to-true 4096 (f a) first.low first.high) (le-leb w 1 form.0))
     (position_form g arities p (side r.0 w) _ s.0 s.1 r.4.rewrites.1.redex))
     (cited_form rule second form.1)
 origin_form es g few arities e limited f (Overlap a b p) q (form, r) cited =
     let outer : RuleRef = record { node = f a.node; dir = a.dir } in
     let inner : RuleRef = record { node = f b.node; dir = b.dir } in
     let l = (rule_limited g r.0 a.dir (limited a.node r.0 r.2)).left in
-    and_both (is_cited outer && is_cited inner) (is_position p)
-    (and_both (is_cited outer) (is_cited inner)
+    and_from (is_cited outer && is_cited inner) (is_position p)
+    (and_from (is_cited outer) (is_cited inner)
     (cited_form outer (cited a.node (contains_first a.node (b.node ∷ []))) form.0)
     (cited_form inner (cited b.node (contains_behind a.node (b.node ∷ []) b.node (contains_first b.node []))) form.1))
     (position_form g arities p (rule_of r.0 a.dir).left r.4.overlap.overlaps.subterm l.well_formed l.depth r.4.overlap.overlaps.there)

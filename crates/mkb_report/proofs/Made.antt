@@ -12,7 +12,6 @@ use Rattle.kb_term.specs.Rule.{Rule, rule_of, pair_of_rule}
 use Rattle.kb_term.specs.Signature.{Signature, Problem, IsWithinLimits}
 use Rattle.kb_term.specs.declared.origin.RuleRef.{RuleRef}
 use Rattle.kb_term.specs.declared.origin.Origin.{Origin}
-use Rattle.kb_term.proofs.Steps.{contains_cases, contains_first, contains_behind}
 use Rattle.kb_cert.specs.CertificateText.{is_certificate}
 use Rattle.kb_cert.specs.Family.{Orders}
 use Rattle.kb_cert.proofs.Members.{member_text}
@@ -40,16 +39,18 @@ use Rattle.mkb_model.specs.Plain.{Plain, PlainNode, rules_of, constraints_of, pa
 use Rattle.mkb_model.specs.Effects.{pair_eq}
 use Rattle.mkb_model.specs.Limits.{IsLimitedPair}
 use Rattle.mkb_model.specs.Verdicts.{verdict}
-use Rattle.mkb_model.proofs.AllFine.{pair_there}
-use Rattle.mkb_model.proofs.Lists.{in_map, map_in, none_in, same_test, some_is}
+use Rattle.mkb_model.proofs.Lists.{same_test}
 use mathlib.Core.Bool.{true≢false}
+use Rattle.mkb_model.proofs.Views.{there_pair}
+use Rattle.kb_lemmas.proofs.Membership.{contains_cases, contains_first, contains_behind, contains_map, contains_mapped, none_in}
+use Rattle.kb_lemmas.proofs.Options.{some_is, some_of_map}
 use Rattle.mkb_model.proofs.Pairs.{pair_eq-eq, pair_eq-refl}
 use Rattle.mkb_rules.specs.Named.{IsRuleThere}
 use Rattle.mkb_rules.proofs.Viewed.{rule_there, constraints_there}
 use Rattle.mkb_report.specs.Cited.{cited_by, number_with}
 use Rattle.mkb_report.specs.Reports.{IsReached, AreCited, IsAnswerOf, IsReportOf, pairs_of, nodes_of, wanted_nodes}
 use Rattle.mkb_report.proofs.Rising.{few_rising, rising_from}
-use Rattle.mkb_report.proofs.Traces.{node_pair, earlier_is, mapped_is, one_kept, one_trace, right_cites, right_trace, traced}
+use Rattle.mkb_report.proofs.Traces.{node_pair, earlier_is, one_kept, one_trace, right_cites, right_trace, traced}
 use Rattle.mkb_report.proofs.Forms.{origin_form, pair_form, rule_form, rule_pair}
 use Rattle.mkb_report.proofs.Boards.{IsGoodProcess, few_rules, few_constraints, fits, good, limited, pair_of_node, right}
 use Rattle.mkb_report.proofs.Viewed.{parts}
@@ -86,7 +87,7 @@ rules_zip : (b : Plain) (f : ℕ → ℕ) (names : List RuleRef) (rules : List (
 rules_zip b f [] [] h e k = tt
 rules_zip b f [] (r ∷ rules) h e k = absurd (cc)
 rules_zip b f (a ∷ names) [] h e k = absurd (cc)
-rules_zip b f (a ∷ names) (r ∷ rules) h e k = go (λ m n. rules_zip b f names rules (λ c i. h c (contains_behind a names c i)) m n) (pair_there b.nodes a.node (h a (contains_first a names)).0)
+rules_zip b f (a ∷ names) (r ∷ rules) h e k = go (λ m n. rules_zip b f names rules (λ c i. h c (contains_behind a names c i)) m n) (there_pair b.nodes a.node (h a (contains_first a names)).0)
   where
     go : (map (λ (x : Rule × ℕ). x.0) rules ≡ rules_at b names → map (λ (x : Rule × ℕ). x.1) rules ≡ map f (map (λ (c : RuleRef). c.node) names) → AllZip (IsCitedRule b f) names rules)
         → (q : Pair) × (pair_at b a.node ≡ Some q) → AllZip (IsCitedRule b f) (a ∷ names) (r ∷ rules)
@@ -102,7 +103,7 @@ rules_zip b f (a ∷ names) (r ∷ rules) h e k = go (λ m n. rules_zip b f name
 -- ---- the steps of a trace
 
 node_at : (b : Plain) (n : ℕ) (x : Pair × Origin) → slice_get (pairs_of b) n ≡ Some x → (y : PlainNode) × (slice_get b.nodes n ≡ Some y) × (parts y ≡ x)
-node_at b n x e = mapped_is parts (slice_get b.nodes n) x (sym (slice_get-map parts b.nodes n) ∙ e)
+node_at b n x e = some_of_map parts (slice_get b.nodes n) x (sym (slice_get-map parts b.nodes n) ∙ e)
 
 zip_there : (nodes : List (Pair × Origin)) (kept ns : List ℕ) (ss : List TraceStep) (n : ℕ) → AllZip (IsStepOf nodes kept) ns ss → Contains ns n → (x : Pair × Origin) × (slice_get nodes n ≡ Some x)
 zip_there nodes kept [] ss n z c = none_in c
@@ -137,7 +138,7 @@ module _ (b : Plain) (p : Name) (a : Answer) (r : IsReached b) (stands : verdict
   AreKept names = (x : RuleRef) → Contains names x → IsRuleThere b x × Contains h.trace.kept x.node
 
   wanted_kept : (x : RuleRef) → Contains (rules_of b p ++ constraints_of b p) x → Contains h.trace.kept x.node
-  wanted_kept x i = (h.trace.reached x.node).1 (x.node, in_map (λ (c : RuleRef). c.node) (rules_of b p ++ constraints_of b p) x i, [], refl)
+  wanted_kept x i = (h.trace.reached x.node).1 (x.node, contains_map (λ (c : RuleRef). c.node) (rules_of b p ++ constraints_of b p) x i, [], refl)
 
   rules_kept : AreKept (rules_of b p)
   rules_kept x i = (rule_there b p x i, wanted_kept x (Contains-append_left (rules_of b p) (constraints_of b p) x i))
@@ -180,7 +181,7 @@ module _ (b : Plain) (p : Name) (a : Answer) (r : IsReached b) (stands : verdict
   -- what a certificate orders it orders one by one
   all_oriented : (rules : List (Rule × ℕ)) → Orders a.cert (answer_rules rules) → All (IsOriented a.cert) rules
   all_oriented rules o = all_from (IsOriented a.cert) rules (λ x i. orders_among a.cert (answer_rules rules) (x.0 ∷ []) (λ y c. ⊎_elim
-      (λ e. subst {A = Rule} (Contains (answer_rules rules)) e (in_map (λ (z : Rule × ℕ). z.0) rules x i))
+      (λ e. subst {A = Rule} (Contains (answer_rules rules)) e (contains_map (λ (z : Rule × ℕ). z.0) rules x i))
       (λ d. none_in d) (contains_cases x.0 [] y c)) o)
 
   pub made_good : IsGoodAnswer a
@@ -284,7 +285,7 @@ module _ (b : Plain) (r : IsReached b) where
 
   cited_is : (p : Name) (trace : List TraceStep) (t : IsTraceOf (pairs_of b) (wanted_nodes b p) trace) (a : RuleRef) → IsRuleThere b a → cited_by b trace a ≡ number_in t.kept a.node
   cited_is p trace t a there =
-      let q = pair_there b.nodes a.node there.0 in
+      let q = there_pair b.nodes a.node there.0 in
       ap (λ (o : Option Pair). option_map_or (number_with trace) o 0) q.1 ∙ ap (λ k. k + 1) (first_place t.kept a.node q.0 q.1 t.kept trace t.steps)
 
   cites_are : (p : Name) (trace : List TraceStep) (t : IsTraceOf (pairs_of b) (wanted_nodes b p) trace) (names : List RuleRef) → ((a : RuleRef) → Contains names a → IsRuleThere b a)
@@ -361,7 +362,7 @@ named_there b p x i = ⊎_elim (λ c. rule_there b p x c) (λ c. All-contains (I
 -- and so are their nodes
 pub wanted_there : (b : Plain) (p : Name) → All (λ n. n < length (pairs_of b)) (wanted_nodes b p)
 wanted_there b p = all_from (λ n. n < length (pairs_of b)) (wanted_nodes b p) (λ n i.
-    let a = map_in (λ (x : RuleRef). x.node) (rules_of b p ++ constraints_of b p) n i in
+    let a = contains_mapped (λ (x : RuleRef). x.node) (rules_of b p ++ constraints_of b p) n i in
     let l = (named_there b p a.0 a.1).0 in
     let long : length (pairs_of b) ≡ length b.nodes = length-map b.nodes parts in
     omega (arith, l, a.2, long))

@@ -1,15 +1,14 @@
 -- A process has at most one of the two rules of a node among its constraints, since its order orders them.
-use Rattle.std.proofs.Common.{ℕ, ◌+◌, ◌<◌, ◌≡◌, refl, sym, ap, subst, arith, ⊎_elim, List, [], ◌∷◌, flat_map, All, Contains, Bool, true, Option, Some, None, slice_get}
+use Rattle.std.proofs.Common.{ℕ, ◌+◌, ◌<◌, ◌≡◌, refl, ap, subst, arith, ⊎_elim, List, [], ◌∷◌, flat_map, All, Contains, Bool, true, Option, Some, None, slice_get}
 use Rattle.std.specs.Prelude.{option_map}
 use Rattle.std.proofs.lemmas.List.Elements.{All-head, All-tail}
 use Rattle.std.proofs.lemmas.Option.{slice_get_within}
+use Rattle.mkb_model.proofs.Views.{numbered_variant}
+use Rattle.kb_lemmas.proofs.Membership.{contains_cases, contains_first, contains_behind, contains_flat_map, none_in}
 use Rattle.kb_term.specs.Tree.{Tree}
-use Rattle.kb_term.specs.Pair.{Pair, numbered, place_in, variables_of_pair, IsVariantEquation}
+use Rattle.kb_term.specs.Pair.{Pair}
 use Rattle.kb_term.specs.Rule.{Rule, rule_of}
 use Rattle.kb_term.specs.declared.origin.RuleRef.{RuleRef}
-use Rattle.kb_term.proofs.Steps.{contains_cases, contains_first, contains_behind}
-use Rattle.kb_term.proofs.Variants.{variants_from_numbered, numbered_renamed}
-use Rattle.kb_term.proofs.OwnPair.{numbered_apart}
 use Rattle.kb_lpo.specs.PathOrder.{LpoGreater}
 use Rattle.kb_lpo.proofs.LpoDecides.{lpo_trans, lpo_irreflexive}
 use Rattle.kb_linear.specs.LinearOrder.{LinearGreater}
@@ -22,7 +21,7 @@ use Rattle.kb_cert.proofs.Ordering.{IsRenamedOf, orders_among, orders_renamed}
 use Rattle.kb_label.specs.Names.{Name, has}
 use Rattle.kb_node.specs.declared.node.LabelKind.{LabelKind}
 use Rattle.mkb_model.specs.Plain.{Plain, PlainNode, node_numbers, directions, label_or_none, constraint_kind, is_constraint, constraints_of, pair_at, rule_at, rules_at}
-use Rattle.mkb_model.proofs.Lists.{in_filter, in_filter_map, in_flat_map, in_numbers, none_in}
+use Rattle.mkb_model.proofs.Lists.{in_filter, in_filter_map, in_numbers}
 
 -- ---- no order orders both directions
 
@@ -44,9 +43,6 @@ module _ (s t : Tree) where
       let again = k.1 (λ n. 0) in
       omega (arith, there, again)
   never_both (Kbo o) h = let k = both_pass (λ (r : Rule). KboGreater o r.left r.right) h in kbo_irreflexive o s (kbo_trans o s t s k.0 k.1)
-
-numbered_variant : (s t : Tree) → IsVariantEquation (s, t) ((numbered s t).first, (numbered s t).second)
-numbered_variant s t = variants_from_numbered s t (numbered s t).first (numbered s t).second (sym (numbered_renamed (place_in (variables_of_pair s t)) s t (numbered_apart s t)))
 
 -- nor both rules of a pair
 module _ (q : Pair) where
@@ -85,7 +81,7 @@ module _ (b : Plain) (p : Name) (c : Certificate) (h : Orders c (rules_at b (con
   listed : (a : RuleRef) (x : PlainNode) → slice_get b.nodes a.node ≡ Some x → Contains (directions a.node) a → is_constraint b p a ≡ true → Contains (rules_at b (constraints_of b p)) (rule_of x.pair a.dir)
   listed a x at d t =
       in_filter_map (rule_at b) (constraints_of b p) a (rule_of x.pair a.dir)
-      (in_filter (is_constraint b p) (flat_map directions (node_numbers b)) a (in_flat_map directions (node_numbers b) a.node a (in_numbers 0 _ a.node (omega arith) (omega (arith, slice_get_within b.nodes a.node x at))) d) t)
+      (in_filter (is_constraint b p) (flat_map directions (node_numbers b)) a (contains_flat_map directions (node_numbers b) a.node a (in_numbers 0 _ a.node (omega arith) (omega (arith, slice_get_within b.nodes a.node x at))) d) t)
       (ap (λ (o : Option PlainNode). option_map (λ (q : Pair). rule_of q a.dir) (option_map (λ (y : PlainNode). y.pair) o)) at)
 
   pub one_way : (n : ℕ) → is_constraint b p (record { node = n; dir = 0 }) ≡ true → is_constraint b p (record { node = n; dir = 1 }) ≡ true → ⊥

@@ -1,8 +1,7 @@
 -- Rising lists of numbers.
 use Rattle.std.proofs.Common.{ℕ, suc, ◌+◌, ◌<◌, ◌≤◌, ◌≡◌, refl, sym, ap₂, subst, arith, ⊎_elim, List, [], ◌∷◌, ◌++◌, Contains, AllPairs, length}
 use Rattle.std.specs.Prelude.{⊤}
-use Rattle.kb_term.proofs.Steps.{contains_cases, contains_first, contains_behind}
-use Rattle.mkb_model.proofs.Lists.{none_in}
+use Rattle.kb_lemmas.proofs.Membership.{contains_cases, contains_first, contains_behind, none_in}
 
 -- each number is below all later ones
 abbrev pub Rising : List ℕ → Type 0

@@ -1,5 +1,5 @@
 -- The trace of the nodes that wanted ones reach: it is right where the nodes' origins are, and it has each of these nodes' pairs at its number.
-use Rattle.std.proofs.Common.{ℕ, zero, suc, ◌+◌, ◌<◌, ◌≡◌, ◌∙◌, refl, sym, ap, ap₂, subst, arith, ⊎_elim, ◌⊎◌, inl, inr, eq-eqb, add-one, append_assoc, append-nil, eqb→eq, List, [], ◌∷◌, ◌++◌, take, Contains, Bool, true, false, cond, not, ◌==◌, Option, Some, None, slice_get}
+use Rattle.std.proofs.Common.{ℕ, suc, ◌+◌, ◌<◌, ◌≡◌, ◌∙◌, refl, sym, ap, ap₂, subst, arith, ⊎_elim, ◌⊎◌, inl, inr, eq-eqb, add-one, append_assoc, append-nil, eqb→eq, List, [], ◌∷◌, ◌++◌, take, Contains, Bool, true, false, cond, not, ◌==◌, Option, Some, slice_get}
 use Rattle.std.specs.Prelude.{T, option_map}
 use Rattle.std.specs.List.{AllZip}
 use Rattle.std.proofs.lemmas.List.Elements.{Contains-append_cases, Contains-append_right}
@@ -7,13 +7,14 @@ use Rattle.kb_term.specs.Tree.{Tree}
 use Rattle.kb_term.specs.Pair.{Pair, place_in}
 use Rattle.kb_term.specs.declared.origin.Origin.{Origin}
 use Rattle.kb_term.specs.declared.origin.Origin.TheVariants.{Input, Rewrite, Overlap}
-use Rattle.kb_term.proofs.Steps.{contains_cases, contains_first, contains_behind}
 use Rattle.kb_overlap.specs.Trace.{TraceStep, item, FollowsBy, IsOriginOfForm, IsRightOrigin, IsRightAfter, IsRightTrace}
 use Rattle.kb_trace.specs.Steps.{pairs_of}
 use Rattle.kb_trace.specs.Reached.{cites, CitesEarlier, IsStepOf, IsTraceOf, number_in, with_numbers}
 use Rattle.kb_trace.proofs.Reaching.{reached_more}
-use Rattle.mkb_model.proofs.Lists.{none_in, none_some, some_is}
 use mathlib.Core.Bool.{true≢false}
+use Rattle.kb_lemmas.proofs.Options.{some_of_map, some_is}
+use Rattle.kb_lemmas.proofs.Membership.{contains_cases, contains_first, contains_behind, none_in}
+use Rattle.kb_lemmas.proofs.Lists.{get_take}
 use Rattle.mkb_report.proofs.Rising.{Rising, rising_from, rising_behind, one_rising}
 
 -- ---- the pairs of nodes
@@ -26,21 +27,11 @@ node_pair nodes m = option_map (λ (x : Pair × Origin). x.0) (slice_get nodes m
 abbrev pub OriginsAreRight : List (Tree × Tree) → List (Pair × Origin) → Type 0
 OriginsAreRight es nodes = (n : ℕ) (x : Pair × Origin) → slice_get nodes n ≡ Some x → IsRightOrigin es (node_pair (take n nodes)) x.1 x.0
 
-taken_is : {X : Type 0} (n : ℕ) (xs : List X) (m : ℕ) (x : X) → slice_get (take n xs) m ≡ Some x → (m < n) × (slice_get xs m ≡ Some x)
-taken_is zero xs m x e = none_some e
-taken_is (suc n) [] m x e = none_some e
-taken_is (suc n) (y ∷ xs) zero x e = (omega arith, e)
-taken_is (suc n) (y ∷ xs) (suc m) x e = let r = taken_is n xs m x e in (omega (arith, r.0), r.1)
-
-pub mapped_is : {X Y : Type 0} (f : X → Y) (o : Option X) (y : Y) → option_map f o ≡ Some y → (x : X) × (o ≡ Some x) × (f x ≡ y)
-mapped_is f None y e = none_some e
-mapped_is f (Some x) y e = (x, refl, some_is e)
-
 -- a pair among the first nodes is that of the node, which is one of them
 pub earlier_is : (nodes : List (Pair × Origin)) (n m : ℕ) (q : Pair) → node_pair (take n nodes) m ≡ Some q → (m < n) × (node_pair nodes m ≡ Some q)
 earlier_is nodes n m q e =
-    let x = mapped_is (λ (x : Pair × Origin). x.0) (slice_get (take n nodes) m) q e in
-    let r = taken_is n nodes m x.0 x.1 in
+    let x = some_of_map (λ (x : Pair × Origin). x.0) (slice_get (take n nodes) m) q e in
+    let r = get_take n nodes m x.0 x.1 in
     (r.0, ap (option_map (λ (x : Pair × Origin). x.0)) r.1 ∙ ap Some x.2)
 
 -- ---- origins with other numbers

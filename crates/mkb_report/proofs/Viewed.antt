@@ -4,6 +4,7 @@ use Rattle.std.specs.Prelude.{slice_get, option_map}
 use Rattle.std.specs.Option.{option_map_or}
 use Rattle.std.proofs.lemmas.List.{map-append, take_more}
 use Rattle.std.proofs.lemmas.Option.{slice_get-map, slice_get_within, get_or_from_slice_get}
+use Rattle.kb_lemmas.proofs.Options.{some_is, some_of_map}
 use Rattle.kb_label.specs.Names.{Name}
 use Rattle.kb_term.specs.Pair.{Pair}
 use Rattle.kb_term.specs.Rule.{Rule, rule_of}
@@ -12,16 +13,14 @@ use Rattle.kb_term.specs.declared.origin.Origin.{Origin}
 use Rattle.kb_overlap.specs.Trace.{TraceStep}
 use Rattle.kb_node.specs.Labelled.{Node, HasPair}
 use Rattle.mkb_model.specs.Plain.{Plain, PlainNode, pair_at, rule_at}
-use Rattle.mkb_model.proofs.Lists.{some_is}
 use Rattle.mkb_rules.specs.Parts.{plain_node, plain_nodes}
 pub use Rattle.mkb_rules.proofs.Viewed.{rules_viewed, constraints_viewed}
 use Rattle.mkb_report.specs.Cited.{cited_by, number_with}
-use Rattle.mkb_report.proofs.Traces.{mapped_is}
 
 -- the pair of a node of the table is that of the board's node
 pub pair_read : (b : Plain) (xs : List (Node (List Name))) → plain_nodes xs ≡ b.nodes → (n : ℕ) (q : Pair) → HasPair {L = List Name} xs n q → pair_at b n ≡ Some q
 pair_read b xs is n q e =
-    let x = mapped_is (λ (x : Node (List Name)). x.pair) (slice_get xs n) q e in
+    let x = some_of_map (λ (x : Node (List Name)). x.pair) (slice_get xs n) q e in
     ap (λ (ys : List PlainNode). option_map (λ (y : PlainNode). y.pair) (slice_get ys n)) (sym is)
     ∙ ap (option_map (λ (y : PlainNode). y.pair)) (slice_get-map plain_node xs n ∙ ap (option_map plain_node) x.1) ∙ ap Some x.2
 
@@ -47,7 +46,7 @@ parts_of q o = (q, o)
 pub nodes_next : (xs : List (Node (List Name))) (i : ℕ) (q : Pair) (o : Origin) → HasPair {L = List Name} xs i q → option_map (λ (x : Node (List Name)). x.origin) (slice_get xs i) ≡ Some o
     → map parts (plain_nodes (take (i + 1) xs)) ≡ map parts (plain_nodes (take i xs)) ++ (q, o) ∷ []
 nodes_next xs i q o e f =
-    let x = mapped_is (λ (x : Node (List Name)). x.pair) (slice_get xs i) q e in
+    let x = some_of_map (λ (x : Node (List Name)). x.pair) (slice_get xs i) q e in
     let origin : x.0.origin ≡ o = some_is (sym (ap (option_map (λ (y : Node (List Name)). y.origin)) x.1) ∙ f) in
     let at : get_or xs i x.0 ≡ x.0 = get_or_from_slice_get xs i x.0 x.0 x.1 in
     ap (λ ys. map parts (plain_nodes ys)) (take_more xs i x.0 (slice_get_within xs i x.0 x.1))

@@ -1,14 +1,9 @@
 -- Lists and tests.
-use Rattle.std.proofs.Common.{ℕ, zero, suc, ◌+◌, ◌<◌, ◌≤◌, ◌≡◌, ◌≢◌, ◌==◌, refl, sym, ap, ◌∙◌, subst, arith, All, List, [], ◌∷◌, ◌++◌, length, filter, map, Contains, Bool, true, false, not, ◌||◌, ◌&&◌, Option, Some, None}
-use Rattle.std.specs.Prelude.{AllPairs, nat_lt, if◌then◌else◌}
+use Rattle.std.proofs.Common.{ℕ, zero, suc, ◌+◌, ◌≡◌, ◌≢◌, ◌==◌, refl, sym, ap, ◌∙◌, subst, arith, All, List, [], ◌∷◌, ◌++◌, length, filter, map, Contains, Bool, true, false, not, ◌||◌, ◌&&◌, Option, Some, None}
+use Rattle.std.specs.Prelude.{AllPairs, if◌then◌else◌}
 use Rattle.std.proofs.lemmas.Bool.Decides.{nat_tests}
+use Rattle.kb_lemmas.proofs.Membership.{all_rest}
 use Rattle.mkb_model.specs.declared.entry.Ticket.{Ticket}
-
-pub less : (m n : ℕ) → m < n → nat_lt m n ≡ true
-less m n l = grind (arith, nat_tests, l)
-
-pub no_less : (m n : ℕ) → n ≤ m → nat_lt m n ≡ false
-no_less m n l = grind (arith, nat_tests, l)
 
 pub if_both : {A : Type 0} (p q : Bool) (x y : A) → p ≡ true → q ≡ true → (if p && q then x else y) ≡ x
 if_both p q x y e f = rw (e, f) refl
@@ -24,26 +19,12 @@ pub if_same : {A : Type 0} (p : Bool) (x y : A) → x ≡ y → (if p then x els
 if_same true x y e = e
 if_same false x y e = refl
 
-pub or_last : (p : Bool) → (p || true) ≡ true
-or_last true = refl
-or_last false = refl
-
 pub or_none : (p : Bool) → p ≡ false → (p || false) ≡ false
 or_none p e = rw e refl
 
 -- what holds of all holds of each
 pub all_in : {A : Type 0} (P : A → Type 0) (xs : List A) (x : A) → All P xs → Contains xs x → P x
 all_in {A} P xs x h k = subst {A = A} P k.2 (h k.0 x k.1)
-
-pub all_none : {A : Type 0} (P : A → Type 0) → All P []
-all_none P i d l = absurd (omega (arith, l))
-
-pub all_one : {A : Type 0} (P : A → Type 0) (x : A) → P x → All P (x ∷ [])
-all_one P x h zero d l = h
-all_one P x h (suc i) d l = absurd (omega (arith, l))
-
-pub all_rest : {A : Type 0} (P : A → Type 0) (x : A) (xs : List A) → All P (x ∷ xs) → All P xs
-all_rest P x xs h i d l = h (suc i) d (omega (arith, l))
 
 pub all_first : {A : Type 0} (P : A → Type 0) (x : A) (xs : List A) → All P (x ∷ xs) → P x
 all_first P x xs h = h zero x (omega arith)

@@ -2,6 +2,7 @@
 use Rattle.std.proofs.Common.{ℕ, zero, suc, ◌+◌, ◌<◌, ◌≡◌, ◌⊎◌, inl, inr, refl, sym, ap, ap₂, ◌∙◌, arith, List, [], ◌∷◌, length, Option, Some, None, ⊎_elim}
 use Rattle.std.specs.Prelude.{IsSome}
 use Rattle.std.specs.Option.{option_map_or}
+use Rattle.kb_lemmas.proofs.Options.{none_some}
 use Rattle.kb_term.specs.Signature.{Problem, IsWithinLimits}
 use Rattle.kb_term.proofs.Subtrees.{some_value}
 use Rattle.kb_node.specs.declared.job.Job.{Job}
@@ -11,7 +12,6 @@ use Rattle.mkb_model.specs.Journals.{Moment, Move, takes, ends, gives_back, halt
 use Rattle.mkb_model.specs.declared.entry.Entry.{Entry}
 use Rattle.mkb_model.specs.declared.entry.Entry.TheVariants.{Take, Commit, Drop, Abandon, Halt}
 use Rattle.mkb_model.specs.declared.settings.Settings.{Settings}
-use Rattle.mkb_model.proofs.Lists.{none_some}
 use Rattle.mkb_model.proofs.Selections.{legal-possible}
 use Rattle.mkb_model.proofs.OneJournal.{moves_decide}
 use Rattle.mkb_rounds.specs.Rounds.{GoByRounds, IsRounds, first_number, next_job, round_move}

@@ -6,7 +6,10 @@ use Rattle.std.proofs.Math.Seq.{drop-cons}
 use Rattle.std.proofs.lemmas.List.{length-map, map-append}
 use Rattle.std.proofs.lemmas.List.Elements.{All-append, Contains-get_or}
 use Rattle.std.proofs.lemmas.Option.{slice_get-get_or}
-use Rattle.kb_term.proofs.Steps.{contains_first}
+use Rattle.std.proofs.lemmas.Bool.{lt-ltb, le-ltb}
+use Rattle.std.proofs.Math.Bool.{or-true}
+use Rattle.kb_lemmas.proofs.Membership.{contains_first, all_none, all_one, all_rest}
+use Rattle.kb_lemmas.proofs.Options.{none_some}
 use Rattle.kb_node.specs.declared.job.Job.{Job}
 use Rattle.kb_jobs.specs.declared.working.Snapshot.{Snapshot}
 use Rattle.kb_jobs.specs.Working.{IsReadable, ProposesBy}
@@ -20,7 +23,6 @@ use Rattle.mkb_model.specs.declared.proposed.Proposed.{Proposed}
 use Rattle.mkb_model.specs.declared.entry.Ticket.{Ticket}
 use Rattle.mkb_model.specs.declared.entry.Entry.{Entry}
 use Rattle.mkb_model.specs.declared.entry.Entry.TheVariants.{Take, Commit, Drop, Abandon}
-use Rattle.mkb_model.proofs.Lists.{none_some}
 use Rattle.mkb_model.proofs.Flights.{effect_flight}
 use Rattle.mkb_model.proofs.Living.{effect_setting, flight_numbered}
 use Rattle.mkb_board.specs.Boards.{Seen, IsLegalBoard, has_halt, takes_in}
@@ -40,7 +42,7 @@ use Rattle.mkb_rounds.specs.Rounds.{first_number, is_taking, newest_is_take, nex
 use Rattle.mkb_rounds.specs.Playing.{AreInHand, IsBetweenRounds, IsByRounds, IsEndingRound, IsLeftWith, IsTakingRound, tickets_of}
 use Rattle.mkb_rounds.specs.Outcomes.{AreReadable, AreRight}
 use Rattle.mkb_rounds.specs.declared.stealing.Outcome.{Outcome}
-use Rattle.mkb_rounds.proofs.Lists.{less, no_less, if_both, if_first_off, if_second_off, if_same, or_last, all_in, all_none, all_one, all_rest, all_first, all_map, Differ, differ_first, lands_first}
+use Rattle.mkb_rounds.proofs.Lists.{if_both, if_first_off, if_second_off, if_same, all_in, all_first, all_map, Differ, differ_first, lands_first}
 use Rattle.mkb_rounds.proofs.Going.{legal_by, legal_grown, one_more, not_halted}
 
 -- ---- taking
@@ -68,7 +70,7 @@ module _ (old new : Seen) (round : List Assignment) (t : Ticket) (snapshot : Sna
   few_flying = let e = ap length h.in_hand.flight ∙ length-map round (λ (a : Assignment). a.ticket) in omega (arith, e, few)
 
   next : next_job h.so_far.moments old.plain ≡ Some t.job
-  next = if_both (is_taking h.so_far.moments old.plain) (nat_lt (length old.plain.flight) max_tickets) (first_job old.plain) None h.taking (less (length old.plain.flight) 8 few_flying) ∙ takes_it.first
+  next = if_both (is_taking h.so_far.moments old.plain) (nat_lt (length old.plain.flight) max_tickets) (first_job old.plain) None h.taking (lt-ltb (length old.plain.flight) 8 few_flying) ∙ takes_it.first
 
   number : t.number ≡ tickets h.so_far.moments + 1
   number = takes_it.number_is ∙ ap (λ (z : ℕ). z + 1) (sym (takes_of h.so_far.moments ∙ ap takes_in h.so_far.journal))
@@ -96,7 +98,7 @@ module _ (old new : Seen) (round : List Assignment) (t : Ticket) (snapshot : Sna
     so_far = one_take;
     unhalted = not_halted new one_take;
     undecided = subst {A = Plain} (λ (z : Plain). verdict z ≡ None) (sym takes_it.flies) takes_it.no_verdict;
-    taking = or_last (no_members new.plain.flight);
+    taking = or-true (no_members new.plain.flight);
     in_hand = record {
       flight = ap (λ (z : Plain). z.flight) takes_it.flies ∙ ap (λ (ts : List Ticket). ts ++ t ∷ []) h.in_hand.flight ∙ sym (map-append (λ (a : Assignment). a.ticket) round (record { ticket = t; snapshot = snapshot; moment = m } ∷ []));
       held = All-append (λ (a : Assignment). IsHeld new a.ticket a.snapshot) round (record { ticket = t; snapshot = snapshot; moment = m } ∷ [])
@@ -111,7 +113,7 @@ full s round h l =
     let e = ap length h.in_hand.flight ∙ length-map round (λ (a : Assignment). a.ticket) in
     record {
       so_far = h.so_far;
-      no_more = λ v some. if_second_off (is_taking h.so_far.moments s.plain) (nat_lt (length s.plain.flight) max_tickets) (first_job s.plain) None (no_less (length s.plain.flight) 8 (omega (arith, e, l)));
+      no_more = λ v some. if_second_off (is_taking h.so_far.moments s.plain) (nat_lt (length s.plain.flight) max_tickets) (first_job s.plain) None (le-ltb (length s.plain.flight) 8 (omega (arith, e, l)));
       in_hand = h.in_hand;
     }
 
@@ -258,10 +260,6 @@ on_ok (Err x) e h = absurd (cc)
 pub on_err : {A E P : Type 0} (r : Result A E) → is_err r ≡ true → OnErr r P → P
 on_err (Ok x) e h = absurd (cc)
 on_err (Err x) e h = h
-
-pub not_true : (b : Bool) → not b ≡ true → b ≡ false
-not_true false e = refl
-not_true true e = absurd (cc)
 
 pub not_false : (b : Bool) → not b ≡ false → b ≡ true
 not_false true e = refl

@@ -2,6 +2,7 @@
 use Rattle.std.proofs.Common.{ℕ, zero, suc, ◌+◌, ◌≡◌, ◌⊎◌, inl, inr, refl, sym, ap, ◌∙◌, subst, arith, List, [], ◌∷◌, ◌++◌, length, Result, Ok, Err, Bool, true, false, cond}
 use Rattle.std.specs.Prelude.{slice_get, option_map, OnOk, OnErr, IfOk, IsFalse, ◌↔◌}
 use Rattle.std.proofs.lemmas.List.{map-append, length-map, append-nil}
+use Rattle.std.proofs.lemmas.Bool.{or_parts}
 use Rattle.kb_label.specs.Names.{Name}
 use Rattle.kb_term.specs.Pair.{Pair}
 use Rattle.kb_term.specs.declared.origin.Origin.{Origin}
@@ -13,7 +14,7 @@ use Rattle.kb_node.specs.Labelled.{Node, HasPair, LacksPair, AddsNode}
 use Rattle.kb_node.proofs.Adding.{has-lacks}
 use Rattle.mkb_model.specs.Plain.{PlainNode, pair_in}
 use Rattle.mkb_model.specs.Effects.{pair_eq, node_of, is_present, new_node, with_node, most_nodes}
-use Rattle.mkb_model.proofs.Lists.{clash, decide, or_none, false_unless}
+use Rattle.mkb_model.proofs.Lists.{clash, decide, false_unless}
 use Rattle.mkb_model.proofs.Pairs.{pair_eq-refl, found_node}
 use Rattle.mkb_rules.specs.Parts.{plain_node, plain_nodes}
 
@@ -28,14 +29,14 @@ has_pair xs q h = pair-plain xs (node_of (plain_nodes xs) q) ∙ (found_node (pl
 lacks_pair : (xs : List (Node (List Name))) (q : Pair) → is_present (plain_nodes xs) q ≡ false → LacksPair xs q
 lacks_pair [] q h k d u e = absurd (omega (arith, u))
 lacks_pair (x ∷ xs) q h zero d u e =
-    clash (subst {A = Pair} (λ p. pair_eq p q ≡ true) (sym e) (pair_eq-refl q)) (or_none (pair_eq x.pair q) (is_present (plain_nodes xs) q) h).0
-lacks_pair (x ∷ xs) q h (suc k) d u e = lacks_pair xs q (or_none (pair_eq x.pair q) (is_present (plain_nodes xs) q) h).1 k d (omega (arith, u)) e
+    clash (subst {A = Pair} (λ p. pair_eq p q ≡ true) (sym e) (pair_eq-refl q)) (or_parts (pair_eq x.pair q) (is_present (plain_nodes xs) q) h).0
+lacks_pair (x ∷ xs) q h (suc k) d u e = lacks_pair xs q (or_parts (pair_eq x.pair q) (is_present (plain_nodes xs) q) h).1 k d (omega (arith, u)) e
 
 -- the number of a pair that no node has is that of the node added for it
 node_of-new : (xs : List PlainNode) (q : Pair) (o : Origin) → is_present xs q ≡ false → node_of (xs ++ new_node q o ∷ []) q ≡ length xs
 node_of-new [] q o h = ap (λ b. cond b 0 1) (pair_eq-refl q)
 node_of-new (x ∷ xs) q o h =
-    let none = or_none (pair_eq x.pair q) (is_present xs q) h in
+    let none = or_parts (pair_eq x.pair q) (is_present xs q) h in
     let one : length xs + 1 ≡ suc (length xs) = omega arith in
     ap (λ b. cond b 0 (node_of (xs ++ new_node q o ∷ []) q + 1)) none.0 ∙ ap (λ n. n + 1) (node_of-new xs q o none.1) ∙ one
 

@@ -8,6 +8,8 @@ use Rattle.std.proofs.lemmas.List.{get_or-set_other, get_or-set_same}
 use Rattle.std.proofs.lemmas.List.Elements.{filter-append, filter_passes}
 use Rattle.std.proofs.lemmas.List.Sorted.{searched}
 use mathlib.Core.Bool.{true≢false}
+use Rattle.std.proofs.Math.Bool.{or-false, and-false, and-true}
+use Rattle.std.proofs.lemmas.Bool.{or_parts, eqb-true as alike, ne_eqb}
 use Rattle.kb_node.specs.declared.node.NodeId.{NodeId}
 use Rattle.mkb_model.specs.Plain.{numbers_from}
 use Rattle.mkb_rules.specs.Sizes.{AreListed}
@@ -20,32 +22,6 @@ apart m n e same = absurd (true≢false (sym (test same) ∙ e))
   where
     test : m ≡ n → (m == n) ≡ true
     test eq = grind (arith, nat_tests)
-
-alike : (m n : ℕ) → (m == n) ≡ true → m ≡ n
-alike m n e = grind (arith, nat_tests)
-
-unlike : (m n : ℕ) → m ≢ n → (m == n) ≡ false
-unlike m n d = go (m == n) refl
-  where
-    go : (b : Bool) → (m == n) ≡ b → b ≡ false
-    go true e = absurd (d (alike m n e))
-    go false e = refl
-
-or_false : (b : Bool) → (b || false) ≡ b
-or_false true = refl
-or_false false = refl
-
-and_true : (b : Bool) → (b && true) ≡ b
-and_true true = refl
-and_true false = refl
-
-and_false : (b : Bool) → (b && false) ≡ false
-and_false true = refl
-and_false false = refl
-
-neither : (a b : Bool) → (a || b) ≡ false → (a ≡ false) × (b ≡ false)
-neither true b h = absurd (true≢false h)
-neither false b h = (refl, h)
 
 -- ---- numbers that pass a test
 
@@ -98,7 +74,7 @@ module _ (t : ℕ → Bool) (n : ℕ) where
   or_n m = t m || (m == n)
 
   none_other : (a k : ℕ) → n < a → filter t (numbers_from a k) ≡ filter or_n (numbers_from a k)
-  none_other a k h = agreeing t or_n a k (λ m g w. sym (ap (λ x. t m || x) (unlike m n (λ e. absurd (omega (arith, g, h, e)))) ∙ or_false (t m)))
+  none_other a k h = agreeing t or_n a k (λ m g w. sym (ap (λ x. t m || x) (ne_eqb m n (λ e. absurd (omega (arith, g, h, e)))) ∙ or-false (t m)))
 
   put_next : (a k : ℕ) (b e : Bool) → (a == n) ≡ e → a ≤ n → ((j : ℕ) → a + 1 ≤ n → IsPlace n (filter t (numbers_from (a + 1) k)) j → insert (filter t (numbers_from (a + 1) k)) j n ≡ filter or_n (numbers_from (a + 1) k))
       → (i : ℕ) → IsPlace n (cond b (a ∷ filter t (numbers_from (a + 1) k)) (filter t (numbers_from (a + 1) k))) i
@@ -123,7 +99,7 @@ module _ (t : ℕ → Bool) (n : ℕ) where
   but_n m = t m && not (m == n)
 
   all_others : (a k : ℕ) → n < a → filter t (numbers_from a k) ≡ filter but_n (numbers_from a k)
-  all_others a k h = agreeing t but_n a k (λ m g w. sym (ap (λ x. t m && not x) (unlike m n (λ e. absurd (omega (arith, g, h, e)))) ∙ and_true (t m)))
+  all_others a k h = agreeing t but_n a k (λ m g w. sym (ap (λ x. t m && not x) (ne_eqb m n (λ e. absurd (omega (arith, g, h, e)))) ∙ and-true (t m)))
 
   take_next : (a k : ℕ) (b e : Bool) → (a == n) ≡ e
       → ((j : ℕ) → j < length (filter t (numbers_from (a + 1) k)) → get_or (filter t (numbers_from (a + 1) k)) j 0 ≡ n → remove (filter t (numbers_from (a + 1) k)) j ≡ filter but_n (numbers_from (a + 1) k))
@@ -201,13 +177,13 @@ listed_new used l a = record {
     one_more (x ∷ u) = omega (arith, one_more u)
 
     below : (m : ℕ) → m < length used → has m ≡ a.has m
-    below m w = ap (λ x. a.has m && not x) (unlike m (length used) (λ e. absurd (omega (arith, w, e)))) ∙ and_true (a.has m)
+    below m w = ap (λ x. a.has m && not x) (ne_eqb m (length used) (λ e. absurd (omega (arith, w, e)))) ∙ and-true (a.has m)
 
     itself : (m : ℕ) → (m == m) ≡ true
     itself m = grind (arith, nat_tests)
 
     not_last : has (length used) ≡ false
-    not_last = ap (λ x. a.has (length used) && not x) (itself (length used)) ∙ and_false (a.has (length used))
+    not_last = ap (λ x. a.has (length used) && not x) (itself (length used)) ∙ and-false (a.has (length used))
 
     nothing : (k : List ℕ) → k ≡ k ++ []
     nothing [] = refl
@@ -233,7 +209,7 @@ listed_new used l a = record {
       where
         go : (b : Bool) → (m == length used) ≡ b → get_or (used ++ false ∷ []) m true ≡ false
         go true e = ap (λ (k : ℕ). get_or (used ++ false ∷ []) k true) (alike m (length used) e) ∙ last used
-        go false e = kept used m (a.others m (sym (ap (λ x. a.has m && not x) e ∙ and_true (a.has m)) ∙ h))
+        go false e = kept used m (a.others m (sym (ap (λ x. a.has m && not x) e ∙ and-true (a.has m)) ∙ h))
 
 module _ (used : List Bool) (n : NodeId) (l : List NodeId) (h : n.0 < length used) (a : AreListed used (length used) l) where
   up : (i j : ℕ) → i ≤ j → j < length (numbers l) → get_or (numbers l) i 0 ≤ get_or (numbers l) j 0
@@ -277,14 +253,14 @@ module _ (used : List Bool) (n : NodeId) (l : List NodeId) (h : n.0 < length use
         where
           go : (b : Bool) → (m == n.0) ≡ b → get_or (set used n.0 false) m true ≡ false
           go true d = ap (λ (k : ℕ). get_or (set used n.0 false) k true) (alike m n.0 d) ∙ get_or-set_same used n.0 false true h
-          go false d = same_out m (a.others m (sym (ap (λ x. a.has m && not x) d ∙ and_true (a.has m)) ∙ e))
+          go false d = same_out m (a.others m (sym (ap (λ x. a.has m && not x) d ∙ and-true (a.has m)) ∙ e))
 
   -- a node comes to use and is put into the list
   pub listed_at : (i : ℕ) → IsBinarySearchResult (λ (y : NodeId). nat_cmp y.0 n.0) l (Err i) → AreListed (set used n.0 true) (length used) (insert l i n)
   listed_at i search = record {
     has = λ m. a.has m || (m == n.0);
     is = numbers_insert l i n ∙ ap (λ (k : List ℕ). insert k i n.0) a.is ∙ put_in a.has n.0 0 (length used) i (omega arith) (omega (arith, h)) (subst {A = List ℕ} (λ k. IsPlace n.0 k i) a.is place);
-    others = λ m e. let e' = neither (a.has m) (m == n.0) e in get_or-set_other used n.0 m true true (apart m n.0 e'.1) ∙ a.others m e'.0;
+    others = λ m e. let e' = or_parts (a.has m) (m == n.0) e in get_or-set_other used n.0 m true true (apart m n.0 e'.1) ∙ a.others m e'.0;
   }
     where
       place : IsPlace n.0 (numbers l) i

@@ -1,5 +1,5 @@
 -- Names that a rewriting moves from its sources to its target.
-use Rattle.std.proofs.Common.{ℕ, zero, suc, ◌<◌, ◌≤◌, ◌≡◌, refl, sym, ap, ◌∙◌, subst, arith, List, [], ◌∷◌, length, Option, Some, None}
+use Rattle.std.proofs.Common.{ℕ, ◌<◌, ◌≤◌, ◌≡◌, refl, sym, ap, ◌∙◌, subst, arith, List, [], ◌∷◌, length, Option, Some, None}
 use Rattle.std.specs.Prelude.{nat_lt, option_and_then, option_to_list}
 use Rattle.std.specs.Option.{option_map_or}
 use Rattle.kb_label.specs.Names.{Name, meet, minus, join}
@@ -16,7 +16,7 @@ use Rattle.kb_overlap.specs.Trace.{other_side}
 use Rattle.kb_node.specs.declared.node.NodeId.{NodeId}
 use Rattle.kb_node.specs.declared.node.LabelKind.{LabelKind}
 use Rattle.kb_node.specs.declared.node.LabelKind.TheVariants.{E}
-use Rattle.mkb_model.specs.Plain.{Plain, PlainNode, label, label_at, pair_at, pair_in, rule_kind, other}
+use Rattle.mkb_model.specs.Plain.{Plain, PlainNode, label, label_at, pair_at, rule_kind, other}
 use Rattle.mkb_model.specs.Effects.{acted, applied, counted, effect_label, first_some, some_if, gains_rule, give_up, if_strict, limit_of, loses, most_nodes, moved_to, on_nodes, rewrite_label, rewritten, wanted, with_label, with_nodes}
 use Rattle.mkb_model.specs.declared.proposed.Proposed.TheVariants.{Rewrite}
 use Rattle.mkb_model.proofs.Roles.{length-put}
@@ -59,12 +59,6 @@ gained-target (Some q) o rest outcome s xs = refl
 wanted-target : (c : Option Pair) (o : Origin) (rest outcome : Tree) → option_to_list c ≡ wanted_by (target_of c o rest outcome)
 wanted-target None o rest outcome = refl
 wanted-target (Some q) o rest outcome = refl
-
--- a node that is there has a pair
-pub pair_there : (xs : List PlainNode) (n : ℕ) → n < length xs → (q : Pair) × (pair_in xs n ≡ Some q)
-pair_there [] n h = absurd (omega (arith, h))
-pair_there (x ∷ xs) zero h = (x.pair, refl)
-pair_there (x ∷ xs) (suc n) h = pair_there xs n (omega (arith, h))
 
 -- the effect of a rewriting of a node that has the pair
 module _ (b : Plain) (n : NodeId) (w : ℕ) (at : List ℕ) (a : RuleRef) (found : Found) (t : Term) (q : Pair) (here : pair_at b n.0 ≡ Some q) where

@@ -6,6 +6,7 @@ use Rattle.std.proofs.lemmas.Bool.Decides.{nat_tests}
 use Rattle.std.proofs.lemmas.List.{get_or-set_other}
 use Rattle.std.proofs.lemmas.List.Sums.{sum_by-cons, sum_by_push}
 use mathlib.Core.Bool.{true≢false}
+use Rattle.std.proofs.lemmas.Bool.{and_parts}
 use Rattle.kb_term.specs.Tree.{tree_size}
 use Rattle.kb_label.specs.Names.{Name, has, is_empty}
 use Rattle.kb_node.specs.declared.node.LabelKind.{LabelKind}
@@ -195,15 +196,11 @@ nobody_in : (l : List Name) (p : Name) → is_empty l ≡ true → has l p ≡ f
 nobody_in [] p e = refl
 nobody_in (q ∷ l) p e = absurd (true≢false (sym e))
 
-both_true : (a b : Bool) → (a && b) ≡ true → (a ≡ true) × (b ≡ true)
-both_true true b h = (refl, h)
-both_true false b h = absurd (true≢false (sym h))
-
 -- nobody has a dead node as an equation or as a rule
 pub dead_labels : (xs : List PlainNode) (n : ℕ) (p : Name) → is_dead_at xs n ≡ true → (has (label_at xs n E) p ≡ false) × ((has (label_at xs n R0) p ≡ false) × (has (label_at xs n R1) p ≡ false))
 dead_labels [] n p e = (refl, (refl, refl))
 dead_labels (x ∷ xs) zero p e =
-    let one = both_true (is_empty x.rule0) (is_empty x.rule1 && is_empty x.equation) e in
-    let two = both_true (is_empty x.rule1) (is_empty x.equation) one.1 in
+    let one = and_parts (is_empty x.rule0) (is_empty x.rule1 && is_empty x.equation) e in
+    let two = and_parts (is_empty x.rule1) (is_empty x.equation) one.1 in
     (nobody_in x.equation p two.1, (nobody_in x.rule0 p one.0, nobody_in x.rule1 p two.0))
 dead_labels (x ∷ xs) (suc n) p e = dead_labels xs n p e

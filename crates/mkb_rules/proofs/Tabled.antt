@@ -5,6 +5,7 @@ use Rattle.std.specs.List.{find}
 use Rattle.std.proofs.lemmas.Bool.Decides.{nat_tests}
 use Rattle.std.proofs.lemmas.List.{get_or-set_same, get_or-set_other, length-set}
 use mathlib.Core.Bool.{true≢false}
+use Rattle.std.proofs.lemmas.Bool.{eqb-true as eq_nat, and_parts, eq-eqb}
 use Rattle.kb_term.specs.declared.origin.RuleRef.{RuleRef}
 use Rattle.kb_term.specs.declared.origin.Found.{Found}
 use Rattle.kb_node.specs.declared.job.Fact.{Fact}
@@ -61,13 +62,6 @@ none_else None = refl
 other_known : (fs : List Fact) (f : Fact) (n w : ℕ) (a : RuleRef) → is_about f n w a ≡ false → known_in (fs ++ f ∷ []) n w a ≡ known_in fs n w a
 other_known fs f n w a e = known-push fs f n w a ∙ ap (λ b. or_else (known_in fs n w a) (cond b (Some f.found) None)) e ∙ none_else (known_in fs n w a)
 
-and_true : (a b : Bool) → (a && b) ≡ true → (a ≡ true) × (b ≡ true)
-and_true true b h = (refl, h)
-and_true false b h = absurd (true≢false (sym h))
-
-eq_nat : (m n : ℕ) → (m == n) ≡ true → m ≡ n
-eq_nat m n h = grind (arith, nat_tests)
-
 record IsAbout (f : Fact) (n w : ℕ) (a : RuleRef) : Type 0 where
   node : f.node.0 ≡ n
   side : f.side ≡ w
@@ -76,21 +70,18 @@ record IsAbout (f : Fact) (n w : ℕ) (a : RuleRef) : Type 0 where
 
 about_is : (f : Fact) (n w : ℕ) (a : RuleRef) → is_about f n w a ≡ true → IsAbout f n w a
 about_is f n w a h =
-    let x = and_true (f.node.0 == n) ((f.side == w) && ref_eq f.rule a) h in
-    let y = and_true (f.side == w) (ref_eq f.rule a) x.1 in
-    let z = and_true (f.rule.node == a.node) (f.rule.dir == a.dir) y.1 in
+    let x = and_parts (f.node.0 == n) ((f.side == w) && ref_eq f.rule a) h in
+    let y = and_parts (f.side == w) (ref_eq f.rule a) x.1 in
+    let z = and_parts (f.rule.node == a.node) (f.rule.dir == a.dir) y.1 in
     record { node = eq_nat f.node.0 n x.0; side = eq_nat f.side w y.0; rule = eq_nat f.rule.node a.node z.0; dir = eq_nat f.rule.dir a.dir z.1 }
-
-same_nat : (m n : ℕ) → m ≡ n → (m == n) ≡ true
-same_nat m n h = grind (arith, nat_tests)
 
 at_place : (f : Fact) (n w : ℕ) (a : RuleRef) → f.side ≤ 1 → f.rule.dir ≤ 1 → w ≤ 1 → a.dir ≤ 1 → is_about f n w a ≡ ((place a.node a.dir == place f.rule.node f.rule.dir) && (place n w == place f.node.0 f.side))
 at_place f n w a fs fd hw ha = go (is_about f n w a) refl (place a.node a.dir == place f.rule.node f.rule.dir) refl (place n w == place f.node.0 f.side) refl
   where
     go : (t : Bool) → is_about f n w a ≡ t → (r : Bool) → (place a.node a.dir == place f.rule.node f.rule.dir) ≡ r → (s : Bool) → (place n w == place f.node.0 f.side) ≡ s → t ≡ (r && s)
     go true e true g true h = refl
-    go true e false g s h = let i = about_is f n w a e in absurd (true≢false (sym (same_nat (place a.node a.dir) (place f.rule.node f.rule.dir) (omega (arith, i.rule, i.dir))) ∙ g))
-    go true e true g false h = let i = about_is f n w a e in absurd (true≢false (sym (same_nat (place n w) (place f.node.0 f.side) (omega (arith, i.node, i.side))) ∙ h))
+    go true e false g s h = let i = about_is f n w a e in absurd (true≢false (sym (eq-eqb (place a.node a.dir) (place f.rule.node f.rule.dir) (omega (arith, i.rule, i.dir))) ∙ g))
+    go true e true g false h = let i = about_is f n w a e in absurd (true≢false (sym (eq-eqb (place n w) (place f.node.0 f.side) (omega (arith, i.node, i.side))) ∙ h))
     go false e false g s h = refl
     go false e true g false h = refl
     go false e true g true h =
@@ -135,7 +126,7 @@ module _ (rows : List (List (Option Found))) (f : Fact) where
 
   plain_side : is_plain f ≡ true → (f.side ≤ 1) × (f.rule.dir ≤ 1)
   plain_side plain =
-      let x = and_true (nat_le f.side 1) (nat_le f.rule.dir 1) plain in
+      let x = and_parts (nat_le f.side 1) (nat_le f.rule.dir 1) plain in
       let one = x.0 in
       let two = x.1 in
       let side : f.side ≤ 1 = grind (arith, nat_tests) in
@@ -217,10 +208,6 @@ room_behind rows g has h =
     longer (x ∷ xs) = omega (arith, longer xs)
 
 -- ---- all of some facts
-
-pub all_one : {X : Type 0} (P : X → Type 0) (x : X) → P x → All P (x ∷ [])
-all_one P x p zero d h = p
-all_one P x p (suc k) d h = absurd (omega (arith, h))
 
 pub all_kept : {X : Type 0} {P Q : X → Type 0} → ((x : X) → P x → Q x) → (xs : List X) → All P xs → All Q xs
 all_kept f xs all k d h = f (get_or xs k d) (all k d h)

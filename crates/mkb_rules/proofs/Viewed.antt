@@ -4,8 +4,8 @@ use Rattle.std.specs.Prelude.{slice_get}
 use Rattle.std.specs.List.{enumerate_from, cons_option}
 use Rattle.std.proofs.lemmas.List.{length-map, map-append, take_more}
 use Rattle.std.proofs.lemmas.List.Elements.{filter-append, filter_map-append}
+use Rattle.kb_lemmas.proofs.Membership.{contains_cases, contains_flat_map_back, contains_map, none_in}
 use Rattle.kb_label.specs.Names.{Name, has}
-use Rattle.kb_term.proofs.Steps.{contains_cases}
 use Rattle.kb_term.specs.Rule.{Rule}
 use Rattle.kb_term.specs.declared.origin.RuleRef.{RuleRef}
 use Rattle.kb_node.specs.Labelled.{Node}
@@ -14,7 +14,7 @@ use Rattle.kb_node.specs.declared.node.LabelKind.TheVariants.{R0, R1, E, C0, C1}
 use Rattle.kb_node.specs.Views as views
 use Rattle.kb_laws.proofs.Complete.{all_from}
 use Rattle.mkb_model.specs.Plain.{Plain, PlainNode, numbers_from, node_numbers, directions, label_or_none, is_equation, is_rule, is_constraint, equations_of, rules_of, constraints_of, rule_at, rules_at}
-use Rattle.mkb_model.proofs.Lists.{filter_in, flat_map_in, in_map, numbers_in, none_in}
+use Rattle.mkb_model.proofs.Lists.{filter_in, numbers_in}
 use Rattle.mkb_rules.specs.Named.{IsRuleThere}
 use Rattle.mkb_rules.specs.Parts.{plain_node, plain_nodes}
 
@@ -100,7 +100,7 @@ in_directions n a i =
 -- a rule that passes a test among those of all nodes is there
 pub passing_there : (b : Plain) (F : RuleRef → Bool) (a : RuleRef) → Contains (filter F (flat_map directions (node_numbers b))) a → IsRuleThere b a
 passing_there b F a i =
-    let m = flat_map_in directions (node_numbers b) a (filter_in F (flat_map directions (node_numbers b)) a i).0 in
+    let m = contains_flat_map_back directions (node_numbers b) a (filter_in F (flat_map directions (node_numbers b)) a i).0 in
     let k = numbers_in 0 (length b.nodes) m.0 m.1 in
     let d = in_directions m.0 a m.2 in
     (omega (arith, k.1, d.0), d.1)
@@ -123,7 +123,7 @@ pub equations_there : (b : Plain) (p : Name) (ns : List NodeId) → map (λ (m :
 equations_there b p ns e =
     all_from (λ (m : NodeId). m.0 < length b.nodes) ns
     (λ m i.
-    let k = filter_in (is_equation b p) (node_numbers b) m.0 (subst {A = List ℕ} (λ ms. Contains ms m.0) e (in_map (λ (m : NodeId). m.0) ns m i)) in
+    let k = filter_in (is_equation b p) (node_numbers b) m.0 (subst {A = List ℕ} (λ ms. Contains ms m.0) e (contains_map (λ (m : NodeId). m.0) ns m i)) in
     let l = numbers_in 0 (length b.nodes) m.0 k.0 in omega (arith, l.1))
 
 -- ---- one more

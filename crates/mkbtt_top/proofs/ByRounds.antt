@@ -1,5 +1,6 @@
 -- The journal of rounds, and what it makes of the board.
 use Rattle.std.proofs.Common.{ℕ, ◌≡◌, ◌∙◌, sym, refl, subst, List, Bool, true, false, Some}
+use Rattle.kb_lemmas.proofs.Options.{none_some}
 use Rattle.kb_term.specs.Signature.{Problem, IsWithinLimits}
 use Rattle.kb_label.specs.declared.verdict.Verdict.{Verdict}
 use Rattle.mkb_model.specs.Headline.{TakesAreBy}
@@ -7,7 +8,6 @@ use Rattle.mkb_model.specs.Verdicts.{verdict}
 use Rattle.mkb_model.specs.declared.entry.Entry.{Entry}
 use Rattle.mkb_model.specs.declared.settings.Settings.{Settings}
 use Rattle.mkb_model.proofs.AllFine.{runs_complete}
-use Rattle.mkb_model.proofs.Lists.{none_some}
 use Rattle.mkb_model.proofs.Selections.{legal-possible}
 use Rattle.mkb_rounds.specs.Ends.{EndsByRounds}
 use Rattle.mkb_rounds.proofs.Takers.{takes_of_rounds}

@@ -6,12 +6,11 @@ use Rattle.std.proofs.lemmas.Bool.{cases_eq, eq-eqb, ne_eqb}
 use Rattle.std.proofs.lemmas.List.{length-map}
 use Rattle.std.proofs.lemmas.List.Elements.{All-map}
 use Rattle.std.proofs.lemmas.List.FromFn.{get_or-range_with_len, length-range_with_len}
+use Rattle.kb_lemmas.proofs.Membership.{contains_cases, contains_flat_map, contains_flat_map_back}
 use Rattle.kb_term.specs.Tree.{Tree}
 use Rattle.kb_term.specs.Pair.{distinct, place_in}
 use Rattle.kb_term.specs.Signature.{Signature, SymbolEntry, HasArity, IsEquationWithinLimits, IsWithinLimits}
-use Rattle.kb_term.proofs.Steps.{contains_cases}
 use Rattle.kb_term.proofs.Variants.{in_distinct}
-use Rattle.kb_linear.proofs.Sorted.{contains_flat_map, contains_flat_map_back}
 use Rattle.kb_syntax.specs.Generator.{outer_of, inner_of, right_of, letters_in, letters_of, letter_entry, generated_equation, generated}
 use Rattle.mkb_model.proofs.Variables.{few_less}
 

@@ -3,10 +3,11 @@ use Rattle.std.proofs.Common.{ℕ, ◌≡◌, ◌≢◌, ◌≤◌, ◌∙◌, a
 use mathlib.Core.Logic.{dite}
 use native.Mathlib.Decide.{ℕ_discrete}
 use Rattle.std.specs.Prelude.{IsSome, IsTrue}
-use Rattle.std.proofs.lemmas.Bool.{eqb-true}
+use Rattle.std.proofs.lemmas.Bool.{eqb-true, and_parts}
 use Rattle.std.proofs.lemmas.List.Elements.{Contains-push_cases}
+use Rattle.kb_lemmas.proofs.Membership.{contains_cases}
+use Rattle.kb_lemmas.proofs.Options.{none_some}
 use Rattle.kb_term.specs.Signature.{Problem, IsWithinLimits}
-use Rattle.kb_term.proofs.Steps.{contains_cases}
 use Rattle.kb_label.specs.declared.verdict.Verdict.{Verdict}
 use Rattle.kb_node.specs.declared.job.Job.{Job}
 use Rattle.mkb_model.specs.Headline.{TakesAreBy}
@@ -16,7 +17,6 @@ use Rattle.mkb_model.specs.Verdicts.{verdict}
 use Rattle.mkb_model.specs.declared.entry.Entry.{Entry}
 use Rattle.mkb_model.specs.declared.entry.Entry.TheVariants.{Take, Commit, Drop, Abandon, Halt}
 use Rattle.mkb_model.proofs.AllFine.{runs_complete}
-use Rattle.mkb_model.proofs.Lists.{none_some}
 use Rattle.mkb_model.proofs.Selections.{legal-possible}
 use Rattle.mkb_board.specs.Boards.{Seen, has_halt, IsLegalBoard}
 use Rattle.work_crew.specs.Alone.{EndsAlone, IsBrokenOff, IsBrokenOffAlone}
@@ -29,17 +29,13 @@ use Rattle.mkbtt_top.specs.declared.workers.Workers.TheVariants.{Free, InRounds}
 use Rattle.mkbtt_top.proofs.ByRounds.{by_rounds}
 use Rattle.mkb_model.specs.declared.settings.Settings.{Settings}
 
-both : (a b : Bool) → (a && b) ≡ true → (a ≡ true) × (b ≡ true)
-both true b h = (refl, h)
-both false b h = absurd (cc)
-
 -- each take is by worker 1
 takes_by_one : (J : List Entry) → IsTrue (takes_in_turn J) → TakesAreBy 1 J
 takes_by_one [] h w t j c = absurd (omega (arith, c.1))
 takes_by_one (Take v s i ∷ []) h w t j c = absurd (cc)
 takes_by_one (Take v s i ∷ e ∷ J) h w t j c =
-    let parts = both (v == 1) (is_end_of s e && takes_in_turn J) h in
-    let rest = both (is_end_of s e) (takes_in_turn J) parts.1 in
+    let parts = and_parts (v == 1) (is_end_of s e && takes_in_turn J) h in
+    let rest = and_parts (is_end_of s e) (takes_in_turn J) parts.1 in
     let first : Take v s i ≡ Take w t j → (1 ≤ w) × (w ≤ 1) = λ q. (let k : v ≡ w = cc in let one = eqb-true v 1 parts.0 in (omega (arith, k, one), omega (arith, k, one))) in
     let second : e ≡ Take w t j → (1 ≤ w) × (w ≤ 1) = λ q. absurd (no_end s w t j (subst {A = Entry} (λ x. is_end_of s x ≡ true) q rest.0)) in
     ⊎_elim first (λ c2. ⊎_elim second (takes_by_one J rest.1 w t j) (contains_cases e J (Take w t j) c2)) (contains_cases (Take v s i) (e ∷ J) (Take w t j) c)

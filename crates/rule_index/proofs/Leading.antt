@@ -1,6 +1,7 @@
 -- The marks of a left side lead through just the terms that it meets: that it fits, or in loose walks agrees with.
 use Rattle.std.proofs.Common.{ℕ, zero, suc, ◌≡◌, ◌≤◌, refl, sym, ap, ◌∙◌, subst, List, [], ◌∷◌, ◌++◌, length, append_assoc, arith, Bool, true}
 use Rattle.std.specs.Prelude.{replicate}
+use Rattle.std.proofs.lemmas.List.{append-nil}
 use Rattle.kb_term.specs.Tree.{Tree, Trees, variable, apply, no_trees, more_trees, list_of}
 use Rattle.rule_index.specs.declared.mark.Mark.{Mark}
 use Rattle.rule_index.specs.declared.mark.Mark.TheVariants.{Any, Apply}
@@ -106,10 +107,6 @@ mutual
 nothing_behind : (loose : Bool) (ms : List Mark) → Leads loose ms [] → ms ≡ []
 nothing_behind loose [] h = refl
 nothing_behind loose (m ∷ ms) h = absurd h
-
-append-nil : (ms : List Mark) → ms ++ [] ≡ ms
-append-nil [] = refl
-append-nil (m ∷ ms) = ap (λ (x : List Mark). m ∷ x) (append-nil ms)
 
 -- the marks of a left side that meets the term lead through it
 pub leads_from_meeting : (loose : Bool) (l t : Tree) → Meets loose l t → Leads loose (marks_of l) (t ∷ [])

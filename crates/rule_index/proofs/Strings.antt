@@ -1,6 +1,7 @@
 -- The marks of arguments, one by one.
 use Rattle.std.proofs.Common.{ℕ, zero, suc, ◌≡◌, ◌<◌, ◌+◌, refl, sym, ap, ◌∙◌, arith, List, [], ◌∷◌, ◌++◌, length, take, get_or, append_assoc}
 use Rattle.std.specs.Prelude.{map}
+use Rattle.std.proofs.lemmas.List.{append-nil}
 use Rattle.kb_term.specs.Tree.{Tree, apply, list_of, trees_of}
 use Rattle.kb_term.specs.View.{tree_of}
 use Rattle.kb_term.specs.declared.term.Term.{Term}
@@ -20,10 +21,6 @@ marks_in-row (t ∷ ts) = ap (λ (ms : List Mark). marks_of (tree_of t) ++ ms) (
 pub list_of-trees : (ts : List Tree) → list_of (trees_of ts) ≡ ts
 list_of-trees [] = refl
 list_of-trees (t ∷ ts) = ap (λ (us : List Tree). t ∷ us) (list_of-trees ts)
-
-append-nil : (ms : List Mark) → ms ++ [] ≡ ms
-append-nil [] = refl
-append-nil (m ∷ ms) = ap (λ (x : List Mark). m ∷ x) (append-nil ms)
 
 pub row_more : (ts : List Term) (i : ℕ) (x : Term) → i < length ts → x ≡ get_or ts i x → marks_row (take (suc i) ts) ≡ marks_row (take i ts) ++ marks_of (tree_of x)
 row_more [] i x h is = absurd (omega (arith, h))

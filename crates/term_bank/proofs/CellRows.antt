@@ -3,13 +3,15 @@ use Rattle.std.proofs.Common.{ℕ, ◌≡◌, ◌+◌, ◌<◌, ◌≤◌, ◌�
 use Rattle.std.specs.Prelude.{slice_get}
 use Rattle.std.proofs.lemmas.List.{length_push, length-take-le, take-map, map_push, get_or-take, get_or_append_left, get_or_push}
 use Rattle.std.proofs.lemmas.Option.{slice_get_within, slice_get-get_or, same_Some}
+use Rattle.kb_lemmas.proofs.Numbers.{below_or_at}
+use Rattle.kb_lemmas.proofs.Lists.{get_take}
 use Rattle.kb_term.specs.Tree.{Tree, variable, tree_size, tree_depth}
 use Rattle.term_bank.specs.Hashing.{tree_hash}
 use Rattle.term_bank.specs.Terms.{HasTerm, LacksTerm, term_at, terms_at, AreBelow, AreDistinct}
 use Rattle.term_bank.specs.Cells.{term_with, ids_of, terms_in, IsCell, AreCells, IsBank}
 use Rattle.term_bank.specs.declared.cell.TermId.{TermId}
 use Rattle.term_bank.specs.declared.cell.Entry.{Entry}
-use Rattle.term_bank.proofs.Places.{get_left, get_end, get_take, below_or_at}
+use Rattle.term_bank.proofs.Places.{get_left, get_end}
 use Rattle.term_bank.proofs.TermRows.{terms_at-same, ids_of-append, ids_of-take, ids_of-new, terms_of-push, terms_of-same, terms_in-take, terms_in-length}
 
 -- a cell of the same arguments and the same earlier terms

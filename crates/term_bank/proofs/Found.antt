@@ -3,11 +3,12 @@ use Rattle.std.proofs.Common.{ℕ, ◌≡◌, ◌+◌, ◌<◌, ◌≤◌, List,
 use Rattle.std.specs.Prelude.{map, slice_get, MatchOption, IfSome}
 use Rattle.std.proofs.lemmas.List.{length-map}
 use Rattle.std.proofs.lemmas.Option.{slice_get_within, get_or_from_slice_get}
+use Rattle.kb_lemmas.proofs.Lists.{get_map}
 use Rattle.kb_term.specs.Tree.{Tree, variable}
 use Rattle.term_bank.specs.Chains.{HasNone, IsLast}
 use Rattle.term_bank.specs.Hashing.{tree_hash}
 use Rattle.term_bank.specs.Terms.{HasTerm, LacksTerm, term_at}
-use Rattle.term_bank.proofs.Places.{get_map, less_or_not, same_or_not}
+use Rattle.term_bank.proofs.Places.{less_or_not, same_or_not}
 
 -- the end of what is still to be looked at
 abbrev pub after : Option ℕ → ℕ

@@ -2,10 +2,10 @@
 use Rattle.std.proofs.Common.{ℕ, ◌≡◌, List, [], ◌∷◌, ◌++◌, Some, refl, sym, ap, ◌∙◌}
 use Rattle.std.specs.Prelude.{map, slice_get}
 use Rattle.std.proofs.lemmas.Option.{get_or_from_slice_get}
+use Rattle.kb_lemmas.proofs.Lists.{get_map_back}
 use Rattle.kb_term.specs.Tree.{Tree, variable, trees_of}
 use Rattle.term_bank.specs.Hashing.{mix, tree_hash, trees_hash}
 use Rattle.term_bank.specs.Terms.{term_at}
-use Rattle.term_bank.proofs.Places.{get_map_back}
 
 -- the hashes of the terms of a list mixed into a hash
 abbrev pub list_hash : List Tree → ℕ → ℕ

@@ -3,9 +3,11 @@ use Rattle.std.proofs.Common.{ℕ, ◌≡◌, ◌+◌, ◌<◌, ◌≤◌, List,
 use Rattle.std.proofs.lemmas.List.{map_push, length_push, length-map}
 use Rattle.std.specs.Prelude.{slice_get}
 use Rattle.std.proofs.lemmas.Option.{slice_get_within, same_Some}
+use Rattle.kb_lemmas.proofs.Lists.{get_map}
+use Rattle.kb_lemmas.proofs.Numbers.{below_or_at}
 use Rattle.term_bank.specs.Chains.{slot_of, IsLink, AreHeads, hashes_of, IsChained}
 use Rattle.term_bank.specs.declared.chains.Link.{Link}
-use Rattle.term_bank.proofs.Places.{get_left, get_end, get_map, get_set_same, get_set_other, same_or_not, below_or_at, less_or_not}
+use Rattle.term_bank.proofs.Places.{get_left, get_end, get_set_same, get_set_other, same_or_not, less_or_not}
 
 module _ (slots : ℕ) (hashes : List ℕ) where
   -- places that come after the end, or go, change nothing

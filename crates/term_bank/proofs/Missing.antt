@@ -5,21 +5,19 @@ use Rattle.std.specs.Result.{is_err}
 use Rattle.std.specs.List.{list_any}
 use Rattle.std.proofs.lemmas.List.{length_push, take_all, take_at, take-take, append-nil}
 use Rattle.std.proofs.lemmas.Option.{none-some, same_Some}
+use Rattle.std.proofs.lemmas.Bool.{or_right}
+use Rattle.kb_lemmas.proofs.Lists.{get_take}
 use Rattle.kb_term.specs.Tree.{Tree, Trees, variable, apply, no_trees, more_trees, trees_of, tree_size, trees_size, tree_eq}
 use Rattle.kb_term.specs.declared.memory.Memory.{Memory}
 use Rattle.kb_term.proofs.OwnPair.{tree_eq-true, tree_eq-same}
 use Rattle.term_bank.specs.Terms.{HasTerm, LacksTerm, subterms, subterms_in, with_term, with_missing}
 use Rattle.term_bank.specs.declared.cell.TermId.{TermId}
-use Rattle.term_bank.proofs.Places.{get_take, get_end}
-
-or_true : (b c : Bool) → c ≡ true → (b || c) ≡ true
-or_true true c e = refl
-or_true false c e = e
+use Rattle.term_bank.proofs.Places.{get_end}
 
 any_has : (t : Tree) (terms : List Tree) (i : ℕ) → HasTerm terms i t → list_any (tree_eq t) terms ≡ true
 any_has t [] i g = absurd (none-some t g)
 any_has t (x ∷ xs) zero g = ap (λ b. b || list_any (tree_eq t) xs) (tree_eq-same t x (sym (same_Some x t g)))
-any_has t (x ∷ xs) (suc i) g = or_true (tree_eq t x) (list_any (tree_eq t) xs) (any_has t xs i g)
+any_has t (x ∷ xs) (suc i) g = or_right (tree_eq t x) (list_any (tree_eq t) xs) (any_has t xs i g)
 
 any_lacks : (t : Tree) (terms : List Tree) → LacksTerm terms t → list_any (tree_eq t) terms ≡ false
 any_lacks t [] l = refl

@@ -1,8 +1,7 @@
 -- Elements of lists by their places.
-use Rattle.std.proofs.Common.{ℕ, zero, suc, ◌≡◌, ◌+◌, ◌<◌, ◌⊎◌, inl, inr, Bool, true, false, List, [], ◌∷◌, ◌++◌, length, set, take, Some, refl, ap, ◌∙◌, arith}
-use Rattle.std.specs.Prelude.{slice_get, nat_lt, nat_eq, map, option_map}
+use Rattle.std.proofs.Common.{ℕ, zero, suc, ◌≡◌, ◌<◌, ◌⊎◌, inl, inr, Bool, true, false, List, [], ◌∷◌, ◌++◌, length, set, Some, refl, ap, arith}
+use Rattle.std.specs.Prelude.{slice_get, nat_lt, nat_eq}
 use Rattle.std.proofs.lemmas.Bool.Decides.{nat_tests}
-use Rattle.std.proofs.lemmas.Option.{slice_get-map, none-some, same_Some}
 
 module _ {A : Type 0} where
   pub get_left : (xs ys : List A) (i : ℕ) → i < length xs → slice_get (xs ++ ys) i ≡ slice_get xs i
@@ -33,30 +32,9 @@ same_or_not m n = go (nat_eq m n) refl
     go true e = inl (grind (arith, nat_tests))
     go false e = inr (λ g. grind (arith, nat_tests))
 
-pub below_or_at : (m n : ℕ) → m < n + 1 → (m < n) ⊎ (m ≡ n)
-below_or_at m n h = go (nat_lt m n) refl
-  where
-    go : (b : Bool) → nat_lt m n ≡ b → (m < n) ⊎ (m ≡ n)
-    go true e = inl (grind (arith, nat_tests))
-    go false e = inr (grind (arith, nat_tests))
-
-pub get_map : {A B : Type 0} (f : A → B) (xs : List A) (i : ℕ) (x : A) → slice_get xs i ≡ Some x → slice_get (map f xs) i ≡ Some (f x)
-get_map f xs i x e = slice_get-map f xs i ∙ ap (option_map f) e
-
 pub less_or_not : (m n : ℕ) → (m < n) ⊎ (m < n → ⊥)
 less_or_not m n = go (nat_lt m n) refl
   where
     go : (b : Bool) → nat_lt m n ≡ b → (m < n) ⊎ (m < n → ⊥)
     go true e = inl (grind (arith, nat_tests))
     go false e = inr (λ g. grind (arith, nat_tests))
-
-pub get_take : {A : Type 0} (n : ℕ) (xs : List A) (i : ℕ) (x : A) → slice_get (take n xs) i ≡ Some x → (i < n) × (slice_get xs i ≡ Some x)
-get_take zero xs i x e = absurd (none-some x e)
-get_take (suc n) [] i x e = absurd (none-some x e)
-get_take (suc n) (y ∷ ys) zero x e = (omega arith, e)
-get_take (suc n) (y ∷ ys) (suc i) x e = let h = get_take n ys i x e in (omega (arith, h.0), h.1)
-
-pub get_map_back : {A B : Type 0} (f : A → B) (xs : List A) (i : ℕ) (y : B) → slice_get (map f xs) i ≡ Some y → (x : A) × (slice_get xs i ≡ Some x) × (f x ≡ y)
-get_map_back f [] i y e = absurd (none-some y e)
-get_map_back f (x ∷ xs) zero y e = (x, refl, same_Some (f x) y e)
-get_map_back f (x ∷ xs) (suc i) y e = get_map_back f xs i y e

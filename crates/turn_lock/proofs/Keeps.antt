@@ -3,6 +3,9 @@ use Rattle.std.proofs.Common.{◌≡◌, ◌≢◌, ℕ, zero, suc, ◌+◌, ◌
 use Rattle.std.proofs.lemmas.List.{append-nil}
 use mathlib.Core.Logic.{dite}
 use mathlib.Core.Option.{some, none, some-injective}
+use Rattle.std.proofs.lemmas.Bool.{false_from_ne_true}
+use Rattle.std.proofs.lemmas.Option.{same_Some}
+use Rattle.kb_lemmas.proofs.Membership.{all_none}
 use native.Mathlib.Decide.{ℕ_discrete}
 use lib.ListN.{get_elem?}
 use prog.Atomic.{either}
@@ -13,13 +16,6 @@ use Rattle.turn_lock.specs.declared.rule.Joined.{Joined}
 use Rattle.turn_lock.specs.Turn.{StartsWith, own, IsFrom, IsKept, Sits, Seated, Free, Held, Turning, Fits, Enters, tried, released, looked, seeing, first_view, drawing, drawn_view, joined_of, taking, spent_view}
 use Rattle.turn_lock.proofs.Entries.{set_there, starts_self}
 use Rattle.turn_lock.proofs.Seats.{sees_all, draws, takes_in}
-
-pub some_inside : {A : Type 0} (a c : A) → Some a ≡ Some c → a ≡ c
-some_inside a c e = cc e
-
-not_true : (b : Bool) → (b ≡ true → ⊥) → b ≡ false
-not_true true n = absurd (n refl)
-not_true false n = refl
 
 clash : {X : Type 0} (b : Bool) → b ≡ true → b ≡ false → X
 clash true t f = absurd (cc f)
@@ -208,10 +204,10 @@ module _ {T P E : Type 0} (problem : T → P) (budget : T → ℕ) (entries : T 
         words = ap (λ (l : List ℕ). set l 0 (2 * length (entries x))) h.words;
         home = ap (λ (l : List (mathlib.Core.Option.Option (Option T))). set l 0 (some (Some x))) h.away;
         history = refl;
-        for_problem = some_inside (problem x) p (sym fits.0 ∙ k.problem);
+        for_problem = same_Some (problem x) p (sym fits.0 ∙ k.problem);
         for_budget = sym fits.1 ∙ k.budget;
         idle = λ j u e. ⊎_elim (λ (a : (j ≡ id) × (seeing v (entries x) false ≡ u)). sym (ap (λ (y : V). y.holds) a.1))
-            (λ (a : (j ≢ id) × (get_elem? s.views j ≡ some u)). not_true u.holds (λ t. a.0 ((h.only j u a.1 t).0 ∙ sym (h.only id v at has).0))) (at_set s.views id j (seeing v (entries x) false) u e);
+            (λ (a : (j ≢ id) × (get_elem? s.views j ≡ some u)). false_from_ne_true u.holds (λ t. a.0 ((h.only j u a.1 t).0 ∙ sym (h.only id v at has).0))) (at_set s.views id j (seeing v (entries x) false) u e);
       };
     }
 
@@ -225,7 +221,7 @@ module _ {T P E : Type 0} (problem : T → P) (budget : T → ℕ) (entries : T 
         gives,
         tt,
         released_state s r id v x more mine at pos has fits grown from small,
-        (λ y more' same. let here : x ≡ y = some_inside x y (ap slot_head same) in let rest' : more ≡ more' = cc same in
+        (λ y more' same. let here : x ≡ y = same_Some x y (ap slot_head same) in let rest' : more ≡ more' = cc same in
             (λ i. (seeing v (entries (here i)) false, rest' i))),
       ))
 
@@ -306,9 +302,6 @@ module _ {T P E : Type 0} (problem : T → P) (budget : T → ℕ) (entries : T 
   first_only zero v e = (refl, some-injective (first_view p b) v e)
   first_only (suc j) v e = absurd (mathlib.Core.Option.some-ne-none v (sym e))
 
-  nothing : {X : Type 0} (Q : X → Type 0) → All Q []
-  nothing Q k d l = absurd (omega arith)
-
   pub opens : (x : T) → entries x ≡ [] → problem x ≡ p → budget x ≡ b → Rule (opening (0 ∷ []) (Some x ∷ []) (first_view p b))
   opens x none_yet of_p of_b = record {
     log = [];
@@ -317,19 +310,19 @@ module _ {T P E : Type 0} (problem : T → P) (budget : T → ℕ) (entries : T 
     few = omega arith;
     seats = record {
       some_drawn = omega arith;
-      numbered = nothing (λ e. worker e ≤ 1);
+      numbered = all_none (λ e. worker e ≤ 1);
       each = λ j v e pos. subst (Sits worker p b [] 1 []) (first_only j v e).1 (record {
         problem = refl;
         budget = refl;
         drawn_before = omega arith;
         prefix = starts_self [];
         mine = refl;
-        apart = nothing (λ (q : Joined E). q.worker ≢ 1);
+        apart = all_none (λ (q : Joined E). q.worker ≢ 1);
         first = λ _. (refl, refl);
       });
       distinct = λ i j v w ei ej pos same. (first_only i v ei).0 ∙ sym (first_only j w ej).0;
-      kept = nothing (IsKept worker []);
-      joined_drawn = nothing (λ (q : Joined E). q.worker ≤ 1);
+      kept = all_none (IsKept worker []);
+      joined_drawn = all_none (λ (q : Joined E). q.worker ≤ 1);
     };
     turn = inl record {
       value = x;

@@ -3,9 +3,10 @@ use Rattle.std.proofs.Common.{ℕ, ◌+◌, ◌≤◌, ◌≡◌, ◌≢◌, ◌
 use Rattle.std.specs.Prelude.{IsTrue, IsFalse, IsSome, is_err, Result, OnOk, OnErr, if◌then◌else◌}
 use Rattle.std.proofs.lemmas.List.{append-nil}
 use Rattle.std.proofs.lemmas.List.Elements.{All-append, Contains-append_right}
+use Rattle.kb_lemmas.proofs.Membership.{contains_first, none_in}
+use Rattle.kb_lemmas.proofs.Options.{none_some}
 use Rattle.kb_term.specs.Signature.{Problem}
 use Rattle.kb_term.specs.declared.memory.Memory.{Memory}
-use Rattle.kb_term.proofs.Steps.{contains_first}
 use Rattle.kb_node.specs.declared.job.Job.{Job}
 use Rattle.kb_jobs.specs.Working.{ProposesBy}
 use Rattle.kb_jobs.proofs.TakenLaws.{work_taken}
@@ -21,7 +22,6 @@ use Rattle.mkb_model.specs.declared.proposed.Proposed.{Proposed}
 use Rattle.mkb_model.specs.declared.entry.Ticket.{Ticket}
 use Rattle.mkb_model.specs.declared.entry.Entry.{Entry}
 use Rattle.mkb_model.specs.declared.entry.Entry.TheVariants.{Take, Commit, Drop, Abandon, Halt}
-use Rattle.mkb_model.proofs.Lists.{none_some, none_in}
 use Rattle.mkb_model.proofs.Flights.{effect_flight}
 use Rattle.mkb_model.proofs.Living.{effect_setting, within_budget}
 use Rattle.mkb_model.proofs.Meanings.{budget_left}

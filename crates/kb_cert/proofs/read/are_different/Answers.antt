@@ -1,6 +1,6 @@
 use Rattle.std.proofs.Common.{arith, sym, ◌∙◌, below_more, refl}
 use Rattle.std.proofs.lemmas.Bool.{false≢true}
-use Rattle.kb_cert.proofs.Fields.{fails}
+use Rattle.kb_lemmas.proofs.Booleans.{fails}
 use Rattle.kb_cert.proofs.Different.{different_from, twice_from, among_behind, behind_among}
 use Rattle.kb_cert.proofs.read.are_different.Goals as goal
 

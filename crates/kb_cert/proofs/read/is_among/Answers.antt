@@ -1,6 +1,6 @@
 use Rattle.std.proofs.Common.{arith}
+use Rattle.kb_lemmas.proofs.Booleans.{fails}
 use Rattle.kb_lpo.proofs.First.{not_listed}
-use Rattle.kb_cert.proofs.Fields.{fails}
 use Rattle.kb_cert.proofs.read.is_among.Goals as goal
 
 pub returns : goal.returns

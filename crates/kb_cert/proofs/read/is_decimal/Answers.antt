@@ -1,7 +1,8 @@
 use Rattle.std.proofs.Common.{arith, ap, sym, ◌∙◌, length, get_or, ◌+◌, ◌-◌}
 use Rattle.std.proofs.lemmas.Bool.{eqb-true, eq-eqb}
 use Rattle.std.proofs.lemmas.Fmt.{decimal_digit}
-use Rattle.kb_cert.proofs.Fields.{two_digits, one_byte, two_bytes, fails}
+use Rattle.kb_lemmas.proofs.Booleans.{fails}
+use Rattle.kb_cert.proofs.Fields.{two_digits, one_byte, two_bytes}
 use Rattle.kb_cert.proofs.read.is_decimal.Goals as goal
 
 pub returns-then-text-ne1 : goal.returns-then-text-ne1

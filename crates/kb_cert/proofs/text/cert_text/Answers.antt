@@ -5,7 +5,7 @@ use Rattle.kb_linear.specs.Limits.{interpretation_of}
 use Rattle.kb_cert.specs.CertificateText.{each_behind, cert_text, is_certificate, is_precedence, are_weights, name_at, interp_text, weight_fields}
 use Rattle.kb_cert.proofs.Texts.{join_with_byte-behind, symbols_within, map_names, symbol_name}
 use Rattle.std.proofs.lemmas.Grind.{flat_map-append}
-use Rattle.kb_cert.proofs.Fields.{both_true}
+use Rattle.std.proofs.lemmas.Bool.{and_parts}
 use Rattle.kb_cert.proofs.text.cert_text.Goals as goal
 
 pub push_names-requires : goal.push_names-requires
@@ -35,7 +35,7 @@ push_names-requires-in-Kbo c =
     let sig = c.args.sig.now in
     let order = c.in-Kbo.order in
     let h = subst (λ z. IsTrue (is_certificate sig z)) c.in-Kbo.is c.requires in
-    let p = both_true (are_weights sig order.weights) (is_precedence sig order.precedence) h in
+    let p = and_parts (are_weights sig order.weights) (is_precedence sig order.precedence) h in
     symbols_within sig c.symbols-in-Kbo.result.now (subst (λ z. IsTrue (is_precedence sig z)) (sym (c.symbols-in-Kbo.ensures ∙ c.precedence.ensures)) p.1)
 
 pub returns-in_ok-push_names-in-Kbo : goal.returns-in_ok-push_names-in-Kbo

@@ -1,6 +1,6 @@
 use Rattle.std.proofs.Common.{◌≡◌, ◌∙◌, sym, ap, ap₂, subst, arith, Some, None}
+use Rattle.std.proofs.lemmas.Option.{same_Some}
 use Rattle.kb_term.specs.Pair.{Pair, canonical, canonical_pair, IsCanonicalPair}
-use Rattle.kb_term.proofs.Subtrees.{some_same}
 use Rattle.kb_term.specs.View.{pair_of}
 use Rattle.kb_overlap.specs.Trace.{item}
 use Rattle.kb_trace.specs.Steps.{pairs_of}
@@ -14,7 +14,7 @@ returns-in-None c =
     let at : item (pairs_of c.args.trace.now) c.args.cited ≡ Some step.pair = cited_pair c.args.trace.now c.args.cited step (λ e. omega arith) (omega arith) c.index-trace-cited.is in
     let none : canonical_pair rule.left rule.right ≡ None = ap₂ canonical_pair (sym c.left.ensures) (sym c.right.ensures) ∙ sym c.in_ok-canonical.ensures ∙ c.in-None.is in (
       λ e. absurd (cc),
-      λ h. absurd (traced_not rule.left rule.right step.pair (subst IsCanonicalPair c.pair-pair.ensures c.first-first.ensures.canonical) none (some_same step.pair (canonical rule.left rule.right) (sym at ∙ h))),
+      λ h. absurd (traced_not rule.left rule.right step.pair (subst IsCanonicalPair c.pair-pair.ensures c.first-first.ensures.canonical) none (same_Some step.pair (canonical rule.left rule.right) (sym at ∙ h))),
     )
 
 pub returns-in-Some : goal.returns-in-Some

@@ -1,6 +1,7 @@
 use Rattle.std.proofs.Common.{arith, ◌≡◌, ◌<◌, ◌+◌, ◌++◌, ◌∷◌, [], sym, ap, ◌∙◌, subst, take, length, List, ℕ}
 use Rattle.std.proofs.lemmas.List.{take_all, take_more, length-map, map-append, get_or-map}
 use Rattle.std.proofs.lemmas.List.Elements.{All-get_or}
+use Rattle.kb_lemmas.proofs.Lists.{zip_push}
 use Rattle.kb_term.specs.Rule.{Rule}
 use Rattle.kb_term.specs.Signature.{IsEquationWithinLimits}
 use Rattle.kb_term.specs.Tree.{Tree}
@@ -10,7 +11,7 @@ use Rattle.kb_checker.specs.Answers.{rules_of}
 use Rattle.kb_decide.specs.Deciding.{IsDecision}
 use Rattle.kb_decide.specs.declared.decision.Decision.{Decision}
 use Rattle.kb_goals.specs.Answering.{AreDecided}
-use Rattle.kb_goals.proofs.DecisionGoals.{goal_for, zip_push}
+use Rattle.kb_goals.proofs.DecisionGoals.{goal_for}
 use Rattle.kb_goals.proofs.Meanings.{decisions_right}
 use Rattle.kb_goals.proofs.deciding.decide_goals.Goals as goal
 

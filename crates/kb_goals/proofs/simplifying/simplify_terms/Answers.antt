@@ -1,5 +1,6 @@
 use Rattle.std.proofs.Common.{arith, ◌≡◌, ◌+◌, ◌++◌, ◌∷◌, [], sym, ap, ◌∙◌, subst, take, map, List}
 use Rattle.std.proofs.lemmas.List.{take_all, take_more, map-append}
+use Rattle.kb_lemmas.proofs.Lists.{zip_push}
 use Rattle.kb_term.specs.Rule.{Rule}
 use Rattle.kb_term.specs.Tree.{Tree}
 use Rattle.kb_term.specs.View.{tree_of}
@@ -7,7 +8,6 @@ use Rattle.kb_term.specs.declared.term.Term.{Term}
 use Rattle.kb_checker.specs.Answers.{rules_of}
 use Rattle.kb_goals.specs.Simplifying.{IsSimplified, AreSimplified}
 use Rattle.kb_goals.specs.declared.simplifying.Simplified.{Simplified}
-use Rattle.kb_goals.proofs.DecisionGoals.{zip_push}
 use Rattle.kb_goals.proofs.Meanings.{forms_right, forms_one}
 use Rattle.kb_goals.proofs.simplifying.simplify_terms.Goals as goal
 

@@ -1,8 +1,9 @@
 use Rattle.std.proofs.Common.{ℕ, suc, ◌≡◌, ◌+◌, ◌<◌, inl, refl, ap, sym, subst, List, [], length, map, take, flat_map, Option, arith}
+use Rattle.kb_lemmas.proofs.Membership.{none_in}
 use Rattle.kb_label.specs.declared.verdict.Reason.{Reason}
 use Rattle.mkb_model.specs.declared.proposed.Proposed.{Proposed}
 use Rattle.mkb_model.specs.Proposals.{NamedOverlap, IsFormed, IsStopped}
-use Rattle.mkb_model.proofs.Lists.{none_in, clash}
+use Rattle.mkb_model.proofs.Lists.{clash}
 use Rattle.kb_jobs.specs.declared.groups.Group.{Group}
 use Rattle.kb_jobs.specs.Rules.{listed}
 use Rattle.kb_jobs.specs.Groups.{overlaps_in, origin_of}

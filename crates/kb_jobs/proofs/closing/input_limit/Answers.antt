@@ -7,8 +7,9 @@ use Rattle.kb_jobs.specs.Rules.{listed}
 use Rattle.kb_jobs.specs.Closing.{AreForms, inputs_of}
 use Rattle.kb_jobs.specs.declared.closing.Forms.{Forms}
 use Rattle.kb_jobs.proofs.Reduced.{read_at}
-use Rattle.kb_jobs.proofs.Adding.{map_there, take_next, take_length, one_more, stops_there}
+use Rattle.kb_jobs.proofs.Adding.{take_next, take_length, one_more, stops_there}
 use Rattle.std.proofs.lemmas.List.{length-map}
+use Rattle.kb_lemmas.proofs.Lists.{get_map}
 use Rattle.kb_jobs.proofs.closing.input_limit.Goals as goal
 
 abbrev both_trees : Term × Term → Tree × Tree
@@ -21,7 +22,7 @@ returns-in-Stop c =
     let i = c.loop-i.i in
     let e = c.index-input.result.now in
     let inside : i < length s.inputs.items = omega (arith, c.len-i-end.ensures, c.loop-i-test.true) in
-    let there = map_there both_trees s.inputs.items i e (read_at s.inputs.items i e inside c.index-input.ensures) in
+    let there = get_map both_trees s.inputs.items i e (read_at s.inputs.items i e inside c.index-input.ensures) in
     stops_there (HaveForms L) (λ x. PassesFirst L x c.in-Stop.reason) (inputs_of s) i (both_trees e) there c.loop-i.invariant (subst {A = Forms} (AreForms L (tree_of e.0) (tree_of e.1)) c.in-Stop.is c.in_ok-reason.ensures)
 
 pub loop-i-preserved : goal.loop-i-preserved
@@ -31,7 +32,7 @@ loop-i-preserved c =
     let i = c.loop-i.i in
     let e = c.index-input.result.now in
     let inside : i < length s.inputs.items = omega (arith, c.len-i-end.ensures, c.loop-i-test.true) in
-    let there = map_there both_trees s.inputs.items i e (read_at s.inputs.items i e inside c.index-input.ensures) in
+    let there = get_map both_trees s.inputs.items i e (read_at s.inputs.items i e inside c.index-input.ensures) in
     let made = subst {A = Forms} (AreForms L (tree_of e.0) (tree_of e.1)) c.in-Both.is c.in_ok-reason.ensures in
     let next : suc i ≡ i + 1 = omega arith in
     subst {A = ℕ} (λ n. (x : Tree × Tree) → Contains (take n (inputs_of s)) x → HaveForms L x) next

@@ -1,9 +1,10 @@
 use Rattle.std.proofs.Common.{ℕ, suc, ◌≡◌, ◌+◌, ◌<◌, ◌∙◌, ap, subst, List, length, get_or, take, arith}
+use Rattle.kb_lemmas.proofs.Membership.{slice_contains}
 use Rattle.kb_term.specs.Rule.{Rule}
 use Rattle.mkb_model.specs.Proposals.{NamedRule}
 use Rattle.kb_jobs.specs.Rules.{listed}
 use Rattle.kb_jobs.specs.Closing.{AddsRow}
-use Rattle.kb_jobs.proofs.Reduced.{read_at, slice_in}
+use Rattle.kb_jobs.proofs.Reduced.{read_at}
 use Rattle.kb_jobs.proofs.Adding.{take_length}
 use Rattle.kb_jobs.proofs.Settling.{row_more, named_length}
 use Rattle.kb_jobs.proofs.closing.push_row.Goals as goal
@@ -12,7 +13,7 @@ pub group_of-requires-clause-outer : goal.group_of-requires-clause-outer
 group_of-requires-clause-outer c =
     let rules = c.args.rules.now.rules in
     let r = c.index-listed-i.result in
-    c.requires.rules.each r (slice_in rules c.args.i r (read_at rules c.args.i r c.requires.there (c.index-listed-i.is ∙ ap (λ (l : List Rule). get_or l c.args.i r) c.as_slice-listed.ensures)))
+    c.requires.rules.each r (slice_contains rules c.args.i r (read_at rules c.args.i r c.requires.there (c.index-listed-i.is ∙ ap (λ (l : List Rule). get_or l c.args.i r) c.as_slice-listed.ensures)))
 
 pub group_of-requires-clause-inner : goal.group_of-requires-clause-inner
 group_of-requires-clause-inner c =
@@ -20,7 +21,7 @@ group_of-requires-clause-inner c =
     let j = c.loop-j.j in
     let r = c.index-listed-j.result in
     let inside : j < length rules = omega (arith, ap length c.as_slice-listed.ensures, c.loop-j-test.true) in
-    c.requires.rules.each r (slice_in rules j r (read_at rules j r inside (c.index-listed-j.is ∙ ap (λ (l : List Rule). get_or l j r) c.as_slice-listed.ensures)))
+    c.requires.rules.each r (slice_contains rules j r (read_at rules j r inside (c.index-listed-j.is ∙ ap (λ (l : List Rule). get_or l j r) c.as_slice-listed.ensures)))
 
 pub loop-j-preserved : goal.loop-j-preserved
 loop-j-preserved c =

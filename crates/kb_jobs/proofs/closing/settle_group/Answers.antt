@@ -1,13 +1,14 @@
 use Rattle.std.proofs.Common.{ℕ, suc, ◌≡◌, ◌+◌, ◌<◌, ◌++◌, [], ◌∷◌, ap, sym, ◌∙◌, subst, List, length, take, Contains, Option, arith, append_assoc}
 use Rattle.std.proofs.lemmas.List.{append-nil, length-map}
+use Rattle.kb_lemmas.proofs.Membership.{none_in, slice_contains}
+use Rattle.kb_lemmas.proofs.Lists.{get_map}
 use Rattle.kb_label.specs.declared.verdict.Reason.{Reason}
 use Rattle.mkb_model.specs.Proposals.{NamedOverlap, IsFormed, IsStopped}
-use Rattle.mkb_model.proofs.Lists.{none_in}
 use Rattle.kb_jobs.specs.Rules.{listed}
 use Rattle.kb_jobs.specs.Groups.{overlaps_in, named_overlap}
 use Rattle.kb_jobs.specs.Closing.{IsSettled, Settles}
-use Rattle.kb_jobs.proofs.Reduced.{read_at, slice_in}
-use Rattle.kb_jobs.proofs.Adding.{map_there, take_next, take_length, one_more, stops_there, group_few}
+use Rattle.kb_jobs.proofs.Reduced.{read_at}
+use Rattle.kb_jobs.proofs.Adding.{take_next, take_length, one_more, stops_there, group_few}
 use Rattle.kb_jobs.proofs.closing.settle_group.Goals as goal
 
 pub loop-i-init : goal.loop-i-init
@@ -19,8 +20,8 @@ settle-requires-clause-few c u v e =
     let i = c.loop-i.i in
     let o = c.index.result.now in
     let inside : i < length g.overlaps.items = omega (arith, c.len-i-end.ensures, c.loop-i-test.true) in
-    let there = map_there (named_overlap g) g.overlaps.items i o (read_at g.overlaps.items i o inside c.index.ensures) in
-    group_few g c.requires.group (named_overlap g o) (slice_in (overlaps_in g) i (named_overlap g o) there) u v e
+    let there = get_map (named_overlap g) g.overlaps.items i o (read_at g.overlaps.items i o inside c.index.ensures) in
+    group_few g c.requires.group (named_overlap g o) (slice_contains (overlaps_in g) i (named_overlap g o) there) u v e
 
 pub returns-in-Some : goal.returns-in-Some
 returns-in-Some c =
@@ -29,7 +30,7 @@ returns-in-Some c =
     let i = c.loop-i.i in
     let o = c.index.result.now in
     let inside : i < length g.overlaps.items = omega (arith, c.len-i-end.ensures, c.loop-i-test.true) in
-    let there = map_there (named_overlap g) g.overlaps.items i o (read_at g.overlaps.items i o inside c.index.ensures) in
+    let there = get_map (named_overlap g) g.overlaps.items i o (read_at g.overlaps.items i o inside c.index.ensures) in
     stops_there (IsFormed (listed s.rules)) (IsStopped (listed s.rules) c.in-Some.reason) (overlaps_in g) i (named_overlap g o) there c.loop-i.invariant.0
     (subst {A = Option Reason} (Settles s (named_overlap g o) c.loop-i.seen c.settle.new.seen) c.in-Some.is c.in_ok-reason.ensures)
 
@@ -42,7 +43,7 @@ loop-i-preserved c =
     let os = overlaps_in g in
     let no = named_overlap g o in
     let inside : i < length g.overlaps.items = omega (arith, c.len-i-end.ensures, c.loop-i-test.true) in
-    let there = map_there (named_overlap g) g.overlaps.items i o (read_at g.overlaps.items i o inside c.index.ensures) in
+    let there = get_map (named_overlap g) g.overlaps.items i o (read_at g.overlaps.items i o inside c.index.ensures) in
     let next : suc i ≡ i + 1 = omega arith in
     let more = subst {A = Option Reason} (Settles s no c.loop-i.seen c.settle.new.seen) c.in_default.is c.in_ok-reason.ensures in
     subst {A = ℕ} (λ n. ((x : NamedOverlap) → Contains (take n os) x → IsFormed (listed s.rules) x) × ((before : List NamedOverlap) → IsSettled s before c.args.seen.now → IsSettled s (before ++ take n os) c.settle.new.seen)) next (

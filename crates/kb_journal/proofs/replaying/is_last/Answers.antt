@@ -1,10 +1,10 @@
 use Rattle.std.proofs.Common.{ℕ, zero, suc, ◌-◌, ◌≡◌, refl, sym, ap, ◌∙◌, subst, arith, List, [], ◌∷◌, ◌++◌, All, length, length-append, Some, Bool, Result, Ok, Err}
 use Rattle.std.specs.Prelude.{IfOk, IsTrue, ◌↔◌, slice_get}
 use Rattle.std.proofs.lemmas.List.Elements.{All-head, All-tail}
+use Rattle.kb_lemmas.proofs.Options.{none_some}
 use Rattle.kb_term.specs.declared.memory.Memory.{Memory}
 use Rattle.mkb_model.specs.Plain.{PlainNode}
 use Rattle.mkb_model.specs.declared.entry.Entry.{Entry}
-use Rattle.mkb_model.proofs.Lists.{none_some}
 use Rattle.mkb_rules.specs.Parts.{plain_nodes}
 use Rattle.kb_journal.specs.declared.entry_line.EntryLine.{EntryLine}
 use Rattle.kb_journal.specs.EntryLines.{line_of, IsEntryOn}

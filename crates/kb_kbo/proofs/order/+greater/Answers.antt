@@ -1,10 +1,11 @@
 use Rattle.std.proofs.Common.{ap, ◌≡◌, arith, map, inl, inr}
 use Rattle.std.proofs.lemmas.Bool.{false≢true}
 use Rattle.std.proofs.lemmas.List.{length-map}
+use Rattle.kb_lemmas.proofs.Booleans.{fails}
 use Rattle.kb_term.specs.Tree.{trees_of}
 use Rattle.kb_term.specs.View.{tree_of}
 use Rattle.kb_lpo.proofs.Places.{at_from}
-use Rattle.kb_lpo.proofs.Answering.{answers, fails, form, holds, no, part_smaller, yes}
+use Rattle.kb_lpo.proofs.Answering.{answers, form, holds, no, part_smaller, yes}
 use Rattle.kb_kbo.specs.KnuthBendix.{weight, heavier}
 use Rattle.kb_kbo.specs.Measures.{numbers, order_of}
 use Rattle.kb_kbo.proofs.Compared.{greater_holds, greater_weighs, not_variable, symbol_decides, arguments_decide, difference_within, difference_above, above_at, above_by_symbol}

@@ -1,5 +1,6 @@
 use Rattle.std.proofs.Common.{arith, ◌∙◌, sym}
-use Rattle.kb_lpo.proofs.Answering.{holds, fails, place_within, place_reached, place_passed, same_number, other_number}
+use Rattle.kb_lemmas.proofs.Booleans.{fails}
+use Rattle.kb_lpo.proofs.Answering.{holds, place_within, place_reached, place_passed, same_number, other_number}
 use Rattle.kb_kbo.proofs.order.is_above.Goals as goal
 
 pub returns-then-eq : goal.returns-then-eq

@@ -1,5 +1,5 @@
 use Rattle.std.proofs.Common.{arith}
-use Rattle.kb_lpo.proofs.Answering.{fails}
+use Rattle.kb_lemmas.proofs.Booleans.{fails}
 use Rattle.kb_lpo.proofs.First.{not_listed}
 use Rattle.kb_kbo.proofs.search.is_listed.Goals as goal
 

@@ -1,6 +1,7 @@
 use Rattle.std.proofs.Common.{ap, sym, ◌∙◌, subst, ◌+◌, ◌≤◌, ◌⊎◌, arith, map, ◌≡◌, length, inl, inr}
 use Rattle.std.proofs.lemmas.List.{length-map}
 use Rattle.std.proofs.lemmas.Bool.{false≢true}
+use Rattle.kb_lemmas.proofs.Booleans.{fails}
 use Rattle.kb_term.specs.Tree.{trees_of}
 use Rattle.kb_term.specs.View.{tree_of}
 use Rattle.kb_lpo.specs.PathOrder.{LpoGreater}
@@ -9,7 +10,7 @@ use Rattle.kb_lpo.specs.Search.{numbers}
 use Rattle.kb_lpo.proofs.Places.{at_from, between_more}
 use Rattle.kb_lpo.proofs.Exact.{above_variable, variable_above, not_both_ways}
 use Rattle.kb_lpo.proofs.Cases.{each_above, above_by_symbol, above_by_witness, witness_needed, above_by_difference, witness_after_difference, witness_after_end}
-use Rattle.kb_lpo.proofs.Answering.{answers, ends, fails, form, holds, member_size, no, part_smaller, same_index, yes}
+use Rattle.kb_lpo.proofs.Answering.{answers, ends, form, holds, member_size, no, part_smaller, same_index, yes}
 use Rattle.kb_lpo.proofs.order.+greater.Goals as goal
 
 pub greater-greater-requires : goal.greater-greater-requires

@@ -3,9 +3,10 @@ use Rattle.std.proofs.lemmas.List.{length-map}
 use Rattle.kb_term.specs.Tree.{symbols_of}
 use Rattle.kb_term.specs.View.{tree_of}
 use Rattle.kb_lpo.proofs.Places.{at_from, between_more}
-use Rattle.kb_lpo.proofs.Answering.{yes, no, holds, fails, form, part_smaller}
+use Rattle.kb_lpo.proofs.Answering.{yes, no, holds, form, part_smaller}
 use Rattle.kb_lpo.proofs.Symbols.{symbol_at, symbol_nowhere}
 use Rattle.std.proofs.lemmas.Bool.{false≢true}
+use Rattle.kb_lemmas.proofs.Booleans.{fails}
 use Rattle.kb_lpo.proofs.order.+has_symbol.Goals as goal
 
 pub has_symbol-requires : goal.has_symbol-requires

@@ -1,9 +1,10 @@
 use Rattle.std.proofs.Common.{arith, subst, sym, map, Contains}
 use Rattle.std.proofs.lemmas.List.{length-map}
+use Rattle.kb_lemmas.proofs.Booleans.{fails}
 use Rattle.kb_term.specs.Tree.{variables_of}
 use Rattle.kb_term.specs.View.{tree_of}
 use Rattle.kb_lpo.proofs.Places.{at_from, between_more}
-use Rattle.kb_lpo.proofs.Answering.{yes, no, holds, fails, form, part_smaller, occurs_at, occurs_nowhere}
+use Rattle.kb_lpo.proofs.Answering.{yes, no, holds, form, part_smaller, occurs_at, occurs_nowhere}
 use Rattle.kb_lpo.proofs.order.+occurs.Goals as goal
 
 pub occurs-requires : goal.occurs-requires

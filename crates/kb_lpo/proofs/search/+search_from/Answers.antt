@@ -4,9 +4,10 @@ use Rattle.kb_lpo.specs.Precedences.{arrangements}
 use Rattle.kb_term.specs.First.{IsFirst}
 use Rattle.std.proofs.lemmas.Bool.{false≢true}
 use Rattle.std.proofs.lemmas.List.{append_assoc}
+use Rattle.kb_lemmas.proofs.Membership.{listed_or_not}
 use Rattle.kb_lpo.specs.Search.{numbers, Fits, IsSearched, outside}
 use Rattle.kb_lpo.specs.Precedences.{LpoOrients}
-use Rattle.kb_lpo.proofs.First.{leaf, numbers_push, found_next, none_next, none_refused, listed_or_not, popped, tried}
+use Rattle.kb_lpo.proofs.First.{leaf, numbers_push, found_next, none_next, none_refused, popped, tried}
 use Rattle.kb_lpo.proofs.Ascending.{floor_next, lowest_refused, lowest_within}
 use Rattle.kb_lpo.proofs.search.+search_from.Goals as goal
 use Rattle.kb_lpo.proofs.search.+search_from.Goals.{search_from-then-place_next+in_ok-push+in_ok-search_or_fit+else-branch, search_from-else-place_next}

@@ -1,8 +1,8 @@
 use Rattle.std.proofs.Common.{arith, ◌∙◌, sym, ap}
 use Rattle.std.specs.Prelude.{option_map}
+use Rattle.std.proofs.lemmas.Option.{same_Some}
 use Rattle.kb_term.specs.Tree.{tree_size}
 use Rattle.kb_term.specs.View.{tree_of}
-use Rattle.kb_term.proofs.Subtrees.{some_same}
 use Rattle.kb_overlap.proofs.Sides.{size-subtree}
 use Rattle.kb_overlap.proofs.overlap.size_without.Goals as goal
 
@@ -15,4 +15,4 @@ overflow_sub-result c = omega (arith, c.size.ensures, c.size-in-Some.ensures, si
 pub returns-in-Some-clause-rest : goal.returns-in-Some-clause-rest
 returns-in-Some-clause-rest c v at =
     let there = sym c.subterm.ensures ∙ ap (option_map (λ u. tree_of u.now)) c.in-Some.is in
-    omega (arith, c.size.ensures, c.size-in-Some.ensures, size-subtree c.args.position.now (tree_of c.args.t.now) (tree_of c.in-Some.u.now) there, ap tree_size (some_same (tree_of c.in-Some.u.now) v (sym there ∙ at)))
+    omega (arith, c.size.ensures, c.size-in-Some.ensures, size-subtree c.args.position.now (tree_of c.args.t.now) (tree_of c.in-Some.u.now) there, ap tree_size (same_Some (tree_of c.in-Some.u.now) v (sym there ∙ at)))

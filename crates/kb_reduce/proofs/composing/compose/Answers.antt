@@ -1,15 +1,14 @@
 use Rattle.std.proofs.Common.{ℕ, ◌+◌, ◌≡◌, ◌∙◌, refl, sym, ap, subst, arith, [], ◌∷◌, ◌++◌, append_assoc, append-nil, length, length-append, Some, Err}
 use Rattle.std.specs.Prelude.{slice_get}
-use Rattle.std.proofs.lemmas.Option.{slice_get-get_or}
+use Rattle.std.proofs.lemmas.Option.{slice_get-get_or, same_Some}
+use Rattle.kb_lemmas.proofs.Membership.{slice_contains}
 use Rattle.kb_term.specs.Pair.{canonical}
 use Rattle.kb_term.specs.Rule.{Rule, rule_between}
 use Rattle.kb_term.specs.View.{tree_of}
 use Rattle.kb_term.specs.FewArguments.{HasFewArguments}
-use Rattle.kb_term.proofs.Subtrees.{some_same}
 use Rattle.kb_rewrite.specs.NormalForm.{long, large}
 use Rattle.kb_rewrite.specs.Search.{IsStepAnswer}
 use Rattle.kb_overlap.specs.Trace.{TraceStep}
-use Rattle.kb_laws.proofs.Closing.{slice_contains}
 use Rattle.kb_reduce.specs.Reducing.{rewriting, with_right, AreRewritings}
 use Rattle.kb_reduce.specs.Telling.{IsLimitWhy}
 use Rattle.kb_reduce.proofs.Turn.{made_by, index_by, composed_by, long_by, large_by, rewritings_more, by_traced, few_here, traced_here, pair_few, pair_differs}
@@ -24,7 +23,7 @@ loop-init c =
       count = refl;
       rewritings = λ r e.
           let at : slice_get c.args.a.now.rules c.args.k ≡ Some c.index-rules-k.result = ap (λ xs. slice_get xs c.args.k) (sym c.rules.ensures) ∙ slice_get-get_or c.rules.result.now c.args.k c.index-rules-k.result (omega (arith, c.requires.there, ap (length {A = Rule × ℕ}) c.rules.ensures)) ∙ ap Some (sym c.index-rules-k.is) in
-          let same : r ≡ c.index-rules-k.result = some_same _ _ (sym e ∙ at) in
+          let same : r ≡ c.index-rules-k.result = same_Some _ _ (sym e ∙ at) in
           same ∙ (λ i. (sym c.in_ok-clone.ensures.cases i, c.index-rules-k.result.1));
     }
 

@@ -1,7 +1,7 @@
 use Rattle.std.proofs.Common.{true, false, not, ◌≡◌, ◌∷◌, refl, Bool, ◌+◌, ◌<◌, ◌≤◌, List, Option, Contains, length, drop, get_or, subst, ap, sym, ◌∙◌, arith}
 use Rattle.std.specs.Prelude.{option_map}
 use Rattle.std.proofs.lemmas.List.Elements.{Contains-get_or}
-use Rattle.kb_term.proofs.Steps.{contains_first, contains_behind}
+use Rattle.kb_lemmas.proofs.Membership.{contains_first, contains_behind}
 use Rattle.kb_label.specs.Names.{Name, has, minus, IsInNameOrder}
 use Rattle.mkb_model.specs.Jobs.{job_cmp}
 use Rattle.mkb_model.specs.Plain.{cost, weight}

@@ -1,5 +1,5 @@
 use Rattle.std.proofs.Common.{ℕ, ◌+◌, ◌-◌, ◌<◌, ◌≤◌, ◌∙◌, ◌∷◌, length, map, ap, sym, subst, arith, IfSome}
-use Rattle.kb_term.proofs.Steps.{contains_first}
+use Rattle.kb_lemmas.proofs.Membership.{contains_first}
 use Rattle.kb_label.specs.Names.{Name}
 use Rattle.kb_node.specs.declared.job.Job.{Job}
 use Rattle.mkb_model.specs.Jobs.{process_of}

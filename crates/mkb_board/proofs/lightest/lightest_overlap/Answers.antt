@@ -1,5 +1,5 @@
 use Rattle.std.proofs.Common.{◌+◌, ◌<◌, ◌≤◌, ◌∙◌, ◌++◌, List, length, map, drop, slice_index_or, ap, ap₂, arith}
-use Rattle.kb_term.proofs.Steps.{contains_first}
+use Rattle.kb_lemmas.proofs.Membership.{contains_first}
 use Rattle.kb_term.specs.declared.origin.RuleRef.{RuleRef}
 use Rattle.kb_node.specs.declared.job.Job.TheVariants.{Overlap}
 use Rattle.mkb_model.specs.Plain.{rules_of}

@@ -1,7 +1,7 @@
 use Rattle.std.proofs.Common.{◌≡◌, ◌+◌, List, [], ◌∷◌, ◌++◌, ap, sym, subst, arith, length, refl}
 use Rattle.std.specs.Prelude.{All}
 use Rattle.std.proofs.lemmas.List.Elements.{All-append}
-use Rattle.mkb_rules.proofs.Tabled.{all_one}
+use Rattle.kb_lemmas.proofs.Membership.{all_one}
 use Rattle.mkb_board.specs.Normal.{AreNormal}
 use Rattle.mkb_board.specs.declared.normal.Normal.{Normal}
 use Rattle.mkb_board.proofs.normal.nothing_noted.Goals as goal

@@ -1,7 +1,8 @@
 use Rattle.std.proofs.Common.{rules, ℕ, ◌+◌, ◌≡◌, ◌∙◌, refl, sym, ap, subst, length, List, true, false}
+use Rattle.std.proofs.lemmas.Bool.{not-true}
 use Rattle.work_crew.specs.declared.shared.Assignment.{Assignment}
 use Rattle.mkb_rounds.specs.Playing.{IsTakingRound}
-use Rattle.mkb_rounds.proofs.Playing.{begins, not_true, not_false}
+use Rattle.mkb_rounds.proofs.Playing.{begins, not_false}
 use Rattle.mkb_rounds.proofs.taking.take_all.Goals as goal
 
 pub loop-init : goal.loop-init
@@ -12,7 +13,7 @@ loop-init g c = (
 )
 
 pub returns-then-not-branch-clause-ok : goal.returns-then-not-branch-clause-ok
-returns-then-not-branch-clause-ok g c = c.in_ok-take_one.ensures.last (search (rules, not_true))
+returns-then-not-branch-clause-ok g c = c.in_ok-take_one.ensures.last (search (rules, not-true))
 
 pub loop-preserved : goal.loop-preserved
 loop-preserved g c =

@@ -3,9 +3,9 @@ use Rattle.std.specs.Prelude.{slice_get}
 use Rattle.std.proofs.lemmas.List.{length-map}
 use Rattle.std.proofs.lemmas.Option.{slice_get_read, slice_get_within}
 use Rattle.std.proofs.Math.Seq.{map-set_same}
+use Rattle.kb_lemmas.proofs.Lists.{get_map}
 use Rattle.term_bank.specs.Chains.{slot_of, hashes_of, IsLink}
 use Rattle.term_bank.specs.declared.chains.Link.{Link}
-use Rattle.term_bank.proofs.Places.{get_map}
 use Rattle.term_bank.proofs.Linking.{linked_more}
 use Rattle.term_bank.proofs.chains.link_all.Goals as goal
 

@@ -4,7 +4,8 @@ use Rattle.std.specs.Prelude.{IfSome, IsSomeAnd}
 use Rattle.kb_lpo.specs.Search.{numbers, Fits, IsSearched, IsTried}
 use Rattle.kb_lpo.specs.Precedences.{LpoOrients}
 use Rattle.kb_term.specs.Rule.{Rule}
-use Rattle.kb_lpo.proofs.First.{leaf, numbers_push, found_next, none_refused, listed_or_not}
+use Rattle.kb_lemmas.proofs.Membership.{listed_or_not}
+use Rattle.kb_lpo.proofs.First.{leaf, numbers_push, found_next, none_refused}
 use Rattle.kb_lpo.proofs.search.Arranging.+try_first.Goals as goal
 
 searched_tried : (rules : List Rule) (count left : ℕ) (xs ys : List ℕ) (b : Bool) → IsSearched rules count left xs ys b → IsTried rules count left xs ys b

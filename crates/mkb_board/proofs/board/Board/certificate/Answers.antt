@@ -1,12 +1,12 @@
 use Rattle.std.proofs.Common.{◌≡◌, ◌∙◌, Contains, subst, sym, refl, Option, Some, rules}
 use Rattle.std.specs.Prelude.{IsTrue, IsSome}
+use Rattle.kb_lemmas.proofs.Options.{some_is}
 use Rattle.kb_cert.specs.Family.{Orders, IsFirstOrder}
 use Rattle.kb_cert.specs.declared.certificate.Certificate.{Certificate}
 use Rattle.kb_cert.proofs.Members.{first_contained}
 use Rattle.kb_label.specs.Names.{has}
 use Rattle.mkb_model.specs.Plain.{orders_of, certificate_of, rules_at, constraints_of}
 use Rattle.mkb_model.specs.Invariants.{IsCertified}
-use Rattle.mkb_model.proofs.Lists.{some_is}
 use Rattle.mkb_board.specs.Boards.{Seen}
 use Rattle.mkb_board.proofs.Readable.{certified_on}
 use Rattle.mkb_board.proofs.board.Board.certificate.Goals as goal

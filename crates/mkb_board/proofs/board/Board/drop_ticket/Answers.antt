@@ -1,17 +1,18 @@
 use Rattle.std.proofs.Common.{◌≡◌, ◌∙◌, ◌++◌, ◌∷◌, [], arith, subst, ap, refl, sym, vec_len, Contains, None}
 use Rattle.std.specs.Prelude.{IsTrue}
+use Rattle.kb_lemmas.proofs.Lists.{filter_less}
 use Rattle.kb_label.specs.Names.{Name}
 use Rattle.mkb_model.specs.Effects.{is_dropped}
 use Rattle.mkb_model.specs.Verdicts.{verdict}
 use Rattle.mkb_model.specs.declared.entry.Entry.TheVariants.{Drop}
 use Rattle.mkb_board.specs.Boards.{Seen, is_drop}
 use Rattle.mkb_board.specs.Takes.{IsProposalOf}
-use Rattle.mkb_board.proofs.Growing.{after_push, owed_less, owed_fewer, shorter}
+use Rattle.mkb_board.proofs.Growing.{after_push, owed_less, owed_fewer}
 use Rattle.mkb_board.proofs.Ends.{drop_board}
 use Rattle.mkb_board.proofs.board.Board.drop_ticket.Goals as goal
 
 pub overflow_add-self : goal.overflow_add-self
-overflow_add-self c = omega (arith, c.self.invariant.0.dropped_is, shorter is_drop c.self.inside.journal.items, c.self.inside.journal.ok.0, c.self.inside.journal.small)
+overflow_add-self c = omega (arith, c.self.invariant.0.dropped_is, filter_less is_drop c.self.inside.journal.items, c.self.inside.journal.ok.0, c.self.inside.journal.small)
 
 pub invariant_of-self : goal.invariant_of-self
 invariant_of-self c =

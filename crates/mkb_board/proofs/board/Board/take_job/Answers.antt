@@ -1,5 +1,6 @@
 use Rattle.std.proofs.Common.{◌+◌, ◌≤◌, ◌≡◌, ◌∙◌, ◌++◌, ◌∷◌, [], List, arith, subst, ap, refl, sym, vec_len, vec_capacity, Bool, false, Some, None}
 use Rattle.std.specs.Prelude.{IsFalse}
+use Rattle.kb_lemmas.proofs.Lists.{filter_less}
 use Rattle.mkb_model.specs.DueJobs.{first_job}
 use Rattle.mkb_model.specs.Verdicts.{verdict}
 use Rattle.mkb_model.specs.Journals.{is_take}
@@ -7,7 +8,7 @@ use Rattle.mkb_model.specs.declared.entry.Ticket.{Ticket}
 use Rattle.mkb_model.specs.declared.entry.Entry.{Entry}
 use Rattle.mkb_board.specs.Boards.{Seen, seen, IsBoard, owed, has_halt}
 use Rattle.mkb_board.specs.Takes.{TakesJob}
-use Rattle.mkb_board.proofs.Growing.{take_board, after_push, shorter}
+use Rattle.mkb_board.proofs.Growing.{take_board, after_push}
 use Rattle.mkb_board.proofs.Flying.{taken_flying}
 use Rattle.mkb_board.proofs.Readable.{facts_on, readable_on, first_there, first_ordered}
 use Rattle.mkb_board.proofs.Irreducible.{normals_with}
@@ -25,7 +26,7 @@ pub snapshot-requires-clause-facts : goal.snapshot-requires-clause-facts
 snapshot-requires-clause-facts c = facts_on c.self.inside.state c.self.inside.flight.items c.self.inside.journal.items c.self.invariant.0.legal
 
 pub overflow_add-ticket : goal.overflow_add-ticket
-overflow_add-ticket c = omega (arith, c.self.invariant.0.taken_is, shorter is_take c.self.inside.journal.items, c.self.inside.journal.ok.0, c.self.inside.journal.small)
+overflow_add-ticket c = omega (arith, c.self.invariant.0.taken_is, filter_less is_take c.self.inside.journal.items, c.self.inside.journal.ok.0, c.self.inside.journal.small)
 
 pub invariant_of-self-in_err-reserve : goal.invariant_of-self-in_err-reserve
 invariant_of-self-in_err-reserve c =

@@ -2,10 +2,11 @@ use Rattle.std.proofs.Common.{◌≡◌, ◌∙◌, ◌++◌, ◌∷◌, [], ◌
 use Rattle.std.specs.Prelude.{All}
 use Rattle.std.proofs.lemmas.List.{append_assoc, append-nil, take_all, take_more}
 use Rattle.std.proofs.lemmas.List.Elements.{All-append}
+use Rattle.kb_lemmas.proofs.Membership.{all_one}
 use Rattle.kb_term.specs.declared.origin.Found.TheVariants.{No}
 use Rattle.kb_node.specs.declared.job.Fact.{Fact}
 use Rattle.mkb_rules.specs.Tabled.{HasRoom, IsTabled}
-use Rattle.mkb_rules.proofs.Tabled.{all_one, all_kept}
+use Rattle.mkb_rules.proofs.Tabled.{all_kept}
 use Rattle.mkb_rules.proofs.facts.Facts.extend.Goals as goal
 
 abbrev no_fact : Fact

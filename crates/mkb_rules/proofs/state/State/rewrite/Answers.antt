@@ -1,4 +1,5 @@
 use Rattle.std.proofs.Common.{ℕ, ◌≡◌, ◌∙◌, List, Err, ap, ap₂, sym}
+use Rattle.mkb_model.proofs.Views.{there_pair}
 use Rattle.kb_label.specs.declared.verdict.Reason.TheVariants.{Nodes}
 use Rattle.mkb_model.specs.Plain.{Plain, PlainNode}
 use Rattle.mkb_model.specs.Effects.{counted, give_up, on_nodes}
@@ -11,7 +12,7 @@ use Rattle.mkb_rules.specs.Kept.{plain_done, plain_certificates}
 use Rattle.mkb_rules.specs.Over.{lists_of}
 use Rattle.mkb_rules.specs.Parts.{board_of}
 use Rattle.mkb_rules.specs.Rewriting.{gained, lost}
-use Rattle.mkb_rules.proofs.Moving.{pair_there, sources-all, rewrite-done, rewrite-given_up}
+use Rattle.mkb_rules.proofs.Moving.{sources-all, rewrite-done, rewrite-given_up}
 use Rattle.mkb_rules.proofs.state.State.rewrite.Goals as goal
 
 pub returns-in-Ok-try_moving-clause-ok : goal.returns-in-Ok-try_moving-clause-ok
@@ -22,7 +23,7 @@ returns-in-Ok-try_moving-clause-ok c =
     let s = c.in_ok-sources.sources in
     let o = c.in-Ok.target in
     let before = c.self.inside in
-    let node = pair_there b.nodes n.0 c.requires.node in
+    let node = there_pair b.nodes n.0 c.requires.node in
     let all = sources-all b n w c.args.position.now c.args.rule c.args.kind c.args.outcome.now node.0 node.1 c.in_ok-names.names s c.in_ok-names.ensures
     c.in_ok-sources.ensures.names c.in_ok-sources.ensures.strict c.in_ok-sources.ensures.equation c.in_ok-sources.ensures.right c.in_ok-sources.ensures.left in
     let done = rewrite-done b n w c.args.position.now c.args.rule c.args.kind c.args.outcome.now node.0 node.1 o s (c.in-Ok.ensures node.0 node.1) all
@@ -42,7 +43,7 @@ returns-in-Err-Full-clause-ok c =
     let o = c.in-Ok.target in
     let before = c.self.inside in
     let with_nodes_now = λ (xs : List PlainNode). board_of before.problem before.settings before.log xs (plain_done before.done.items) before.facts before.closed (lists_of before.over) before.asleep before.commits (plain_certificates before.certificates.items) in
-    let node = pair_there b.nodes n.0 c.requires.node in
+    let node = there_pair b.nodes n.0 c.requires.node in
     let all = sources-all b n w c.args.position.now c.args.rule c.args.kind c.args.outcome.now node.0 node.1 c.in_ok-names.names s c.in_ok-names.ensures
     c.in_ok-sources.ensures.names c.in_ok-sources.ensures.strict c.in_ok-sources.ensures.equation c.in_ok-sources.ensures.right c.in_ok-sources.ensures.left in
     let over = rewrite-given_up b n w c.args.position.now c.args.rule c.args.kind c.args.outcome.now node.0 node.1 o s (c.in-Ok.ensures node.0 node.1) all

@@ -1,0 +1,2 @@
+//! Lemmas of truth values, numbers, lists and members that name nothing of completion. It has no code.
+#![tactic(auto)]
