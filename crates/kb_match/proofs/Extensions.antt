@@ -1,6 +1,6 @@
 -- Lists of variables and terms that grow: by one entry, and pattern by pattern.
 use Rattle.std.proofs.Common.{ℕ, zero, suc, ◌+◌, ◌<◌, ◌≡◌, refl, sym, ap, ap₂, ◌∙◌, arith, subst, List, [], ◌∷◌, ◌++◌, length, get_or, take, append_assoc, append-nil, Bool, true, false, cond}
-use Rattle.std.specs.Prelude.{◌==◌, ◌||◌, ◌↔◌, Result, Ok, Err, IfOk, IsTrue}
+use Rattle.std.specs.Prelude.{◌==◌, ◌||◌, ◌↔◌, Option, Some, None, Result, Ok, Err, IfOk, IsTrue}
 use Rattle.std.specs.List.{list_any}
 use Rattle.std.specs.Borrow.{Bor}
 use Rattle.std.proofs.lemmas.Bool.{false≢true, eqb-true, eq-eqb, ne_eqb}
@@ -9,7 +9,7 @@ use Rattle.kb_term.specs.Pair.{distinct}
 use Rattle.kb_term.specs.Substitution.{instance, instances, substitution_of, Matches}
 use Rattle.kb_term.proofs.Distinct.{distinct-new, distinct-old}
 use Rattle.kb_term.proofs.Trees.{more_trees-inj}
-use Rattle.kb_term.specs.View.{tree_of}
+use Rattle.kb_term.specs.View.{tree_of, entries_of_list}
 use Rattle.kb_term.specs.declared.term.Term.{Term}
 use Rattle.kb_match.specs.Matching.{listed_variables, IsMatchList}
 use Rattle.kb_match.specs.Extending.{Gives, IsAbsent, IsPresent, IsExtended}
@@ -203,34 +203,71 @@ match_from p s new h = record { variables = h.variables [] refl; makes = (h.back
 pub match_none : (p s : Tree) → ((k : ℕ → Tree) → Gives k [] → ¬ (instance k p ≡ s)) → ¬ Matches p s
 match_none p s h (k, e) = h k tt e
 
-more_absent : (es : List (ℕ × Bor Term)) (i n : ℕ) (x : ℕ × Bor Term) → i < length es → x ≡ get_or es i x → (x.0 == n) ≡ false → IsAbsent n (bindings_of_list (take i es)) → IsAbsent n (bindings_of_list (take (suc i) es))
+more_absent : (es : List (Option (ℕ × Bor Term))) (i n : ℕ) (x : Option (ℕ × Bor Term)) → i < length es → x ≡ get_or es i x → IsAbsent n (bindings_of_list (x ∷ [])) → IsAbsent n (bindings_of_list (take i es)) → IsAbsent n (bindings_of_list (take (suc i) es))
 more_absent [] i n x h is d a = absurd (omega (arith, h))
-more_absent (e ∷ es) zero n x h is d a = subst (λ (y : ℕ × Bor Term). ((y.0 == n) || false) ≡ false) is (rw d refl)
-more_absent (e ∷ es) (suc i) n x h is d a = both (e.0 == n) _ _ a (more_absent es i n x (omega (arith, h)) is d)
+more_absent (e ∷ es) zero n x h is d a = subst (λ (y : Option (ℕ × Bor Term)). IsAbsent n (bindings_of_list (y ∷ []))) is d
+more_absent (None ∷ es) (suc i) n x h is d a = more_absent es i n x (omega (arith, h)) is d a
+more_absent (Some e ∷ es) (suc i) n x h is d a = both (e.0 == n) _ _ a (more_absent es i n x (omega (arith, h)) is d)
   where
     both : (a b c : Bool) → (a || b) ≡ false → (b ≡ false → c ≡ false) → (a || c) ≡ false
     both true b c e f = e
     both false b c e f = f e
 
--- a variable that stands at the entry i and at none before it
-pub absent_more : (es : List (ℕ × Bor Term)) (i n : ℕ) (x : ℕ × Bor Term) → i < length es → x ≡ get_or es i x → ¬ (x.0 ≡ n) → IsAbsent n (bindings_of_list (take i es)) → IsAbsent n (bindings_of_list (take (i + 1) es))
-absent_more es i n x h is other a = let next : suc i ≡ i + 1 = omega arith in subst (λ j. IsAbsent n (bindings_of_list (take j es))) next (more_absent es i n x h is (ne_eqb x.0 n other) a)
+absent_next : (es : List (Option (ℕ × Bor Term))) (i n : ℕ) (x : Option (ℕ × Bor Term)) → i < length es → x ≡ get_or es i x → IsAbsent n (bindings_of_list (x ∷ [])) → IsAbsent n (bindings_of_list (take i es)) → IsAbsent n (bindings_of_list (take (i + 1) es))
+absent_next es i n x h is d a = let next : suc i ≡ i + 1 = omega arith in subst (λ j. IsAbsent n (bindings_of_list (take j es))) next (more_absent es i n x h is d a)
 
-at_present : (es : List (ℕ × Bor Term)) (i n : ℕ) (x : ℕ × Bor Term) → i < length es → x ≡ get_or es i x → (x.0 == n) ≡ true → IsAbsent n (bindings_of_list (take i es)) → IsPresent n (tree_of x.1.now) (bindings_of_list es)
-at_present [] i n x h is d a = absurd (omega (arith, h))
-at_present (e ∷ es) zero n x h is d a = subst (λ (y : ℕ × Bor Term). IsPresent n (tree_of x.1.now) (bindings_of_list (y ∷ es))) is (rw d refl, rw d refl)
-at_present (e ∷ es) (suc i) n x h is d a = go (e.0 == n) a (at_present es i n x (omega (arith, h)) is d)
+-- a variable that doesn't stand at the place i, nor at one before it
+pub absent_more : (es : List (Option (ℕ × Bor Term))) (i n m : ℕ) (t : Bor Term) (x : Option (ℕ × Bor Term)) → i < length es → x ≡ get_or es i x → x ≡ Some (m, t) → ¬ (m ≡ n) → IsAbsent n (bindings_of_list (take i es)) → IsAbsent n (bindings_of_list (take (i + 1) es))
+absent_more es i n m t x h is taken other a = absent_next es i n x h is (subst (λ (y : Option (ℕ × Bor Term)). IsAbsent n (bindings_of_list (y ∷ []))) (sym taken) (one (m == n) (ne_eqb m n other))) a
   where
-    go : (b : Bool) → (b || list_any (λ y. y == n) (listed_variables (bindings_of_list (take i es)))) ≡ false → (IsAbsent n (bindings_of_list (take i es)) → IsPresent n (tree_of x.1.now) (bindings_of_list es)) → ((b || list_any (λ y. y == n) (listed_variables (bindings_of_list es))) ≡ true) × (cond b (tree_of e.1.now) (substitution_of (bindings_of_list es) n) ≡ tree_of x.1.now)
+    one : (b : Bool) → b ≡ false → (b || false) ≡ false
+    one true e = e
+    one false e = refl
+
+pub absent_free : (es : List (Option (ℕ × Bor Term))) (i n : ℕ) (x : Option (ℕ × Bor Term)) → i < length es → x ≡ get_or es i x → x ≡ None → IsAbsent n (bindings_of_list (take i es)) → IsAbsent n (bindings_of_list (take (i + 1) es))
+absent_free es i n x h is free a = absent_next es i n x h is (subst (λ (y : Option (ℕ × Bor Term)). IsAbsent n (bindings_of_list (y ∷ []))) (sym free) refl) a
+
+at_present : (es : List (Option (ℕ × Bor Term))) (i n m : ℕ) (t : Bor Term) (x : Option (ℕ × Bor Term)) → i < length es → x ≡ get_or es i x → x ≡ Some (m, t) → (m == n) ≡ true → IsAbsent n (bindings_of_list (take i es)) → IsPresent n (tree_of t.now) (bindings_of_list es)
+at_present [] i n m t x h is taken d a = absurd (omega (arith, h))
+at_present (e ∷ es) zero n m t x h is taken d a = subst (λ (y : Option (ℕ × Bor Term)). IsPresent n (tree_of t.now) (bindings_of_list (y ∷ es))) (sym taken ∙ is) (rw d refl, rw d refl)
+at_present (None ∷ es) (suc i) n m t x h is taken d a = at_present es i n m t x (omega (arith, h)) is taken d a
+at_present (Some e ∷ es) (suc i) n m t x h is taken d a = go (e.0 == n) a (at_present es i n m t x (omega (arith, h)) is taken d)
+  where
+    go : (b : Bool) → (b || list_any (λ y. y == n) (listed_variables (bindings_of_list (take i es)))) ≡ false → (IsAbsent n (bindings_of_list (take i es)) → IsPresent n (tree_of t.now) (bindings_of_list es)) → ((b || list_any (λ y. y == n) (listed_variables (bindings_of_list es))) ≡ true) × (cond b (tree_of e.1.now) (substitution_of (bindings_of_list es) n) ≡ tree_of t.now)
     go true a f = absurd (false≢true (sym a))
     go false a f = f a
 
-pub present_at : (es : List (ℕ × Bor Term)) (i n : ℕ) (x : ℕ × Bor Term) → i < length es → x ≡ get_or es i x → x.0 ≡ n → IsAbsent n (bindings_of_list (take i es)) → IsPresent n (tree_of x.1.now) (bindings_of_list es)
-present_at es i n x h is same a = at_present es i n x h is (eq-eqb x.0 n same) a
+-- a variable that stands at the place i, and at none before it
+pub present_at : (es : List (Option (ℕ × Bor Term))) (i n m : ℕ) (t : Bor Term) (x : Option (ℕ × Bor Term)) → i < length es → x ≡ get_or es i x → x ≡ Some (m, t) → m ≡ n → IsAbsent n (bindings_of_list (take i es)) → IsPresent n (tree_of t.now) (bindings_of_list es)
+present_at es i n m t x h is taken same a = at_present es i n m t x h is taken (eq-eqb m n same) a
 
-pub bindings_push : (es : List (ℕ × Bor Term)) (n : ℕ) (t : Bor Term) → bindings_of_list (es ++ (n, t) ∷ []) ≡ bindings_of_list es ++ (n, tree_of t.now) ∷ []
+pub bindings_push : (es : List (Option (ℕ × Bor Term))) (n : ℕ) (t : Bor Term) → bindings_of_list (es ++ Some (n, t) ∷ []) ≡ bindings_of_list es ++ (n, tree_of t.now) ∷ []
 bindings_push [] n t = refl
-bindings_push (e ∷ es) n t = ap ((e.0, tree_of e.1.now) ∷◌) (bindings_push es n t)
+bindings_push (None ∷ es) n t = bindings_push es n t
+bindings_push (Some e ∷ es) n t = ap ((e.0, tree_of e.1.now) ∷◌) (bindings_push es n t)
+
+take_more : (es : List (Option (ℕ × Bor Term))) (i : ℕ) (x : Option (ℕ × Bor Term)) → i < length es → x ≡ get_or es i x → bindings_of_list (take i es) ++ bindings_of_list (x ∷ []) ≡ bindings_of_list (take (suc i) es)
+take_more [] i x h is = absurd (omega (arith, h))
+take_more (e ∷ es) zero x h is = ap (λ (y : Option (ℕ × Bor Term)). bindings_of_list (y ∷ [])) is
+take_more (None ∷ es) (suc i) x h is = take_more es i x (omega (arith, h)) is
+take_more (Some e ∷ es) (suc i) x h is = ap ((e.0, tree_of e.1.now) ∷◌) (take_more es i x (omega (arith, h)) is)
+
+take_next : (es : List (Option (ℕ × Bor Term))) (i : ℕ) (x : Option (ℕ × Bor Term)) → i < length es → x ≡ get_or es i x → bindings_of_list (take i es) ++ bindings_of_list (x ∷ []) ≡ bindings_of_list (take (i + 1) es)
+take_next es i x h is = let next : suc i ≡ i + 1 = omega arith in subst (λ j. bindings_of_list (take i es) ++ bindings_of_list (x ∷ []) ≡ bindings_of_list (take j es)) next (take_more es i x h is)
+
+entries_push : (ds : List (ℕ × Term)) (n : ℕ) (u : Term) → entries_of_list (ds ++ (n, u) ∷ []) ≡ entries_of_list ds ++ (n, tree_of u) ∷ []
+entries_push [] n u = refl
+entries_push (d ∷ ds) n u = ap ((d.0, tree_of d.1) ∷◌) (entries_push ds n u)
+
+-- one copy more
+pub copied_more : (ds : List (ℕ × Term)) (es : List (Option (ℕ × Bor Term))) (i n : ℕ) (t : Bor Term) (u : Term) (x : Option (ℕ × Bor Term)) → i < length es → x ≡ get_or es i x → x ≡ Some (n, t) → u ≡ t.now → entries_of_list ds ≡ bindings_of_list (take i es) → entries_of_list (ds ++ (n, u) ∷ []) ≡ bindings_of_list (take (i + 1) es)
+copied_more ds es i n t u x h is taken same e =
+    entries_push ds n u ∙ ap₂ (λ (cs : List (ℕ × Tree)) (v : Term). cs ++ (n, tree_of v) ∷ []) e same ∙ ap (λ (y : Option (ℕ × Bor Term)). bindings_of_list (take i es) ++ bindings_of_list (y ∷ [])) (sym taken) ∙ take_next es i x h is
+
+-- a place that is free
+pub copied_free : (es : List (Option (ℕ × Bor Term))) (i : ℕ) (x : Option (ℕ × Bor Term)) → i < length es → x ≡ get_or es i x → x ≡ None → bindings_of_list (take i es) ≡ bindings_of_list (take (i + 1) es)
+copied_free es i x h is free =
+    sym (append-nil (bindings_of_list (take i es))) ∙ ap (λ (y : Option (ℕ × Bor Term)). bindings_of_list (take i es) ++ bindings_of_list (y ∷ [])) (sym free) ∙ take_next es i x h is
 
 -- the answer of a match that starts from nothing listed
 pub matches_from : {E : Type 0} (r : Result Bool E) (p s : Tree) (old new : List (ℕ × Tree)) → old ≡ []

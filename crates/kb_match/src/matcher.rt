@@ -8,7 +8,11 @@ ghost use Rattle.kb_match.specs.Extending.{Gives, IsExtended, IsAbsent, IsPresen
 ghost use Rattle.kb_match.specs.Binding.{bindings_of_list};
 
 use kb_term::{Memory, Subst, Term};
+use smallvec::SmallVec;
 use std::alloc::Global;
+
+// So many variables are bound without taking memory for them. A place that no variable has taken holds none.
+const INLINE_BINDINGS: usize = 8;
 
 /// The substitution that makes the pattern the subject, with the variables of the pattern alone, each once, in the order of
 /// first occurrence; none where there is none.
@@ -18,9 +22,9 @@ use std::alloc::Global;
 pub fn match_term(alloc: Global, pattern: &Term, subject: &Term) -> Result<Option<Subst>, Memory>
     ensures { IfOk result (IsMatchAnswer (tree_of pattern.now) (tree_of subject.now)) }
 {
-    let mut bindings = Vec::new(alloc);
+    let mut bindings = SmallVec::new(alloc);
     if extend(pattern, subject, &mut bindings)? {
-        Ok(Some(copied(alloc, &bindings)?))
+        Ok(Some(copied(alloc, bindings.as_slice())?))
     } else {
         Ok(None)
     }
@@ -32,27 +36,31 @@ pub fn match_term(alloc: Global, pattern: &Term, subject: &Term) -> Result<Optio
 pub fn matches(alloc: Global, pattern: &Term, subject: &Term) -> Result<bool, Memory>
     ensures { IfOk result (λ b. IsTrue b ↔ Matches (tree_of pattern.now) (tree_of subject.now)) }
 {
-    extend(pattern, subject, &mut Vec::new(alloc))
+    extend(pattern, subject, &mut SmallVec::new(alloc))
 }
 
 /// The substitution with copies of the terms.
-fn copied(alloc: Global, bindings: &[(u16, &Term)]) -> Result<Subst, Memory>
+fn copied(alloc: Global, bindings: &[Option<(u16, &Term)>]) -> Result<Subst, Memory>
     ensures { IfOk result (λ m. m ≡ bindings_of_list bindings.now) }
 {
     let mut entries = Vec::new(alloc);
     for binding in bindings {
-        entries.push((binding.0, binding.1.clone()?))?;
+        if let Some((n, t)) = *binding {
+            entries.push((n, t.clone()?))?;
+        }
     }
     Ok(Subst::new(entries))
 }
 
 /// The term that is listed with the variable.
-fn find<'a>(bindings: &[(u16, &'a Term)], n: u16) -> Option<&'a Term>
+fn find<'a>(bindings: &[Option<(u16, &'a Term)>], n: u16) -> Option<&'a Term>
     ensures { MatchOption result (IsAbsent n (bindings_of_list bindings.now)) (λ u. IsPresent n (tree_of u.now) (bindings_of_list bindings.now)) }
 {
     for binding in bindings {
-        if binding.0 == n {
-            return Some(binding.1);
+        if let Some((m, t)) = *binding {
+            if m == n {
+                return Some(t);
+            }
         }
     }
     None
@@ -62,17 +70,17 @@ fn find<'a>(bindings: &[(u16, &'a Term)], n: u16) -> Option<&'a Term>
 fn extend<'a>(
     pattern: &Term,
     subject: &'a Term,
-    bindings: &mut Vec<(u16, &'a Term)>,
+    bindings: &mut SmallVec<Option<(u16, &'a Term)>, INLINE_BINDINGS>,
 ) -> Result<bool, Memory>
     ensures matched { result ≡ Ok true → IsExtended (variables_of (tree_of pattern.now)) (λ k. instance k (tree_of pattern.now) ≡ tree_of subject.now) (bindings_of_list bindings.old.items) (bindings_of_list bindings.new.items) }
     ensures clash { result ≡ Ok false → (k : ℕ → Tree) → Gives k (bindings_of_list bindings.old.items) → ¬ (instance k (tree_of pattern.now) ≡ tree_of subject.now) }
 {
     match (pattern, subject) {
         (Term::Var(n), _) => {
-            if let Some(known) = find(bindings, *n) {
+            if let Some(known) = find(bindings.as_slice(), *n) {
                 return Ok(*known == *subject);
             }
-            bindings.push((*n, subject))?;
+            bindings.push(Some((*n, subject)))?;
             Ok(true)
         }
         (Term::App(_, _), Term::Var(_)) => Ok(false),

@@ -14,13 +14,13 @@ use Rattle.kb_match.proofs.matcher.+extend.Goals.{then-f-g-via-then-f-g, then-f-
 pub returns-in-Some-clause-matched : goal.returns-in-Some-clause-matched
 returns-in-Some-clause-matched t c e =
     let es = bindings_of_list c.args.bindings.now.items in
-    let here : IsPresent c.in-Var-default.n (tree_of c.in-Some.known.now) es = subst (λ v. IsPresent c.in-Var-default.n (tree_of c.in-Some.known.now) (bindings_of_list v)) c.deref.ensures.value c.in-Some.ensures in
+    let here : IsPresent c.in-Var-default.n (tree_of c.in-Some.known.now) es = subst (λ v. IsPresent c.in-Var-default.n (tree_of c.in-Some.known.now) (bindings_of_list v)) c.as_slice.ensures c.in-Some.ensures in
     extended_as (sym (ap tree_of c.in-Var-default.is-0)) refl es es (extended_old c.in-Var-default.n (tree_of c.in-Some.known.now) (tree_of c.args.subject.now) es here (c.eq.ensures.same.0 (ok_value e)))
 
 pub returns-in-Some-clause-clash : goal.returns-in-Some-clause-clash
 returns-in-Some-clause-clash t c e =
     let es = bindings_of_list c.args.bindings.now.items in
-    let here : IsPresent c.in-Var-default.n (tree_of c.in-Some.known.now) es = subst (λ v. IsPresent c.in-Var-default.n (tree_of c.in-Some.known.now) (bindings_of_list v)) c.deref.ensures.value c.in-Some.ensures in
+    let here : IsPresent c.in-Var-default.n (tree_of c.in-Some.known.now) es = subst (λ v. IsPresent c.in-Var-default.n (tree_of c.in-Some.known.now) (bindings_of_list v)) c.as_slice.ensures c.in-Some.ensures in
     clash_as (sym (ap tree_of c.in-Var-default.is-0)) refl es (clash_old c.in-Var-default.n (tree_of c.in-Some.known.now) (tree_of c.args.subject.now) es here (λ same. absurd (cc (c.eq.ensures.same.1 same, ok_value e))))
 
 pub returns-then-f-g-clause-clash : goal.returns-then-f-g-clause-clash
@@ -80,8 +80,8 @@ returns-in_ok-push-in-Var-default-clause-matched t c e =
     let n = c.in-Var-default.n in
     let before = c.args.bindings.now.items in
     let es = bindings_of_list before in
-    let absent : IsAbsent n es = subst (λ v. IsAbsent n (bindings_of_list v)) c.deref.ensures.value c.in_default.ensures in
-    let new_is : bindings_of_list c.push.new.self.items ≡ es ++ (n, tree_of c.args.subject.now) ∷ [] = ap bindings_of_list c.in_ok-push-in-Var-default.ensures.items ∙ bindings_push before n c.args.subject in
+    let absent : IsAbsent n es = subst (λ v. IsAbsent n (bindings_of_list v)) c.as_slice.ensures c.in_default.ensures in
+    let new_is : bindings_of_list c.push.new.self.items ≡ es ++ (n, tree_of c.args.subject.now) ∷ [] = ap bindings_of_list c.in_ok-push-in-Var-default.ensures.ok ∙ bindings_push before n c.args.subject in
     extended_as (sym (ap tree_of c.in-Var-default.is-0)) refl es (bindings_of_list c.push.new.self.items) (extended_new n (tree_of c.args.subject.now) es (bindings_of_list c.push.new.self.items) absent new_is)
 
 pub returns-after-loop-i-clause-matched : goal.returns-after-loop-i-clause-matched

@@ -16,4 +16,4 @@ returns-then-branch c =
     let new = bindings_of_list c.extend.new.bindings.items in
     let none : bindings_of_list c.new-bindings.result.items ≡ [] = ap bindings_of_list c.new-bindings.ensures.items in
     let grown : IsExtended (variables_of p) (λ k. instance k p ≡ s) [] new = subst (λ es. IsExtended (variables_of p) (λ k. instance k p ≡ s) es new) none (c.in_ok-extend.ensures.matched (ap Ok c.if-branch.true)) in
-    subst (λ m. IsMatchList m p s) (sym (c.in_ok-copied.ensures ∙ ap bindings_of_list c.deref.ensures.value)) (match_from p s new grown)
+    subst (λ m. IsMatchList m p s) (sym (c.in_ok-copied.ensures ∙ ap bindings_of_list c.as_slice.ensures)) (match_from p s new grown)
