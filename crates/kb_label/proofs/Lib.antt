@@ -1,4 +1,5 @@
 pub mod Words
+pub mod Kept
 pub mod Members
 pub mod Ordered
 pub mod Merged

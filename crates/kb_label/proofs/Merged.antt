@@ -1,6 +1,8 @@
 -- Two lists in their order are joined by taking the lesser of their first names.
 use Rattle.std.specs.Prelude.{ℕ, zero, suc, ◌+◌, ◌<◌, ◌≤◌, ◌⊎◌, List, [], ◌∷◌, ◌++◌, length, drop, ◌≡◌, refl}
 use Rattle.std.proofs.Common.{ap, ap₂, sym, ◌∙◌, inl, inr, get_or, append_assoc}
+use Rattle.std.specs.List.{AppendsClones}
+use Rattle.std.proofs.lemmas.List.Elements.{same_from_all_zip}
 use Rattle.std.proofs.lemmas.List.{drop_more, drop_all, append-nil}
 use Rattle.std.specs.declared.cmp.Ordering.TheVariants.{Less, Equal, Greater}
 use Rattle.kb_label.specs.Names.{Name, name_cmp, add, join, IsInNameOrder}
@@ -32,6 +34,14 @@ ordered-drop : (k : ℕ) (l : List Name) → IsInNameOrder l → IsInNameOrder (
 ordered-drop zero l o = o
 ordered-drop (suc k) [] o = tt
 ordered-drop (suc k) (p ∷ l) o = ordered-drop k l (rest p l o)
+
+-- a list that is extended by copies of names is extended by those names
+pub appended : (old new more : List Name) → AppendsClones (λ p q. q ≡ p) old new more → new ≡ old ++ more
+appended old new more h = h.1 ∙ ap (λ l. old ++ l) (same_from_all_zip (λ p q. q ≡ p) more h.0 h.2 (λ p q e. e))
+
+-- what is put at the end is a copy of the name
+pub pushed : (done more all : List Name) (p copy : Name) → copy ≡ p → (done ++ p ∷ []) ++ more ≡ all → (done ++ copy ∷ []) ++ more ≡ all
+pushed done more all p copy e h = rw e h
 
 -- one name goes to the end of what is joined
 taken : (done more all : List Name) (p : Name) → done ++ (p ∷ more) ≡ all → (done ++ p ∷ []) ++ more ≡ all

@@ -276,15 +276,18 @@ then_none Less = refl
 then_none Equal = refl
 then_none Greater = refl
 
-first_word : (ws : List ℕ) (p : Name) → ws ≡ words_of 16 p → get_or ws 0 0 ≡ word 64 p
+pub first_word : (ws : List ℕ) (p : Name) → ws ≡ words_of 16 p → get_or ws 0 0 ≡ word 64 p
 first_word ws p e = ap (λ l. get_or l 0 0) e ∙ get_or-words_of 16 0 p (omega arith)
 
--- names of one length of which no bit stands behind the first word are in the order of their first words
-pub name_cmp_word : (ws vs : List ℕ) (p q : Name) → ws ≡ words_of 16 p → vs ≡ words_of 16 q → length p ≤ 64 → nat_cmp (length p) (length q) ≡ Equal → nat_cmp (get_or ws 0 0) (get_or vs 0 0) ≡ name_cmp p q
-name_cmp_word ws vs p q e f short same =
+-- short names of one length are in the order of their first words
+pub name_cmp_first : (p q : Name) → length p ≤ 64 → nat_cmp (length p) (length q) ≡ Equal → nat_cmp (word 64 p) (word 64 q) ≡ name_cmp p q
+name_cmp_first p q short same =
     let h = same_length p q same in
-    ap₂ nat_cmp (first_word ws p e) (first_word vs q f)
-    ∙ sym (then_none (nat_cmp (word 64 p) (word 64 q)))
+    sym (then_none (nat_cmp (word 64 p) (word 64 q)))
     ∙ ap (ordering_then (nat_cmp (word 64 p) (word 64 q))) (ap₂ (slice_cmp bool_cmp) (sym (drop_all 64 p short)) (sym (drop_all 64 q (omega arith))))
     ∙ word_cmp 64 p q h
     ∙ ap (λ o. ordering_then o (bits_cmp p q)) (sym same)
+
+-- names of one length of which no bit stands behind the first word are in the order of their first words
+pub name_cmp_word : (ws vs : List ℕ) (p q : Name) → ws ≡ words_of 16 p → vs ≡ words_of 16 q → length p ≤ 64 → nat_cmp (length p) (length q) ≡ Equal → nat_cmp (get_or ws 0 0) (get_or vs 0 0) ≡ name_cmp p q
+name_cmp_word ws vs p q e f short same = ap₂ nat_cmp (first_word ws p e) (first_word vs q f) ∙ name_cmp_first p q short same

@@ -1,6 +1,7 @@
 //! Names of processes, and labels, the sets of living processes.
 #![tactic(auto)]
 
+mod kept_name;
 mod labels;
 mod laws;
 mod list_labels;

@@ -15,10 +15,11 @@ use std::marker::Model;
 #[derive(Drop)]
 pub struct NameLog {
     living: NameList,
+    names: Vec<Process>,
 }
 
 impl Model for NameLog {
-    ghost use Rattle.std.specs.Prelude.{List, length, ◌+◌, ◌≤◌};
+    ghost use Rattle.std.specs.Prelude.{List, length, ◌+◌, ◌≤◌, ◌≡◌};
     ghost use Rattle.kb_label.specs.Names.{Name};
     ghost use Rattle.kb_label.specs.Forks.{IsForked};
     ghost use Rattle.kb_label.specs.declared.process.TheConstants.{MAX_BITS};
@@ -27,7 +28,7 @@ impl Model for NameLog {
 
     ghost view = { λ log. log.living };
 
-    ghost invariant = { λ log. IsForked log.living × (length log.living ≤ MAX_BITS + 1) };
+    ghost invariant = { λ log. IsForked log.living × (length log.living ≤ MAX_BITS + 1) × (log.names.items ≡ log.living) };
 }
 
 impl NameLog {
@@ -35,7 +36,7 @@ impl NameLog {
     pub fn processes(&self) -> &[Process]
         ensures { result.now ≡ self.now }
     {
-        self.living.as_slice()
+        self.names.as_slice()
     }
 }
 
@@ -44,11 +45,16 @@ impl Living for NameLog {
 
     fn start(alloc: Global) -> Result<NameLog, AllocError> {
         let living = NameList::of(alloc, Process::root())?;
-        Ok(NameLog { living })
+        let names = living.names()?;
+        Ok(NameLog { living, names })
     }
 
     fn fork(&mut self, process: &Process) -> Result<(), AllocError> {
-        self.living.relabel(process)
+        let living = self.living.forked(process)?;
+        let names = living.names()?;
+        self.living = living;
+        self.names = names;
+        Ok(())
     }
 
     fn is_living(&self, process: &Process) -> bool {
@@ -56,16 +62,17 @@ impl Living for NameLog {
     }
 
     fn living(&self) -> u32 {
-        self.living.len() as u32
+        self.names.len() as u32
     }
 
     fn names(&self) -> Result<Vec<Process>, AllocError> {
-        self.living.names()
+        self.names.as_slice().to_vec(*self.names.allocator())
     }
 
     fn copy(&self) -> Result<NameLog, AllocError> {
         let living = self.living.copy()?;
-        Ok(NameLog { living })
+        let names = living.names()?;
+        Ok(NameLog { living, names })
     }
 }
 

@@ -2,6 +2,7 @@
 ghost use Rattle.std.specs.Prelude.{◌≡◌, ◌<◌, ◌≤◌, [], ◌∷◌, length, insert, is_ok, OnOk, OnErr, IfOk, IfErr, IsTrue};
 ghost use Rattle.kb_label.specs.Names.{has, add, join, meet, minus, relabel, is_empty, IsInNameOrder};
 
+use crate::kept_name::KeptName;
 use crate::process::{MAX_BITS, Process};
 use std::alloc::{AllocError, Global};
 use std::cmp::Ordering;
@@ -10,7 +11,7 @@ use std::marker::Model;
 /// Names in their order, each once.
 #[derive(Drop)]
 pub(crate) struct NameList {
-    names: Vec<Process>,
+    names: Vec<KeptName>,
 }
 
 impl Model for NameList {
@@ -39,22 +40,8 @@ impl NameList {
         ensures { IfOk result (λ names. names ≡ process ∷ []) }
     {
         let mut names = Vec::new(alloc);
-        names.push(process)?;
+        names.push(KeptName::of(alloc, &process)?)?;
         Ok(NameList { names })
-    }
-
-    /// How many names there are.
-    pub(crate) fn len(&self) -> usize
-        ensures { result ≡ length self.now }
-    {
-        self.names.len()
-    }
-
-    /// The names, in their order.
-    pub(crate) fn as_slice(&self) -> &[Process]
-        ensures { result.now ≡ self.now }
-    {
-        self.names.as_slice()
     }
 
     /// Whether there is no name.
@@ -78,7 +65,7 @@ impl NameList {
     {
         let _ = &self.names;
         for i in 0..other.names.len() {
-            if !self.has(&other.names[i]) {
+            if !self.has(&other.names[i].name()) {
                 return false;
             }
         }
@@ -92,7 +79,7 @@ impl NameList {
     {
         let _ = &other.names;
         for i in 0..self.names.len() {
-            if other.has(&self.names[i]) {
+            if other.has(&self.names[i].name()) {
                 return false;
             }
         }
@@ -104,14 +91,18 @@ impl NameList {
         ensures names { IfOk result (λ names. names.items ≡ self.now) }
         ensures in_order { IsInNameOrder self.now }
     {
-        self.names.as_slice().to_vec(*self.names.allocator())
+        let mut names = Vec::new(*self.names.allocator());
+        for kept in self.names.as_slice() {
+            names.push(kept.name())?;
+        }
+        Ok(names)
     }
 
     /// The same names again.
     pub(crate) fn copy(&self) -> Result<NameList, AllocError>
         ensures { IfOk result (λ names. names ≡ self.now) }
     {
-        let names = self.names()?;
+        let names = self.names.as_slice().to_vec(*self.names.allocator())?;
         Ok(NameList { names })
     }
 
@@ -123,7 +114,8 @@ impl NameList {
         match self.place(process) {
             Ok(_) => Ok(()),
             Err(place) => {
-                self.names.insert(place, *process)?;
+                let kept = KeptName::of(*self.names.allocator(), process)?;
+                self.names.insert(place, kept)?;
                 Ok(())
             }
         }
@@ -147,14 +139,14 @@ impl NameList {
     pub(crate) fn meet(&mut self, other: &NameList)
         ensures { self.new ≡ meet self.old other.now }
     {
-        self.names.retain(|name| other.has(name));
+        self.names.retain(|name| other.has(&name.name()));
     }
 
     /// Takes out the names that another list has.
     pub(crate) fn minus(&mut self, other: &NameList)
         ensures { self.new ≡ minus self.old other.now }
     {
-        self.names.retain(|name| !other.has(name));
+        self.names.retain(|name| !other.has(&name.name()));
     }
 
     /// Puts the two children of a process in its place, where it is named.
@@ -163,15 +155,24 @@ impl NameList {
         ensures ok { OnOk result (self.new ≡ relabel process.now self.old) }
         ensures err { OnErr result (self.new ≡ self.old) }
     {
-        if !self.has(process) {
-            return Ok(());
+        if self.has(process) {
+            let names = self.forked(process)?;
+            *self = names;
         }
+        Ok(())
+    }
+
+    /// The names after a fork of a process that is named.
+    pub(crate) fn forked(&self, process: &Process) -> Result<NameList, AllocError>
+        requires named { IsTrue (has self.now process.now) }
+        requires short { length process.now < MAX_BITS }
+        ensures { IfOk result (λ names. names ≡ relabel process.now self.now) }
+    {
         let mut names = self.copy()?;
         names.remove(process);
         names.add(&process.child(true))?;
         names.add(&process.child(false))?;
-        *self = names;
-        Ok(())
+        Ok(names)
     }
 
     // Where the name stands, or where it would have to be put.
@@ -181,19 +182,21 @@ impl NameList {
         ensures within { IfErr result (λ place. place ≤ length self.now) }
         ensures absent { IfErr result (λ place. insert self.now place process.now ≡ add process.now self.now) }
     {
-        self.names.as_slice().binary_search(process)
+        self.names
+            .as_slice()
+            .binary_search_by(|name| name.against(process))
     }
 
     // Takes a name out, where it is there.
     fn remove(&mut self, process: &Process)
         ensures { self.new ≡ minus self.old (process.now ∷ []) }
     {
-        self.names.retain(|name| *name != *process);
+        self.names.retain(|name| !name.against(process).is_eq());
     }
 }
 
 // The names of two lists, in their order.
-fn merged(alloc: Global, left: &[Process], right: &[Process]) -> Result<Vec<Process>, AllocError>
+fn merged(alloc: Global, left: &[KeptName], right: &[KeptName]) -> Result<Vec<KeptName>, AllocError>
     requires left_in_order { IsInNameOrder left.now }
     requires right_in_order { IsInNameOrder right.now }
     ensures { IfOk result (λ names. names.items ≡ join left.now right.now) }
@@ -204,18 +207,18 @@ fn merged(alloc: Global, left: &[Process], right: &[Process]) -> Result<Vec<Proc
     while i < left.len() && j < right.len() {
         let first = &left[i];
         let second = &right[j];
-        match first.cmp(second) {
+        match first.against(&second.name()) {
             Ordering::Less => {
-                names.push(*first)?;
+                names.push(first.clone()?)?;
                 i += 1;
             }
             Ordering::Equal => {
-                names.push(*first)?;
+                names.push(first.clone()?)?;
                 i += 1;
                 j += 1;
             }
             Ordering::Greater => {
-                names.push(*second)?;
+                names.push(second.clone()?)?;
                 j += 1;
             }
         }

@@ -1,7 +1,8 @@
 // Names of processes.
-ghost use Rattle.std.specs.Prelude.{◌≡◌, ◌+◌, ◌-◌, ◌*◌, ◌^◌, ◌<◌, ◌≤◌, ◌↔◌, length, slice_get, IsTrue, Some};
-ghost use Rattle.kb_label.specs.Names.{root, child};
-ghost use Rattle.kb_label.specs.Packed.{digit};
+ghost use Rattle.std.specs.Prelude.{◌≡◌, ◌+◌, ◌-◌, ◌*◌, ◌^◌, ◌<◌, ◌≤◌, ◌↔◌, length, slice_get, IsTrue, Some, None};
+ghost use Rattle.kb_label.specs.Names.{root, child, name_cmp};
+ghost use Rattle.kb_label.specs.Packed.{digit, word};
+ghost use Rattle.kb_label.specs.Kept.{kept_name, IsKept};
 
 use std::alloc::AllocError;
 use std::cmp::Ordering;
@@ -10,8 +11,8 @@ use std::marker::Model;
 /// The most bits that a name may have.
 pub const MAX_BITS: usize = 1023;
 
-// The bits of a word.
-const WORD_BITS: usize = 64;
+/// The bits of a word.
+pub(crate) const WORD_BITS: usize = 64;
 
 // The words of a name: room for one bit more than the most.
 const WORDS: usize = 16;
@@ -100,6 +101,34 @@ impl Process {
             process.push(*bit);
         }
         process
+    }
+
+    /// The first bits of the name, packed into a word.
+    pub(crate) fn first_word(&self) -> u64
+        ensures { result ≡ word 64 self.now }
+    {
+        self.words[0]
+    }
+
+    /// The short name with this word and this length.
+    pub(crate) fn of_word(first: u64, len: u16) -> Process
+        requires { IsKept first len None }
+        ensures { result ≡ kept_name first len None }
+    {
+        let mut words = [0; WORDS];
+        words[0] = first;
+        Process { words, len }
+    }
+
+    /// How the short name with this word and this length stands to this one in the order of names.
+    pub(crate) fn behind_word(&self, first: u64, len: u16) -> Ordering
+        requires { IsKept first len None }
+        ensures { result ≡ name_cmp (kept_name first len None) self.now }
+    {
+        match len.cmp(&self.len) {
+            Ordering::Equal => first.cmp(&self.words[0]),
+            by_length => by_length,
+        }
     }
 
     // Adds a bit at the end of the name.

@@ -1,0 +1,23 @@
+-- Names as a list keeps them: a short one by its first word and its length, a long one whole.
+use Rattle.std.specs.Prelude.{ℕ, ◌≤◌, ◌≡◌, [], ◌∷◌, length, Option, Some, None, Box, option_map}
+use Rattle.std.specs.declared.alloc.Global.{Global}
+use Rattle.kb_label.specs.Names.{Name}
+use Rattle.kb_label.specs.Packed.{name_in, word}
+
+-- the name with this first word and this length, or the whole one where there is one
+abbrev pub kept_name : ℕ → ℕ → Option Name → Name
+kept_name first len None = name_in (first ∷ []) len
+kept_name first len (Some p) = p
+
+-- the name in the box, where there is one
+abbrev pub whole_name : Option (Box Name Global) → Option Name
+whole_name = option_map (λ b. b.value)
+
+-- what has no whole name fits a word
+abbrev pub fits : ℕ → Option Name → Type 0
+fits len None = len ≤ 64
+fits len (Some p) = Unit {0}
+
+-- the word and the length are those of the name
+abbrev pub IsKept : ℕ → ℕ → Option Name → Type 0
+IsKept first len whole = (first ≡ word 64 (kept_name first len whole)) × (len ≡ length (kept_name first len whole)) × fits len whole
