@@ -1,5 +1,5 @@
 -- The names that live after forks: in their order, none a beginning of another, and each of fewer bits than there are names.
-use Rattle.std.specs.Prelude.{List, [], ◌∷◌, ◌++◌, Bool, true, false, ◌&&◌, ◌||◌, not, ◌≡◌, ◌⊎◌, refl, length, suc, ◌+◌, ◌<◌, ◌≤◌, Result, Ok, Err, OnOk, OnErr}
+use Rattle.std.specs.Prelude.{List, [], ◌∷◌, ◌++◌, Bool, true, false, ◌&&◌, ◌||◌, not, ◌≡◌, ◌⊎◌, refl, length, suc, ◌+◌, ◌<◌, ◌≤◌}
 use Rattle.std.proofs.Common.{ap, ap₂, sym, ◌∙◌, subst, inl, inr, ⊎_elim, arith, length-append}
 use mathlib.Core.Bool.{true≢false}
 use Rattle.std.specs.Ordering.{is_eq}
@@ -152,9 +152,6 @@ pub leaves-forked : (l : List Name) → IsForked l → AreLeaves l
 leaves-forked l at_first = leaves-root
 leaves-forked l (at_fork p m f h) = leaves-relabel p m h (leaves-forked m f)
 
--- what a fork in a list leaves, whether or not there was memory
-pub forked_or_same : {E : Type 0} (r : Result (Unit {0}) E) (p : Name) (old new : List Name) → IsForked old → length old ≤ MAX_BITS + 1 → has old p ≡ true → length old < MAX_BITS + 1
-    → OnOk r (new ≡ relabel p old) → OnErr r (new ≡ old) → IsForked new × (length new ≤ MAX_BITS + 1)
-forked_or_same (Ok x) p old new f w h room e d =
-    rw e (at_fork p old f h, omega (arith, length-relabel p old h (leaves-forked old f)))
-forked_or_same (Err x) p old new f w h room e d = rw d (f, w)
+-- what a fork in a list leaves
+pub forked : (p : Name) (old new : List Name) → IsForked old → has old p ≡ true → length old < MAX_BITS + 1 → new ≡ relabel p old → IsForked new × (length new ≤ MAX_BITS + 1)
+forked p old new f h room e = rw e (at_fork p old f h, omega (arith, length-relabel p old h (leaves-forked old f)))

@@ -256,7 +256,7 @@ bit_there words p i e h l =
     slice_get-get_or p i false l
     ∙ ap Some (sym (bit_at-words_of 16 i p (omega arith)) ∙ ap (λ ws. bit_at ws i) (sym e))
 
-same_length : (p q : Name) → nat_cmp (length p) (length q) ≡ Equal → length p ≡ length q
+pub same_length : (p q : Name) → nat_cmp (length p) (length q) ≡ Equal → length p ≡ length q
 same_length p q same = by_ranked (length p < length q) (length p ≡ length q) (length q < length p) (nat_cmp (length p) (length q)) same (ranked (length p) (length q) (nat_cmp (length p) (length q)) refl)
   where
     by_ranked : (A B C : Type 0) (o : Ordering) → o ≡ Equal → MatchOrdering o A B C → B

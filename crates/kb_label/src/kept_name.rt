@@ -63,6 +63,19 @@ impl KeptName {
             None => name.behind_word(self.first, self.len),
         }
     }
+
+    /// How the name stands to another one that is kept.
+    pub(crate) fn beside(&self, other: &KeptName) -> Ordering
+        ensures { result ≡ name_cmp self.now other.now }
+    {
+        if let Some(whole) = &other.whole {
+            return self.against(whole);
+        }
+        match self.len.cmp(&other.len) {
+            Ordering::Equal => self.first.cmp(&other.first),
+            by_length => by_length,
+        }
+    }
 }
 
 impl Clone for KeptName {

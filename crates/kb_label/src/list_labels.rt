@@ -50,8 +50,7 @@ impl Living for NameLog {
     }
 
     fn fork(&mut self, process: &Process) -> Result<(), AllocError> {
-        let mut living = self.living.copy()?;
-        living.relabel(process)?;
+        let living = self.living.forked(process)?;
         let names = living.names()?;
         self.living = living;
         self.names = names;

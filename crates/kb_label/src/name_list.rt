@@ -65,7 +65,7 @@ impl NameList {
     {
         let _ = &self.names;
         for i in 0..other.names.len() {
-            if !self.has(&other.names[i].name()) {
+            if !self.has_kept(&other.names[i]) {
                 return false;
             }
         }
@@ -79,7 +79,7 @@ impl NameList {
     {
         let _ = &other.names;
         for i in 0..self.names.len() {
-            if other.has(&self.names[i].name()) {
+            if other.has_kept(&self.names[i]) {
                 return false;
             }
         }
@@ -139,14 +139,14 @@ impl NameList {
     pub(crate) fn meet(&mut self, other: &NameList)
         ensures { self.new ≡ meet self.old other.now }
     {
-        self.names.retain(|name| other.has(&name.name()));
+        self.names.retain(|name| other.has_kept(name));
     }
 
     /// Takes out the names that another list has.
     pub(crate) fn minus(&mut self, other: &NameList)
         ensures { self.new ≡ minus self.old other.now }
     {
-        self.names.retain(|name| !other.has(&name.name()));
+        self.names.retain(|name| !other.has_kept(name));
     }
 
     /// Puts the two children of a process in its place, where it is named.
@@ -155,15 +155,34 @@ impl NameList {
         ensures ok { OnOk result (self.new ≡ relabel process.now self.old) }
         ensures err { OnErr result (self.new ≡ self.old) }
     {
-        if !self.has(process) {
-            return Ok(());
+        if self.has(process) {
+            let names = self.forked(process)?;
+            *self = names;
         }
+        Ok(())
+    }
+
+    /// The names after a fork of a process that is named.
+    pub(crate) fn forked(&self, process: &Process) -> Result<NameList, AllocError>
+        requires named { IsTrue (has self.now process.now) }
+        requires short { length process.now < MAX_BITS }
+        ensures { IfOk result (λ names. names ≡ relabel process.now self.now) }
+    {
         let mut names = self.copy()?;
         names.remove(process);
         names.add(&process.child(true))?;
         names.add(&process.child(false))?;
-        *self = names;
-        Ok(())
+        Ok(names)
+    }
+
+    // Whether a name that is kept elsewhere is here.
+    fn has_kept(&self, name: &KeptName) -> bool
+        ensures { result ≡ has self.now name.now }
+    {
+        self.names
+            .as_slice()
+            .binary_search_by(|other| other.beside(name))
+            .is_ok()
     }
 
     // Where the name stands, or where it would have to be put.
@@ -198,7 +217,7 @@ fn merged(alloc: Global, left: &[KeptName], right: &[KeptName]) -> Result<Vec<Ke
     while i < left.len() && j < right.len() {
         let first = &left[i];
         let second = &right[j];
-        match first.against(&second.name()) {
+        match first.beside(second) {
             Ordering::Less => {
                 names.push(first.clone()?)?;
                 i += 1;

@@ -1,6 +1,5 @@
-use Rattle.std.proofs.Common.{sym, ap, ◌∙◌, inl, inr, arith}
+use Rattle.std.proofs.Common.{sym, inl, inr, arith}
 use Rattle.std.proofs.lemmas.List.{take_rest}
-use Rattle.kb_label.specs.Names.{name_cmp}
 use Rattle.kb_label.proofs.Merged.{appended, pushed, taken-less, taken-equal, taken-greater, joined}
 use Rattle.kb_label.proofs.name_list.merged.Goals as goal
 use Rattle.kb_label.proofs.name_list.merged.Goals.{then-loop-i-test+else-j-right, else-loop-i-test}
@@ -11,7 +10,7 @@ loop-i-preserved-in-Less c = record {
   right_within = omega arith;
   joined =
       rw c.in_ok-push-in-Less.ensures.items
-      (pushed c.loop-i.names.items _ _ c.index-left-i.result _ c.in_ok-clone-in-Less.ensures.cases (taken-less c.args.left.now c.args.right.now c.loop-i.names.items c.requires.left_in_order c.requires.right_in_order c.loop-i.i c.loop-i.j c.loop-i-test.true c.if-j-right.true c.index-left-i.result c.index-right-j.result c.index-left-i.is c.index-right-j.is c.loop-i.invariant.joined (sym (c.in-Less.ensures ∙ ap (name_cmp c.index-left-i.result) c.name.ensures))));
+      (pushed c.loop-i.names.items _ _ c.index-left-i.result _ c.in_ok-clone-in-Less.ensures.cases (taken-less c.args.left.now c.args.right.now c.loop-i.names.items c.requires.left_in_order c.requires.right_in_order c.loop-i.i c.loop-i.j c.loop-i-test.true c.if-j-right.true c.index-left-i.result c.index-right-j.result c.index-left-i.is c.index-right-j.is c.loop-i.invariant.joined (sym c.in-Less.ensures)));
 }
 
 pub loop-i-preserved-in-Equal : goal.loop-i-preserved-in-Equal
@@ -20,7 +19,7 @@ loop-i-preserved-in-Equal c = record {
   right_within = omega arith;
   joined =
       rw c.in_ok-push-in-Equal.ensures.items
-      (pushed c.loop-i.names.items _ _ c.index-left-i.result _ c.in_ok-clone-in-Equal.ensures.cases (taken-equal c.args.left.now c.args.right.now c.loop-i.names.items c.requires.left_in_order c.requires.right_in_order c.loop-i.i c.loop-i.j c.loop-i-test.true c.if-j-right.true c.index-left-i.result c.index-right-j.result c.index-left-i.is c.index-right-j.is c.loop-i.invariant.joined (sym (c.in-Equal.ensures ∙ ap (name_cmp c.index-left-i.result) c.name.ensures))));
+      (pushed c.loop-i.names.items _ _ c.index-left-i.result _ c.in_ok-clone-in-Equal.ensures.cases (taken-equal c.args.left.now c.args.right.now c.loop-i.names.items c.requires.left_in_order c.requires.right_in_order c.loop-i.i c.loop-i.j c.loop-i-test.true c.if-j-right.true c.index-left-i.result c.index-right-j.result c.index-left-i.is c.index-right-j.is c.loop-i.invariant.joined (sym c.in-Equal.ensures)));
 }
 
 pub loop-i-preserved : goal.loop-i-preserved
@@ -29,7 +28,7 @@ loop-i-preserved c = record {
   right_within = omega arith;
   joined =
       rw c.in_ok-push-in-Greater.ensures.items
-      (pushed c.loop-i.names.items _ _ c.index-right-j.result _ c.in_ok-clone-in-Greater.ensures.cases (taken-greater c.args.left.now c.args.right.now c.loop-i.names.items c.requires.left_in_order c.requires.right_in_order c.loop-i.i c.loop-i.j c.loop-i-test.true c.if-j-right.true c.index-left-i.result c.index-right-j.result c.index-left-i.is c.index-right-j.is c.loop-i.invariant.joined (sym (c.in-Greater.ensures ∙ ap (name_cmp c.index-left-i.result) c.name.ensures))));
+      (pushed c.loop-i.names.items _ _ c.index-right-j.result _ c.in_ok-clone-in-Greater.ensures.cases (taken-greater c.args.left.now c.args.right.now c.loop-i.names.items c.requires.left_in_order c.requires.right_in_order c.loop-i.i c.loop-i.j c.loop-i-test.true c.if-j-right.true c.index-left-i.result c.index-right-j.result c.index-left-i.is c.index-right-j.is c.loop-i.invariant.joined (sym c.in-Greater.ensures)));
 }
 
 pub returns : goal.returns
