@@ -12,8 +12,8 @@ use mkb_model::Proposed;
 use std::alloc::{AllocError, Global};
 use std::ops::Range;
 use std::thread::{Threads, join};
-use std::time::{Clock, Duration, Instant};
-use work_crew::{Assignment, ask};
+use std::time::{Clock, Instant};
+use work_crew::{Assignment, ask, has_taken};
 
 /// A round whose work takes less than so many microseconds is not worth its threads: to make and join one takes about a hundred.
 const WORTH: u64 = 500;
@@ -90,19 +90,8 @@ pub(crate) fn work_round<G: Gate, R: Threads + Clock + Sync>(
         work_short(rt, team.alloc, gate, round, &begun)
     };
     let outcomes = share_rest(rt, gate, round, team, outcomes);
-    team.is_busy = is_worth_threads(rt, &begun);
+    team.is_busy = has_taken(rt, &begun, WORTH);
     outcomes
-}
-
-// Whether work that began then has taken as long as a round that is worth threads; so it has where the clock can't be read.
-fn is_worth_threads<R: Clock>(rt: &R, begun: &Option<Instant>) -> bool {
-    let Some(begun) = begun else {
-        return true;
-    };
-    match begun.elapsed(rt) {
-        Ok(taken) => taken >= Duration::from_micros(WORTH),
-        Err(_) => true,
-    }
 }
 
 // What the caller makes of the first tickets of a round, until they have taken so long that the round is worth threads.
@@ -118,7 +107,7 @@ fn work_short<G: Gate, R: Clock>(
 {
     let mut outcomes = Vec::new(alloc);
     for place in 0..round.len() {
-        if is_worth_threads(rt, begun) {
+        if has_taken(rt, begun, WORTH) {
             break;
         }
         work_place(alloc, gate, round, place, &mut outcomes);

@@ -5,10 +5,12 @@ mod alone;
 mod gates;
 mod moments;
 mod shared;
+mod timing;
 mod together;
 
 pub use alone::{Crew, work_alone};
 pub use cert_pool::CertPool;
 pub use gates::ask;
 pub use shared::Assignment;
+pub use timing::has_taken;
 pub use together::{work_together, work_together_by};

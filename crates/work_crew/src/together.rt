@@ -10,6 +10,7 @@ ghost use Rattle.work_crew.specs.Together.{EndsTogether, HasJoined, Holds, Holds
 use crate::alone::Crew;
 use crate::gates::ask;
 use crate::shared::{Assignment, Next, Shared, Then};
+use crate::timing::has_taken;
 use cert_pool::CertPool;
 use kb_io::Gate;
 use kb_jobs::{FamilySearcher, Searcher, work_by};
@@ -19,7 +20,7 @@ use mkb_model::{Entry, Proposed};
 use std::alloc::Global;
 use std::sync::Wait;
 use std::thread::{Threads, join, sleep};
-use std::time::{Clock, Duration};
+use std::time::{Clock, Duration, Instant};
 use turn_lock::{Backoff, Seat, Turns};
 
 /// How often the sleep of a worker that rests is doubled: the longest is of 480 microseconds, so that with what the system adds it is
@@ -34,7 +35,10 @@ const FIRST: u8 = 1;
 const NAP: u64 = 400;
 
 /// The fewest entries made within a nap that show that jobs take no longer than turns, so that one more worker would be of no use.
-const CROWD: u64 = 8;
+const CROWD: u64 = 3;
+
+/// Work that takes less than this, in microseconds, is short: a turn takes about as long, for which the board comes to another processor.
+const SHORT: u64 = 100;
 
 /// The most naps of a worker between two of its tickets.
 const NAPS: u32 = 64;
@@ -50,6 +54,7 @@ struct Workplace {
 struct Worked {
     assignment: Assignment,
     proposal: Result<Proposed, Memory>,
+    was_short: bool,
 }
 
 // At a turn: takes the first job, if there is one.
@@ -67,8 +72,8 @@ fn take_one<G: Gate, R: Wait>(rt: &R, place: &Workplace, gate: &G, seat: &mut Se
     next
 }
 
-// At a turn: ends the ticket with what its job proposed, and takes the next; but rests first where others wanted the turn too. The
-// first worker never rests so, that one is always at work.
+// At a turn: ends the ticket with what its job proposed, and takes the next; but rests first where others wanted the turn too, or where
+// its work was short. The first worker never rests so, that one is always at work.
 fn end_one<G: Gate, R: Wait>(
     rt: &R,
     place: &Workplace,
@@ -87,10 +92,11 @@ fn end_one<G: Gate, R: Wait>(
     let Worked {
         assignment,
         proposal,
+        was_short,
     } = worked;
     let is_first = seat.worker() == FIRST;
     let mut board = place.turns.enter(rt, seat);
-    let then = if seat.has_waited() && !is_first {
+    let then = if (was_short || seat.has_waited()) && !is_first {
         Then::Rest
     } else {
         Then::Take { with_cost }
@@ -101,7 +107,7 @@ fn end_one<G: Gate, R: Wait>(
 }
 
 // Outside the turn: works the ticket, once the gate lets pass.
-fn work_one<G: Gate, S: Searcher, R: Wait>(
+fn work_one<G: Gate, S: Searcher, R: Wait + Clock>(
     rt: &R,
     alloc: Global,
     gate: &G,
@@ -113,10 +119,12 @@ fn work_one<G: Gate, S: Searcher, R: Wait>(
     ensures worked { IfOk result.proposal (ProposesBy assignment.snapshot) }
 {
     ask(gate, &assignment.moment);
+    let begun = Instant::now(rt).ok();
     let proposal = work_by(rt, alloc, &assignment.snapshot, by);
     Worked {
         assignment,
         proposal,
+        was_short: !has_taken(rt, &begun, SHORT),
     }
 }
 
@@ -159,8 +167,8 @@ fn leave_to_others<R: Clock>(rt: &R, place: &Workplace, seat: &mut Seat<Shared>)
 }
 
 // One worker: it takes tickets, asks the gate, works and ends them, until a verdict stands, a halt was made or it finds no memory.
-// Where others want the turn it rests between a ticket and the next for as long as they make entries fast, so that where jobs are
-// shorter than turns few workers are at work.
+// Where others want the turn, or its work was short, it rests between a ticket and the next for as long as they make entries fast, so
+// that where jobs are shorter than turns few workers are at work.
 fn serve<G: Gate, S: Searcher, R: Wait + Clock>(
     rt: &R,
     place: &Workplace,
@@ -273,7 +281,8 @@ fn is_left(journal: &[Entry]) -> bool
 /// others have the turn, and ends its ticket, again and again, until a verdict stands. Where a worker finds no memory it gives
 /// its ticket back, halts the board and ends; so do the others at the halt. Between a take and the work each asks the gate, until
 /// it lets pass or was asked 100,000,000 times. A worker that finds no job waits, first by yielding and then asleep, until the
-/// journal has another entry. The workers share what they find of the family of orders.
+/// journal has another entry. One that had to wait for its turn, or whose work was short, leaves the board to the others for a while,
+/// the first worker excepted. The workers share what they find of the family of orders.
 ///
 /// Where there is no memory for the lock the board comes back with a halt alone.
 pub fn work_together<G: Gate, R: Threads + Wait + Clock + Sync>(
