@@ -16,7 +16,8 @@ use std::process::Abort;
 use std::sync::Wait;
 use std::sync::atomic::AtomicUsize;
 use std::sync::atomic::Ordering::SeqCst;
-use work_crew::{CertPool, work_together_by};
+use std::time::Instant;
+use work_crew::{CertPool, has_taken, work_together_by};
 
 /// Searches anew, and counts how often.
 #[derive(Drop)]
@@ -252,4 +253,11 @@ fn two_workers_search_at_once(rt: HostRuntime) {
     assert!(rt; by.gate.met());
     assert!(rt; crew.board.verdict().is_some());
     drop(crew);
+}
+
+#[test]
+fn an_hour_has_not_passed_since_now(rt: HostRuntime) {
+    let now = Instant::now(&rt).ok();
+    assert!(rt; has_taken(&rt, &now, 0) && !has_taken(&rt, &now, 3_600_000_000));
+    assert!(rt; has_taken(&rt, &None, 100));
 }
