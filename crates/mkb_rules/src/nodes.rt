@@ -130,6 +130,13 @@ impl Nodes {
         self.table.roles(place, p)
     }
 
+    /// There are at most 4,096 nodes. It runs nothing: the table keeps this.
+    pub(crate) fn are_few(&self)
+        ensures { length self.now.now ≤ most_nodes }
+    {
+        self.table.len();
+    }
+
     /// Keeps all changes: from here on they can't be taken back.
     pub(crate) fn keep(&mut self)
         ensures now { self.new.now ≡ self.old.now }

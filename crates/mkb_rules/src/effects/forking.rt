@@ -88,7 +88,7 @@ impl State {
         ensures ok { IfOk result (Commits self.old (Both p.now n cert0.now cert1.now) self.new) }
         ensures err { OnErr result (self.new ≡ self.old) }
     {
-        let _count = node_count(&self.nodes);
+        self.nodes.are_few();
         let mut parts = self.forked(alloc, p, cert0, cert1)?;
         match try_fork(alloc, &mut self.nodes, &parts.log, p, n) {
             Ok(()) => {

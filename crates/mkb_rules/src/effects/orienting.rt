@@ -10,7 +10,7 @@ ghost use Rattle.mkb_rules.specs.Parts.{oriented_by};
 ghost use Rattle.mkb_rules.specs.Kept.{plain_certificates};
 
 use crate::applied::Applied;
-use crate::effects::label::{counted_up, node_count, rule_kind};
+use crate::effects::label::{counted_up, rule_kind};
 use crate::labels::only;
 use crate::nodes::Nodes;
 use crate::state::{Certified, State, certificate_place};
@@ -33,7 +33,7 @@ impl State {
         ensures ok { IfOk result (Commits self.old (Refuse p.now n) self.new) }
         ensures err { OnErr result (self.new ≡ self.old) }
     {
-        let _count = node_count(&self.nodes);
+        self.nodes.are_few();
         let names = only(alloc, &self.log, p)?;
         try_refuse(&mut self.nodes, &self.log, n, &names)?;
         self.commits = counted_up(self.commits, self.settings.budget);
@@ -59,7 +59,7 @@ impl State {
         ensures ok { IfOk result (Commits self.old (One p.now n dir cert.now) self.new) }
         ensures err { OnErr result (self.new ≡ self.old) }
     {
-        let _count = node_count(&self.nodes);
+        self.nodes.are_few();
         let names = only(alloc, &self.log, p)?;
         let certificate = cert.clone()?;
         let rule = RuleRef { node: n.0, dir };

@@ -5,7 +5,7 @@ ghost use Rattle.mkb_model.specs.declared.proposed.Proposed.TheVariants.{Facts, 
 ghost use Rattle.mkb_rules.specs.Applying.{HasBudget, Commits};
 
 use crate::applied::Applied;
-use crate::effects::label::{counted_up, node_count};
+use crate::effects::label::counted_up;
 use crate::state::State;
 use kb_label::{Labels, Process};
 use kb_node::Fact;
@@ -23,7 +23,7 @@ impl State {
         ensures ok { IfOk result (Commits self.old (Facts facts.now) self.new) }
         ensures err { OnErr result (self.new ≡ self.old) }
     {
-        let _count = node_count(&self.nodes);
+        self.nodes.are_few();
         self.facts.extend(facts)?;
         self.commits = counted_up(self.commits, self.settings.budget);
         Ok(Applied::Done)
@@ -40,7 +40,7 @@ impl State {
         ensures ok { IfOk result (Commits self.old (Closed p.now) self.new) }
         ensures err { OnErr result (self.new ≡ self.old) }
     {
-        let _count = node_count(&self.nodes);
+        self.nodes.are_few();
         self.closed.add(&self.log, p)?;
         self.commits = counted_up(self.commits, self.settings.budget);
         Ok(Applied::Done)
