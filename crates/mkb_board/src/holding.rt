@@ -21,6 +21,16 @@ pub(crate) fn held_nodes(
 ) -> Result<Vec<NodeId>, AllocError>
     ensures { IfOk result (λ held. map (λ (n : Numbered). n.0) held.items ≡ held_of state.now p.now) }
 {
+    match state.held(p) {
+        Some(held) => Vec::from_slice(alloc, held),
+        None => held_by_roles(alloc, state, p),
+    }
+}
+
+// Those of the nodes in use that the process has.
+fn held_by_roles(alloc: Global, state: &State, p: &Process) -> Result<Vec<NodeId>, AllocError>
+    ensures { IfOk result (λ held. map (λ (n : Numbered). n.0) held.items ≡ held_of state.now p.now) }
+{
     match state.alive() {
         Some(alive) => held_among(alloc, state, p, alive),
         None => held_of_all(alloc, state, p),
