@@ -18,7 +18,7 @@ use Rattle.mkb_model.proofs.Lists.{filter_in, numbers_in}
 use Rattle.mkb_rules.specs.Sizes.{is_dead_at, AreAlive}
 use Rattle.mkb_rules.proofs.Paying.{dead_labels}
 use Rattle.mkb_board.specs.Choosing.{is_choice}
-use Rattle.mkb_board.specs.Normal.{held_of, is_in_use, roles_of, rules_in}
+use Rattle.mkb_rules.specs.Roles.{held_of, is_in_use, roles_of, rules_in}
 
 -- the rules of whoever has the node so are those that the process has in it
 pub rules_of_roles : (b : Plain) (p : Name) (n : ℕ) → rules_in n (roles_of b p n) ≡ filter (is_rule b p) (directions n)

@@ -32,7 +32,8 @@ use Rattle.kb_lemmas.proofs.Options.{none_some}
 use Rattle.mkb_model.specs.declared.proposed.Proposed.{Proposed}
 use Rattle.mkb_model.specs.declared.proposed.Proposed.TheVariants.{Facts, Rewrite, One, Both, Refuse, Deduce, Unjoined, Closed, Limit}
 use Rattle.mkb_model.proofs.Lists.{any_in, any_none, clash}
-use Rattle.mkb_board.specs.Normal.{AreAllNormal, AreNormal, HoldsRules, NoneOpens, Serves, is_open_in, is_open_to, roles_of}
+use Rattle.mkb_rules.specs.Roles.{roles_of}
+use Rattle.mkb_board.specs.Normal.{AreAllNormal, AreNormal, HoldsRules, NoneOpens, Serves, is_open_in, is_open_to}
 use Rattle.mkb_rules.specs.declared.roles.Roles.{Roles}
 use Rattle.mkb_board.specs.declared.normal.Normal.{Normal}
 use Rattle.mkb_board.proofs.Picking.{any_filter}

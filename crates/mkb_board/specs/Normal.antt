@@ -1,38 +1,17 @@
 -- Nodes that are known to be reduced by none of some rules.
-use Rattle.std.specs.Prelude.{ℕ, zero, suc, List, [], ◌∷◌, ◌++◌, if◌then◌else◌, filter, map, Bool, true, false, ◌&&◌, ◌||◌, ◌==◌, ◌≡◌, ◌<◌, ◌≤◌, All, length, not, slice_get, Option, Some, None, ⊤}
+use Rattle.std.specs.Prelude.{ℕ, List, [], ◌∷◌, map, Bool, true, false, ◌&&◌, ◌||◌, ◌==◌, ◌≡◌, ◌<◌, ◌≤◌, All, length, not, slice_get, Option, Some, None, ⊤}
 use Rattle.std.specs.List.{list_any}
 use Rattle.kb_term.specs.declared.origin.RuleRef.{RuleRef}
 use Rattle.kb_term.specs.declared.origin.Found.{Found}
 use Rattle.kb_term.specs.declared.origin.Found.TheVariants.{No, Variant, Strict}
 use Rattle.kb_label.specs.Names.{Name}
 use Rattle.kb_node.specs.declared.node.NodeId.{NodeId}
-use Rattle.mkb_model.specs.Plain.{Plain, node_numbers, is_equation, is_rule, rules_of, rules_at, known, other}
+use Rattle.mkb_model.specs.Plain.{Plain, rules_of, rules_at, known, other}
 use Rattle.mkb_rules.specs.Named.{IsRuleThere}
 use Rattle.kb_jobs.specs.declared.rules.NamedRules.{NamedRules}
-use Rattle.mkb_rules.specs.Roles.{AreRolesOf}
+use Rattle.mkb_rules.specs.Roles.{AreRolesOf, has_rule, held_of}
 use Rattle.mkb_rules.specs.declared.roles.Roles.{Roles}
 use Rattle.mkb_board.specs.declared.normal.Normal.{Normal}
-
--- the roles in which p has the node
-abbrev pub roles_of : Plain → Name → ℕ → Roles
-roles_of b p n = record { equation = is_equation b p n; first = is_rule b p (record { node = n; dir = 0 }); second = is_rule b p (record { node = n; dir = 1 }) }
-
--- the node is the rule of this direction
-abbrev pub has_rule : Roles → ℕ → Bool
-has_rule r zero = r.first
-has_rule r (suc d) = r.second
-
--- the rules of whoever has the node in these roles
-abbrev pub rules_in : ℕ → Roles → List RuleRef
-rules_in n r = (if r.first then record { node = n; dir = 0 } ∷ [] else []) ++ (if r.second then record { node = n; dir = 1 } ∷ [] else [])
-
--- the node has one of the roles
-abbrev pub is_in_use : Roles → Bool
-is_in_use r = r.equation || (r.first || r.second)
-
--- the nodes that p has as an equation or as a rule, in their order
-abbrev pub held_of : Plain → Name → List ℕ
-held_of b p = filter (λ n. is_in_use (roles_of b p n)) (node_numbers b)
 
 -- whoever has the node in these roles may rewrite a redex of this kind on side w: any where it is an equation, or the rule with w on the right, and a strict one on the left
 abbrev pub is_usable_in : Roles → ℕ → Found → Bool

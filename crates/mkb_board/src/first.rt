@@ -1,11 +1,11 @@
 // The first job.
-ghost use Rattle.std.specs.Prelude.{◌≡◌, ◌⊎◌, ◌&&◌, [], true, not, nat_lt, if◌then◌else◌, option_map, Some, None, IsTrue, IfOk, IfSome};
+ghost use Rattle.std.specs.Prelude.{◌≡◌, ◌⊎◌, ◌&&◌, [], true, not, nat_lt, if◌then◌else◌, option_map, Some, None, IsFalse, IsTrue, IfOk, IfSome};
 ghost use Rattle.std.specs.Option.{option_map_or};
 ghost use Rattle.kb_label.specs.Names.{has, IsInNameOrder};
 ghost use Rattle.mkb_model.specs.Limits.{AreLimited};
 ghost use Rattle.kb_node.specs.declared.job.Job.TheVariants.{Close};
 ghost use Rattle.mkb_model.specs.Jobs.{process_of, job_cmp, is_free};
-ghost use Rattle.mkb_model.specs.Plain.{cost, weight, rules_of};
+ghost use Rattle.mkb_model.specs.Plain.{cost, is_over, weight, rules_of};
 ghost use Rattle.mkb_model.specs.DueJobs.{first_job, work_of};
 ghost use Rattle.mkb_board.specs.Choosing.{jobs_of, first_choice, least_choice, merged, IsCosted};
 ghost use Rattle.mkb_board.specs.Normal.{AreAllNormal, AreNormal, Serves};
@@ -127,15 +127,37 @@ fn first_choice(
         return Ok(None);
     }
     let held = held_nodes(normal.allocator(), state, p)?;
+    if let Some(rules) = state.rules(p) {
+        normal.turn_to(state, p, held, rules)?;
+        return Ok(choice_by_rules(state, flight, normal, p, rules));
+    }
     let rules = rules_among(normal.allocator(), state, p, held.as_slice())?;
-    let rules = rules.as_slice();
-    normal.turn_to(state, p, held, rules)?;
+    normal.turn_to(state, p, held, rules.as_slice())?;
+    Ok(choice_by_rules(state, flight, normal, p, rules.as_slice()))
+}
+
+// What a process that is not over, and has these rules, would take first.
+fn choice_by_rules(
+    state: &State,
+    flight: &[Ticket],
+    normal: &mut Normal,
+    p: &Process,
+    rules: &[RuleRef],
+) -> Option<Job>
+    requires limited { AreLimited state.now.problem.signature state.now.nodes }
+    requires serves { Serves state.now p.now normal.old }
+    requires rules { rules.now ≡ rules_of state.now p.now }
+    requires lives { IsTrue (has state.now.living p.now) }
+    requires goes_on { IsFalse (is_over state.now p.now) }
+    ensures first { result ≡ first_choice state.now (jobs_of flight.now) p.now }
+    ensures serves { Serves state.now p.now normal.new }
+{
     if let Some(job) = selected_work(state, flight, normal, p, rules) {
-        return Ok(Some(job));
+        return Some(job);
     }
     match first_work(state, &[], normal, p, rules) {
-        Some(_) => Ok(None),
-        None => Ok(first_close(state, flight, p)),
+        Some(_) => None,
+        None => first_close(state, flight, p),
     }
 }
 

@@ -1,16 +1,16 @@
 // Which nodes a process has.
-ghost use Rattle.std.specs.Prelude.{◌≡◌, ◌++◌, ◌∷◌, [], map, IfOk, OnOk, if◌then◌else◌};
+ghost use Rattle.std.specs.Prelude.{◌≡◌, map, IfOk};
 ghost use Rattle.kb_node.specs.declared.node.NodeId.{NodeId as Numbered};
 ghost use Rattle.mkb_model.specs.Plain.{rules_of};
 ghost use Rattle.mkb_rules.specs.Sizes.{AreAlive};
-ghost use Rattle.mkb_board.specs.Normal.{held_of, is_in_use, rules_in};
+ghost use Rattle.mkb_rules.specs.Roles.{held_of};
 
 use crate::choosing::node_count;
-use crate::normal::{is_in_use, roles_by};
+use crate::normal::roles_by;
 use kb_label::Process;
 use kb_node::NodeId;
 use kb_term::RuleRef;
-use mkb_rules::{Roles, State};
+use mkb_rules::{State, push_held, push_rules};
 use std::alloc::{AllocError, Global};
 
 /// The nodes that the process has as an equation or as a rule, in their order.
@@ -19,6 +19,16 @@ pub(crate) fn held_nodes(
     state: &State,
     p: &Process,
 ) -> Result<Vec<NodeId>, AllocError>
+    ensures { IfOk result (λ held. map (λ (n : Numbered). n.0) held.items ≡ held_of state.now p.now) }
+{
+    match state.held(p) {
+        Some(held) => Vec::from_slice(alloc, held),
+        None => held_by_roles(alloc, state, p),
+    }
+}
+
+// Those of the nodes in use that the process has.
+fn held_by_roles(alloc: Global, state: &State, p: &Process) -> Result<Vec<NodeId>, AllocError>
     ensures { IfOk result (λ held. map (λ (n : Numbered). n.0) held.items ≡ held_of state.now p.now) }
 {
     match state.alive() {
@@ -60,16 +70,6 @@ fn held_of_all(alloc: Global, state: &State, p: &Process) -> Result<Vec<NodeId>,
     Ok(held)
 }
 
-// Adds the node, where whoever has it so has it at all.
-fn push_held(held: &mut Vec<NodeId>, n: NodeId, roles: Roles) -> Result<(), AllocError>
-    ensures { OnOk result (held.new.items ≡ held.old.items ++ (if is_in_use roles then n ∷ [] else [])) }
-{
-    if is_in_use(roles) {
-        held.push(n)?;
-    }
-    Ok(())
-}
-
 /// The rules of the process, by node, then direction: those in the nodes that it has.
 pub(crate) fn rules_among(
     alloc: Global,
@@ -87,17 +87,4 @@ pub(crate) fn rules_among(
         push_rules(&mut rules, held[i].0, roles)?;
     }
     Ok(rules)
-}
-
-// Adds the rules of whoever has the node so.
-fn push_rules(rules: &mut Vec<RuleRef>, node: u16, roles: Roles) -> Result<(), AllocError>
-    ensures { OnOk result (rules.new.items ≡ rules.old.items ++ rules_in node roles) }
-{
-    if roles.first {
-        rules.push(RuleRef { node, dir: 0 })?;
-    }
-    if roles.second {
-        rules.push(RuleRef { node, dir: 1 })?;
-    }
-    Ok(())
 }

@@ -11,8 +11,8 @@ ghost use Rattle.mkb_model.specs.DueJobs.{is_work_due};
 ghost use Rattle.kb_jobs.specs.Working.{IsTaken, job_of};
 ghost use Rattle.mkb_model.specs.Invariants.{FactsHold};
 ghost use Rattle.mkb_board.specs.Snapshots.{HasJobNodes, HasOrder, IsWhole};
-ghost use Rattle.mkb_rules.specs.Roles.{AreRolesOf};
-ghost use Rattle.mkb_board.specs.Normal.{AreAllNormal, AreNormal, NoneOpens, Serves, has_rule, held_of, is_in_use, is_open_in, is_open_to, roles_of};
+ghost use Rattle.mkb_rules.specs.Roles.{AreRolesOf, has_rule, held_of, roles_of};
+ghost use Rattle.mkb_board.specs.Normal.{AreAllNormal, AreNormal, NoneOpens, Serves, is_open_in, is_open_to};
 
 use crate::choosing::{is_equation, is_rule, node_count};
 use crate::due::is_same;
@@ -55,25 +55,11 @@ pub(crate) fn roles_of(state: &State, p: &Process, n: NodeId) -> Roles
     }
 }
 
-/// Whether whoever has the node so has it at all.
-pub(crate) fn is_in_use(roles: Roles) -> bool
-    ensures { result ≡ is_in_use roles }
-{
-    roles.equation || (roles.first || roles.second)
-}
-
 // Whether whoever has the node so has the rule with this side on the right.
 fn leads_to(roles: Roles, w: u8) -> bool
     ensures { result ≡ has_rule roles (other w) }
 {
     if w == 0 { roles.second } else { roles.first }
-}
-
-// Whether both are the same.
-fn are_same_roles(some: Roles, others: Roles) -> bool
-    ensures { IsTrue result → some ≡ others }
-{
-    some.equation == others.equation && some.first == others.first && some.second == others.second
 }
 
 // Whether the side is open to the rule where a process has the node in these roles.
@@ -292,7 +278,7 @@ impl Normal {
         ensures { IsTrue result → slice_get self.now.nodes.items n.0 ≡ Some (Some roles) }
     {
         match self.nodes.get(n.0 as usize) {
-            Some(Some(noted)) => are_same_roles(*noted, roles),
+            Some(Some(noted)) => noted.is_same(roles),
             _ => false,
         }
     }
@@ -341,7 +327,7 @@ impl Normal {
         ensures serves { Serves state.now p.now self.new }
     {
         let roles = self.roles_of(state, p, n);
-        if !is_in_use(roles) || self.is_noted(n, roles) {
+        if !roles.is_in_use() || self.is_noted(n, roles) {
             return false;
         }
         if is_open_to_any(state, roles, n, self.rules.as_slice()) {

@@ -18,3 +18,6 @@ pub mod Listing
 pub mod Costs
 pub mod RolesKept
 pub mod Apart
+pub mod Placing
+pub mod RulesKept
+pub mod RowKept

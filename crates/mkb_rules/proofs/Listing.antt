@@ -17,7 +17,7 @@ use Rattle.mkb_rules.proofs.Costs.{numbers_next}
 
 -- ---- tests
 
-apart : (m n : ℕ) → (m == n) ≡ false → m ≢ n
+pub apart : (m n : ℕ) → (m == n) ≡ false → m ≢ n
 apart m n e same = absurd (true≢false (sym (test same) ∙ e))
   where
     test : m ≡ n → (m == n) ≡ true
@@ -26,7 +26,7 @@ apart m n e same = absurd (true≢false (sym (test same) ∙ e))
 -- ---- numbers that pass a test
 
 -- tests that agree on numbers let the same of them through
-agreeing : (t u : ℕ → Bool) (a k : ℕ) → ((m : ℕ) → a ≤ m → m < a + k → t m ≡ u m) → filter t (numbers_from a k) ≡ filter u (numbers_from a k)
+pub agreeing : (t u : ℕ → Bool) (a k : ℕ) → ((m : ℕ) → a ≤ m → m < a + k → t m ≡ u m) → filter t (numbers_from a k) ≡ filter u (numbers_from a k)
 agreeing t u a zero h = refl
 agreeing t u a (suc k) h = ap₂ (λ (b : Bool) (l : List ℕ). cond b (a ∷ l) l) (h a (omega arith) (omega arith)) (agreeing t u (a + 1) k (λ m g w. h m (omega (arith, g)) (omega (arith, w))))
 
@@ -50,14 +50,14 @@ module _ (t : ℕ → Bool) where
   no_less a (suc k) i d h = no_less_next a d (filter t (numbers_from (a + 1) k)) (t a) (λ j w. no_less (a + 1) k j d w) i h
 
   -- they rise
-  rising : (a k i j d : ℕ) → i ≤ j → j < length (filter t (numbers_from a k)) → get_or (filter t (numbers_from a k)) i d ≤ get_or (filter t (numbers_from a k)) j d
+  pub rising : (a k i j d : ℕ) → i ≤ j → j < length (filter t (numbers_from a k)) → get_or (filter t (numbers_from a k)) i d ≤ get_or (filter t (numbers_from a k)) j d
   rising a zero i j d le h = absurd (omega (arith, h))
   rising a (suc k) i j d le h = rising_next a d (filter t (numbers_from (a + 1) k)) (t a) (λ j w. no_less (a + 1) k j d w) (λ i j v w. rising (a + 1) k i j d v w) i j le h
 
 -- ---- a number at its place
 
 -- the numbers below the place are less than n, and the others greater
-record IsPlace (n : ℕ) (l : List ℕ) (i : ℕ) : Type 0 where
+pub record IsPlace (n : ℕ) (l : List ℕ) (i : ℕ) : Type 0 where
   pub within : i ≤ length l
   pub below : (j : ℕ) → j < i → get_or l j 0 < n
   pub above : (j : ℕ) → i ≤ j → j < length l → n < get_or l j 0
@@ -88,7 +88,7 @@ module _ (t : ℕ → Bool) (n : ℕ) where
   put_next a k false false e le ih i p = ih i (omega (arith, le, apart a n e)) p
 
   -- with n at its place it is n too that passes
-  put_in : (a k i : ℕ) → a ≤ n → n < a + k → IsPlace n (filter t (numbers_from a k)) i → insert (filter t (numbers_from a k)) i n ≡ filter or_n (numbers_from a k)
+  pub put_in : (a k i : ℕ) → a ≤ n → n < a + k → IsPlace n (filter t (numbers_from a k)) i → insert (filter t (numbers_from a k)) i n ≡ filter or_n (numbers_from a k)
   put_in a zero i le lt p = absurd (omega (arith, le, lt))
   put_in a (suc k) i le lt p = put_next a k (t a) (a == n) refl le (λ j w q. put_in (a + 1) k j w (omega (arith, lt)) q) i p
 
@@ -112,7 +112,7 @@ module _ (t : ℕ → Bool) (n : ℕ) where
   take_next a k false e d ih i w is = ih i w is
 
   -- without n each other one passes
-  take_out : (a k i : ℕ) → i < length (filter t (numbers_from a k)) → get_or (filter t (numbers_from a k)) i 0 ≡ n → remove (filter t (numbers_from a k)) i ≡ filter but_n (numbers_from a k)
+  pub take_out : (a k i : ℕ) → i < length (filter t (numbers_from a k)) → get_or (filter t (numbers_from a k)) i 0 ≡ n → remove (filter t (numbers_from a k)) i ≡ filter but_n (numbers_from a k)
   take_out a zero i w is = absurd (omega (arith, w))
   take_out a (suc k) i w is = take_next a k (t a) (a == n) refl (λ j v e. take_out (a + 1) k j v e) i w is
 

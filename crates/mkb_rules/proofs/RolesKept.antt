@@ -89,10 +89,10 @@ module _ (x : PlainNode) (bare : IsBare x) where
   }
 
   -- with its own roles behind them
-  pub account_longer : (xs : List PlainNode) (a c : Account) → length a.roles.items ≡ length xs → c.sizes ≡ a.sizes → c.roles.items ≡ a.roles.items ++ no_roles ∷ [] → IsAccountOf xs a → IsAccountOf (xs ++ x ∷ []) c
+  pub account_longer : (xs : List PlainNode) (a c : Account) → length a.roles ≡ length xs → c.sizes ≡ a.sizes → c.roles ≡ a.roles ++ no_roles ∷ [] → IsAccountOf xs a → IsAccountOf (xs ++ x ∷ []) c
   account_longer xs a c whole same longer right = record {
     sizes = subst (AreSizesOf (xs ++ x ∷ [])) (sym same) (sizes_more xs x bare a.sizes right.sizes);
-    roles = λ m i. ap (λ rs. get_or rs m no_roles) longer ∙ more a.roles.items whole right.roles m ∙ ap (λ s. roles_at (xs ++ x ∷ []) m s.process) (sym same);
+    roles = λ m i. ap (λ rs. get_or rs m no_roles) longer ∙ more a.roles whole right.roles m ∙ ap (λ s. roles_at (xs ++ x ∷ []) m s.process) (sym same);
   }
     where
       p : Name

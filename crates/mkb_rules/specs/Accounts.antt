@@ -9,7 +9,7 @@ use Rattle.mkb_rules.specs.declared.account.Account.{Account}
 -- what the process pays, and how it has the first nodes, is as the account says
 pub record IsAccountOf (xs : List PlainNode) (a : Account) : Type 0 where
   pub sizes : AreSizesOf xs a.sizes
-  pub roles : AreRolesOf xs a.sizes.process a.roles.items
+  pub roles : AreRolesOf xs a.sizes.process a.roles
 
 -- q is neither p nor a child of it
 abbrev pub is_apart : Name → Name → Bool

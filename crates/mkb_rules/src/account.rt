@@ -8,7 +8,8 @@ ghost use Rattle.mkb_rules.specs.Parts.{plain_nodes};
 ghost use Rattle.mkb_rules.specs.Roles.{no_roles, roles_at, with_role_at, AreRolesOf};
 ghost use Rattle.mkb_rules.specs.Sizes.{size_if, is_open_kind, is_rule_kind};
 
-use crate::roles::{Roles, note_role};
+use crate::role_row::RoleRow;
+use crate::roles::Roles;
 use crate::sizes::{Sizes, sizes_of};
 use kb_label::{Labels, ListLabels, NameLog, Process};
 use kb_node::{LabelKind, NodeId, NodeTable};
@@ -18,7 +19,7 @@ use std::alloc::{AllocError, Global};
 #[derive(Drop)]
 pub(crate) struct Account {
     pub(crate) sizes: Sizes,
-    pub(crate) roles: Vec<Roles>,
+    pub(crate) roles: RoleRow,
 }
 
 impl Account {
@@ -28,12 +29,12 @@ impl Account {
         ensures process { self.new.sizes.process ≡ self.old.sizes.process }
         ensures open { IsTrue result → self.new.sizes.open_sizes + size_if (is_open_kind kind && had) size ≡ self.old.sizes.open_sizes + size_if (is_open_kind kind && has) size }
         ensures rules { IsTrue result → self.new.sizes.rule_sizes + size_if (is_rule_kind kind && had) size ≡ self.old.sizes.rule_sizes + size_if (is_rule_kind kind && has) size }
-        ensures roles { IsTrue result → self.new.roles.items ≡ with_role_at self.old.roles.items n.0 kind has }
+        ensures roles { IsTrue result → self.new.roles ≡ with_role_at self.old.roles n.0 kind has }
     {
         match self.sizes.moved(kind, size, had, has) {
             Some(sizes) => {
                 self.sizes = sizes;
-                note_role(&mut self.roles, n, kind, has);
+                self.roles.note(n, kind, has);
                 true
             }
             None => false,
@@ -44,8 +45,8 @@ impl Account {
     fn follow_new(&mut self, n: NodeId)
         ensures { (xs : List PlainNode) (x : PlainNode) → IsBare x → n.0 ≡ length xs → IsAccountOf xs self.old → IsAccountOf (xs ++ x ∷ []) self.new }
     {
-        if self.roles.len() == n.0 as usize {
-            self.roles.push(Roles::none()).ok();
+        if self.roles.as_slice().len() == n.0 as usize {
+            self.roles.push(n, Roles::none()).ok();
         }
     }
 }
@@ -105,12 +106,13 @@ fn roles_of(
     table: &NodeTable<ListLabels>,
     log: &NameLog,
     p: &Process,
-) -> Result<Vec<Roles>, AllocError>
-    ensures { IfOk result (λ roles. AreRolesOf (plain_nodes table.now) p.now roles.items) }
+) -> Result<RoleRow, AllocError>
+    ensures { IfOk result (λ roles. AreRolesOf (plain_nodes table.now) p.now roles) }
 {
-    let mut roles = Vec::new(alloc);
+    let mut roles = RoleRow::new(alloc);
     for n in 0..table.len() {
-        roles.push(roles_in(table, log, NodeId(n as u16), p))?;
+        let n = NodeId(n as u16);
+        roles.push(n, roles_in(table, log, n, p))?;
     }
     Ok(roles)
 }

@@ -9,6 +9,7 @@ mod labels;
 mod marks;
 mod nodes;
 mod opening;
+mod role_row;
 mod roles;
 mod row;
 mod sizes;
@@ -17,5 +18,5 @@ mod state;
 mod tracked;
 
 pub use applied::Applied;
-pub use roles::Roles;
+pub use roles::{Roles, push_held, push_rules};
 pub use state::{State, is_ordered};

@@ -12,7 +12,7 @@ ghost use Rattle.mkb_rules.specs.Sizes.{is_dead_at, AreAlive, AreSizesOf};
 use crate::account::Account;
 use crate::effects::label::rule_kind;
 use crate::labels::{copy_of, joined};
-use crate::roles::Roles;
+use crate::role_row::RoleRow;
 use crate::sizes::Sizes;
 use crate::tracked::Tracked;
 use kb_label::{Labels, ListLabels, MAX_BITS, NameLog, Process};
@@ -123,11 +123,18 @@ impl Nodes {
         self.table.sizes(place, p)
     }
 
-    /// How the process has each of the first nodes, where that is kept at this place; else of none.
-    pub(crate) fn roles(&self, place: usize, p: &Process) -> &[Roles]
-        ensures { AreRolesOf self.now.now p.now result.now }
+    /// How the process has each of the first nodes, where that is kept at this place.
+    pub(crate) fn row(&self, place: usize, p: &Process) -> Option<&RoleRow>
+        ensures { IfSome result (λ row. AreRolesOf self.now.now p.now row.now) }
     {
-        self.table.roles(place, p)
+        self.table.row(place, p)
+    }
+
+    /// How many nodes there are.
+    pub(crate) fn len(&self) -> u32
+        ensures { result ≡ length self.now.now }
+    {
+        self.table.len()
     }
 
     /// There are at most 4,096 nodes. It runs nothing: the table keeps this.

@@ -1,18 +1,20 @@
 // The state: the board without flight and journal.
-ghost use Rattle.std.specs.Prelude.{◌≡◌, ◌<◌, ◌&&◌, [], ◌∷◌, length, Some, IfSome, IsSome, MatchOption};
+ghost use Rattle.std.specs.Prelude.{◌≡◌, ◌<◌, ◌&&◌, [], ◌∷◌, length, map, Some, IfSome, IsSome, MatchOption};
 ghost use Rattle.kb_label.specs.Names.{add, has, minus, name_eq};
 ghost use Rattle.kb_node.specs.declared.node.LabelKind.TheVariants.{X};
+ghost use Rattle.kb_node.specs.declared.node.NodeId.{NodeId as Numbered};
 ghost use Rattle.mkb_model.specs.Jobs.{ref_eq, ref_le};
-ghost use Rattle.mkb_model.specs.Plain.{cost, known, done_in, done_of, label, over_reason, certificate_of};
+ghost use Rattle.mkb_model.specs.Plain.{cost, known, done_in, done_of, label, over_reason, certificate_of, rules_of};
 ghost use Rattle.mkb_rules.specs.Parts.{plain_nodes};
 ghost use Rattle.mkb_rules.specs.Overlapped.{is_overlapped};
-ghost use Rattle.mkb_rules.specs.Roles.{AreRolesOf};
+ghost use Rattle.mkb_rules.specs.Roles.{AreRolesOf, held_by, held_of, rules_by};
 ghost use Rattle.mkb_rules.specs.Sizes.{is_dead_at, AreAlive};
 ghost use Rattle.mkb_rules.specs.Named.{Lives};
 ghost use Rattle.mkb_rules.specs.Kept.{plain_done, plain_certificates, place_in};
 
 use crate::facts::Facts;
 use crate::nodes::Nodes;
+use crate::role_row::RoleRow;
 use crate::roles::Roles;
 use crate::sleepers::Sleepers;
 use kb_cert::Certificate;
@@ -187,9 +189,48 @@ impl State {
     pub fn roles(&self, p: &Process) -> &[Roles]
         ensures { AreRolesOf self.now.nodes p.now result.now }
     {
+        match self.row(p) {
+            Some(row) => row.as_slice(),
+            None => &[],
+        }
+    }
+
+    /// The nodes that a process has as an equation or as a rule, in their order; none where that isn't kept. It is kept for each
+    /// living process, where memory allows.
+    pub fn held(&self, p: &Process) -> Option<&[NodeId]>
+        ensures { IfSome result (λ l. map (λ (n : Numbered). n.0) l.now ≡ held_of self.now p.now) }
+    {
+        self.whole_row(p)?.held()
+    }
+
+    /// The rules of a process, by node, then direction; none where that isn't kept. It is kept for each living process, where memory
+    /// allows.
+    pub fn rules(&self, p: &Process) -> Option<&[RuleRef]>
+        ensures { IfSome result (λ l. l.now ≡ rules_of self.now p.now) }
+    {
+        self.whole_row(p)?.rules()
+    }
+
+    // How a process has each of the first nodes, where that is kept.
+    fn row(&self, p: &Process) -> Option<&RoleRow>
+        ensures { IfSome result (λ row. AreRolesOf self.now.nodes p.now row.now) }
+    {
         match self.log.processes().binary_search(p) {
-            Ok(place) => self.nodes.roles(place, p),
-            Err(_) => &[],
+            Ok(place) => self.nodes.row(place, p),
+            Err(_) => None,
+        }
+    }
+
+    // How a process has all nodes, where that is kept.
+    fn whole_row(&self, p: &Process) -> Option<&RoleRow>
+        ensures held { IfSome result (λ row. held_by row.now ≡ held_of self.now p.now) }
+        ensures rules { IfSome result (λ row. rules_by row.now ≡ rules_of self.now p.now) }
+    {
+        let row = self.row(p)?;
+        if row.as_slice().len() == self.nodes.len() as usize {
+            Some(row)
+        } else {
+            None
         }
     }
 

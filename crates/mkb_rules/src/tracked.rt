@@ -9,7 +9,7 @@ ghost use Rattle.mkb_rules.specs.Sizes.{is_dead_at, AreAlive, AreSizesOf};
 
 use crate::account::{Account, account_of, follow, follow_new};
 use crate::marks::Marks;
-use crate::roles::Roles;
+use crate::role_row::RoleRow;
 use crate::sizes::Sizes;
 use kb_label::{Labels, ListLabels, MAX_BITS, NameLog, Process};
 use kb_node::{LabelKind, MAX_NODES, NodeFault, NodeId, NodeTable};
@@ -215,13 +215,13 @@ impl Tracked {
         }
     }
 
-    /// How the process has each of the first nodes, where that is kept at this place; else of none.
-    pub(crate) fn roles(&self, place: usize, p: &Process) -> &[Roles]
-        ensures { AreRolesOf (plain_nodes self.now) p.now result.now }
+    /// How the process has each of the first nodes, where that is kept at this place.
+    pub(crate) fn row(&self, place: usize, p: &Process) -> Option<&RoleRow>
+        ensures { IfSome result (λ row. AreRolesOf (plain_nodes self.now) p.now row.now) }
     {
         match self.account(place, p) {
-            Some(account) => account.roles.as_slice(),
-            None => &[],
+            Some(account) => Some(&account.roles),
+            None => None,
         }
     }
 }

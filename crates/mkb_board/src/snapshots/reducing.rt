@@ -76,13 +76,24 @@ fn open_rules(alloc: Global, state: &State, p: &Process, n: NodeId) -> Result<Ve
     ensures names { IfOk result (λ names. names.items ≡ open_rules state.now p.now n.0) }
     ensures few { IfOk result (λ names. length names.items < 2 ^ 32) }
 {
-    let rules = rules_of(alloc, state, p)?;
+    let names = listed_open(alloc, state, p, n)?;
     // Each node gives at most two rules.
     let count = state.nodes().len();
-    let roles = roles_by(state, state.roles(p), p, n);
-    let names = open_to(alloc, state, rules.as_slice(), n, roles)?;
     prove!(count <= 4096);
     Ok(names)
+}
+
+// The same, however many they are.
+fn listed_open(alloc: Global, state: &State, p: &Process, n: NodeId) -> Result<Vec<RuleRef>, Memory>
+    requires { n.0 < length state.now.nodes }
+    ensures { IfOk result (λ names. names.items ≡ open_rules state.now p.now n.0) }
+{
+    let roles = roles_by(state, state.roles(p), p, n);
+    if let Some(rules) = state.rules(p) {
+        return Ok(open_to(alloc, state, rules, n, roles)?);
+    }
+    let rules = rules_of(alloc, state, p)?;
+    Ok(open_to(alloc, state, rules.as_slice(), n, roles)?)
 }
 
 // Whether any redex may be rewritten on the side that the rule of the direction leads to.

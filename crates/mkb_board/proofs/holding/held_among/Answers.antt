@@ -2,7 +2,7 @@ use Rattle.std.proofs.Common.{◌∙◌, ◌<◌, ◌++◌, ◌∷◌, [], List,
 use Rattle.std.proofs.lemmas.List.{map-append, take_all, take_more}
 use Rattle.kb_node.specs.declared.node.NodeId.{NodeId}
 use Rattle.mkb_rules.specs.declared.roles.Roles.{Roles}
-use Rattle.mkb_board.specs.Normal.{is_in_use, roles_of}
+use Rattle.mkb_rules.specs.Roles.{is_in_use, roles_of}
 use Rattle.mkb_board.proofs.Having.{alive_there, held_alive, held_next}
 use Rattle.mkb_board.proofs.holding.held_among.Goals as goal
 

@@ -3,7 +3,7 @@ use Rattle.kb_node.specs.declared.node.NodeId.{NodeId}
 use Rattle.mkb_model.specs.Plain.{numbers_from}
 use Rattle.mkb_rules.specs.declared.roles.Roles.{Roles}
 use Rattle.mkb_rules.proofs.Costs.{numbers_next}
-use Rattle.mkb_board.specs.Normal.{is_in_use, roles_of}
+use Rattle.mkb_rules.specs.Roles.{is_in_use, roles_of}
 use Rattle.mkb_board.proofs.Having.{held_next}
 use Rattle.mkb_board.proofs.holding.held_of_all.Goals as goal
 

@@ -5,8 +5,8 @@ use Rattle.std.proofs.lemmas.List.Elements.{filter-append}
 use Rattle.kb_node.specs.declared.node.NodeId.{NodeId}
 use Rattle.kb_term.specs.declared.origin.RuleRef.{RuleRef}
 use Rattle.mkb_model.specs.Plain.{directions, is_rule}
+use Rattle.mkb_rules.specs.Roles.{rules_in}
 use Rattle.mkb_rules.specs.declared.roles.Roles.{Roles}
-use Rattle.mkb_board.specs.Normal.{rules_in}
 use Rattle.mkb_board.proofs.Having.{held_there, rules_held, rules_of_roles}
 use Rattle.mkb_board.proofs.holding.rules_among.Goals as goal
 

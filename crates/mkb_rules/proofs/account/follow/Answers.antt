@@ -39,9 +39,9 @@ loop-i-preserved c =
     ap₂ (λ (b : Bool) z. t.sizes.open_sizes + size_if (is_open_kind k && b) z) (sym before) (sym size) ∙ c.follow.ensures.open done ∙ ap₂ (λ (b : Bool) z. s.sizes.open_sizes + size_if (is_open_kind k && b) z) after size in
     let second : t.sizes.rule_sizes + size_if (is_rule_kind k && has (label_at xs n k) s.sizes.process) (size_at xs n) ≡ s.sizes.rule_sizes + size_if (is_rule_kind k && has l s.sizes.process) (size_at xs n) =
     ap₂ (λ (b : Bool) z. t.sizes.rule_sizes + size_if (is_rule_kind k && b) z) (sym before) (sym size) ∙ c.follow.ensures.rules done ∙ ap₂ (λ (b : Bool) z. s.sizes.rule_sizes + size_if (is_rule_kind k && b) z) after size in
-    let roles : AreRolesOf (with_label n k l xs) t.sizes.process t.roles.items =
-    subst {A = Name} (λ p. AreRolesOf (with_label n k l xs) p t.roles.items) (sym c.follow.ensures.process)
-    (subst {A = List Roles} (AreRolesOf (with_label n k l xs) s.sizes.process) (sym (c.follow.ensures.roles done ∙ ap (with_role_at s.roles.items n k) after)) (roles_moved xs n k l s.sizes.process s.roles.items there right.roles)) in
+    let roles : AreRolesOf (with_label n k l xs) t.sizes.process t.roles =
+    subst {A = Name} (λ p. AreRolesOf (with_label n k l xs) p t.roles) (sym c.follow.ensures.process)
+    (subst {A = List Roles} (AreRolesOf (with_label n k l xs) s.sizes.process) (sym (c.follow.ensures.roles done ∙ ap (with_role_at s.roles n k) after)) (roles_moved xs n k l s.sizes.process s.roles there right.roles)) in
     let new : IsAccountOf (plain_nodes (with_label_at c.args.table.now n k l)) t =
     subst {A = List PlainNode} (λ ys. IsAccountOf ys t) (sym (plain-with_label c.args.table.now n k l))
     (record { sizes = sizes_moved xs n k l s.sizes t.sizes there right.sizes c.follow.ensures.process first second; roles = roles }) in

@@ -3,7 +3,8 @@ use Rattle.std.specs.List.{list_any}
 use Rattle.std.proofs.lemmas.Bool.{and_left, and_right}
 use Rattle.kb_term.specs.declared.origin.RuleRef.{RuleRef}
 use Rattle.mkb_model.specs.DueJobs.{is_node_of, is_reducible}
-use Rattle.mkb_board.specs.Normal.{is_in_use, is_open_to}
+use Rattle.mkb_rules.specs.Roles.{is_in_use}
+use Rattle.mkb_board.specs.Normal.{is_open_to}
 use Rattle.mkb_rules.specs.declared.roles.Roles.{Roles}
 use Rattle.mkb_board.proofs.Irreducible.{noted_not, reducible_by}
 use Rattle.mkb_board.proofs.normal.Normal.is_reduce_due.Goals as goal
