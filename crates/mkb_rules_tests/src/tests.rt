@@ -65,12 +65,21 @@ fn leave_unjoined(rt: &impl Abort, alloc: Global, state: &mut State) {
     assert_eq!(rt; state.commits(), 2);
 }
 
+// The first process has nodes 0 and 1, and one rule, of node 0.
+fn lends_its_lists(rt: &impl Abort, state: &State) {
+    let held = state.held(&first()).expect(rt, "it is kept");
+    assert!(rt; held.len() == 2 && held[1].0 == 1);
+    let rules = state.rules(&first()).expect(rt, "it is kept");
+    assert!(rt; rules.len() == 1 && rules[0].node == 0 && rules[0].dir == 0);
+}
+
 #[test]
 fn an_overlap_that_does_not_join_becomes_an_equation(rt: HostRuntime) {
     let alloc = rt.alloc();
     let mut state = opened(&rt, alloc, b"(VAR x)(RULES f(f(x)) == a)");
     orient_first(&rt, alloc, &mut state, 0);
     leave_unjoined(&rt, alloc, &mut state);
+    lends_its_lists(&rt, &state);
     drop(state);
 }
 

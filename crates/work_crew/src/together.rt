@@ -38,7 +38,7 @@ const NAP: u64 = 400;
 const CROWD: u64 = 3;
 
 /// Work that takes less than this, in microseconds, is short: a turn takes about as long, for which the board comes to another processor.
-const SHORT: u64 = 100;
+const SHORT: u64 = 50;
 
 /// The most naps of a worker between two of its tickets.
 const NAPS: u32 = 64;
