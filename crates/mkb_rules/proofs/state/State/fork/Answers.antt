@@ -25,7 +25,7 @@ returns-in-Ok-clause-ok c =
     let second = c.args.cert1.now in
     let parts = c.in_ok-parts.parts in
     let ys = c.try_fork.new.nodes.now in
-    let few : length b.nodes ≤ 4096 = subst {A = Plain} (λ v. length v.nodes ≤ 4096) c.self.view_is c.node_count-count.ensures.most in
+    let few : length b.nodes ≤ 4096 = subst {A = Plain} (λ v. length v.nodes ≤ 4096) c.self.view_is c.are_few.ensures in
     let nodes = c.in-Ok.ensures.ok ∙ ap (λ (v : Plain). fork_of_nodes p n v.nodes) c.self.view_is in
     let made = ap (λ (v : Plain). counted (with_parts parts (record v { nodes = ys }))) c.self.view_is in
     committed b c.take_over.new.self (Both p n first second) (fork_room b p n first second c.requires.room few)
