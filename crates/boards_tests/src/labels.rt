@@ -121,6 +121,28 @@ fn labels_are_joined(rt: HostRuntime) {
     assert!(rt; is_at(&names, 2, &[true, true]));
 }
 
+/// For each living process in order whether the label of two of the three has it, and then for the first again.
+fn told_in_order(alloc: Global) -> Result<([bool; 4], usize), AllocError> {
+    let log: NameLog = forked_twice(alloc)?;
+    let one = Process::root().child(true);
+    let zero = Process::root().child(false);
+    let label: ListLabels = label_of(alloc, &log, &one.child(true), &zero)?;
+    let mut place = 0;
+    let first = label.has_from(&zero, &mut place);
+    let second = label.has_from(&one.child(false), &mut place);
+    let third = label.has_from(&one.child(true), &mut place);
+    let last = place;
+    let again = label.has_from(&zero, &mut place);
+    Ok(([first, second, third, again], last))
+}
+
+#[test]
+fn a_label_is_asked_for_processes_in_order(rt: HostRuntime) {
+    let (told, place) = told_in_order(rt.alloc()).expect(&rt, "memory");
+    assert!(rt; told[0] && !told[1] && told[2] && told[3]);
+    assert_eq!(rt; place, 2);
+}
+
 #[test]
 fn labels_are_met_and_left(rt: HostRuntime) {
     let left = worked_after_forks(rt.alloc(), 1).expect(&rt, "memory");

@@ -1,13 +1,15 @@
 -- What a binary search in a list of names answers.
-use Rattle.std.specs.Prelude.{ℕ, List, [], ◌∷◌, true, false, ◌||◌, ◌≡◌, refl, length, suc, zero, ◌<◌, ◌≤◌, insert, is_ok, Result, Ok, Err, IfOk, IfErr}
-use Rattle.std.proofs.Common.{ap, ap₂, add-one, sym, ◌∙◌, arith, get_or}
+use Rattle.std.specs.Prelude.{ℕ, List, [], ◌∷◌, true, false, ◌||◌, ◌≡◌, refl, length, suc, zero, ◌<◌, ◌≤◌, ◌-◌, insert, is_ok, Result, Ok, Err, IfOk, IfErr}
+use Rattle.std.proofs.Common.{ap, ap₂, add-one, subst, sym, ◌∙◌, arith, get_or}
 use mathlib.Core.Bool.{true≢false}
+use Rattle.std.proofs.lemmas.List.{get_or_default}
 use Rattle.std.specs.declared.cmp.Ordering.{Ordering}
-use Rattle.std.specs.Ordering.{is_eq, is_lt, ordering_index}
+use Rattle.std.specs.Ordering.{is_eq, is_lt, is_gt, ordering_index}
 use Rattle.std.specs.List.Sorted.{IsSorted, IsNonDecreasingBy, IsPartitionPoint, IsBinarySearchResult, IsSearchInRange}
 use Rattle.std.proofs.lemmas.List.Sorted.{searchable_from_sorted}
 use Rattle.std.specs.declared.cmp.Ordering.TheVariants.{Less, Equal, Greater}
 use Rattle.std.proofs.Math.Bool.{or-true}
+use Rattle.kb_label.specs.Kept.{AreBefore, AreAfter}
 use Rattle.kb_label.specs.Names.{Name, name_cmp, name_eq, has, add, by_order, IsInNameOrder}
 use Rattle.kb_label.specs.NameOrder.{name_cmp-total, name_cmp-equal, name_eq-by_cmp}
 use Rattle.kb_label.proofs.Ordered.{turned, turned_back, rest, lower, before-absent, add-later}
@@ -94,3 +96,49 @@ module _ (l : List Name) (p : Name) (o : IsInNameOrder l) where
   pub search-absent : (r : Result ℕ ℕ) → IsSearchInRange r (length l) → IsBinarySearchResult (λ q. name_cmp q p) l r → IfErr r (λ k. insert l k p ≡ add p l)
   search-absent (Ok k) w h = tt
   search-absent (Err k) w h = insert-place p l k (placed k w (h (searchable l p o)))
+
+-- ---- a place that is tried first
+
+index-less : (o : Ordering) → ordering_index o ≤ ordering_index Less → o ≡ Less
+index-less Less h = refl
+index-less Equal h = absurd (omega (arith, h))
+index-less Greater h = absurd (omega (arith, h))
+
+index-greater : (o : Ordering) → ordering_index Greater ≤ ordering_index o → o ≡ Greater
+index-greater Less h = absurd (omega (arith, h))
+index-greater Equal h = absurd (omega (arith, h))
+index-greater Greater h = refl
+
+module _ (l : List Name) (p : Name) (o : IsInNameOrder l) where
+  -- where the name before the place comes before p, so do all before the place
+  pub before-place : (k : ℕ) (e : Name) → 0 < k → k ≤ length l → name_cmp (get_or l (k - 1) e) p ≡ Less → AreBefore l k p
+  before-place k e n w h = (w, λ i d v. index-less (name_cmp (get_or l i d) p) (subst (λ x. ordering_index (name_cmp (get_or l i d) p) ≤ ordering_index x) (same d) (searchable l p o i (k - 1) d (omega arith) (omega arith))))
+    where
+      same : (d : Name) → name_cmp (get_or l (k - 1) d) p ≡ Less
+      same d = ap (λ q. name_cmp q p) (get_or_default l (k - 1) d e (omega arith)) ∙ h
+
+  -- where the name at the place comes after p, so do all from the place on
+  pub after-place : (k : ℕ) (e : Name) → k < length l → name_cmp (get_or l k e) p ≡ Greater → AreAfter l k p
+  after-place k e w h = λ i d v u. index-greater (name_cmp (get_or l i d) p) (subst (λ x. ordering_index x ≤ ordering_index (name_cmp (get_or l i d) p)) (same d) (searchable l p o k i d (omega arith) (omega arith)))
+    where
+      same : (d : Name) → name_cmp (get_or l k d) p ≡ Greater
+      same d = ap (λ q. name_cmp q p) (get_or_default l k d e (omega arith)) ∙ h
+
+-- what no name before a place is and no name from it on is not there
+pub between-absent : (l : List Name) (p : Name) (k : ℕ) → AreBefore l k p → AreAfter l k p → has l p ≡ false
+between-absent l p k b a = place-absent p l k (record { within = b.0; below = b.1; above = a })
+
+pub equal-told : (o : Ordering) → is_eq o ≡ true → o ≡ Equal
+equal-told Less h = absurd (true≢false (sym h))
+equal-told Equal h = refl
+equal-told Greater h = absurd (true≢false (sym h))
+
+pub less-told : (o : Ordering) → is_lt o ≡ true → o ≡ Less
+less-told Less h = refl
+less-told Equal h = absurd (true≢false (sym h))
+less-told Greater h = absurd (true≢false (sym h))
+
+pub greater-told : (o : Ordering) → is_gt o ≡ true → o ≡ Greater
+greater-told Less h = absurd (true≢false (sym h))
+greater-told Equal h = absurd (true≢false (sym h))
+greater-told Greater h = refl

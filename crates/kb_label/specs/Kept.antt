@@ -1,7 +1,8 @@
 -- Names as a list keeps them: a short one by its first word and its length, a long one whole.
-use Rattle.std.specs.Prelude.{ℕ, ◌≤◌, ◌≡◌, [], ◌∷◌, length, Option, Some, None, Box, option_map}
+use Rattle.std.specs.Prelude.{ℕ, ◌≤◌, ◌<◌, ◌≡◌, List, [], ◌∷◌, length, get_or, Option, Some, None, Box, option_map}
+use Rattle.std.specs.declared.cmp.Ordering.TheVariants.{Less, Greater}
 use Rattle.std.specs.declared.alloc.Global.{Global}
-use Rattle.kb_label.specs.Names.{Name}
+use Rattle.kb_label.specs.Names.{Name, name_cmp}
 use Rattle.kb_label.specs.Packed.{name_in, word}
 
 -- the name with this first word and this length, or the whole one where there is one
@@ -21,3 +22,11 @@ fits len (Some p) = Unit {0}
 -- the word and the length are those of the name
 abbrev pub IsKept : ℕ → ℕ → Option Name → Type 0
 IsKept first len whole = (first ≡ word 64 (kept_name first len whole)) × (len ≡ length (kept_name first len whole)) × fits len whole
+
+-- the names of the list before this place, which is in the list or its end, come before the name
+abbrev pub AreBefore : List Name → ℕ → Name → Type 0
+AreBefore l k p = (k ≤ length l) × ((i : ℕ) (d : Name) → i < k → name_cmp (get_or l i d) p ≡ Less)
+
+-- the names of the list from this place on come after the name
+abbrev pub AreAfter : List Name → ℕ → Name → Type 0
+AreAfter l k p = (i : ℕ) (d : Name) → k ≤ i → i < length l → name_cmp (get_or l i d) p ≡ Greater

@@ -1,6 +1,6 @@
 // Labels that are plain lists of names.
 ghost use Rattle.std.specs.Prelude.{◌≡◌, ◌<◌, length, OnOk, OnErr, IsTrue};
-ghost use Rattle.kb_label.specs.Names.{relabel, join, meet, minus, is_empty};
+ghost use Rattle.kb_label.specs.Names.{has, relabel, join, meet, minus, is_empty};
 
 use crate::labels::Labels;
 use crate::living::Living;
@@ -105,6 +105,14 @@ impl ListLabels {
         ensures err { OnErr result (self.new ≡ self.old) }
     {
         self.names.relabel(process)
+    }
+
+    /// Whether the process is in the label. The search begins at a place, from 0, and leaves the place behind the process, so that of
+    /// processes that are asked for in their order each is found in constant time where the label has most of them.
+    pub fn has_from(&self, process: &Process, place: &mut usize) -> bool
+        ensures { result ≡ has self.now process.now }
+    {
+        self.names.has_from(process, place)
     }
 
     /// Whether each process of another label is in this one, which then gains nothing by it.

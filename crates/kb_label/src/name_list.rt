@@ -1,5 +1,6 @@
 // Lists of names in their order.
-ghost use Rattle.std.specs.Prelude.{◌≡◌, ◌<◌, ◌≤◌, [], ◌∷◌, length, insert, is_ok, OnOk, OnErr, IfOk, IfErr, IsTrue};
+ghost use Rattle.std.specs.Prelude.{◌≡◌, ◌<◌, ◌≤◌, [], ◌∷◌, length, true, insert, is_ok, OnOk, OnErr, IfOk, IfErr, IsTrue};
+ghost use Rattle.kb_label.specs.Kept.{AreBefore, AreAfter};
 ghost use Rattle.kb_label.specs.Names.{has, add, join, meet, minus, relabel, is_empty, IsInNameOrder};
 
 use crate::kept_name::KeptName;
@@ -173,6 +174,50 @@ impl NameList {
         names.add(&process.child(true))?;
         names.add(&process.child(false))?;
         Ok(names)
+    }
+
+    /// Whether the process is named. The search begins at a place, and leaves the place behind the process.
+    pub(crate) fn has_from(&self, process: &Process, place: &mut usize) -> bool
+        ensures { result ≡ has self.now process.now }
+    {
+        if self.is_at(process, *place) {
+            *place = place.saturating_add(1);
+            return true;
+        }
+        if self.are_before(process, *place) && self.are_after(process, *place) {
+            return false;
+        }
+        match self.place(process) {
+            Ok(at) => {
+                *place = at.saturating_add(1);
+                true
+            }
+            Err(at) => {
+                *place = at;
+                false
+            }
+        }
+    }
+
+    // Whether the name at the place is the process's.
+    fn is_at(&self, process: &Process, place: usize) -> bool
+        ensures { IsTrue result → has self.now process.now ≡ true }
+    {
+        place < self.names.len() && self.names[place].against(process).is_eq()
+    }
+
+    // Whether the names before the place come before the process: the last of them does.
+    fn are_before(&self, process: &Process, place: usize) -> bool
+        ensures { IsTrue result → AreBefore self.now place process.now }
+    {
+        place == 0 || (place <= self.names.len() && self.names[place - 1].against(process).is_lt())
+    }
+
+    // Whether the names from the place on come after the process: the first of them does.
+    fn are_after(&self, process: &Process, place: usize) -> bool
+        ensures { IsTrue result → AreAfter self.now place process.now }
+    {
+        place >= self.names.len() || self.names[place].against(process).is_gt()
     }
 
     // Whether a name that is kept elsewhere is here.

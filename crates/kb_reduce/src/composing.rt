@@ -55,7 +55,7 @@ pub(crate) fn compose(
                 let pair = pair_of(alloc, rule.0.left(), &next)?;
                 let origin = origin_of(steps, &rule, redex.position, by);
                 steps.push(Step::new(origin, pair))?;
-                let (left, _) = rule.0.into_sides();
+                let left = rule.0.left().clone()?;
                 rule = (Rule::new(left, next), steps.len() as u32);
             }
             Err(TermFault::Large(limit)) => return Ok(Composed::Passed(why_of(limit))),

@@ -3,6 +3,7 @@ pub mod Position
 pub mod Substitution
 pub mod Pair
 pub mod Rule
+pub mod Sides
 pub mod Identifier
 pub mod Signature
 pub mod Proving

@@ -44,7 +44,7 @@ pub fn build(
         Slot::Free => Ok(Term::Var(place as u16)),
         Slot::Link(next) => build(alloc, slots, extents, next),
         Slot::Node(f, first, count) => {
-            let mut items = Vec::new(alloc);
+            let mut items = Vec::with_capacity(alloc, count)?;
             for k in 0..count {
                 items.push(build(alloc, slots, extents, first + k)?)?;
             }

@@ -92,6 +92,8 @@ fn the_pair_of_f_of_x_and_x(rt: HostRuntime) -> Result<(), Fail> {
     assert!(rt; *other.right() == Term::Var(64));
     let forth = rule_from(alloc, pair, 0)?;
     assert!(rt; *forth.left() == Term::Var(0) && is_variant(forth.right(), &f7));
+    let together = forth.shared(alloc)?.clone()?.shared(alloc)?;
+    assert!(rt; *together.left() == Term::Var(0) && is_variant(together.right(), &f7));
     Ok(())
 }
 

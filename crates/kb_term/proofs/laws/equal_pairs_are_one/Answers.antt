@@ -1,7 +1,6 @@
 use Rattle.std.proofs.Common.{◌≡◌, ap, ap₂, true}
 use Rattle.std.specs.Ordering.{is_eq, ordering_then}
 use Rattle.std.specs.Cmp.{Equal-is}
-use Rattle.kb_term.specs.Tree.{tree_cmp}
 use Rattle.kb_term.specs.Pair.{Pair, pair_cmp}
 use Rattle.kb_term.specs.TermOrder.{tree_cmp-same}
 use Rattle.kb_term.proofs.CanonicalPairs.{tree_equal, pair_equal}
