@@ -8,7 +8,8 @@ ghost use Rattle.kb_kbo.specs.KnuthBendix.{KboOrder, weight, symbol_weight};
 ghost use Rattle.kb_kbo.specs.Asking.{value_of, AreAsked};
 ghost use Rattle.kb_kbo.specs.declared.level.Tie.{Tie};
 
-use crate::order::{agreement, holds_variables};
+use crate::order::holds_variables;
+use kb_lpo::agreement;
 use kb_term::{Memory, Symbol, Term};
 
 /// How many symbols a signature may have for orders to be tried.

@@ -2,13 +2,13 @@
 ghost use Rattle.std.specs.Prelude.{ℕ, List, ◌≡◌, ◌↔◌, ◌+◌, ◌*◌, ◌<◌, ◌≤◌, IsTrue, All, map, length, slice_index, slice_index_or};
 ghost use Rattle.kb_term.specs.Tree.{tree_size, variables_of};
 ghost use Rattle.kb_term.specs.View.{tree_of};
-ghost use Rattle.kb_lpo.specs.Agreeing.{IsAgreement};
-ghost use Rattle.kb_lpo.specs.PathOrder.{IsAbove};
 ghost use Rattle.kb_linear.specs.Limits.{IsMeasurable};
 ghost use Rattle.kb_kbo.specs.KnuthBendix.{KboGreater, HoldsVariables, occurrences, weight};
-ghost use Rattle.kb_kbo.specs.Measures.{IsWeight, numbers, order_of};
+ghost use Rattle.kb_lpo.specs.Search.{numbers};
+ghost use Rattle.kb_kbo.specs.Measures.{IsWeight, order_of};
 
 use crate::kbo::Kbo;
+use kb_lpo::{agreement, is_above};
 use kb_term::{Symbol, Term};
 
 /// The weight of the symbol; one without a weight of its own weighs 1.
@@ -86,35 +86,6 @@ pub(crate) fn holds_variables(s: &Term, t: &Term) -> bool
         }
     }
     true
-}
-
-/// How many first terms of the two lists agree.
-pub(crate) fn agreement(ss: &[Term], ts: &[Term]) -> usize
-    ensures { IsAgreement (map tree_of ss.now) (map tree_of ts.now) result }
-{
-    let end = ss.len().min(ts.len());
-    for i in 0..end {
-        let is_same = ss[i] == ts[i];
-        if !is_same {
-            return i;
-        }
-    }
-    end
-}
-
-/// Whether `f` stands before `g` in the precedence.
-fn is_above(symbols: &[Symbol], f: Symbol, g: Symbol) -> bool
-    ensures { IsTrue result ↔ IsAbove (numbers symbols.now) f.0 g.0 }
-{
-    for i in 0..symbols.len() {
-        if symbols[i] == g {
-            return false;
-        }
-        if symbols[i] == f {
-            return true;
-        }
-    }
-    false
 }
 
 /// Whether `s` is above `t`: at each level of the lexicographic comparison the two arguments are weighed and their

@@ -3,7 +3,8 @@ ghost use Rattle.std.specs.Prelude.{ℕ, List, ◌≡◌, ◌++◌, ◌∷◌, [
 ghost use Rattle.kb_term.specs.First.{IsFirst};
 ghost use Rattle.kb_lpo.specs.Precedences.{precedences};
 ghost use Rattle.kb_linear.specs.Limits.{AreMeasurable};
-ghost use Rattle.kb_kbo.specs.Measures.{IsWeight, numbers, order_of};
+ghost use Rattle.kb_lpo.specs.Search.{numbers};
+ghost use Rattle.kb_kbo.specs.Measures.{IsWeight, order_of};
 ghost use Rattle.kb_kbo.specs.Orders.{KboOrients, IsFirstKbo, IsLowerBound};
 ghost use Rattle.kb_kbo.specs.Search.{Fits, IsAsked, IsPlaced, IsWeighed, IsFloor, lowest_of, floor_behind};
 

@@ -13,6 +13,6 @@ mod search;
 pub use laws::{
     lpo_halts, lpo_is_rewrite_order, lpo_is_strict_order, more_rules_are_never_earlier,
 };
-pub use order::lpo_greater;
+pub use order::{agreement, is_above, lpo_greater};
 pub use precedence::Precedence;
 pub use search::{search_lpo, search_lpo_from};

@@ -57,8 +57,8 @@ pub(crate) fn is_same(a: &Term, b: &Term) -> bool
     compare(a, b) == Ordering::Equal
 }
 
-/// How many first terms of the two lists agree.
-pub(crate) fn agreement(ss: &[Term], ts: &[Term]) -> usize
+/// How many first terms of the two lists agree. It takes no memory.
+pub fn agreement(ss: &[Term], ts: &[Term]) -> usize
     ensures { IsAgreement (map tree_of ss.now) (map tree_of ts.now) result }
 {
     let end = ss.len().min(ts.len());
@@ -70,8 +70,8 @@ pub(crate) fn agreement(ss: &[Term], ts: &[Term]) -> usize
     end
 }
 
-/// Whether `f` stands before `g` in the precedence.
-fn is_above(symbols: &[Symbol], f: Symbol, g: Symbol) -> bool
+/// Whether `f` stands before `g` in the precedence. It takes no memory.
+pub fn is_above(symbols: &[Symbol], f: Symbol, g: Symbol) -> bool
     ensures { IsTrue result ↔ IsAbove (numbers symbols.now) f.0 g.0 }
 {
     for i in 0..symbols.len() {

@@ -7,7 +7,8 @@ use Rattle.kb_term.specs.View.{tree_of}
 use Rattle.kb_lpo.proofs.Places.{at_from}
 use Rattle.kb_lpo.proofs.Answering.{answers, form, holds, no, part_smaller, yes}
 use Rattle.kb_kbo.specs.KnuthBendix.{weight, heavier}
-use Rattle.kb_kbo.specs.Measures.{numbers, order_of}
+use Rattle.kb_lpo.specs.Search.{numbers}
+use Rattle.kb_kbo.specs.Measures.{order_of}
 use Rattle.kb_kbo.proofs.Compared.{greater_holds, greater_weighs, not_variable, symbol_decides, arguments_decide, difference_within, difference_above, above_at, above_by_symbol}
 use Rattle.kb_kbo.proofs.Counts.{argument_measurable}
 use Rattle.kb_kbo.proofs.order.+greater.Goals as goal

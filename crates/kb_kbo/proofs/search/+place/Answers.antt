@@ -4,9 +4,9 @@ use Rattle.kb_lpo.specs.Precedences.{arrangements}
 use Rattle.kb_term.specs.First.{IsFirst}
 use Rattle.std.proofs.lemmas.Bool.{false≢true}
 use Rattle.kb_lemmas.proofs.Membership.{listed_or_not}
-use Rattle.kb_lpo.specs.Search.{outside}
+use Rattle.kb_lpo.specs.Search.{numbers, outside}
 use Rattle.kb_lpo.proofs.First.{numbers_push, popped, tried}
-use Rattle.kb_kbo.specs.Measures.{numbers, order_of}
+use Rattle.kb_kbo.specs.Measures.{order_of}
 use Rattle.kb_kbo.specs.Orders.{KboOrients}
 use Rattle.kb_kbo.specs.Search.{Fits, IsPlaced}
 use Rattle.kb_kbo.proofs.Placing.{leaf, found_next, none_next, none_refused}

@@ -2,7 +2,8 @@ use Rattle.std.proofs.Common.{◌≡◌, ◌++◌, ◌-◌, length}
 use Rattle.kb_term.specs.First.{IsFirst}
 use Rattle.std.specs.Prelude.{None}
 use Rattle.kb_lpo.proofs.First.{tried}
-use Rattle.kb_kbo.specs.Measures.{numbers, order_of}
+use Rattle.kb_lpo.specs.Search.{numbers}
+use Rattle.kb_kbo.specs.Measures.{order_of}
 use Rattle.kb_kbo.specs.Orders.{KboOrients}
 use Rattle.kb_kbo.proofs.search.+place.Given as goal
 

@@ -3,7 +3,8 @@ use Rattle.std.specs.Prelude.{Some}
 use Rattle.std.proofs.lemmas.Bool.{false≢true}
 use Rattle.kb_term.specs.First.{IsFirst}
 use Rattle.kb_lpo.specs.Precedences.{precedences}
-use Rattle.kb_kbo.specs.Measures.{numbers, order_of}
+use Rattle.kb_lpo.specs.Search.{numbers}
+use Rattle.kb_kbo.specs.Measures.{order_of}
 use Rattle.kb_kbo.specs.Orders.{KboOrients}
 use Rattle.kb_kbo.specs.Asking.{AreAskedAll}
 use Rattle.kb_kbo.specs.Search.{IsPlaced, IsBetween}

@@ -1,6 +1,6 @@
 use Rattle.std.proofs.Common.{◌++◌, ◌∷◌, sym, subst, arith, ⊎_elim}
 use Rattle.std.proofs.lemmas.Bool.{cases_eq}
-use Rattle.kb_kbo.specs.Measures.{numbers}
+use Rattle.kb_lpo.specs.Search.{numbers}
 use Rattle.kb_lpo.specs.PathOrder.{IsAbove}
 use Rattle.kb_lpo.proofs.Answering.{no}
 use Rattle.kb_lpo.proofs.First.{above_rest}

@@ -1,7 +1,8 @@
 use Rattle.std.proofs.Common.{ℕ, ◌<◌, slice_index_or}
 use Rattle.kb_term.specs.Rule.{Rule}
 use Rattle.kb_kbo.specs.KnuthBendix.{KboGreater}
-use Rattle.kb_kbo.specs.Measures.{numbers, order_of}
+use Rattle.kb_lpo.specs.Search.{numbers}
+use Rattle.kb_kbo.specs.Measures.{order_of}
 use Rattle.kb_kbo.proofs.search.orients.Given as goal
 
 -- the rules so far are oriented
