@@ -13,7 +13,7 @@ use Rattle.kb_term.specs.Position.{subtree_at}
 use Rattle.kb_term.specs.Substitution.{instance, IsVariant}
 use Rattle.kb_term.specs.Rule.{Rule}
 use Rattle.kb_term.specs.Proving.{RewritesAt}
-use Rattle.kb_term.specs.Pair.{term_limit}
+use Rattle.kb_term.specs.Pair.{Pair, term_limit}
 use Rattle.kb_term.specs.View.{tree_of}
 use Rattle.kb_term.specs.Made.{IsLimitedAnswer}
 use Rattle.kb_term.specs.declared.term.Term.{Term}
@@ -24,7 +24,7 @@ use Rattle.kb_term.specs.declared.origin.RuleRef.{RuleRef}
 use Rattle.kb_term.specs.declared.origin.Found.{Found}
 use Rattle.kb_term.specs.declared.origin.Found.TheVariants.{No, Variant, Strict}
 use Rattle.kb_overlap.specs.Trace.{side}
-use Rattle.kb_rewrite.specs.NormalForm.{IsFound, IsRedex, IsFirstRedex as IsFirst, HasNoRedex}
+use Rattle.kb_rewrite.specs.NormalForm.{Encompasses, IsFound, IsRedex, IsFirstRedex as IsFirst, HasNoRedex}
 use Rattle.kb_rewrite.specs.Search.{IsRedexAnswer, IsStepAnswer}
 use Rattle.kb_rewrite.specs.declared.redex.Redex.{Redex}
 use Rattle.kb_node.specs.declared.job.Fact.{Fact}
@@ -84,6 +84,19 @@ name_there s h i l =
 pub no_redex : (rules : List Rule) (b : Bool) (t : Tree) (o : Option Redex) (rules' : List Rule) (t' : Tree) → rules ≡ rules' → t ≡ t' → o ≡ None → IsRedexAnswer rules b t o → HasNoRedex rules' b t'
 no_redex rules b t o rules' t' e f g h =
     subst {A = List Rule} (λ z. HasNoRedex z b t') e (subst {A = Tree} (λ z. HasNoRedex rules b z) f (subst {A = Option Redex} (λ z. IsRedexAnswer rules b t z) g h))
+
+-- the sides by their numbers
+pub first_side : (p : Pair) (w : ℕ) → w < 1 → p.first ≡ side p w
+first_side p zero h = refl
+first_side p (suc w) h = absurd (omega (arith, h))
+
+pub second_side : (p : Pair) (w : ℕ) → 0 < w → p.second ≡ side p w
+second_side p zero h = absurd (omega (arith, h))
+second_side p (suc w) h = refl
+
+-- a rule of which no redex may be rewritten has none, but for the whole term where only strict ones may be
+pub none_left : (rules : List Rule) (i : ℕ) (r : Rule) (b : Bool) (t : Tree) → slice_get rules i ≡ Some r → HasNoRedex rules b t → (b ≡ true → ¬ IsVariant t r.left) → ¬ Encompasses t r.left
+none_left rules i r b t e h v m = h m.0 i (record { rule = r; there = e; matches = m.1; strict = v })
 
 side_cases : (w : ℕ) → w ≤ 1 → (w ≡ 0) ⊎ (w ≡ 1)
 side_cases zero h = inl refl

@@ -1,6 +1,7 @@
 // What a Reduce proposes.
-ghost use Rattle.std.specs.Prelude.{◌≡◌, ◌≤◌, ◌<◌, ◌^◌, All, IfOk, length, slice_get, Some, map, not};
+ghost use Rattle.std.specs.Prelude.{◌≡◌, ◌≤◌, ◌<◌, ◌^◌, ℕ, List, All, IfOk, length, slice_get, Some, map, not};
 ghost use Rattle.kb_term.specs.FewArguments.{HasFewArguments};
+ghost use Rattle.kb_term.specs.Rule.{Rule as Rewriting};
 ghost use Rattle.kb_term.specs.View.{tree_of};
 ghost use Rattle.kb_overlap.specs.Trace.{side};
 ghost use Rattle.kb_rewrite.specs.NormalForm.{HasNoRedex, IsFound};
@@ -11,8 +12,8 @@ use crate::groups::reason_of;
 use crate::rules::NamedRules;
 use kb_label::Process;
 use kb_node::{Fact, Job, LimitCause, NodeId};
-use kb_rewrite::{Redex, first_redex, found, step};
-use kb_term::{Memory, Pair, Term, TermFault};
+use kb_rewrite::{Redex, first_redex, step};
+use kb_term::{Found, Memory, Pair, Rule, Term, TermFault, is_variant};
 use mkb_model::{FactList, Proposed};
 use std::alloc::Global;
 
@@ -99,35 +100,59 @@ fn rewrite(
     }
 }
 
-// What each rule of which nothing was known can do to its side.
+// What each rule of which nothing was known can do to its side, where no redex of either side may be rewritten.
 fn facts(alloc: Global, s: &ReduceSnapshot) -> Result<Vec<Fact>, Memory>
-    requires { IsReducible s.now }
+    requires reducible { IsReducible s.now }
+    requires first { HasNoRedex s.now.rules.rules (not (is_any s.now 0)) (side s.now.pair 0) }
+    requires second { HasNoRedex s.now.rules.rules (not (is_any s.now 1)) (side s.now.pair 1) }
     ensures { IfOk result (λ facts. AreFactsAt s.now s.now.unknown.items facts.items) }
 {
     let mut facts = Vec::new(alloc);
     for i in 0..s.unknown.len() {
         let (side, number) = s.unknown[i];
-        facts.push(fact(alloc, s, side, number)?)?;
+        facts.push(fact(s, side, number))?;
     }
     Ok(facts)
 }
 
-// What the rule with the number can do to the side.
-fn fact(alloc: Global, s: &ReduceSnapshot, w: u8, number: u32) -> Result<Fact, Memory>
+// What the rule with the number can do to the side, where no redex of either side may be rewritten.
+fn fact(s: &ReduceSnapshot, w: u8, number: u32) -> Fact
     requires reducible { IsReducible s.now }
     requires there { number < length s.now.rules.rules }
-    ensures { IfOk result (IsFactAt s.now (w, number)) }
+    requires first { HasNoRedex s.now.rules.rules (not (is_any s.now 0)) (side s.now.pair 0) }
+    requires second { HasNoRedex s.now.rules.rules (not (is_any s.now 1)) (side s.now.pair 1) }
+    ensures { IsFactAt s.now (w, number) result }
 {
-    let t = if w == 0 {
-        s.pair.first()
-    } else {
-        s.pair.second()
-    };
-    let found = found(alloc, t, &s.rules.rules.as_slice()[number as usize])?;
-    Ok(Fact {
+    let found = left_on(s, w, &s.rules.rules.as_slice()[number as usize]);
+    Fact {
         node: s.node,
         side: w,
         rule: s.rules.names[number as usize],
         found,
-    })
+    }
+}
+
+// What one of the rules can do to the side, where no redex of either side may be rewritten.
+fn left_on(s: &ReduceSnapshot, w: u8, rule: &Rule) -> Found
+    requires first { HasNoRedex s.now.rules.rules (not (is_any s.now 0)) (side s.now.pair 0) }
+    requires second { HasNoRedex s.now.rules.rules (not (is_any s.now 1)) (side s.now.pair 1) }
+    ensures { (i : ℕ) → slice_get s.now.rules.rules i ≡ Some rule.now → IsFound (side s.now.pair w) rule.now result }
+{
+    if w == 0 {
+        left_for(rule, s.pair.first(), s.any_first)
+    } else {
+        left_for(rule, s.pair.second(), s.any_second)
+    }
+}
+
+// What a rule can do to the term where no redex of it may be rewritten: the term may be a variant of the left side where only strict
+// redexes may be, and else there is none.
+fn left_for(rule: &Rule, t: &Term, is_any: bool) -> Found
+    ensures { (rules : List Rewriting) (i : ℕ) → slice_get rules i ≡ Some rule.now → HasNoRedex rules (not is_any) (tree_of t.now) → IsFound (tree_of t.now) rule.now result }
+{
+    if !is_any && is_variant(t, rule.left()) {
+        Found::Variant
+    } else {
+        Found::No
+    }
 }

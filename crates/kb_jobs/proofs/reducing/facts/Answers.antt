@@ -13,4 +13,4 @@ loop-i-preserved c =
     let next : suc i ≡ i + 1 = omega arith in
     subst {A = ℕ} (λ n. AreFactsAt s (take n us) c.push.new.self.items) next
     (subst {A = List Fact} (AreFactsAt s (take (suc i) us)) (sym c.in_ok-push.ensures.items)
-    (facts_more s c.requires us i c.index.result.now c.loop-i.facts.items c.in_ok-fact.field-0 (read_at us i c.index.result.now inside c.index.ensures) c.loop-i.invariant c.in_ok-fact.ensures))
+    (facts_more s c.requires.reducible us i c.index.result.now c.loop-i.facts.items c.fact.result (read_at us i c.index.result.now inside c.index.ensures) c.loop-i.invariant c.fact.ensures))

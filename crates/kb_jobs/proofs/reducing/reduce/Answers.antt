@@ -10,6 +10,16 @@ rewrite-requires-in-Some-2-clause-before c _ =
     let s = c.args.s.now in
     no_redex c.as_slice.result.now (not (is_any s 0)) (tree_of c.first.result.now) c.in_ok-redex.field-0 s.rules.rules s.pair.first c.as_slice.ensures c.first.ensures.side c.in_default.is c.in_ok-redex.ensures
 
+pub facts-requires-clause-first : goal.facts-requires-clause-first
+facts-requires-clause-first c =
+    let s = c.args.s.now in
+    no_redex c.as_slice.result.now (not (is_any s 0)) (tree_of c.first.result.now) c.in_ok-redex.field-0 s.rules.rules s.pair.first c.as_slice.ensures c.first.ensures.side c.in_default.is c.in_ok-redex.ensures
+
+pub facts-requires-clause-second : goal.facts-requires-clause-second
+facts-requires-clause-second c =
+    let s = c.args.s.now in
+    no_redex c.as_slice-2.result.now (not (is_any s 1)) (tree_of c.second.result.now) c.in_ok-redex-2.field-0 s.rules.rules s.pair.second c.as_slice-2.ensures c.second.ensures.side c.in_default-2.is c.in_ok-redex-2.ensures
+
 pub returns : goal.returns
 returns c =
     let s = c.args.s.now in
