@@ -1,15 +1,75 @@
--- What is kept of processes stays right where another one forks.
-use Rattle.std.proofs.Common.{ℕ, zero, suc, ◌+◌, ◌≡◌, refl, sym, ap, ap₂, ◌∙◌, List, [], ◌∷◌, map, length, get_or, Bool, true, false, not, ◌&&◌, All}
+-- What is kept of processes after a fork: of the others as before, of the children what was kept of the process that forks.
+use Rattle.std.proofs.Common.{ℕ, zero, suc, ◌+◌, ◌≡◌, refl, sym, ap, ap₂, ◌∙◌, subst, List, [], ◌∷◌, map, get_or, Bool, true, false, not, ◌&&◌, ◌||◌, All}
 use Rattle.std.specs.Prelude.{sum_by}
+use Rattle.std.proofs.Math.Bool.{or-true}
 use Rattle.std.proofs.lemmas.List.Sums.{sum_by-cons}
 use Rattle.kb_label.specs.Names.{Name, has, name_eq, child, relabel}
-use Rattle.mkb_model.specs.Plain.{PlainNode}
+use Rattle.kb_label.proofs.Members.{name_eq-refl}
+use Rattle.kb_label.proofs.Sets.{has-relabel, relabel-absent}
+use Rattle.kb_node.specs.declared.node.LabelKind.{LabelKind}
+use Rattle.kb_node.specs.declared.node.LabelKind.TheVariants.{R0, R1, E, C0, C1}
+use Rattle.mkb_model.specs.Plain.{PlainNode, label_at}
 use Rattle.mkb_model.specs.Effects.{forked_node}
 use Rattle.mkb_model.proofs.Roles.{relabel-other}
-use Rattle.mkb_rules.specs.Accounts.{IsAccountOf, IsApart, is_apart}
+use Rattle.mkb_rules.specs.Accounts.{renamed, Inherits, InheritNodes, IsAccountOf, IsApart, is_apart}
 use Rattle.mkb_rules.specs.Roles.{roles_in, roles_at}
 use Rattle.mkb_rules.specs.Sizes.{open_share, rule_share, open_sizes, rule_sizes, size_if}
 use Rattle.mkb_rules.specs.declared.account.Account.{Account}
+
+-- ---- who stands in labels after a fork of p as another one did before
+
+module _ (p q r : Name) where
+  -- in the labels of the nodes r stands after the fork as q did before
+  abbrev StandsAs : List PlainNode → Type 0
+  StandsAs xs = (n : ℕ) (k : LabelKind) → has (relabel p (label_at xs n k)) r ≡ has (label_at xs n k) q
+
+  same_open : (x : PlainNode) (xs : List PlainNode) → StandsAs (x ∷ xs) → open_share r (forked_node p x) ≡ open_share q x
+  same_open x xs stands =
+      let equation : has (relabel p x.equation) r ≡ has x.equation q = stands zero E in
+      let forth : has (relabel p x.constraint0) r ≡ has x.constraint0 q = stands zero C0 in
+      let back : has (relabel p x.constraint1) r ≡ has x.constraint1 q = stands zero C1 in
+      rw (equation, forth, back) refl
+
+  same_rules : (x : PlainNode) (xs : List PlainNode) → StandsAs (x ∷ xs) → rule_share r (forked_node p x) ≡ rule_share q x
+  same_rules x xs stands =
+      let first : has (relabel p x.rule0) r ≡ has x.rule0 q = stands zero R0 in
+      let second : has (relabel p x.rule1) r ≡ has x.rule1 q = stands zero R1 in
+      rw (first, second) refl
+
+  same_roles : (x : PlainNode) (xs : List PlainNode) → StandsAs (x ∷ xs) → roles_in r (forked_node p x) ≡ roles_in q x
+  same_roles x xs stands =
+      let equation : has (relabel p x.equation) r ≡ has x.equation q = stands zero E in
+      let first : has (relabel p x.rule0) r ≡ has x.rule0 q = stands zero R0 in
+      let second : has (relabel p x.rule1) r ≡ has x.rule1 q = stands zero R1 in
+      rw (equation, first, second) refl
+
+  open_kept : (xs : List PlainNode) → StandsAs xs → open_sizes (map (forked_node p) xs) r ≡ open_sizes xs q
+  open_kept [] stands = refl
+  open_kept (x ∷ xs) stands =
+      sum_by-cons (open_share r) (forked_node p x) (map (forked_node p) xs)
+      ∙ ap₂ (λ (m n : ℕ). m + n) (same_open x xs stands) (open_kept xs (λ n. stands (suc n))) ∙ sym (sum_by-cons (open_share q) x xs)
+
+  rules_kept : (xs : List PlainNode) → StandsAs xs → rule_sizes (map (forked_node p) xs) r ≡ rule_sizes xs q
+  rules_kept [] stands = refl
+  rules_kept (x ∷ xs) stands =
+      sum_by-cons (rule_share r) (forked_node p x) (map (forked_node p) xs)
+      ∙ ap₂ (λ (m n : ℕ). m + n) (same_rules x xs stands) (rules_kept xs (λ n. stands (suc n))) ∙ sym (sum_by-cons (rule_share q) x xs)
+
+  roles_kept : (xs : List PlainNode) → StandsAs xs → (n : ℕ) → roles_at (map (forked_node p) xs) n r ≡ roles_at xs n q
+  roles_kept [] stands n = refl
+  roles_kept (x ∷ xs) stands zero = same_roles x xs stands
+  roles_kept (x ∷ xs) stands (suc n) = roles_kept xs (λ m. stands (suc m)) n
+
+-- the account is right after the fork for who stands as its process did
+account_forked : (p r : Name) (xs : List PlainNode) (a : Account) → StandsAs p a.sizes.process r xs → IsAccountOf xs a → IsAccountOf (map (forked_node p) xs) (renamed r a)
+account_forked p r xs a stands right =
+    let q = a.sizes.process in
+    record {
+      sizes = record { open_is = right.sizes.open_is ∙ sym (open_kept p q r xs stands); rules_is = right.sizes.rules_is ∙ sym (rules_kept p q r xs stands) };
+      roles = λ n i. right.roles n i ∙ sym (roles_kept p q r xs stands n);
+    }
+
+-- ---- the others
 
 module _ (p q : Name) (apart : is_apart p q ≡ true) where
   parts : (x y z : Bool) → (not x && (not y && not z)) ≡ true → (x ≡ false) × (y ≡ false) × (z ≡ false)
@@ -23,37 +83,32 @@ module _ (p q : Name) (apart : is_apart p q ≡ true) where
       let h = parts (name_eq q p) (name_eq q (child p false)) (name_eq q (child p true)) apart in
       relabel-other p q l h.0 h.1 h.2
 
-  same_open : (x : PlainNode) → open_share q (forked_node p x) ≡ open_share q x
-  same_open x = rw (named x.equation, named x.constraint0, named x.constraint1) refl
-
-  same_rules : (x : PlainNode) → rule_share q (forked_node p x) ≡ rule_share q x
-  same_rules x = rw (named x.rule0, named x.rule1) refl
-
-  same_roles : (x : PlainNode) → roles_in q (forked_node p x) ≡ roles_in q x
-  same_roles x = rw (named x.equation, named x.rule0, named x.rule1) refl
-
-  open_kept : (xs : List PlainNode) → open_sizes (map (forked_node p) xs) q ≡ open_sizes xs q
-  open_kept [] = refl
-  open_kept (x ∷ xs) = sum_by-cons (open_share q) (forked_node p x) (map (forked_node p) xs) ∙ ap₂ (λ (m n : ℕ). m + n) (same_open x) (open_kept xs) ∙ sym (sum_by-cons (open_share q) x xs)
-
-  rules_kept : (xs : List PlainNode) → rule_sizes (map (forked_node p) xs) q ≡ rule_sizes xs q
-  rules_kept [] = refl
-  rules_kept (x ∷ xs) = sum_by-cons (rule_share q) (forked_node p x) (map (forked_node p) xs) ∙ ap₂ (λ (m n : ℕ). m + n) (same_rules x) (rules_kept xs) ∙ sym (sum_by-cons (rule_share q) x xs)
-
-  roles_kept : (xs : List PlainNode) (n : ℕ) → roles_at (map (forked_node p) xs) n q ≡ roles_at xs n q
-  roles_kept [] n = refl
-  roles_kept (x ∷ xs) zero = same_roles x
-  roles_kept (x ∷ xs) (suc n) = roles_kept xs n
-
--- an account of a process apart is right after the fork
-account_kept : (p : Name) (xs : List PlainNode) (a : Account) → IsApart p a → IsAccountOf xs a → IsAccountOf (map (forked_node p) xs) a
-account_kept p xs a apart right =
-    let q = a.sizes.process in
-    record {
-      sizes = record { open_is = right.sizes.open_is ∙ sym (open_kept p q apart xs); rules_is = right.sizes.rules_is ∙ sym (rules_kept p q apart xs) };
-      roles = λ n i. right.roles n i ∙ sym (roles_kept p q apart xs n);
-    }
-
--- and so are all that were set aside
+-- the accounts of processes apart are right after the fork
 pub accounts_kept : (p : Name) (xs : List PlainNode) (accounts : List Account) → All (IsApart p) accounts → All (IsAccountOf xs) accounts → All (IsAccountOf (map (forked_node p) xs)) accounts
-accounts_kept p xs accounts apart right = λ k d h. account_kept p xs (get_or accounts k d) (apart k d h) (right k d h)
+accounts_kept p xs accounts apart right = λ k d h.
+    let a = get_or accounts k d in
+    account_forked p a.sizes.process xs a (λ n j. named p a.sizes.process (apart k d h) (label_at xs n j)) (right k d h)
+
+-- ---- the children
+
+-- the account of p is that of its children
+pub account_inherited : (p : Name) (xs : List PlainNode) (a : Account) → a.sizes.process ≡ p → InheritNodes p xs → IsAccountOf xs a → (bit : Bool) → IsAccountOf (map (forked_node p) xs) (renamed (child p bit) a)
+account_inherited p xs a own inherit right bit = account_forked p (child p bit) xs a (λ n k. inherit n k bit ∙ ap (has (label_at xs n k)) (sym own)) right
+
+-- children inherit a label in which their parent stands
+pub inherits_named : (p : Name) (l : List Name) → has l p ≡ true → Inherits p l
+inherits_named p l stands bit = has-relabel p (child p bit) l stands ∙ first bit ∙ sym stands
+  where
+    first : (b : Bool) → (name_eq (child p b) (child p false) || (name_eq (child p b) (child p true) || (not (name_eq (child p b) p) && has l (child p b)))) ≡ true
+    first false = rw name_eq-refl refl
+    first true =
+        let q = child p true in
+        ap (λ (b : Bool). name_eq q (child p false) || (b || (not (name_eq q p) && has l q))) (name_eq-refl q) ∙ or-true (name_eq q (child p false))
+
+-- and one in which neither it nor they do
+pub inherits_absent : (p : Name) (l : List Name) → has l p ≡ false → has l (child p false) ≡ false → has l (child p true) ≡ false → Inherits p l
+inherits_absent p l none left right bit = ap (λ m. has m (child p bit)) (relabel-absent p l none) ∙ either bit ∙ sym none
+  where
+    either : (b : Bool) → has l (child p b) ≡ false
+    either false = left
+    either true = right

@@ -21,3 +21,4 @@ pub mod Apart
 pub mod Placing
 pub mod RulesKept
 pub mod RowKept
+pub mod Edited

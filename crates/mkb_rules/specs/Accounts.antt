@@ -1,7 +1,8 @@
 -- Accounts of processes, as they are kept.
-use Rattle.std.specs.Prelude.{◌≡◌, List, [], Bool, true, false, not, ◌&&◌}
-use Rattle.kb_label.specs.Names.{Name, name_eq, child}
-use Rattle.mkb_model.specs.Plain.{PlainNode}
+use Rattle.std.specs.Prelude.{ℕ, ◌≡◌, List, [], Bool, true, false, not, ◌&&◌, All, IfSome}
+use Rattle.kb_label.specs.Names.{Name, has, name_eq, child, relabel}
+use Rattle.kb_node.specs.declared.node.LabelKind.{LabelKind}
+use Rattle.mkb_model.specs.Plain.{PlainNode, label_at}
 use Rattle.mkb_rules.specs.Roles.{AreRolesOf}
 use Rattle.mkb_rules.specs.Sizes.{AreSizesOf}
 use Rattle.mkb_rules.specs.declared.account.Account.{Account}
@@ -10,6 +11,22 @@ use Rattle.mkb_rules.specs.declared.account.Account.{Account}
 pub record IsAccountOf (xs : List PlainNode) (a : Account) : Type 0 where
   pub sizes : AreSizesOf xs a.sizes
   pub roles : AreRolesOf xs a.sizes.process a.roles
+
+-- the same account under another name
+abbrev pub renamed : Name → Account → Account
+renamed q a = record { sizes = record a.sizes { process = q }; roles = a.roles }
+
+-- these are the children of p
+abbrev pub HasChildren : Name → Name → Name → Type 0
+HasChildren p left right = (left ≡ child p false) × (right ≡ child p true)
+
+-- the children of p stand in the label after the fork of p if p stood in it before
+abbrev pub Inherits : Name → List Name → Type 0
+Inherits p l = (bit : Bool) → has (relabel p l) (child p bit) ≡ has l p
+
+-- in each label of the nodes they do
+abbrev pub InheritNodes : Name → List PlainNode → Type 0
+InheritNodes p xs = (n : ℕ) (k : LabelKind) → Inherits p (label_at xs n k)
 
 -- q is neither p nor a child of it
 abbrev pub is_apart : Name → Name → Bool

@@ -12,3 +12,4 @@ pub mod Sizes
 pub mod Roles
 pub mod Accounts
 pub mod Overlapped
+pub mod SetAside

@@ -2,7 +2,7 @@
 ghost use Rattle.std.specs.Prelude.{◌≡◌, ◌+◌, ◌<◌, ◌≤◌, ◌&&◌, ◌++◌, ◌∷◌, [], List, length, All, IfOk, IfSome, IsTrue};
 ghost use Rattle.kb_label.specs.Names.{has};
 ghost use Rattle.kb_node.specs.Labelled.{with_label_at};
-ghost use Rattle.mkb_rules.specs.Accounts.{IsAccountOf, IsBare};
+ghost use Rattle.mkb_rules.specs.Accounts.{renamed, IsAccountOf, IsBare};
 ghost use Rattle.mkb_model.specs.Plain.{PlainNode};
 ghost use Rattle.mkb_rules.specs.Parts.{plain_nodes};
 ghost use Rattle.mkb_rules.specs.Roles.{no_roles, roles_at, with_role_at, AreRolesOf};
@@ -39,6 +39,31 @@ impl Account {
             }
             None => false,
         }
+    }
+
+    /// The same account under the name of another process.
+    pub(crate) fn renamed(self, p: &Process) -> Account
+        ensures { result ≡ renamed p.now self }
+    {
+        let Account { sizes, roles } = self;
+        Account {
+            sizes: sizes.renamed(p),
+            roles,
+        }
+    }
+
+    /// A copy of the account under the name of another process.
+    ///
+    /// # Errors
+    ///
+    /// Want of memory.
+    pub(crate) fn copy_for(&self, p: &Process) -> Result<Account, AllocError>
+        ensures { IfOk result (λ a. a ≡ renamed p.now self.now) }
+    {
+        Ok(Account {
+            sizes: self.sizes.renamed(p),
+            roles: self.roles.copy()?,
+        })
     }
 
     /// The account notes that nobody has the new node, the last one, where there is room for that.

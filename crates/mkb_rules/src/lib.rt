@@ -12,6 +12,7 @@ mod opening;
 mod role_row;
 mod roles;
 mod row;
+mod set_aside;
 mod sizes;
 mod sleepers;
 mod state;

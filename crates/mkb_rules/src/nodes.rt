@@ -4,15 +4,17 @@ ghost use Rattle.mkb_model.specs.Plain.{label_at};
 ghost use Rattle.mkb_model.specs.Effects.{with_label, with_node, node_of, is_present, most_nodes, gains as with_gain, loses as with_loss, gains_equation as with_equation, gains_rule as with_rule};
 ghost use Rattle.kb_label.specs.Names.{minus};
 ghost use Rattle.mkb_rules.specs.Parts.{plain_nodes};
-ghost use Rattle.mkb_rules.specs.Accounts.{IsAccountOf, IsApart};
+ghost use Rattle.mkb_rules.specs.Accounts.{IsAccountOf};
 ghost use Rattle.mkb_rules.specs.Nodes.{put_back};
 ghost use Rattle.mkb_rules.specs.Roles.{AreRolesOf};
+ghost use Rattle.mkb_rules.specs.SetAside.{AreSetAside};
 ghost use Rattle.mkb_rules.specs.Sizes.{is_dead_at, AreAlive, AreSizesOf};
 
 use crate::account::Account;
 use crate::effects::label::rule_kind;
 use crate::labels::{copy_of, joined};
 use crate::role_row::RoleRow;
+use crate::set_aside::SetAside;
 use crate::sizes::Sizes;
 use crate::tracked::Tracked;
 use kb_label::{Labels, ListLabels, MAX_BITS, NameLog, Process};
@@ -97,12 +99,11 @@ impl Nodes {
         self.table.keep_accounts(log);
     }
 
-    /// Sets aside what is kept of this of all processes but this one and its children, of which nothing is kept from here on.
-    pub(crate) fn set_aside(&mut self, p: &Process) -> Vec<Account>
+    /// Sets what is kept of this aside for a fork of the process. Nothing is kept from here on.
+    pub(crate) fn set_aside(&mut self, p: &Process) -> SetAside
         requires { length p.now < MAX_BITS }
         ensures same { self.new ≡ self.old }
-        ensures right { All (IsAccountOf self.old.now) result.items }
-        ensures apart { All (IsApart p.now) result.items }
+        ensures right { AreSetAside self.old.now p.now result }
     {
         self.table.set_aside(p)
     }

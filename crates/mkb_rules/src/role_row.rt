@@ -1,5 +1,5 @@
 // How a process has nodes, with lists of those that it has and of its rules.
-ghost use Rattle.std.specs.Prelude.{◌≡◌, ◌<◌, ◌≤◌, ◌++◌, ◌∷◌, [], ℕ, Bool, List, length, filter, map, set, IfSome, OnOk, OnErr};
+ghost use Rattle.std.specs.Prelude.{◌≡◌, ◌<◌, ◌≤◌, ◌++◌, ◌∷◌, [], ℕ, Bool, List, length, filter, map, option_map, set, IfOk, IfSome, OnOk, OnErr};
 ghost use Rattle.std.specs.List.{flat_map};
 ghost use Rattle.kb_term.specs.declared.origin.RuleRef.{RuleRef as Reference};
 ghost use Rattle.kb_node.specs.declared.node.NodeId.{NodeId as Numbered};
@@ -45,6 +45,22 @@ impl RoleRow {
             held: Some(Vec::new(alloc)),
             rules: Some(Vec::new(alloc)),
         }
+    }
+
+    /// The same again.
+    ///
+    /// # Errors
+    ///
+    /// Want of memory.
+    pub(crate) fn copy(&self) -> Result<RoleRow, AllocError>
+        ensures { IfOk result (λ row. row ≡ self.now) }
+    {
+        let alloc = *self.roles.allocator();
+        Ok(RoleRow {
+            roles: Vec::from_slice(alloc, self.roles.as_slice())?,
+            held: copied(alloc, &self.held)?,
+            rules: copied(alloc, &self.rules)?,
+        })
     }
 
     /// How it has each of the nodes.
@@ -113,6 +129,16 @@ impl RoleRow {
         self.held = held_more(self.held.take(), n, roles);
         self.rules = rules_more(self.rules.take(), n, roles);
         Ok(())
+    }
+}
+
+// The same list again, where there is one.
+fn copied<T: Copy>(alloc: Global, list: &Option<Vec<T>>) -> Result<Option<Vec<T>>, AllocError>
+    ensures { IfOk result (λ copy. option_map (λ l. l.items) copy ≡ option_map (λ l. l.items) list.now) }
+{
+    match list {
+        Some(list) => Ok(Some(Vec::from_slice(alloc, list.as_slice())?)),
+        None => Ok(None),
     }
 }
 

@@ -30,6 +30,16 @@ impl Sizes {
         }
     }
 
+    /// The same for another process.
+    pub(crate) fn renamed(&self, p: &Process) -> Sizes
+        ensures { result ≡ record self.now { process = p.now } }
+    {
+        Sizes {
+            process: *p,
+            ..*self
+        }
+    }
+
     /// What the process pays after a label of this kind of a node of this size has changed; none where the number is too
     /// great for its type.
     pub(crate) fn moved(&self, kind: LabelKind, size: u32, had: bool, has: bool) -> Option<Sizes>

@@ -3,13 +3,15 @@ ghost use Rattle.std.specs.Prelude.{◌≡◌, ℕ, List, [], Some, ◌+◌, ◌
 ghost use Rattle.kb_node.specs.Labelled.{label_in, with_label_at, HasPair, LacksPair, AddsNode};
 ghost use Rattle.kb_label.specs.Names.{Name};
 ghost use Rattle.mkb_rules.specs.Parts.{plain_nodes};
-ghost use Rattle.mkb_rules.specs.Accounts.{IsAccountOf, IsApart};
+ghost use Rattle.mkb_rules.specs.Accounts.{IsAccountOf};
 ghost use Rattle.mkb_rules.specs.Roles.{AreRolesOf};
+ghost use Rattle.mkb_rules.specs.SetAside.{AreSetAside};
 ghost use Rattle.mkb_rules.specs.Sizes.{is_dead_at, AreAlive, AreSizesOf};
 
 use crate::account::{Account, account_of, follow, follow_new};
 use crate::marks::Marks;
 use crate::role_row::RoleRow;
+use crate::set_aside::SetAside;
 use crate::sizes::Sizes;
 use kb_label::{Labels, ListLabels, MAX_BITS, NameLog, Process};
 use kb_node::{LabelKind, MAX_NODES, NodeFault, NodeId, NodeTable};
@@ -168,21 +170,15 @@ impl Tracked {
         }
     }
 
-    /// Sets aside the accounts of all processes but this one and its children, of which none is kept from here on.
-    pub(crate) fn set_aside(&mut self, p: &Process) -> Vec<Account>
+    /// Sets the accounts aside for a fork of the process. None is kept from here on.
+    pub(crate) fn set_aside(&mut self, p: &Process) -> SetAside
         requires { length p.now < MAX_BITS }
         ensures same { self.new ≡ self.old }
-        ensures right { All (IsAccountOf (plain_nodes self.old)) result.items }
-        ensures apart { All (IsApart p.now) result.items }
+        ensures right { AreSetAside (plain_nodes self.old) p.now result }
     {
-        let (left, right) = (p.child(false), p.child(true));
         let alloc = *self.accounts.allocator();
-        let mut accounts = replace(&mut self.accounts, Vec::new(alloc));
-        accounts.retain(|account| {
-            let q = &account.sizes.process;
-            q != p && q != &left && q != &right
-        });
-        accounts
+        let accounts = replace(&mut self.accounts, Vec::new(alloc));
+        SetAside::for_fork_of(p, accounts)
     }
 
     /// These accounts are kept from here on.

@@ -4,6 +4,8 @@ ghost use Rattle.kb_label.specs.Names.{child, has, relabel};
 ghost use Rattle.mkb_model.specs.Plain.{label_at};
 ghost use Rattle.mkb_model.specs.Effects.{certify_in, counted, forked_certificates, forked_node, oriented, with_label};
 ghost use Rattle.mkb_model.specs.declared.proposed.Proposed.TheVariants.{Both};
+ghost use Rattle.kb_node.specs.declared.node.LabelKind.{LabelKind};
+ghost use Rattle.mkb_rules.specs.Accounts.{HasChildren, Inherits};
 ghost use Rattle.mkb_rules.specs.Applying.{Commits, HasBudget};
 ghost use Rattle.mkb_rules.specs.Forking.{forked_done, forked_over, fork_at, relabelled_lists, with_parts, IsForkOf};
 ghost use Rattle.mkb_rules.specs.Kept.{plain_certificates, plain_done};
@@ -33,6 +35,15 @@ pub(crate) struct Forked {
     over: GivenUp,
     asleep: Sleepers,
     certificates: Vec<Certified>,
+}
+
+// A process that forks, and its children.
+#[derive(Drop)]
+struct Fork<'a> {
+    log: &'a NameLog,
+    process: &'a Process,
+    left: Process,
+    right: Process,
 }
 
 impl State {
@@ -369,7 +380,8 @@ fn fork_and_orient(
     orient_nodes(nodes, log, RuleRef { node: n.0, dir: 1 }, right)
 }
 
-// In each label the children of the process stand in its place. What is kept of the other processes stays as it is.
+// In each label the children of the process stand in its place. What is kept of the processes is kept on; where the children
+// stand wherever the process stood, and nowhere else, what was kept of it is kept of them.
 fn fork_nodes(
     alloc: Global,
     nodes: &mut Nodes,
@@ -380,55 +392,70 @@ fn fork_nodes(
     ensures ok { OnOk result (nodes.new.now ≡ map (forked_node p.now) nodes.old.now) }
     ensures before { nodes.new.before ≡ nodes.old.before }
 {
-    let apart = nodes.set_aside(p);
+    let accounts = nodes.set_aside(p);
+    let fork = Fork {
+        log,
+        process: p,
+        left: p.child(false),
+        right: p.child(true),
+    };
+    let mut all_inherit = true;
     let count = node_count(nodes);
     for i in 0..count {
-        fork_node(alloc, nodes, log, p, NodeId(i as u16))?;
+        let inherit = fork_node(alloc, nodes, &fork, NodeId(i as u16))?;
+        all_inherit &= inherit;
     }
-    nodes.take_back(apart);
+    nodes.take_back(accounts.after_fork_of(p, all_inherit));
     Ok(())
 }
 
-// In each label of the node the children of the process stand in its place.
+// In each label of the node the children of the process stand in its place. Whether they then stand wherever it stood, and nowhere
+// else.
 #[tactic(auto, using(crate::proofs::Relabelled::length_with))]
-fn fork_node(
-    alloc: Global,
-    nodes: &mut Nodes,
-    log: &NameLog,
-    p: &Process,
-    n: NodeId,
-) -> Result<(), AllocError>
-    requires short { length p.now < MAX_BITS }
+fn fork_node(alloc: Global, nodes: &mut Nodes, fork: &Fork, n: NodeId) -> Result<bool, AllocError>
+    requires short { length fork.now.process.now < MAX_BITS }
+    requires children { HasChildren fork.now.process.now fork.now.left fork.now.right }
     requires there { n.0 < length nodes.old.now }
-    ensures ok { OnOk result (nodes.new.now ≡ fork_at p.now n.0 nodes.old.now) }
+    ensures ok { OnOk result (nodes.new.now ≡ fork_at fork.now.process.now n.0 nodes.old.now) }
+    ensures inherit { IfOk result (λ t. IsTrue t → (k : LabelKind) → Inherits fork.now.process.now (label_at nodes.old.now n.0 k)) }
     ensures before { nodes.new.before ≡ nodes.old.before }
 {
-    fork_label(alloc, nodes, log, p, n, LabelKind::R0)?;
-    fork_label(alloc, nodes, log, p, n, LabelKind::R1)?;
-    fork_label(alloc, nodes, log, p, n, LabelKind::E)?;
-    fork_label(alloc, nodes, log, p, n, LabelKind::C0)?;
-    fork_label(alloc, nodes, log, p, n, LabelKind::C1)?;
-    fork_label(alloc, nodes, log, p, n, LabelKind::X)
+    let first = fork_label(alloc, nodes, fork, n, LabelKind::R0)?;
+    let second = fork_label(alloc, nodes, fork, n, LabelKind::R1)?;
+    let third = fork_label(alloc, nodes, fork, n, LabelKind::E)?;
+    let fourth = fork_label(alloc, nodes, fork, n, LabelKind::C0)?;
+    let fifth = fork_label(alloc, nodes, fork, n, LabelKind::C1)?;
+    let sixth = fork_label(alloc, nodes, fork, n, LabelKind::X)?;
+    Ok(first & second & third & fourth & fifth & sixth)
 }
 
-// In one label of the node the children of the process stand in its place.
+// In one label of the node the children of the process stand in its place. Whether they then stand there if it stood there.
 fn fork_label(
     alloc: Global,
     nodes: &mut Nodes,
-    log: &NameLog,
-    p: &Process,
+    fork: &Fork,
     n: NodeId,
     kind: LabelKind,
-) -> Result<(), AllocError>
-    requires short { length p.now < MAX_BITS }
+) -> Result<bool, AllocError>
+    requires short { length fork.now.process.now < MAX_BITS }
+    requires children { HasChildren fork.now.process.now fork.now.left fork.now.right }
     requires there { n.0 < length nodes.old.now }
-    ensures ok { OnOk result (nodes.new.now ≡ with_label n.0 kind (relabel p.now (label_at nodes.old.now n.0 kind)) nodes.old.now) }
+    ensures ok { OnOk result (nodes.new.now ≡ with_label n.0 kind (relabel fork.now.process.now (label_at nodes.old.now n.0 kind)) nodes.old.now) }
+    ensures inherit { IfOk result (λ t. IsTrue t → Inherits fork.now.process.now (label_at nodes.old.now n.0 kind)) }
     ensures before { nodes.new.before ≡ nodes.old.before }
 {
     let old = node_label(nodes, n, kind);
-    if !old.has(log, p) {
-        return Ok(());
+    if !old.has(fork.log, fork.process) {
+        return Ok(is_without_children(old, fork));
     }
-    let label = relabelled(alloc, log, old, p)?;
-    nodes.set(log, n, kind, label)
+    let label = relabelled(alloc, fork.log, old, fork.process)?;
+    nodes.set(fork.log, n, kind, label)?;
+    Ok(true)
+}
+
+// Whether the label names no child.
+fn is_without_children(label: &ListLabels, fork: &Fork) -> bool
+    ensures { IsTrue result → (has label.now fork.now.left ≡ false) × (has label.now fork.now.right ≡ false) }
+{
+    !label.has(fork.log, &fork.left) && !label.has(fork.log, &fork.right)
 }
