@@ -1,10 +1,11 @@
 // The state: the board without flight and journal.
-ghost use Rattle.std.specs.Prelude.{◌≡◌, ◌<◌, ◌&&◌, [], ◌∷◌, length, map, Some, IfSome, IsSome, MatchOption};
-ghost use Rattle.kb_label.specs.Names.{add, has, minus, name_eq};
+ghost use Rattle.std.specs.Prelude.{◌≡◌, ◌<◌, ◌&&◌, [], ◌∷◌, length, map, not, Some, IfSome, IsSome, MatchOption};
+ghost use Rattle.std.specs.List.{list_any};
+ghost use Rattle.kb_label.specs.Names.{add, has, is_empty, minus, name_eq};
 ghost use Rattle.kb_node.specs.declared.node.LabelKind.TheVariants.{X};
 ghost use Rattle.kb_node.specs.declared.node.NodeId.{NodeId as Numbered};
 ghost use Rattle.mkb_model.specs.Jobs.{ref_eq, ref_le};
-ghost use Rattle.mkb_model.specs.Plain.{cost, known, done_in, done_of, label, over_reason, certificate_of, rules_of};
+ghost use Rattle.mkb_model.specs.Plain.{GivenUp as OverFor, cost, known, done_in, done_of, label, over_reason, certificate_of, rules_of};
 ghost use Rattle.mkb_rules.specs.Parts.{plain_nodes};
 ghost use Rattle.mkb_rules.specs.Overlapped.{is_overlapped};
 ghost use Rattle.mkb_rules.specs.Roles.{AreRolesOf, held_by, held_of, rules_by};
@@ -241,6 +242,20 @@ impl State {
         self.closed.has(&self.log, p)
     }
 
+    /// Whether some process is closed. It takes constant time.
+    pub fn has_closed(&self) -> bool
+        ensures { result ≡ not (is_empty self.now.closed) }
+    {
+        !self.closed.is_empty(&self.log)
+    }
+
+    /// Whether some process gave up. It takes constant time.
+    pub fn has_over(&self) -> bool
+        ensures { result ≡ list_any (λ (g : OverFor). not (is_empty g.names)) self.now.over }
+    {
+        self.over.has_any(&self.log)
+    }
+
     /// Why a process gave up; none where it did not.
     pub fn over(&self, p: &Process) -> Option<Reason>
         ensures { result ≡ over_reason self.now p.now }
@@ -305,6 +320,18 @@ impl GivenUp {
             variables: ListLabels::new(alloc),
             steps: ListLabels::new(alloc),
         }
+    }
+
+    /// Whether some process gave up for one of the six reasons. It takes constant time.
+    pub(crate) fn has_any(&self, log: &NameLog) -> bool
+        ensures { result ≡ list_any (λ (g : OverFor). not (is_empty g.names)) (lists_of self.now) }
+    {
+        !self.nodes.is_empty(log)
+            || !self.processes.is_empty(log)
+            || !self.size.is_empty(log)
+            || !self.depth.is_empty(log)
+            || !self.variables.is_empty(log)
+            || !self.steps.is_empty(log)
     }
 
     /// The reason for which a process gave up, the first of the six.
