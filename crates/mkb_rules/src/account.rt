@@ -76,11 +76,11 @@ impl Account {
     }
 }
 
-/// The accounts follow a label that is put into the table; where a number is too great, none is kept.
+/// The accounts follow a label that is put into the table; where a number is too great, none is kept. They stand in the order of
+/// names, so each is found in the labels without a search.
 pub(crate) fn follow(
     accounts: &mut Vec<Account>,
     table: &NodeTable<ListLabels>,
-    log: &NameLog,
     n: NodeId,
     kind: LabelKind,
     label: &ListLabels,
@@ -91,9 +91,11 @@ pub(crate) fn follow(
 {
     let size = table.size(n);
     let old = table.label(n, kind);
+    let mut in_old = 0;
+    let mut in_new = 0;
     for i in 0..accounts.len() {
-        let had = old.has(log, &accounts[i].sizes.process);
-        let has = label.has(log, &accounts[i].sizes.process);
+        let had = old.has_from(&accounts[i].sizes.process, &mut in_old);
+        let has = label.has_from(&accounts[i].sizes.process, &mut in_new);
         if !accounts[i].follow(n, kind, size, had, has) {
             accounts.clear();
             return;

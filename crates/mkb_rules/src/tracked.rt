@@ -97,7 +97,7 @@ impl Tracked {
         ensures old { option_map (λ node. label_in node kind) (slice_get self.old n.0) ≡ Some result }
         ensures new { self.new ≡ with_label_at self.old n.0 kind label }
     {
-        follow(&mut self.accounts, &self.table, log, n, kind, &label);
+        follow(&mut self.accounts, &self.table, n, kind, &label);
         let replaced = self.table.set_label(n, kind, label);
         let is_dead = self.table.is_dead(log, n);
         self.used.set(n, !is_dead);

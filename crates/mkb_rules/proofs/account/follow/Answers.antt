@@ -32,8 +32,8 @@ loop-i-preserved c =
     let size = plain-size c.args.table.now n c.size-size.result c.size-size.ensures.size in
     let same : c.index.result.now.sizes.process ≡ s.sizes.process = ap (λ (z : Account). z.sizes.process) (c.index.ensures ∙ get_or_default now i c.index.result.now s inside ∙ sym c.index_mut.ensures.value) in
     let same-2 : c.index-in-loop-i.result.now.sizes.process ≡ s.sizes.process = ap (λ (z : Account). z.sizes.process) (c.index-in-loop-i.ensures ∙ get_or_default now i c.index-in-loop-i.result.now s inside ∙ sym c.index_mut.ensures.value) in
-    let before : c.has-had.result ≡ has (label_at xs n k) s.sizes.process = c.has-had.ensures ∙ ap₂ has (plain-label c.args.table.now n k c.label-old.result.now c.label-old.ensures) same in
-    let after : c.has-has.result ≡ has l s.sizes.process = c.has-has.ensures ∙ ap (has l) same-2 in
+    let before : c.has_from-had.result ≡ has (label_at xs n k) s.sizes.process = c.has_from-had.ensures ∙ ap₂ has (plain-label c.args.table.now n k c.label-old.result.now c.label-old.ensures) same in
+    let after : c.has_from-has.result ≡ has l s.sizes.process = c.has_from-has.ensures ∙ ap (has l) same-2 in
     let done = c.if-not-follow.false in
     let first : t.sizes.open_sizes + size_if (is_open_kind k && has (label_at xs n k) s.sizes.process) (size_at xs n) ≡ s.sizes.open_sizes + size_if (is_open_kind k && has l s.sizes.process) (size_at xs n) =
     ap₂ (λ (b : Bool) z. t.sizes.open_sizes + size_if (is_open_kind k && b) z) (sym before) (sym size) ∙ c.follow.ensures.open done ∙ ap₂ (λ (b : Bool) z. s.sizes.open_sizes + size_if (is_open_kind k && b) z) after size in
