@@ -1,6 +1,5 @@
 -- What is kept of processes after a fork: of the others as before, of the children what was kept of the process that forks.
-use Rattle.std.proofs.Common.{ℕ, zero, suc, ◌+◌, ◌≡◌, refl, sym, ap, ap₂, ◌∙◌, subst, List, [], ◌∷◌, map, get_or, Bool, true, false, not, ◌&&◌, ◌||◌, All}
-use Rattle.std.specs.Prelude.{sum_by}
+use Rattle.std.proofs.Common.{ℕ, zero, suc, ◌+◌, ◌≡◌, refl, sym, ap, ap₂, ◌∙◌, List, [], ◌∷◌, map, get_or, Bool, true, false, not, ◌&&◌, ◌||◌, All}
 use Rattle.std.proofs.Math.Bool.{or-true}
 use Rattle.std.proofs.lemmas.List.Sums.{sum_by-cons}
 use Rattle.kb_label.specs.Names.{Name, has, name_eq, child, relabel}
@@ -13,7 +12,7 @@ use Rattle.mkb_model.specs.Effects.{forked_node}
 use Rattle.mkb_model.proofs.Roles.{relabel-other}
 use Rattle.mkb_rules.specs.Accounts.{renamed, Inherits, InheritNodes, IsAccountOf, IsApart, is_apart}
 use Rattle.mkb_rules.specs.Roles.{roles_in, roles_at}
-use Rattle.mkb_rules.specs.Sizes.{open_share, rule_share, open_sizes, rule_sizes, size_if}
+use Rattle.mkb_rules.specs.Sizes.{open_share, rule_share, open_sizes, rule_sizes}
 use Rattle.mkb_rules.specs.declared.account.Account.{Account}
 
 -- ---- who stands in labels after a fork of p as another one did before

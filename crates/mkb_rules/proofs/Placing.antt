@@ -1,16 +1,15 @@
 -- Lists that are kept in the order of their numbers, when an element comes or goes.
 use Rattle.std.proofs.lemmas.Bool.{eqb-true}
-use Rattle.std.proofs.Common.{ℕ, zero, suc, ◌+◌, ◌<◌, ◌≤◌, ◌≡◌, refl, sym, ap, ap₂, ◌∙◌, subst, arith, List, [], ◌∷◌, length, map, filter, get_or, cond, Bool, true, false}
+use Rattle.std.proofs.Common.{ℕ, zero, suc, ◌<◌, ◌≤◌, ◌≡◌, refl, sym, ap, ap₂, ◌∙◌, subst, arith, List, [], ◌∷◌, length, map, filter, get_or, cond, Bool, true, false}
 use Rattle.std.specs.Prelude.{◌||◌, ◌&&◌, not, ◌==◌, insert, remove, Result, Ok, Err}
-use Rattle.std.specs.Ordering.{nat_cmp, ordering_index}
+use Rattle.std.specs.Ordering.{nat_cmp}
 use Rattle.std.specs.List.Sorted.{IsBinarySearchResult}
 use Rattle.std.proofs.lemmas.List.{length-map}
 use Rattle.std.proofs.lemmas.List.Edits.{length-insert}
 use Rattle.std.proofs.lemmas.List.Elements.{filter_agree, filter_passes}
 use Rattle.std.proofs.lemmas.List.Sorted.{searched}
-use mathlib.Core.Bool.{true≢false}
 use Rattle.mkb_model.specs.Plain.{numbers_from}
-use Rattle.mkb_rules.proofs.Listing.{agreeing, rising, put_in, take_out, IsPlace}
+use Rattle.mkb_rules.proofs.Listing.{rising, put_in, take_out, IsPlace}
 
 -- ---- a test that answers otherwise for one number
 

@@ -1,5 +1,5 @@
 -- Accounts of processes, as they are kept.
-use Rattle.std.specs.Prelude.{ℕ, ◌≡◌, List, [], Bool, true, false, not, ◌&&◌, All, IfSome}
+use Rattle.std.specs.Prelude.{ℕ, ◌≡◌, List, [], Bool, true, false, not, ◌&&◌}
 use Rattle.kb_label.specs.Names.{Name, has, name_eq, child, relabel}
 use Rattle.kb_node.specs.declared.node.LabelKind.{LabelKind}
 use Rattle.mkb_model.specs.Plain.{PlainNode, label_at}

@@ -1,4 +1,4 @@
-use Rattle.std.proofs.Common.{◌≡◌, rules, List, ◌∙◌, ap, sym, cond, map, ℕ}
+use Rattle.std.proofs.Common.{rules, ◌∙◌, ap, sym, cond, map}
 use Rattle.std.specs.Prelude.{insert, is_some}
 use Rattle.std.proofs.lemmas.List.Sorted.{answers_always}
 use Rattle.kb_node.specs.declared.node.NodeId.{NodeId}

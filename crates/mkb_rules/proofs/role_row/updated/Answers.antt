@@ -1,4 +1,4 @@
-use Rattle.std.proofs.Common.{◌≡◌, ◌+◌, ◌*◌, rules, List, ◌∙◌, ap, sym, cond, map, ℕ, Bool, filter, flat_map, subst}
+use Rattle.std.proofs.Common.{◌+◌, ◌*◌, rules, List, ◌∙◌, ap, sym, cond, ℕ, Bool, filter, flat_map}
 use Rattle.std.specs.Prelude.{insert, is_some}
 use Rattle.std.proofs.lemmas.List.Sorted.{answers_always}
 use Rattle.kb_term.specs.declared.origin.RuleRef.{RuleRef}

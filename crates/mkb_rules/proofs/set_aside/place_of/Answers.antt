@@ -2,7 +2,7 @@ use Rattle.std.proofs.Common.{rules, ℕ, ◌≡◌, ◌<◌, List, length, get_
 use Rattle.std.specs.Prelude.{Result, Ok, Err, IfOk}
 use Rattle.std.specs.List.Sorted.{IsBinarySearchResult, IsSearchInRange}
 use Rattle.std.proofs.lemmas.List.Sorted.{answers_always}
-use Rattle.kb_label.specs.Names.{Name, name_cmp}
+use Rattle.kb_label.specs.Names.{name_cmp}
 use Rattle.kb_label.specs.NameOrder.{name_cmp-equal}
 use Rattle.mkb_rules.specs.declared.account.Account.{Account}
 use Rattle.mkb_rules.proofs.set_aside.place_of.Goals as goal

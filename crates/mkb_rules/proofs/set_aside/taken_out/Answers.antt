@@ -1,4 +1,4 @@
-use Rattle.std.proofs.Common.{◌≡◌, ◌∙◌, List, ap, subst, sym}
+use Rattle.std.proofs.Common.{◌∙◌, List, ap, subst, sym}
 use Rattle.std.specs.Prelude.{All}
 use Rattle.mkb_rules.specs.Accounts.{IsAccountOf}
 use Rattle.mkb_rules.specs.declared.account.Account.{Account}

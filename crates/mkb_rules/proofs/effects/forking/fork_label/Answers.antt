@@ -1,4 +1,4 @@
-use Rattle.std.proofs.Common.{List, ◌≡◌, true, false, ap, sym, subst, ◌∙◌}
+use Rattle.std.proofs.Common.{List, ap, sym, ◌∙◌}
 use Rattle.kb_label.specs.Names.{Name, has}
 use Rattle.mkb_model.specs.Plain.{label_at}
 use Rattle.mkb_rules.proofs.Apart.{inherits_absent, inherits_named}

@@ -1,8 +1,7 @@
-use Rattle.std.proofs.Common.{◌≡◌, ap, ◌∙◌}
+use Rattle.std.proofs.Common.{ap, ◌∙◌}
 use Rattle.std.specs.Prelude.{◌&&◌}
 use Rattle.kb_lemmas.proofs.Booleans.{and_gives_left, and_gives_right}
 use Rattle.kb_node.specs.declared.node.LabelKind.TheVariants.{R1, E, C0, C1, X}
-use Rattle.mkb_rules.specs.Forking.{fork_at}
 use Rattle.mkb_rules.proofs.Forks.{relabel_at, six_labels, node_inherited}
 use Rattle.mkb_rules.proofs.effects.forking.fork_node.Goals as goal
 

@@ -1,8 +1,7 @@
-use Rattle.std.proofs.Common.{ℕ, suc, ◌≡◌, ◌+◌, List, map, length, All, ap, subst, sym, ◌∙◌, arith}
+use Rattle.std.proofs.Common.{ℕ, suc, ◌≡◌, ◌+◌, List, length, All, ap, subst, sym, ◌∙◌, arith}
 use Rattle.kb_label.specs.Names.{Name}
 use Rattle.kb_lemmas.proofs.Booleans.{and_gives_left, and_gives_right}
 use Rattle.mkb_model.specs.Plain.{PlainNode, label_at}
-use Rattle.mkb_model.specs.Effects.{forked_node}
 use Rattle.mkb_rules.specs.Accounts.{Inherits, IsAccountOf}
 use Rattle.mkb_rules.specs.Forking.{fork_at}
 use Rattle.mkb_rules.proofs.Forks.{fork_front, front_next, front_whole, label_front, length_front, nodes_inherited}

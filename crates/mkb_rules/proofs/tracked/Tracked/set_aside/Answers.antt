@@ -1,8 +1,4 @@
-use Rattle.std.proofs.Common.{List, sym, subst}
-use Rattle.std.specs.Prelude.{All}
-use Rattle.mkb_rules.specs.Accounts.{IsAccountOf}
 use Rattle.mkb_rules.specs.Parts.{plain_nodes}
-use Rattle.mkb_rules.specs.declared.account.Account.{Account}
 use Rattle.mkb_rules.proofs.tracked.Tracked.set_aside.Goals as goal
 
 pub returns-clause-right : goal.returns-clause-right
