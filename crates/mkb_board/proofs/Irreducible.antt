@@ -4,36 +4,27 @@ use Rattle.std.specs.Prelude.{option_map}
 use Rattle.std.specs.List.{find, list_any}
 use Rattle.std.specs.Option.{option_or}
 use Rattle.std.proofs.lemmas.List.{length-set}
-use Rattle.std.specs.List.{cons_option}
 use Rattle.std.specs.Prelude.{All}
-use Rattle.std.proofs.lemmas.List.Elements.{All-set, All-nil, All-cons, All-head, All-tail}
+use Rattle.std.proofs.lemmas.List.Elements.{All-set}
 use Rattle.std.proofs.lemmas.List.Folds.{find-append}
-use Rattle.kb_term.specs.Pair.{Pair}
-use Rattle.kb_term.specs.Rule.{Rule, rule_of}
 use Rattle.kb_term.specs.declared.origin.RuleRef.{RuleRef}
 use Rattle.kb_term.specs.declared.origin.Found.{Found}
 use Rattle.kb_term.specs.declared.origin.Found.TheVariants.{No, Variant, Strict}
 use Rattle.kb_label.specs.Names.{Name}
 use Rattle.kb_node.specs.declared.job.Fact.{Fact}
 use Rattle.mkb_model.specs.Jobs.{ref_eq}
-use Rattle.mkb_model.specs.Plain.{Plain, PlainNode, known, pair_in, rule_at, rules_at, rules_of}
-use Rattle.mkb_model.specs.Ready.{KeepsPairs}
-use Rattle.mkb_model.proofs.Commits.{pairs-applied}
-use Rattle.mkb_rules.specs.Named.{IsRuleThere}
-use Rattle.kb_jobs.specs.declared.rules.NamedRules.{NamedRules}
+use Rattle.mkb_model.specs.Plain.{Plain, known, rules_of}
 use Rattle.mkb_model.specs.DueJobs.{is_open, is_reducible}
 use Rattle.mkb_model.specs.Effects.{applied, effect, effect_label, give_up, limit_of}
 use Rattle.kb_label.specs.declared.verdict.Reason.{Reason}
 use Rattle.std.specs.Option.{option_map_or}
 use Rattle.std.proofs.lemmas.Bool.{eqb-true, or_parts, or_from}
-use Rattle.mkb_model.proofs.Views.{there_pair}
 use Rattle.kb_lemmas.proofs.Booleans.{and_gives_left, and_gives_right}
-use Rattle.kb_lemmas.proofs.Options.{none_some}
 use Rattle.mkb_model.specs.declared.proposed.Proposed.{Proposed}
 use Rattle.mkb_model.specs.declared.proposed.Proposed.TheVariants.{Facts, Rewrite, One, Both, Refuse, Deduce, Unjoined, Closed, Limit}
 use Rattle.mkb_model.proofs.Lists.{any_in, any_none, clash}
 use Rattle.mkb_rules.specs.Roles.{roles_of}
-use Rattle.mkb_board.specs.Normal.{AreAllNormal, AreNormal, HoldsRules, NoneOpens, Serves, is_open_in, is_open_to}
+use Rattle.mkb_board.specs.Normal.{AreAllNormal, AreNormal, NoneOpens, Serves, is_open_in, is_open_to}
 use Rattle.mkb_rules.specs.declared.roles.Roles.{Roles}
 use Rattle.mkb_board.specs.declared.normal.Normal.{Normal}
 use Rattle.mkb_board.proofs.Picking.{any_filter}
@@ -94,37 +85,13 @@ rule_stays b c fs e r n a h = go (not (a.node == n)) h
     go false k = refl
     go true k = any_still (λ w. is_open_in r w (known b n w a)) (λ w. is_open_in r w (known c n w a)) (0 ∷ 1 ∷ []) (λ w. side_stays b c fs e r n w a) k
 
--- ---- rules stay where they are
-
-in_range : (ys : List PlainNode) (n : ℕ) (q : Pair) → pair_in ys n ≡ Some q → n < length ys
-in_range [] n q e = none_some e
-in_range (y ∷ ys) zero q e = omega arith
-in_range (y ∷ ys) (suc n) q e = omega (arith, in_range ys n q e)
-
-module _ (b c : Plain) (keeps : KeepsPairs b.nodes c.nodes) where
-  same_rule : (a : RuleRef) → IsRuleThere b a → IsRuleThere c a × (rule_at c a ≡ rule_at b a)
-  same_rule a h =
-      let q = there_pair b.nodes a.node h.0 in
-      let there = keeps a.node q.0 q.1 in
-      ((in_range c.nodes a.node q.0 there, h.1), ap (option_map (λ (z : Pair). rule_of z a.dir)) (there ∙ sym q.1))
-
-  same_rules : (names : List RuleRef) → All (IsRuleThere b) names → All (IsRuleThere c) names × (rules_at c names ≡ rules_at b names)
-  same_rules [] h = (All-nil (IsRuleThere c), refl)
-  same_rules (a ∷ names) h =
-      let one = same_rule a (All-head (IsRuleThere b) a names h) in
-      let more = same_rules names (All-tail (IsRuleThere b) a names h) in
-      (All-cons (IsRuleThere c) a names one.0 more.0, ap₂ (λ r (rs : List Rule). cons_option r rs) one.1 more.1)
-
-  shared_stays : (o : Option NamedRules) → HoldsRules b o → HoldsRules c o
-  shared_stays None h = h
-  shared_stays (Some rs) h = let same = same_rules rs.names.items h.0 in (same.0, h.1 ∙ sym same.1)
+-- ---- what is noted stays
 
 -- what is noted holds where more facts are known
-pub normal_stays : (b c : Plain) (fs : List Fact) → c.facts ≡ b.facts ++ fs → KeepsPairs b.nodes c.nodes → (k : Normal) → AreNormal b k → AreNormal c k
-normal_stays b c fs e keeps k h = record {
+pub normal_stays : (b c : Plain) (fs : List Fact) → c.facts ≡ b.facts ++ fs → (k : Normal) → AreNormal b k → AreNormal c k
+normal_stays b c fs e k h = record {
   few = h.few;
   none = λ n r i. any_still (is_open_to b r n) (is_open_to c r n) k.rules.items (rule_stays b c fs e r n) (h.none n r i);
-  shared = shared_stays b c keeps k.shared h.shared;
 }
 
 -- a commit adds facts at the end
@@ -148,16 +115,8 @@ grown_by b (Limit j cause) None = ([], append_none b.facts)
 pub effect_facts : (b : Plain) (x : Proposed) → (fs : List Fact) × ((effect b x).facts ≡ b.facts ++ fs)
 effect_facts b x = grown_by b x (limit_of b x)
 
--- a commit keeps the pairs of the nodes
-effect_pairs : (b : Plain) (x : Proposed) → KeepsPairs b.nodes (effect b x).nodes
-effect_pairs b x = go (limit_of b x)
-  where
-    go : (o : Option Reason) → KeepsPairs b.nodes (option_map_or (λ r. give_up r (effect_label b x) b) o (applied b x)).nodes
-    go (Some r) = λ n q e. e
-    go None = pairs-applied b x
-
 pub normal_after : (b : Plain) (x : Proposed) (k : Normal) → AreNormal b k → AreNormal (effect b x) k
-normal_after b x k h = let e = effect_facts b x in normal_stays b (effect b x) e.0 e.1 (effect_pairs b x) k h
+normal_after b x k h = let e = effect_facts b x in normal_stays b (effect b x) e.0 e.1 k h
 
 -- ---- the rules that are new
 

@@ -23,3 +23,4 @@ pub mod AtRest
 pub mod Open
 pub mod Having
 pub mod NodeJobs
+pub mod Kept

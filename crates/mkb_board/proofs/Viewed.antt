@@ -92,21 +92,6 @@ named_there b (a ∷ names) h =
     go None r e ih = none_some e
     go (Some q) r e ih = ap (λ (l : List NamedRule). record { ref = a; rule = q } ∷ l) ih
 
--- there are as many rules as names
-pub as_many_there : (b : Plain) (names : List RuleRef) → All (IsRuleThere b) names → length names ≡ length (rules_at b names)
-as_many_there b [] h = refl
-as_many_there b (a ∷ names) h =
-    let r = rule_there b a (All-contains (IsRuleThere b) (a ∷ names) a h (contains_first a names)) in
-    go (rule_at b a) r.0 r.1 (as_many_there b names (all_rest (IsRuleThere b) a names h))
-  where
-    go : (o : Option Rule) (r : Rule) → o ≡ Some r → length names ≡ length (rules_at b names) → length (a ∷ names) ≡ length (cons_option o (rules_at b names))
-    go None r e ih = none_some e
-    go (Some q) r e ih = omega (arith, ih)
-
--- the rules with their names, where they are those of the names
-pub shared_there : (b : Plain) (names : List RuleRef) (rs : List Rule) → All (IsRuleThere b) names → rs ≡ rules_at b names → named names rs ≡ named_rules b names
-shared_there b names rs h e = ap (named names) e ∙ named_there b names h
-
 -- ---- one more
 
 -- the equation of one node more

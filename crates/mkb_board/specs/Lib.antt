@@ -4,3 +4,4 @@ pub mod Held
 pub mod Takes
 pub mod Snapshots
 pub mod Normal
+pub mod Shelf

@@ -1,14 +1,12 @@
 -- Nodes that are known to be reduced by none of some rules.
-use Rattle.std.specs.Prelude.{ℕ, List, [], ◌∷◌, map, Bool, true, false, ◌&&◌, ◌||◌, ◌==◌, ◌≡◌, ◌<◌, ◌≤◌, All, length, not, slice_get, Option, Some, None, ⊤}
+use Rattle.std.specs.Prelude.{ℕ, List, [], ◌∷◌, map, Bool, true, false, ◌&&◌, ◌||◌, ◌==◌, ◌≡◌, ◌<◌, ◌≤◌, All, length, not, slice_get, Option, Some, None}
 use Rattle.std.specs.List.{list_any}
 use Rattle.kb_term.specs.declared.origin.RuleRef.{RuleRef}
 use Rattle.kb_term.specs.declared.origin.Found.{Found}
 use Rattle.kb_term.specs.declared.origin.Found.TheVariants.{No, Variant, Strict}
 use Rattle.kb_label.specs.Names.{Name}
 use Rattle.kb_node.specs.declared.node.NodeId.{NodeId}
-use Rattle.mkb_model.specs.Plain.{Plain, rules_of, rules_at, known, other}
-use Rattle.mkb_rules.specs.Named.{IsRuleThere}
-use Rattle.kb_jobs.specs.declared.rules.NamedRules.{NamedRules}
+use Rattle.mkb_model.specs.Plain.{Plain, rules_of, known, other}
 use Rattle.mkb_rules.specs.Roles.{AreRolesOf, has_rule, held_of}
 use Rattle.mkb_rules.specs.declared.roles.Roles.{Roles}
 use Rattle.mkb_board.specs.declared.normal.Normal.{Normal}
@@ -32,16 +30,10 @@ is_open_to b r n a = not (a.node == n) && list_any (λ w. is_open_in r w (known 
 abbrev pub NoneOpens : Plain → List (Option Roles) → List RuleRef → Type 0
 NoneOpens b nodes rules = (n : ℕ) (r : Roles) → slice_get nodes n ≡ Some (Some r) → list_any (is_open_to b r n) rules ≡ false
 
--- the rules that are kept, if any are, are those that their names name, which are there
-abbrev pub HoldsRules : Plain → Option NamedRules → Type 0
-HoldsRules b None = ⊤
-HoldsRules b (Some rs) = All (IsRuleThere b) rs.names.items × (rs.rules ≡ rules_at b rs.names.items)
-
--- none of the rules reduces a node that is noted, and the rules that are shared are those of their names
+-- none of the rules reduces a node that is noted
 pub record AreNormal (b : Plain) (k : Normal) : Type 0 where
   pub few : length k.nodes.items ≤ 4096
   pub none : NoneOpens b k.nodes.items k.rules.items
-  pub shared : HoldsRules b k.shared
 
 -- the rules, the nodes and the roles are those of the process
 pub record Serves (b : Plain) (p : Name) (k : Normal) : Type 0 where

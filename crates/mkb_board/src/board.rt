@@ -17,6 +17,7 @@ use crate::choosing;
 use crate::cost::{cost, place_of};
 use crate::finishing::process_of;
 use crate::normal::{Normal, nothing_noted};
+use crate::shelf::Shelf;
 use crate::snapshots::named::view_of;
 use kb_cert::Certificate;
 use kb_label::{Labels, ListLabels, Living, NameLog, Process, Verdict};
@@ -41,6 +42,7 @@ pub struct Board {
     pub(crate) dropped: u64,
     pub(crate) halted: bool,
     pub(crate) normals: Vec<Normal>,
+    pub(crate) shelf: Shelf,
 }
 
 impl Model for Board {
@@ -50,6 +52,7 @@ impl Model for Board {
     ghost use Rattle.mkb_model.specs.Verdicts.{verdict as verdict_on};
     ghost use Rattle.mkb_board.specs.Boards.{Seen, seen, IsBoard, owed};
     ghost use Rattle.mkb_board.specs.Normal.{AreAllNormal};
+    ghost use Rattle.mkb_board.specs.Shelf.{HoldsRules};
 
     ghost Value = { Seen };
 
@@ -57,7 +60,7 @@ impl Model for Board {
 
     ghost view = { λ b. seen b.state b.flight.items b.journal.items };
 
-    ghost invariant = { λ b. IsBoard (seen b.state b.flight.items b.journal.items) b.taken b.dropped b.halted × (vec_len b.journal + owed (vec_len b.flight) b.halted ≤ vec_capacity b.journal) × (b.verdict ≡ verdict_on b.state) × AreAllNormal b.state b.normals.items };
+    ghost invariant = { λ b. IsBoard (seen b.state b.flight.items b.journal.items) b.taken b.dropped b.halted × (vec_len b.journal + owed (vec_len b.flight) b.halted ≤ vec_capacity b.journal) × (b.verdict ≡ verdict_on b.state) × AreAllNormal b.state b.normals.items × HoldsRules b.state b.shelf };
 }
 
 impl Board {
@@ -84,6 +87,7 @@ impl Board {
             dropped: 0,
             halted: false,
             normals,
+            shelf: Shelf::new(alloc),
         })
     }
 

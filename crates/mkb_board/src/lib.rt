@@ -13,6 +13,7 @@ mod laws;
 mod lightest;
 mod normal;
 mod settling;
+mod shelf;
 mod snapshots;
 mod taking;
 

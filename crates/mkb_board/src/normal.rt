@@ -8,18 +8,13 @@ ghost use Rattle.kb_node.specs.declared.node.NodeId.{NodeId as Numbered};
 ghost use Rattle.mkb_model.specs.Jobs.{ref_eq};
 ghost use Rattle.mkb_model.specs.Plain.{Plain, known, other, rules_of};
 ghost use Rattle.mkb_model.specs.DueJobs.{is_work_due};
-ghost use Rattle.kb_jobs.specs.Working.{IsTaken, job_of};
-ghost use Rattle.mkb_model.specs.Invariants.{FactsHold};
-ghost use Rattle.mkb_board.specs.Snapshots.{HasJobNodes, HasOrder, IsWhole};
 ghost use Rattle.mkb_rules.specs.Roles.{AreRolesOf, has_rule, held_of, roles_of};
 ghost use Rattle.mkb_board.specs.Normal.{AreAllNormal, AreNormal, NoneOpens, Serves, is_open_in, is_open_to};
 
 use crate::choosing::{is_equation, is_rule, node_count};
 use crate::due::is_same;
-use crate::snapshots::snapshot;
-use kb_jobs::{NamedRules, Snapshot};
 use kb_label::Process;
-use kb_node::{Job, NodeId};
+use kb_node::NodeId;
 use kb_term::{Found, Memory, RuleRef};
 use mkb_rules::{Roles, State};
 use std::alloc::{AllocError, Global};
@@ -106,8 +101,8 @@ fn is_among(rules: &[RuleRef], rule: RuleRef) -> bool
     false
 }
 
-/// Whether both lists are the same.
-pub(crate) fn are_same(some: &[RuleRef], others: &[RuleRef]) -> bool
+// Whether both lists are the same.
+fn are_same(some: &[RuleRef], others: &[RuleRef]) -> bool
     ensures { IsTrue result → some.now ≡ others.now }
 {
     if some.len() != others.len() {
@@ -135,7 +130,7 @@ fn fresh(alloc: Global, old: &[RuleRef], rules: &[RuleRef]) -> Result<Vec<RuleRe
 }
 
 /// Rules, and for each node the roles in which none of them is known to reduce it any more, where that is noted; and how the process
-/// that it was turned to last has the nodes, and rules that its snapshots share.
+/// that it was turned to last has the nodes.
 ///
 /// What is known of a side of a node and a rule stays known, so what is noted holds on each later board.
 #[derive(Drop)]
@@ -145,7 +140,6 @@ pub(crate) struct Normal {
     nodes: Vec<Option<Roles>>,
     roles: Vec<Roles>,
     held: Vec<NodeId>,
-    shared: Option<NamedRules>,
 }
 
 // For how many processes something is noted at once: as many as may be active and awake.
@@ -173,7 +167,6 @@ impl Normal {
             nodes: Vec::new(alloc),
             roles: Vec::new(alloc),
             held: Vec::new(alloc),
-            shared: None,
         }
     }
 
@@ -293,29 +286,6 @@ impl Normal {
         if (n.0 as usize) < self.nodes.len() {
             self.nodes[n.0 as usize] = Some(roles);
         }
-    }
-
-    /// What a job of the process reads of the board.
-    ///
-    /// # Errors
-    ///
-    /// Want of memory.
-    pub(crate) fn snapshot(
-        &mut self,
-        alloc: Global,
-        state: &State,
-        job: &Job,
-    ) -> Result<Snapshot, Memory>
-        requires there { HasJobNodes state.now job.now }
-        requires ordered { HasOrder state.now job.now }
-        requires facts { FactsHold state.now }
-        requires normal { AreNormal state.now self.old }
-        ensures normal { AreNormal state.now self.new }
-        ensures job { IfOk result (λ s. job_of s ≡ job.now) }
-        ensures taken { IfOk result (IsTaken state.now) }
-        ensures whole { IfOk result IsWhole }
-    {
-        snapshot(alloc, state, &mut self.shared, job)
     }
 
     /// Whether the process, whose rules these are, may reduce the node. Where it may not, that is noted.

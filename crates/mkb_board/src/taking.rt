@@ -9,9 +9,8 @@ ghost use Rattle.mkb_board.specs.Takes.{IsTakenBy, take_entry};
 
 use crate::answers::Taken;
 use crate::board::Board;
-use crate::cost::place_of;
-use crate::finishing::process_of;
 use crate::first::first_job;
+use crate::snapshots::snapshot;
 use kb_jobs::Snapshot;
 use kb_node::Job;
 use kb_term::Memory;
@@ -60,8 +59,7 @@ impl Board {
         ensures undecided { OnErr result (verdict self.old.plain ≡ None) }
         ensures unhalted { OnErr result (IsFalse (has_halt self.old.journal)) }
     {
-        let place = place_of(&self.state, &process_of(job)) % self.normals.len();
-        let snapshot = self.normals[place].snapshot(alloc, &self.state, job)?;
+        let snapshot = snapshot(alloc, &self.state, &mut self.shelf, job)?;
         reserve(&mut self.flight, &mut self.journal)?;
         let ticket = Ticket {
             number: self.taken + 1,

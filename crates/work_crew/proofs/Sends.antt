@@ -53,17 +53,16 @@ use Rattle.mkb_rules.specs.contracts.tracked.Tracked as Tracked
 use Rattle.mkb_rules.specs.contracts.tracked.Tracked.TheInside as TrackedInside
 use Rattle.kb_term.specs.contracts.pair.Pair as Pair
 use Rattle.kb_term.specs.contracts.problem.Problem as Problem
+use Rattle.kb_term.specs.contracts.rule.Rule as Rule
 use Rattle.kb_node.specs.contracts.job.Deduced as Deduced
 use Rattle.mkb_model.specs.contracts.proposed.DeducedList as DeducedList
 use Rattle.mkb_model.specs.contracts.proposed.Proposed as Proposed
 use Rattle.mkb_model.specs.contracts.entry.Effect as Effect
 use Rattle.mkb_model.specs.contracts.entry.Entry as Entry
 use Rattle.mkb_rules.specs.contracts.state.State as State
-use Rattle.kb_jobs.specs.contracts.rules.NamedRules as NamedRules
-use Rattle.kb_jobs.specs.contracts.rules.SharedRules as SharedRules
-use Rattle.kb_jobs.specs.contracts.rules.SharedRules.TheInside as SharedInside
 use Rattle.mkb_board.specs.contracts.board.Board as Board
 use Rattle.mkb_board.specs.contracts.normal.Normal as Normal
+use Rattle.mkb_board.specs.contracts.shelf.Shelf as Shelf
 use Rattle.turn_lock.proofs.lock.Turns.TheSendSync as turns
 use Rattle.work_crew.specs.contracts.shared.Shared as Shared
 use Rattle.work_crew.specs.contracts.together.Workplace as Workplace
@@ -140,17 +139,17 @@ state_send = view_send StateInside.the_row _ _ _ _ (recorded_send (StateInside.t
   ),
 )))
 
-pub shared_rules_send : IsSend SharedRules.the_row
-shared_rules_send = view_send SharedInside.the_row _ _ _ _ (recorded_send (SharedInside.the_field).row _ _ (SharedInside.the_type).to_one (struct_send (S.shape SharedInside.the_type) (search (sendable, crosses, term_crosses) depth 20 fits 100000, tt)))
-
-pub named_rules_send : IsSend NamedRules.the_row
-named_rules_send = recorded_send (NamedRules.the_field).row _ _ (NamedRules.the_type).to_one (struct_send (S.shape NamedRules.the_type) (search (sendable, crosses, rule_ref.the_send), (shared_rules_send, tt)))
-
 normal_send : IsSend Normal.the_row
-normal_send = search (sendable, crosses, rule_ref.the_send, roles.the_send, named_rules_send, global.the_send) depth 40 fits 100000
+normal_send = search (sendable, crosses, rule_ref.the_send, roles.the_send, global.the_send) depth 40 fits 100000
+
+rule_send : IsSend Rule.the_row
+rule_send = search (sendable, crosses, term_crosses) depth 20
+
+shelf_send : IsSend Shelf.the_row
+shelf_send = search (sendable, crosses, rule_send, global.the_send) depth 40 fits 100000
 
 pub board_send : IsSend Board.the_row
-board_send = search (sendable, crosses, state_send, entry_send, ticket.the_send, verdict.the_send, normal_send) depth 60
+board_send = search (sendable, crosses, state_send, entry_send, ticket.the_send, verdict.the_send, normal_send, shelf_send) depth 60
 
 pub shared_send : IsSend Shared.the_row
 shared_send = search (sendable, board_send) depth 20

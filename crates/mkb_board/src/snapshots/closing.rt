@@ -5,8 +5,10 @@ ghost use Rattle.kb_term.specs.View.{equations_of_list};
 ghost use Rattle.mkb_model.specs.Plain.{equations_at};
 ghost use Rattle.kb_jobs.specs.Closing.{equations_of};
 ghost use Rattle.kb_jobs.specs.Taken.{IsTakenClose};
+ghost use Rattle.mkb_board.specs.Shelf.{HoldsRules};
 
 use super::named::{named_rules, pair_at, view_of};
+use crate::shelf::Shelf;
 use kb_jobs::CloseSnapshot;
 use kb_label::Process;
 use kb_node::NodeId;
@@ -19,15 +21,18 @@ use std::alloc::{AllocError, Global};
 pub(crate) fn close_snapshot(
     alloc: Global,
     state: &State,
+    shelf: &mut Shelf,
     process: Process,
 ) -> Result<CloseSnapshot, Memory>
+    requires shelf { HoldsRules state.now shelf.old }
+    ensures shelf { HoldsRules state.now shelf.new }
     ensures process { IfOk result (λ s. s.process ≡ process) }
     ensures taken { IfOk result (IsTakenClose state.now) }
     ensures as_many { IfOk result (λ s. length s.rules.names.items ≡ length s.rules.rules) }
 {
     let view = view_of(state, &process)?;
     let names = copied_names(alloc, view.rules.items())?;
-    let rules = named_rules(alloc, state, names)?;
+    let rules = named_rules(alloc, state, shelf, names)?;
     let equations = equations_at(alloc, state, view.equations.items())?;
     let inputs = copied(alloc, state.problem().equations())?;
     Ok(CloseSnapshot {

@@ -3,8 +3,10 @@ ghost use Rattle.std.specs.Prelude.{◌≡◌, ◌<◌, ◌++◌, ◌∷◌, [],
 ghost use Rattle.mkb_model.specs.Plain.{certificate_of, rules_at};
 ghost use Rattle.kb_jobs.specs.Taken.{IsTakenOrient};
 ghost use Rattle.mkb_rules.specs.Named.{IsRuleThere, Lives};
+ghost use Rattle.mkb_board.specs.Shelf.{HoldsRules};
 
-use super::named::{rule_at, rules_at, view_of};
+use super::named::{rules_at, view_of};
+use crate::shelf::Shelf;
 use kb_jobs::OrientSnapshot;
 use kb_label::Process;
 use kb_node::NodeId;
@@ -17,12 +19,15 @@ use std::alloc::Global;
 pub(crate) fn orient_snapshot(
     alloc: Global,
     state: &State,
+    shelf: &mut Shelf,
     process: Process,
     node: NodeId,
 ) -> Result<OrientSnapshot, Memory>
     requires there { node.0 < length state.now.nodes }
     requires lives { Lives state.now process }
     requires ordered { IsSome (certificate_of state.now process) }
+    requires shelf { HoldsRules state.now shelf.old }
+    ensures shelf { HoldsRules state.now shelf.new }
     ensures process { IfOk result (λ s. s.process ≡ process) }
     ensures node { IfOk result (λ s. s.node ≡ node) }
     ensures taken { IfOk result (IsTakenOrient state.now) }
@@ -35,6 +40,7 @@ pub(crate) fn orient_snapshot(
     let forth = rules_towards(
         alloc,
         state,
+        shelf,
         constraints,
         RuleRef {
             node: node.0,
@@ -44,6 +50,7 @@ pub(crate) fn orient_snapshot(
     let back = rules_towards(
         alloc,
         state,
+        shelf,
         constraints,
         RuleRef {
             node: node.0,
@@ -66,14 +73,17 @@ pub(crate) fn orient_snapshot(
 fn rules_towards(
     alloc: Global,
     state: &State,
+    shelf: &mut Shelf,
     names: &[RuleRef],
     last: RuleRef,
 ) -> Result<Vec<Rule>, Memory>
     requires names { All (IsRuleThere state.now) names.now }
     requires last { IsRuleThere state.now last }
-    ensures { IfOk result (λ rules. rules.items ≡ rules_at state.now (names.now ++ last ∷ [])) }
+    requires shelf { HoldsRules state.now shelf.old }
+    ensures shelf { HoldsRules state.now shelf.new }
+    ensures rules { IfOk result (λ rules. rules.items ≡ rules_at state.now (names.now ++ last ∷ [])) }
 {
-    let mut rules = rules_at(alloc, state, names)?;
-    rules.push(rule_at(alloc, state, last)?)?;
+    let mut rules = rules_at(alloc, state, shelf, names)?;
+    rules.push(shelf.rule_at(state, last)?)?;
     Ok(rules)
 }

@@ -4,13 +4,15 @@ ghost use Rattle.std.specs.List.{flat_map};
 ghost use Rattle.kb_jobs.specs.Taken.{IsTakenReduce};
 ghost use Rattle.mkb_model.specs.Plain.{is_equation, is_rule};
 ghost use Rattle.mkb_model.specs.Invariants.{FactsHold};
-ghost use Rattle.mkb_board.specs.Normal.{is_open_to, HoldsRules};
+ghost use Rattle.mkb_board.specs.Normal.{is_open_to};
+ghost use Rattle.mkb_board.specs.Shelf.{HoldsRules};
 ghost use Rattle.mkb_board.specs.Snapshots.{AreWithin, IsWholeReduce, open_rules, unknown_on, with_names};
 
-use super::named::{pair_at, rules_of, shared_rules};
+use super::named::{named_rules, pair_at, rules_of};
 use crate::choosing::{is_equation, is_rule};
 use crate::normal::{is_open_to, roles_by};
-use kb_jobs::{NamedRules, ReduceSnapshot};
+use crate::shelf::Shelf;
+use kb_jobs::ReduceSnapshot;
 use kb_label::Process;
 use kb_node::NodeId;
 use kb_term::{Memory, RuleRef};
@@ -22,14 +24,14 @@ use std::alloc::{AllocError, Global};
 pub(crate) fn reduce_snapshot(
     alloc: Global,
     state: &State,
-    kept: &mut Option<NamedRules>,
+    shelf: &mut Shelf,
     process: Process,
     node: NodeId,
 ) -> Result<ReduceSnapshot, Memory>
     requires there { node.0 < length state.now.nodes }
     requires facts { FactsHold state.now }
-    requires kept { HoldsRules state.now kept.old }
-    ensures kept { HoldsRules state.now kept.new }
+    requires shelf { HoldsRules state.now shelf.old }
+    ensures shelf { HoldsRules state.now shelf.new }
     ensures process { IfOk result (λ s. s.process ≡ process) }
     ensures node { IfOk result (λ s. s.node ≡ node) }
     ensures taken { IfOk result (IsTakenReduce state.now) }
@@ -38,7 +40,7 @@ pub(crate) fn reduce_snapshot(
     let pair = pair_at(state, node)?;
     let names = open_rules(alloc, state, &process, node)?;
     let unknown = unknown(alloc, state, node, names.as_slice())?;
-    let rules = shared_rules(alloc, state, kept, names)?;
+    let rules = named_rules(alloc, state, shelf, names)?;
     Ok(ReduceSnapshot {
         process,
         node,

@@ -15,4 +15,5 @@ invariant_of-self c =
       omega (arith, c.push.ensures.capacity, len, c.self.invariant.1, owed_fewer (vec_len c.land.new.flight) (vec_len c.self.inside.flight) c.self.inside.halted fewer),
       c.self.invariant.2,
       c.self.invariant.3,
+      c.self.invariant.4,
     )

@@ -23,6 +23,7 @@ invariant_of-result c = (
   omega (arith, c.in_ok-journal.ensures.capacity, c.in_ok-journal.ensures.len, c.new.ensures.len),
   c.verdict-verdict.ensures,
   c.in_ok-normals.ensures c.in_ok-state.state,
+  c.new-2.ensures c.in_ok-state.state,
 )
 
 pub verdict-verdict-requires : goal.verdict-verdict-requires

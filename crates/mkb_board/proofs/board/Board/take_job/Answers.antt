@@ -11,7 +11,6 @@ use Rattle.mkb_board.specs.Takes.{TakesJob}
 use Rattle.mkb_board.proofs.Growing.{take_board, after_push}
 use Rattle.mkb_board.proofs.Flying.{taken_flying}
 use Rattle.mkb_board.proofs.Readable.{facts_on, readable_on, first_there, first_ordered}
-use Rattle.mkb_board.proofs.Irreducible.{normals_with}
 use Rattle.mkb_board.proofs.board.Board.take_job.Goals as goal
 
 pub snapshot-requires-clause-there : goal.snapshot-requires-clause-there
@@ -37,7 +36,8 @@ invariant_of-self-in_err-reserve c =
           (subst {A = List Ticket} (λ f. IsBoard (seen c.self.inside.state f c.self.inside.journal.items) c.self.inside.taken c.self.inside.dropped c.self.inside.halted) (sym F) c.self.invariant.0),
       omega (arith, owes, c.reserve.ensures.journal_len, c.reserve.ensures.kept, c.self.invariant.1),
       c.self.invariant.2,
-      normals_with c.self.inside.state c.self.inside.normals.items _ c.snapshot.new.self c.self.invariant.3 c.snapshot.ensures.normal,
+      c.self.invariant.3,
+      c.snapshot.ensures.shelf,
     )
 
 pub invariant_of-self-2 : goal.invariant_of-self-2
@@ -60,7 +60,7 @@ invariant_of-self-2 c =
           (items2 ∙ ap (λ (z : List Ticket). z ++ record { number = c.self.inside.taken + 1; worker = c.args.worker; job = c.args.job.now } ∷ []) F) (items ∙ ap (λ (z : List Entry). z ++ c.entry_of.result ∷ []) J ∙ ap (λ (e : Entry). c.self.inside.journal.items ++ e ∷ []) c.entry_of.ensures),
       room,
     ) in
-    (whole.0, whole.1, c.self.invariant.2, normals_with c.self.inside.state c.self.inside.normals.items _ c.snapshot.new.self c.self.invariant.3 c.snapshot.ensures.normal)
+    (whole.0, whole.1, c.self.invariant.2, c.self.invariant.3, c.snapshot.ensures.shelf)
 
 pub returns-clause-ok : goal.returns-clause-ok
 returns-clause-ok c =

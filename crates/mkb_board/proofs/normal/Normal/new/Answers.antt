@@ -8,5 +8,4 @@ pub returns : goal.returns
 returns g c = record {
   few = omega (arith, ap length g.new-2.ensures.items);
   none = λ n r h. subst {A = List RuleRef} (λ rules. list_any (is_open_to c r n) rules ≡ false) (sym g.new.ensures.items) refl;
-  shared = tt;
 }

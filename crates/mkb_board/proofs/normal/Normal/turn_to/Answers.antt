@@ -45,7 +45,6 @@ returns-clause-normal c =
     record {
       few = c.forget.ensures.known.few;
       none = subst {A = List RuleRef} (NoneOpens b nodes) (sym c.in_ok-rules.ensures.items) (turned b nodes c.take_nodes.new.self.rules.items c.in_ok-fresh.fresh.items c.args.rules.now old new fresh);
-      shared = c.forget.ensures.known.shared;
     }
 
 pub returns-clause-serves : goal.returns-clause-serves
@@ -62,6 +61,5 @@ returns-clause-serves c =
       known = record {
         few = c.forget.ensures.known.few;
         none = subst {A = List RuleRef} (NoneOpens b nodes) (sym c.in_ok-rules.ensures.items) (turned b nodes c.take_nodes.new.self.rules.items c.in_ok-fresh.fresh.items c.args.rules.now old new fresh);
-        shared = c.forget.ensures.known.shared;
       };
     }

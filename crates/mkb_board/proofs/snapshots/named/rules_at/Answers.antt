@@ -9,6 +9,7 @@ loop-i-preserved c =
     let inside : c.loop-i.i < length c.args.names.now = omega (arith, c.loop-i-test.true, c.loop-i.auto.i-end) in
     let r : Rule = c.in_ok-rule_at.field-0 in
     record {
-      rules = c.in_ok-push.ensures.items ∙ ap (λ (rs : List Rule). rs ++ r ∷ []) c.loop-i.invariant.rules ∙ sym (rules_next c.args.state.now c.args.names.now c.loop-i.i (record { node = 0; dir = 0 }) r inside c.in_ok-rule_at.ensures);
+      rules = c.in_ok-push.ensures.items ∙ ap (λ (rs : List Rule). rs ++ r ∷ []) c.loop-i.invariant.rules ∙ sym (rules_next c.args.state.now c.args.names.now c.loop-i.i (record { node = 0; dir = 0 }) r inside c.in_ok-rule_at.ensures.rule);
+      shelf = c.rule_at.ensures.holds;
       as_many = omega (arith, ap length c.in_ok-push.ensures.items, length-append c.loop-i.rules.items (r ∷ []), c.loop-i.invariant.as_many);
     }
