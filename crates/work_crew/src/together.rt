@@ -30,18 +30,21 @@ const DOUBLINGS: u32 = 5;
 /// The number of the first worker.
 const FIRST: u8 = 1;
 
-/// How long a worker that leaves the board to others sleeps before it looks again, in microseconds; with what the system adds it is
-/// below a millisecond.
+/// How long a worker that leaves the board to others sleeps before it looks for the first time, in microseconds.
 const NAP: u64 = 400;
 
-/// The fewest entries made within a nap that show that jobs take no longer than turns, so that one more worker would be of no use.
+/// How often the sleep of such a worker is doubled: the longest is of 6.4 milliseconds.
+const NAP_DOUBLINGS: u32 = 4;
+
+/// The fewest entries made within a first nap that show that jobs take no longer than turns, so that one more worker would be of no
+/// use; within longer ones as many more.
 const CROWD: u64 = 3;
 
 /// Work that takes less than this, in microseconds, is short: a turn takes about as long, for which the board comes to another processor.
 const SHORT: u64 = 50;
 
 /// The most naps of a worker between two of its tickets.
-const NAPS: u32 = 64;
+const NAPS: u32 = 8;
 
 // What the workers share: the lock of the board, and where memory comes from.
 struct Workplace {
@@ -149,18 +152,19 @@ fn wait_for_more<R: Wait>(
     }
 }
 
-// Leaves the board to others, without the turn: for a nap, and for more of them as long as the others make entries fast.
+// Leaves the board to others, without the turn: for a nap, and for more and longer ones as long as the others make entries fast.
 fn leave_to_others<R: Clock>(rt: &R, place: &Workplace, seat: &mut Seat<Shared>)
     requires { Rests place.now.turns seat.old }
     ensures rests { Rests place.now.turns seat.new }
     ensures same { IsSameSeat seat.old seat.new }
 {
     let mut entries = place.turns.seen(seat);
-    for _ in 0..NAPS {
-        sleep(rt, Duration::from_micros(NAP));
+    for nap in 0..NAPS {
+        let times = 1 << nap.min(NAP_DOUBLINGS);
+        sleep(rt, Duration::from_micros(NAP * times));
         let before = entries;
         entries = place.turns.seen(seat);
-        if entries.saturating_sub(before) < CROWD {
+        if entries.saturating_sub(before) < CROWD * times {
             return;
         }
     }
@@ -203,7 +207,7 @@ fn serve<G: Gate, S: Searcher, R: Wait + Clock>(
     seat
 }
 
-// The first seat's worker and so many more, each in a thread of its own.
+// The first seat's worker, in the thread of the call, and so many more, each in a thread of its own.
 fn serve_all<G: Gate, S: Searcher, R: Threads + Wait + Clock + Sync>(
     rt: &R,
     place: &Workplace,
@@ -225,8 +229,13 @@ fn serve_all<G: Gate, S: Searcher, R: Threads + Wait + Clock + Sync>(
         return serve(rt, place, gate, by, first);
     }
     let other = place.turns.split(&mut first);
-    let (mut first, other) = join(
+    let (other, mut first) = join(
         rt,
+        || -> Seat<Shared>
+            requires { Rests place.now.turns other }
+            ensures rests { Rests place.entry.now.turns result }
+            ensures same { IsSameSeat other result }
+        { serve(rt, place, gate, by, other) },
         || -> Seat<Shared>
             requires { IsSync R.row × Rests place.now.turns first × (first.view.worker ≡ 1) × (first.view.drawn + (more - 1) ≤ 16) × (0 < more) }
             ensures rests { Rests place.entry.now.turns result }
@@ -235,11 +244,6 @@ fn serve_all<G: Gate, S: Searcher, R: Threads + Wait + Clock + Sync>(
             ensures kept { (n : ℕ) → HasJoined first n → HasJoined result n }
             ensures joined { (n : ℕ) → first.view.drawn < n → n ≤ result.view.drawn → HasJoined result n }
         { serve_all(rt, place, gate, by, first, more - 1) },
-        || -> Seat<Shared>
-            requires { Rests place.now.turns other }
-            ensures rests { Rests place.entry.now.turns result }
-            ensures same { IsSameSeat other result }
-        { serve(rt, place, gate, by, other) },
     );
     place.turns.join(&mut first, other);
     first

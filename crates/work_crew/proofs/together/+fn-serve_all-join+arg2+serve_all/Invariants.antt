@@ -1,8 +1,0 @@
-use Rattle.std.proofs.Common.{ℕ, ◌+◌, ◌*◌}
-use Rattle.work_crew.proofs.together.+fn-serve_all-join+arg2+serve_all.Given as goal
-
-abbrev pub decreases-join+arg2 : goal.decreases-join+arg2
-decreases-join+arg2 g l = 2 * l.more
-
-abbrev pub decreases-serve_all : goal.decreases-serve_all
-decreases-serve_all g l = 2 * l.more + 1
