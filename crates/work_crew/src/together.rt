@@ -160,11 +160,11 @@ fn leave_to_others<R: Clock>(rt: &R, place: &Workplace, seat: &mut Seat<Shared>)
 {
     let mut entries = place.turns.seen(seat);
     for nap in 0..NAPS {
-        let times = 1 << nap.min(NAP_DOUBLINGS);
-        sleep(rt, Duration::from_micros(NAP * times));
+        let doublings = nap.min(NAP_DOUBLINGS);
+        sleep(rt, Duration::from_micros(NAP << doublings));
         let before = entries;
         entries = place.turns.seen(seat);
-        if entries.saturating_sub(before) < CROWD * times {
+        if entries.saturating_sub(before) < CROWD << doublings {
             return;
         }
     }
