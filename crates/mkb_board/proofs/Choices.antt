@@ -17,7 +17,7 @@ use Rattle.mkb_model.specs.Plain.{Plain, node_numbers, rules_of, is_over, cost, 
 use Rattle.mkb_model.specs.DueJobs.{is_due, is_working, is_work_due, is_close_due, work_of}
 use Rattle.mkb_model.specs.declared.settings.Selection.{Selection}
 use Rattle.mkb_model.specs.declared.settings.Selection.TheVariants.{Stated}
-use Rattle.mkb_board.specs.Choosing.{is_choice, first_choice, least_choice, merged}
+use Rattle.mkb_board.specs.Choosing.{is_choice, first_choice, least_choice, merged, ClosedRest}
 use Rattle.mkb_board.proofs.Idle.{due_as, working_so, true_and, none_found}
 use Rattle.mkb_board.proofs.Least.{least_append, least_found, least_in, merged_none, job_cmp-total}
 use Rattle.mkb_board.proofs.Rising.{work_process, work_rises}
@@ -74,6 +74,16 @@ choice_over b flight p over =
     ∙ ap (λ js. merged R (least R js) (least R (open_in b flight (Close p ∷ []))))
     (filter_none_of (λ j. is_due b j && is_free flight j) (work_of b p) (λ j i. ap (λ z. z && is_free flight j) (due_for b p j i ∙ ap (λ z. z && is_work_due b j) idle)))
     ∙ ap (λ z. least R (cond (z && is_free flight (Close p)) (Close p ∷ []) [])) (ap (λ z. z && is_close_due b p) idle)
+
+-- nor does one that is closed, where nothing is due for who is closed
+pub choice_closed : (b : Plain) (flight : List Job) (p : Name) → ClosedRest b → has b.closed p ≡ true → first_choice b flight p ≡ None
+choice_closed b flight p rest closed =
+    let shut : is_close_due b p ≡ false = ap (λ z. not (list_any (is_work_due b) (work_of b p)) && not z) closed ∙ and-false (not (list_any (is_work_due b) (work_of b p))) in
+    let R = job_cmp (cost b) (weight b) in
+    choice_parts b flight p
+    ∙ ap (λ js. merged R (least R js) (least R (open_in b flight (Close p ∷ []))))
+    (filter_none_of (λ j. is_due b j && is_free flight j) (work_of b p) (λ j i. ap (λ z. z && is_free flight j) (due_for b p j i ∙ ap (λ z. is_working b p && z) ((rest p closed).no_work j i) ∙ and-false (is_working b p))))
+    ∙ ap (λ z. least R (cond (z && is_free flight (Close p)) (Close p ∷ []) [])) (ap (λ z. is_working b p && z) shut ∙ and-false (is_working b p))
 
 -- ---- the first that is due, and the first of these that is free
 

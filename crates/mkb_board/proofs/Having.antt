@@ -1,7 +1,8 @@
 -- How a process has a node, by its labels and as it is kept.
-use Rattle.std.proofs.Common.{ℕ, zero, suc, ◌<◌, ◌≡◌, ◌++◌, ◌||◌, ◌&&◌, not, refl, sym, ap, ap₂, ◌∙◌, arith, subst, List, [], ◌∷◌, length, map, filter, flat_map, get_or, Contains, Bool, true, false, cond, Some}
+use Rattle.std.proofs.Common.{ℕ, zero, suc, ◌+◌, ◌<◌, ◌≡◌, ◌++◌, ◌||◌, ◌&&◌, not, refl, sym, ap, ap₂, ◌∙◌, arith, subst, List, [], ◌∷◌, length, map, filter, flat_map, drop, get_or, Contains, Bool, true, false, cond, Some}
 use Rattle.std.specs.List.{find}
-use Rattle.std.proofs.lemmas.List.{map-append}
+use Rattle.std.proofs.Math.ListN.{get_or-map}
+use Rattle.std.proofs.lemmas.List.{length-map, map-append}
 use Rattle.std.proofs.lemmas.List.Elements.{filter-append}
 use Rattle.std.proofs.lemmas.Bool.{or_parts}
 use Rattle.kb_lemmas.proofs.Membership.{contains_behind, contains_first}
@@ -12,13 +13,14 @@ use Rattle.kb_node.specs.declared.job.Job.TheVariants.{Reduce, Orient}
 use Rattle.kb_node.specs.declared.node.LabelKind.TheVariants.{X}
 use Rattle.kb_node.specs.declared.node.NodeId.{NodeId}
 use Rattle.mkb_model.specs.Jobs.{is_free}
-use Rattle.mkb_model.specs.Plain.{Plain, directions, is_equation, is_rule, label, node_numbers, rules_of}
+use Rattle.mkb_model.specs.Plain.{Plain, directions, equations_of, is_equation, is_rule, label, node_numbers, rules_of}
 use Rattle.mkb_model.specs.DueJobs.{is_reducible}
 use Rattle.mkb_model.proofs.Lists.{filter_in, numbers_in}
 use Rattle.mkb_rules.specs.Sizes.{is_dead_at, AreAlive}
 use Rattle.mkb_rules.proofs.Paying.{dead_labels}
 use Rattle.mkb_board.specs.Choosing.{is_choice}
 use Rattle.mkb_rules.specs.Roles.{held_of, is_in_use, roles_of, rules_in}
+use Rattle.mkb_board.proofs.Better.{drop_at}
 
 -- the rules of whoever has the node so are those that the process has in it
 pub rules_of_roles : (b : Plain) (p : Name) (n : ℕ) → rules_in n (roles_of b p n) ≡ filter (is_rule b p) (directions n)
@@ -80,6 +82,15 @@ module _ (used : ℕ → Bool) where
       go true e ih = ap (λ o. cond (q (g x)) (Some (g x)) o) ih
       go false e ih = ap (λ (u : Bool). cond u (Some (g x)) (find q (map g xs))) (none x e) ∙ ih
 
+  -- those that serve are among them
+  pub filter_mapped : {A : Type 0} (q : A → Bool) (g : ℕ → A) → ((n : ℕ) → used n ≡ false → q (g n) ≡ false) → (xs : List ℕ) → filter q (map g xs) ≡ filter q (map g (filter used xs))
+  filter_mapped q g none [] = refl
+  filter_mapped {A = A} q g none (x ∷ xs) = go (used x) refl (filter_mapped q g none xs)
+    where
+      go : (t : Bool) → used x ≡ t → filter q (map g xs) ≡ filter q (map g (filter used xs)) → cond (q (g x)) (g x ∷ filter q (map g xs)) (filter q (map g xs)) ≡ filter q (map g (cond t (x ∷ filter used xs) (filter used xs)))
+      go true e ih = ap (λ (ys : List A). cond (q (g x)) (g x ∷ ys) ys) ih
+      go false e ih = ap (λ (u : Bool). cond u (g x ∷ filter q (map g xs)) (filter q (map g xs))) (none x e) ∙ ih
+
   -- the rules are those in them
   pub rules_kept : (t : RuleRef → Bool) → ((n : ℕ) → used n ≡ false → filter t (directions n) ≡ []) → (xs : List ℕ) → filter t (flat_map directions (filter used xs)) ≡ filter t (flat_map directions xs)
   rules_kept t none [] = refl
@@ -95,6 +106,22 @@ module _ (used : ℕ → Bool) where
 -- the rules of a process are those in the nodes that it has
 pub rules_held : (b : Plain) (p : Name) → filter (is_rule b p) (flat_map directions (held_of b p)) ≡ rules_of b p
 rules_held b p = rules_kept (λ n. is_in_use (roles_of b p n)) (is_rule b p) (unused_rules b p) (node_numbers b)
+
+-- its equations are among them
+pub equations_held : (b : Plain) (p : Name) (l : List NodeId) → map (λ (n : NodeId). n.0) l ≡ held_of b p → equations_of b p ≡ filter (is_equation b p) (map (λ (n : NodeId). n.0) l)
+equations_held b p l e = sym (ap (filter (is_equation b p)) e ∙ filter_kept (is_equation b p) (λ n. is_in_use (roles_of b p n)) none (node_numbers b))
+  where
+    none : (n : ℕ) → is_in_use (roles_of b p n) ≡ false → is_equation b p n ≡ false
+    none n h = (or_parts (is_equation b p n) (is_rule b p (record { node = n; dir = 0 }) || is_rule b p (record { node = n; dir = 1 })) h).0
+
+-- from one node on
+pub equations_from : (b : Plain) (p : Name) (l : List NodeId) (i : ℕ) → i < length l → {t : Bool} → is_equation b p (get_or l i (record { 0 = 0 })).0 ≡ t
+    → filter (is_equation b p) (map (λ (n : NodeId). n.0) (drop i l)) ≡ cond t ((get_or l i (record { 0 = 0 })).0 ∷ filter (is_equation b p) (map (λ (n : NodeId). n.0) (drop (i + 1) l))) (filter (is_equation b p) (map (λ (n : NodeId). n.0) (drop (i + 1) l)))
+equations_from b p l i there e =
+    let n : NodeId = get_or l i (record { 0 = 0 }) in
+    let rest = filter (is_equation b p) (map (λ (k : NodeId). k.0) (drop (i + 1) l)) in
+    ap (λ (ks : List NodeId). filter (is_equation b p) (map (λ (k : NodeId). k.0) ks)) (drop_at l i n (record { 0 = 0 }) there refl)
+    ∙ ap (λ (x : Bool). cond x (n.0 ∷ rest) rest) e
 
 -- the nodes that a process has are those of the nodes that aren't dead
 pub held_alive : (b : Plain) (p : Name) (l : List NodeId) → AreAlive b.nodes l → filter (λ n. is_in_use (roles_of b p n)) (map (λ (n : NodeId). n.0) l) ≡ held_of b p
@@ -131,6 +158,16 @@ alive_there b l i d a h = listed_there b a.has l i d a.is h
 
 pub held_there : (b : Plain) (p : Name) (l : List NodeId) (i : ℕ) (d : NodeId) → map (λ (n : NodeId). n.0) l ≡ held_of b p → i < length l → (get_or l i d).0 < length b.nodes
 held_there b p l i d e h = listed_there b (λ n. is_in_use (roles_of b p n)) l i d e h
+
+-- there are as many as the process has
+pub held_length : (b : Plain) (p : Name) (l : List NodeId) → map (λ (n : NodeId). n.0) l ≡ held_of b p → length l ≡ length (held_of b p)
+held_length b p l e = sym (length-map l (λ (n : NodeId). n.0)) ∙ ap length e
+
+-- each has its number
+pub held_number : (b : Plain) (p : Name) (l held : List NodeId) (i : ℕ) → l ≡ held → map (λ (n : NodeId). n.0) held ≡ held_of b p → (get_or l i (record { 0 = 0 })).0 ≡ get_or (held_of b p) i 0
+held_number b p l held i same e =
+    let d : NodeId = record { 0 = 0 } in
+    ap (λ (ns : List NodeId). (get_or ns i d).0) same ∙ sym (get_or-map (λ (n : NodeId). n.0) held i d) ∙ ap (λ (ns : List ℕ). get_or ns i 0) e
 
 -- ---- the first job of a list of nodes
 

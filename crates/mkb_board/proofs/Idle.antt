@@ -9,10 +9,10 @@ use Rattle.kb_term.specs.declared.origin.RuleRef.{RuleRef}
 use Rattle.kb_label.specs.Names.{Name, has}
 use Rattle.kb_node.specs.declared.job.Job.{Job}
 use Rattle.kb_node.specs.declared.job.Job.TheVariants.{Reduce, Orient, Overlap, Close}
-use Rattle.mkb_model.specs.Plain.{Plain, GivenUp, node_numbers, rules_of, is_over, over_in, over_reason}
+use Rattle.mkb_model.specs.Plain.{Plain, GivenUp, equations_of, node_numbers, rules_of, is_over, over_in, over_reason}
 use Rattle.mkb_model.specs.DueJobs.{is_due, is_working, is_work_due, is_close_due, work_of, due_jobs_of}
-use Rattle.mkb_model.specs.Sleeping.{no_members}
-use Rattle.mkb_model.proofs.Lists.{none_any}
+use Rattle.mkb_model.specs.Sleeping.{is_failed, no_members}
+use Rattle.mkb_model.proofs.Lists.{clash, false_unless, none_any}
 use Rattle.mkb_board.specs.Choosing.{is_choice, ClosedRest}
 
 -- ---- lists
@@ -90,6 +90,29 @@ idle_closed b p rest lives going = sym (nothing_due b p lives going ∙ go (has 
     go true e =
         none_found (is_choice b []) (is_work_due b) (work_of b p) (λ j. and-true (is_work_due b j))
         ∙ ap not (none_any (is_work_due b) (work_of b p) (rest p e).no_work)
+
+-- then a process has failed just where it is closed and has an equation
+pub failed_closed : (b : Plain) (p : Name) → ClosedRest b → has b.living p ≡ true → is_failed b p ≡ (has b.closed p && not (no_members (equations_of b p)))
+failed_closed b p rest lives = go (is_over b p) refl
+  where
+    some : Bool
+    some = not (no_members (equations_of b p))
+
+    open_over : is_over b p ≡ true → has b.closed p ≡ false
+    open_over over = false_unless (has b.closed p) (λ closed. clash over (rest p closed).not_over)
+
+    swap : (x y : Bool) → (x && y) ≡ (y && x)
+    swap true true = refl
+    swap true false = refl
+    swap false true = refl
+    swap false false = refl
+
+    go : (x : Bool) → is_over b p ≡ x → is_failed b p ≡ (has b.closed p && some)
+    go true over = ap (λ z. not z && (some && no_members (due_jobs_of b p))) over ∙ sym (ap (λ z. z && some) (open_over over))
+    go false going =
+        ap (λ z. not z && (some && no_members (due_jobs_of b p))) going
+        ∙ ap (λ z. some && z) (sym (idle_closed b p rest lives going))
+        ∙ swap some (has b.closed p)
 
 -- ---- giving up
 

@@ -5,6 +5,7 @@ pub mod Costs
 pub mod Ends
 pub mod Firsts
 pub mod Flying
+pub mod Going
 pub mod Growing
 pub mod Held
 pub mod Idle
@@ -21,6 +22,7 @@ pub mod Weighing
 pub mod Irreducible
 pub mod AtRest
 pub mod Open
+pub mod Ordered
 pub mod Having
 pub mod NodeJobs
 pub mod Kept

@@ -8,14 +8,8 @@ use Rattle.mkb_board.proofs.Better.{drop_at}
 
 -- ---- numbers
 
-pub numbers_all : (len : ℕ) → numbers_from 0 len ≡ numbers_from 0 (len - 0)
-numbers_all len = let e : len ≡ len - 0 = omega arith in ap (numbers_from 0) e
-
-pub numbers_step : (n len : ℕ) → n < len → numbers_from n (len - n) ≡ n ∷ numbers_from (n + 1) (len - (n + 1))
+numbers_step : (n len : ℕ) → n < len → numbers_from n (len - n) ≡ n ∷ numbers_from (n + 1) (len - (n + 1))
 numbers_step n len h = let e : len - n ≡ suc (len - (n + 1)) = omega arith in ap (numbers_from n) e
-
-pub numbers_end : (n len : ℕ) → len ≤ n → numbers_from n (len - n) ≡ []
-numbers_end n len h = let e : len - n ≡ 0 = omega arith in ap (numbers_from n) e
 
 -- ---- the first that passes
 

@@ -41,11 +41,11 @@ then_both Greater y z = refl
 
 -- ---- numbers and rules
 
-numbers_rise : (n k : ℕ) → IsSorted (λ x y. x < y) (numbers_from n k)
+pub numbers_rise : (n k : ℕ) → IsSorted (λ x y. x < y) (numbers_from n k)
 numbers_rise n zero = tt
 numbers_rise n (suc k) = (λ y i. let h = (numbers_in (n + 1) k y i).0 in omega (arith, h), numbers_rise (n + 1) k)
 
-abbrev ref_cmp : RuleRef → RuleRef → Ordering
+abbrev pub ref_cmp : RuleRef → RuleRef → Ordering
 ref_cmp a c = ordering_then (nat_cmp a.node c.node) (nat_cmp a.dir c.dir)
 
 node_of_two : (n : ℕ) (a : RuleRef) → Contains (directions n) a → a.node ≡ n
@@ -57,7 +57,7 @@ two_rise n = (
   (λ y i. none_in i, tt),
 )
 
-rules_rise : (b : Plain) (p : Name) → IsSorted (λ a c. ref_cmp a c ≡ Less) (rules_of b p)
+pub rules_rise : (b : Plain) (p : Name) → IsSorted (λ a c. ref_cmp a c ≡ Less) (rules_of b p)
 rules_rise b p = sorted_filter (λ a c. ref_cmp a c ≡ Less) (is_rule b p) (flat_map directions (node_numbers b))
     (sorted_flat (λ x y. x < y) (λ a c. ref_cmp a c ≡ Less) directions two_rise
     (λ x y h u v i j.
@@ -90,15 +90,15 @@ InOrder cost i j = is_le (job_cmp cost (λ z. 0) i j) ≡ true
 abbrev pub Rise : List Job → Type 0
 Rise js = IsSorted (λ i j. StandsEarlier j i) js
 
-pub reduces_rise : (p : Name) (n k : ℕ) → Rise (map (λ m. Reduce p (record { 0 = m })) (numbers_from n k))
-reduces_rise p n k = sorted_map (λ x y. x < y) (λ i j. StandsEarlier j i) (λ m. Reduce p (record { 0 = m }))
+pub reduces_rise : (p : Name) (ns : List ℕ) → IsSorted (λ x y. x < y) ns → Rise (map (λ m. Reduce p (record { 0 = m })) ns)
+reduces_rise p ns = sorted_map (λ x y. x < y) (λ i j. StandsEarlier j i) (λ m. Reduce p (record { 0 = m }))
     (λ x y h. record { process = refl; kind = refl; numbers = ap (λ z. ordering_then z Equal) (less x y h) })
-    (numbers_from n k) (numbers_rise n k)
+    ns
 
-pub orients_rise : (p : Name) (n k : ℕ) → Rise (map (λ m. Orient p (record { 0 = m })) (numbers_from n k))
-orients_rise p n k = sorted_map (λ x y. x < y) (λ i j. StandsEarlier j i) (λ m. Orient p (record { 0 = m }))
+pub orients_rise : (p : Name) (ns : List ℕ) → IsSorted (λ x y. x < y) ns → Rise (map (λ m. Orient p (record { 0 = m })) ns)
+orients_rise p ns = sorted_map (λ x y. x < y) (λ i j. StandsEarlier j i) (λ m. Orient p (record { 0 = m }))
     (λ x y h. record { process = refl; kind = refl; numbers = ap (λ z. ordering_then z Equal) (less x y h) })
-    (numbers_from n k) (numbers_rise n k)
+    ns
 
 pub overlaps_rise : (b : Plain) (p : Name) → Rise (flat_map (λ (a : RuleRef). map (Overlap p a) (rules_of b p)) (rules_of b p))
 overlaps_rise b p = sorted_flat (λ a c. ref_cmp a c ≡ Less) (λ i j. StandsEarlier j i) (λ (a : RuleRef). map (Overlap p a) (rules_of b p))
@@ -167,8 +167,8 @@ module _ (b : Plain) (p : Name) where
   -- where no job has any weight, all the work that a process might have rises
   pub work_rises : (cost : Name → ℕ) → IsSorted (InOrder cost) (work_of b p)
   work_rises cost =
-      sorted_append (InOrder cost) reduces (orients ++ overlaps) (raise reduces (reduces_rise p 0 (length b.nodes)))
-      (sorted_append (InOrder cost) orients overlaps (raise orients (orients_rise p 0 (length b.nodes))) (raise overlaps (overlaps_rise b p)) (λ i j u v. kinds cost (λ z. 0) 1 2 (omega arith) i j (are_orients i u) (are_overlaps j v)))
+      sorted_append (InOrder cost) reduces (orients ++ overlaps) (raise reduces (reduces_rise p (node_numbers b) (numbers_rise 0 (length b.nodes))))
+      (sorted_append (InOrder cost) orients overlaps (raise orients (orients_rise p (node_numbers b) (numbers_rise 0 (length b.nodes)))) (raise overlaps (overlaps_rise b p)) (λ i j u v. kinds cost (λ z. 0) 1 2 (omega arith) i j (are_orients i u) (are_overlaps j v)))
       (λ i j u v. ⊎_elim (λ w. kinds cost (λ z. 0) 0 1 (omega arith) i j (are_reduces i u) (are_orients j w)) (λ w. kinds cost (λ z. 0) 0 2 (omega arith) i j (are_reduces i u) (are_overlaps j w)) (Contains-append_cases orients overlaps j v))
     where
       raise : (js : List Job) → Rise js → IsSorted (InOrder cost) js

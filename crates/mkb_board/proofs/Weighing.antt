@@ -1,7 +1,8 @@
 -- The lightest of jobs of one kind, one after another.
-use Rattle.std.proofs.Common.{ℕ, ◌+◌, ◌-◌, ◌≤◌, ◌<◌, ◌≡◌, refl, sym, ap, ◌∙◌, subst, arith, List, [], ◌∷◌, ◌++◌, Contains, filter, map, flat_map, length, drop, get_or, Bool, true, false, cond, ◌&&◌, Option, Some, None, ⊎_elim, ◌⊎◌}
+use Rattle.std.proofs.Common.{ℕ, ◌+◌, ◌≤◌, ◌<◌, ◌≡◌, refl, sym, ap, ◌∙◌, subst, arith, List, [], ◌∷◌, ◌++◌, Contains, filter, map, flat_map, length, drop, get_or, Bool, true, false, cond, ◌&&◌, Option, Some, None, ⊎_elim, ◌⊎◌}
 use Rattle.std.specs.Cmp.{IsTotalOrder}
 use Rattle.std.specs.declared.cmp.Ordering.{Ordering}
+use Rattle.std.specs.declared.cmp.Ordering.TheVariants.{Less}
 use Rattle.std.specs.Prelude.{IfSome, option_map, nat_lt, sum_by}
 use Rattle.std.proofs.Math.ListN.{drop_of_length-le}
 use Rattle.std.proofs.lemmas.List.Sums.{sum_by-cons}
@@ -16,17 +17,19 @@ use Rattle.kb_term.specs.declared.origin.RuleRef.{RuleRef}
 use Rattle.kb_node.specs.declared.job.Job.{Job}
 use Rattle.kb_node.specs.declared.job.Job.TheVariants.{Overlap}
 use Rattle.mkb_model.specs.Jobs.{job_cmp, least}
-use Rattle.mkb_model.specs.Plain.{Plain, node_numbers, node_size, numbers_from, rules_of, cost, weight_by}
+use Rattle.mkb_model.specs.Plain.{Plain, node_numbers, node_size, rules_of, cost, weight_by}
 use Rattle.mkb_model.specs.DueJobs.{work_of}
 use Rattle.mkb_model.specs.declared.settings.Selection.TheVariants.{Size}
 use Rattle.mkb_model.proofs.Lists.{clash, filter_in}
+use Rattle.mkb_rules.specs.Roles.{held_of, is_in_use, roles_of}
 use Rattle.mkb_rules.proofs.Viewed.{rule_there}
 use Rattle.mkb_board.specs.Choosing.{is_choice, least_choice, merged, IsWeighed, StandsEarlier}
 use Rattle.mkb_board.specs.declared.lightest.Weighed.{Weighed}
 use Rattle.mkb_board.proofs.Better.{drop_at}
+use Rattle.mkb_board.proofs.Having.{filter_mapped}
+use Rattle.mkb_board.proofs.Ordered.{turned_choice, without_earlier}
 use Rattle.mkb_board.proofs.Least.{least_append, least_in, merged_both, merged_none, job_cmp-total}
-use Rattle.mkb_board.proofs.Picking.{numbers_all, numbers_step, numbers_end}
-use Rattle.mkb_board.proofs.Rising.{Rise, reduces, orients, overlaps, are_reduces, are_orients, are_overlaps, kinds, earlier_first, lighter_first}
+use Rattle.mkb_board.proofs.Rising.{Rise, ref_cmp, rules_rise, reduces, orients, overlaps, are_reduces, are_orients, are_overlaps, kinds, earlier_first, lighter_first}
 
 -- the job of the best so far
 abbrev pub job_in : Option Weighed → Option Job
@@ -124,6 +127,15 @@ goes_on b flight all rest best new next h e weighed either = record {
         ap (least (by_size b)) (filter-append (is_choice b flight) (next.job ∷ []) rest)
         ∙ least_append (by_size b) total (filter (is_choice b flight) (next.job ∷ [])) (filter (is_choice b flight) rest)
 
+-- a job that can't be chosen is left out
+pub left_out : (b : Plain) (flight all rest : List Job) (best : Option Weighed) (j : Job) → is_choice b flight j ≡ false → IsBestBefore b flight all (j ∷ rest) best → IsBestBefore b flight all rest best
+left_out b flight all rest best j fails h = record {
+  least = sym (ap (λ z. merged (by_size b) (job_in best) (least (by_size b) (cond z (j ∷ filter (is_choice b flight) rest) (filter (is_choice b flight) rest)))) fails) ∙ h.least;
+  weighed = h.weighed;
+  earlier = λ i k. h.earlier i (contains_behind j rest i k);
+  sorted = h.sorted.1;
+}
+
 pub ends : (b : Plain) (flight all : List Job) (best : Option Weighed) → IsBestBefore b flight all [] best → job_in best ≡ least_choice Size b flight all
 ends b flight all best h = sym (merged_none (by_size b) (job_in best)) ∙ h.least
 
@@ -141,22 +153,27 @@ rule_below b p rules i d e h = (rule_there b p (get_or rules i d) (subst {A = Li
 
 -- ---- jobs of one node each
 
--- before node n
-abbrev pub IsBestAt : (f : ℕ → Job) (b : Plain) (flight : List Job) (n : ℕ) (best : Option Weighed) → Type 0
-IsBestAt f b flight n best = IsBestBefore b flight (map f (node_numbers b)) (map f (numbers_from n (length b.nodes - n))) best
+-- before the node of number i among those that the process has
+abbrev pub IsBestAt : (f : ℕ → Job) (b : Plain) (p : Name) (flight : List Job) (i : ℕ) (best : Option Weighed) → Type 0
+IsBestAt f b p flight i best = IsBestBefore b flight (map f (node_numbers b)) (map f (drop i (held_of b p))) best
 
-pub begins_at : (f : ℕ → Job) (b : Plain) (flight : List Job) → Rise (map f (node_numbers b)) → IsBestAt f b flight 0 None
-begins_at f b flight h =
-    subst {A = List ℕ} (λ ns. IsBestBefore b flight (map f (node_numbers b)) (map f ns) None) (numbers_all (length b.nodes)) (begins b flight (map f (node_numbers b)) h)
+module _ (f : ℕ → Job) (b : Plain) (p : Name) (flight : List Job) where
+  pub begins_at : Rise (map f (held_of b p)) → ((n : ℕ) → is_in_use (roles_of b p n) ≡ false → is_choice b flight (f n) ≡ false) → IsBestAt f b p flight 0 None
+  begins_at h none = record {
+    least = sym (ap (least (by_size b)) (filter_mapped (λ n. is_in_use (roles_of b p n)) (is_choice b flight) f none (node_numbers b)));
+    weighed = tt;
+    earlier = λ j i. tt;
+    sorted = h;
+  }
 
-pub at_node : (f : ℕ → Job) (b : Plain) (flight : List Job) (n : ℕ) (best : Option Weighed) → n < length b.nodes → IsBestAt f b flight n best
-    → IsBestBefore b flight (map f (node_numbers b)) (f n ∷ map f (numbers_from (n + 1) (length b.nodes - (n + 1)))) best
-at_node f b flight n best there h =
-    subst {A = List ℕ} (λ ns. IsBestBefore b flight (map f (node_numbers b)) (map f ns) best) (numbers_step n (length b.nodes) there) h
+  pub at_node : (i n : ℕ) (best : Option Weighed) → i < length (held_of b p) → n ≡ get_or (held_of b p) i 0 → IsBestAt f b p flight i best
+      → IsBestBefore b flight (map f (node_numbers b)) (f n ∷ map f (drop (i + 1) (held_of b p))) best
+  at_node i n best there is h =
+      subst {A = List ℕ} (λ ns. IsBestBefore b flight (map f (node_numbers b)) (map f ns) best) (drop_at (held_of b p) i n 0 there is) h
 
-pub ends_at : (f : ℕ → Job) (b : Plain) (flight : List Job) (n : ℕ) (best : Option Weighed) → length b.nodes ≤ n → IsBestAt f b flight n best → job_in best ≡ least_choice Size b flight (map f (node_numbers b))
-ends_at f b flight n best all h =
-    ends b flight (map f (node_numbers b)) best (subst {A = List ℕ} (λ ns. IsBestBefore b flight (map f (node_numbers b)) (map f ns) best) (numbers_end n (length b.nodes) all) h)
+  pub ends_at : (i : ℕ) (best : Option Weighed) → length (held_of b p) ≤ i → IsBestAt f b p flight i best → job_in best ≡ least_choice Size b flight (map f (node_numbers b))
+  ends_at i best all h =
+      ends b flight (map f (node_numbers b)) best (subst {A = List ℕ} (λ ns. IsBestBefore b flight (map f (node_numbers b)) (map f ns) best) (drop_of_length-le (held_of b p) all) h)
 
 -- ---- overlaps
 
@@ -176,9 +193,16 @@ abbrev pub IsBestOn : Plain → List Job → Name → RuleRef → ℕ → ℕ �
 IsBestOn b flight p a i j best =
     IsBestBefore b flight (overlaps_of p (rules_of b p) (rules_of b p)) (map (Overlap p a) (drop j (rules_of b p)) ++ overlaps_of p (rules_of b p) (drop (i + 1) (rules_of b p))) best
 
-pub first_rule : (b : Plain) (flight : List Job) (p : Name) (a d : RuleRef) (i : ℕ) (best : Option Weighed) → i < length (rules_of b p) → a ≡ get_or (rules_of b p) i d → IsBestOver b flight p i best → IsBestOn b flight p a i 0 best
-first_rule b flight p a d i best there is h =
-    subst {A = List RuleRef} (λ rs. IsBestBefore b flight (overlaps_of p (rules_of b p) (rules_of b p)) (overlaps_of p (rules_of b p) rs) best) (drop_at (rules_of b p) i a d there is) h
+-- no rule before it is overlapped with it in this order
+pub first_rule : (b : Plain) (flight : List Job) (p : Name) (d : RuleRef) (i : ℕ) (best : Option Weighed) → i < length (rules_of b p) → IsBestOver b flight p i best
+    → IsBestOn b flight p (get_or (rules_of b p) i d) i i best
+first_rule b flight p d i best there h =
+    let rules = rules_of b p in
+    let a = get_or rules i d in
+    let rest = overlaps_of p rules (drop (i + 1) rules) in
+    without_earlier (λ a c. ref_cmp a c ≡ Less) (Overlap p a) (λ js. IsBestBefore b flight (overlaps_of p rules rules) (js ++ rest) best) d rules i (rules_rise b p) there
+    (λ c js before. left_out b flight (overlaps_of p rules rules) (js ++ rest) best (Overlap p a c) (turned_choice b p flight a c before))
+    (subst {A = List RuleRef} (λ rs. IsBestBefore b flight (overlaps_of p rules rules) (overlaps_of p rules rs) best) (drop_at rules i a d there refl) h)
 
 pub second_rule : (b : Plain) (flight : List Job) (p : Name) (a c d : RuleRef) (i j : ℕ) (best : Option Weighed) → j < length (rules_of b p) → c ≡ get_or (rules_of b p) j d → IsBestOn b flight p a i j best
     → IsBestBefore b flight (overlaps_of p (rules_of b p) (rules_of b p)) (Overlap p a c ∷ (map (Overlap p a) (drop (j + 1) (rules_of b p)) ++ overlaps_of p (rules_of b p) (drop (i + 1) (rules_of b p)))) best

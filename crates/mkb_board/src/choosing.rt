@@ -1,13 +1,14 @@
 // The verdict, and which jobs are due.
-ghost use Rattle.std.specs.Prelude.{◌≡◌, ◌<◌, ◌≤◌, ◌&&◌, ◌||◌, not, length, IsTrue, IsFalse};
+ghost use Rattle.std.specs.Prelude.{◌≡◌, ◌<◌, ◌≤◌, ◌&&◌, ◌||◌, not, length, map, IsTrue};
 ghost use Rattle.std.specs.List.{find, list_all, list_any};
 ghost use Rattle.std.specs.Prelude.{option_and_then};
 ghost use Rattle.kb_label.specs.Names.{Name, has};
 ghost use Rattle.kb_node.specs.declared.node.LabelKind.TheVariants.{E};
+ghost use Rattle.kb_node.specs.declared.node.NodeId.{NodeId as Numbered};
 ghost use Rattle.mkb_model.specs.Plain.{is_equation, is_rule, is_over, over_reason, equations_of, rule_kind, label};
-ghost use Rattle.mkb_model.specs.DueJobs.{due_jobs_of};
 ghost use Rattle.mkb_model.specs.Verdicts.{verdict, is_complete, first_over};
 ghost use Rattle.mkb_model.specs.Sleeping.{is_active, is_failed, no_members};
+ghost use Rattle.mkb_rules.specs.Roles.{held_of};
 ghost use Rattle.mkb_board.specs.Choosing.{ClosedRest};
 
 use kb_label::{Labels, ListLabels, Process, Reason, Spent, Verdict};
@@ -38,10 +39,13 @@ pub(crate) fn verdict(state: &State) -> Option<Verdict>
     }
 }
 
-// The first process by name that is complete.
+// The first process by name that is complete; it goes over the processes only where one is closed.
 fn first_complete(state: &State) -> Option<Process>
     ensures { result ≡ find (is_complete state.now) state.now.living }
 {
+    if !state.has_closed() {
+        return None;
+    }
     let living = state.log().processes();
     for i in 0..living.len() {
         if is_complete(state, &living[i]) {
@@ -110,6 +114,29 @@ fn is_complete(state: &State, p: &Process) -> bool
 fn has_equation(state: &State, p: &Process) -> bool
     ensures { result ≡ not (no_members (equations_of state.now p.now)) }
 {
+    match state.held(p) {
+        Some(held) => has_equation_among(state, p, held),
+        None => has_equation_of_all(state, p),
+    }
+}
+
+// Whether one of these nodes, which are all that the process has, is an equation of it.
+fn has_equation_among(state: &State, p: &Process, held: &[NodeId]) -> bool
+    requires { map (λ (n : Numbered). n.0) held.now ≡ held_of state.now p.now }
+    ensures { result ≡ not (no_members (equations_of state.now p.now)) }
+{
+    for i in 0..held.len() {
+        if is_equation(state, p, held[i]) {
+            return true;
+        }
+    }
+    false
+}
+
+// Whether one of all nodes is an equation of the process.
+fn has_equation_of_all(state: &State, p: &Process) -> bool
+    ensures { result ≡ not (no_members (equations_of state.now p.now)) }
+{
     for n in 0..node_count(state) {
         if is_equation(state, p, NodeId(n as u16)) {
             return true;
@@ -156,26 +183,13 @@ pub(crate) fn is_active(state: &State, p: &Process) -> bool
     !is_failed(state, p) && !is_over(state, p)
 }
 
-// Whether the process has not given up, has an equation and nothing is due for it.
+// Whether the process has not given up, has an equation and nothing is due for it: where it is closed with an equation.
 fn is_failed(state: &State, p: &Process) -> bool
     requires rest { ClosedRest state.now }
     requires lives { IsTrue (has state.now.living p.now) }
     ensures { result ≡ is_failed state.now p.now }
 {
-    if is_over(state, p) {
-        return false;
-    }
-    has_no_job(state, p) && has_equation(state, p)
-}
-
-// Whether nothing is due for the process: where it is closed.
-fn has_no_job(state: &State, p: &Process) -> bool
-    requires rest { ClosedRest state.now }
-    requires lives { IsTrue (has state.now.living p.now) }
-    requires going { IsFalse (is_over state.now p.now) }
-    ensures { result ≡ no_members (due_jobs_of state.now p.now) }
-{
-    state.is_closed(p)
+    state.is_closed(p) && has_equation(state, p)
 }
 
 /// How many nodes there are.

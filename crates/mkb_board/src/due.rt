@@ -1,11 +1,11 @@
 // Which jobs are due.
-ghost use Rattle.std.specs.Prelude.{◌≡◌, ◌<◌, ◌&&◌, length, map};
+ghost use Rattle.std.specs.Prelude.{◌≡◌, ◌<◌, ◌&&◌, length, map, slice_index_or, IsTrue};
 ghost use Rattle.std.specs.List.{find, flat_map};
 ghost use Rattle.kb_label.specs.Names.{has};
 ghost use Rattle.kb_term.specs.declared.origin.RuleRef.{RuleRef as Reference};
 ghost use Rattle.kb_node.specs.declared.job.Job.TheVariants as jobs;
-ghost use Rattle.mkb_model.specs.Jobs.{clashes, is_free, process_of, ref_eq};
-ghost use Rattle.mkb_model.specs.Plain.{node_numbers, rules_of};
+ghost use Rattle.mkb_model.specs.Jobs.{clashes, is_free, process_of, ref_eq, ref_le};
+ghost use Rattle.mkb_model.specs.Plain.{is_rule, node_numbers, rules_of};
 ghost use Rattle.mkb_model.specs.DueJobs.{is_work_due, work_of};
 ghost use Rattle.mkb_board.specs.Choosing.{jobs_of, is_choice, HasNodes};
 ghost use Rattle.mkb_board.specs.Normal.{Serves};
@@ -78,26 +78,27 @@ fn first_overlap(state: &State, flight: &[Ticket], p: &Process, rules: &[RuleRef
     ensures { result ≡ find (is_choice state.now (jobs_of flight.now)) (flat_map (λ (a : Reference). map (jobs.Overlap p.now a) (rules_of state.now p.now)) (rules_of state.now p.now)) }
 {
     for i in 0..rules.len() {
-        if let Some(job) = first_second(state, flight, p, rules[i], rules) {
+        if let Some(job) = first_second(state, flight, p, rules, i) {
             return Some(job);
         }
     }
     None
 }
 
-// The first overlap of this rule with one of the rules.
+// The first overlap of the rule at this place with one of the rules. With an earlier one none is due: it is due in their order.
 fn first_second(
     state: &State,
     flight: &[Ticket],
     p: &Process,
-    first: RuleRef,
     rules: &[RuleRef],
+    place: usize,
 ) -> Option<Job>
-    requires there { first.node < length state.now.nodes }
+    requires there { place < length rules.now }
     requires rules { rules.now ≡ rules_of state.now p.now }
-    ensures { result ≡ find (is_choice state.now (jobs_of flight.now)) (map (jobs.Overlap p.now first) (rules_of state.now p.now)) }
+    ensures { result ≡ find (is_choice state.now (jobs_of flight.now)) (map (jobs.Overlap p.now (slice_index_or rules.now place (record { node = 0; dir = 0 }))) (rules_of state.now p.now)) }
 {
-    for j in 0..rules.len() {
+    let first = rules[place];
+    for j in place..rules.len() {
         if is_overlap_choice(state, flight, p, first, rules[j]) {
             return Some(Job::Overlap(*p, first, rules[j]));
         }
@@ -137,13 +138,14 @@ fn is_orient_choice(
     is_orient_due(state, normal, p, n) && is_free(flight, &Job::Orient(*p, n))
 }
 
-// Whether these two rules may be overlapped, and that clashes with nothing in flight.
+// Whether two rules of the process, in this order, may be overlapped, and that clashes with nothing in flight.
 fn is_overlap_choice(state: &State, flight: &[Ticket], p: &Process, a: RuleRef, c: RuleRef) -> bool
-    requires first { a.node < length state.now.nodes }
-    requires second { c.node < length state.now.nodes }
+    requires first { IsTrue (is_rule state.now p.now a) }
+    requires second { IsTrue (is_rule state.now p.now c) }
+    requires in_order { IsTrue (ref_le a c) }
     ensures { result ≡ is_choice state.now (jobs_of flight.now) (jobs.Overlap p.now a c) }
 {
-    is_overlap_due(state, p, a, c) && is_free(flight, &Job::Overlap(*p, a, c))
+    !state.is_done(p, a, c) && is_free(flight, &Job::Overlap(*p, a, c))
 }
 
 // Whether the job is due by what its process sees, and clashes with none in flight.
@@ -151,6 +153,7 @@ pub(crate) fn is_choice(state: &State, flight: &[Ticket], normal: &mut Normal, j
     requires there { HasNodes state.now job.now }
     requires serves { Serves state.now (process_of job.now) normal.old }
     ensures choice { result ≡ is_choice state.now (jobs_of flight.now) job.now }
+    ensures held { normal.new.held.items ≡ normal.old.held.items }
     ensures serves { Serves state.now (process_of job.now) normal.new }
 {
     is_work_due(state, normal, job) && is_free(flight, job)
@@ -161,6 +164,7 @@ fn is_work_due(state: &State, normal: &mut Normal, job: &Job) -> bool
     requires there { HasNodes state.now job.now }
     requires serves { Serves state.now (process_of job.now) normal.old }
     ensures due { result ≡ is_work_due state.now job.now }
+    ensures held { normal.new.held.items ≡ normal.old.held.items }
     ensures serves { Serves state.now (process_of job.now) normal.new }
 {
     match job {

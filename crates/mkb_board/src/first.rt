@@ -7,7 +7,7 @@ ghost use Rattle.kb_node.specs.declared.job.Job.TheVariants.{Close};
 ghost use Rattle.mkb_model.specs.Jobs.{process_of, job_cmp, is_free};
 ghost use Rattle.mkb_model.specs.Plain.{cost, is_over, weight, rules_of};
 ghost use Rattle.mkb_model.specs.DueJobs.{first_job, work_of};
-ghost use Rattle.mkb_board.specs.Choosing.{jobs_of, first_choice, least_choice, merged, IsCosted};
+ghost use Rattle.mkb_board.specs.Choosing.{jobs_of, first_choice, least_choice, merged, ClosedRest, IsCosted};
 ghost use Rattle.mkb_board.specs.Normal.{AreAllNormal, AreNormal, Serves};
 ghost use Rattle.mkb_board.specs.declared.first.Choice.{Choice};
 
@@ -35,7 +35,7 @@ struct Choice {
 /// them.
 ///
 /// What is noted of one process at another's place is of no use, so each process has the place of its number, again from the first
-/// after the last. A process is searched only where its cost is below that of the best job so far. By the stated selection the search of a
+/// after the last. A process is searched only where it is not closed and its cost is below that of the best job so far. By the stated selection the search of a
 /// process ends at its first job that serves; by size it goes over its jobs of one kind.
 pub(crate) fn first_job(
     state: &State,
@@ -43,6 +43,7 @@ pub(crate) fn first_job(
     normals: &mut Vec<Normal>,
 ) -> Result<Option<Job>, Memory>
     requires limited { AreLimited state.now.problem.signature state.now.nodes }
+    requires rest { ClosedRest state.now }
     requires in_order { IsInNameOrder state.now.living }
     requires normals { AreAllNormal state.now normals.old.items }
     ensures first { IfOk result (λ o. o ≡ first_job (record state.now { flight = flight.now })) }
@@ -81,6 +82,7 @@ fn lesser_choice(
     next: &Costed,
 ) -> Result<Option<Choice>, Memory>
     requires limited { AreLimited state.now.problem.signature state.now.nodes }
+    requires rest { ClosedRest state.now }
     requires normal { AreNormal state.now normal.old }
     requires lives { IsTrue (has state.now.living next.now.process) }
     requires cost { next.now.cost ≡ cost state.now next.now.process }
@@ -118,12 +120,13 @@ fn first_choice(
     p: &Process,
 ) -> Result<Option<Job>, Memory>
     requires limited { AreLimited state.now.problem.signature state.now.nodes }
+    requires rest { ClosedRest state.now }
     requires normal { AreNormal state.now normal.old }
     requires lives { IsTrue (has state.now.living p.now) }
     ensures first { IfOk result (λ o. o ≡ first_choice state.now (jobs_of flight.now) p.now) }
     ensures normal { AreNormal state.now normal.new }
 {
-    if is_over(state, p) {
+    if state.is_closed(p) || is_over(state, p) {
         return Ok(None);
     }
     let held = held_nodes(normal.allocator(), state, p)?;

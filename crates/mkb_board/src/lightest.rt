@@ -13,7 +13,6 @@ ghost use Rattle.mkb_board.specs.Choosing.{jobs_of, is_choice, least_choice, mer
 ghost use Rattle.mkb_board.specs.Normal.{Serves};
 ghost use Rattle.mkb_board.specs.declared.lightest.Weighed.{Weighed};
 
-use crate::choosing::node_count;
 use crate::cost::node_size;
 use crate::due::is_choice;
 use crate::normal::Normal;
@@ -62,12 +61,12 @@ pub(crate) fn lightest_work(
 }
 
 // The job of this kind for the node.
-fn job_at(kind: NodeJob, p: &Process, n: u16) -> Job
-    ensures { result ≡ node_job kind p.now n }
+fn job_at(kind: NodeJob, p: &Process, n: NodeId) -> Job
+    ensures { result ≡ node_job kind p.now n.0 }
 {
     match kind {
-        NodeJob::Reduce => Job::Reduce(*p, NodeId(n)),
-        NodeJob::Orient => Job::Orient(*p, NodeId(n)),
+        NodeJob::Reduce => Job::Reduce(*p, n),
+        NodeJob::Orient => Job::Orient(*p, n),
     }
 }
 
@@ -83,11 +82,13 @@ fn lightest_at_node(
     ensures lightest { result ≡ least_choice selections.Size state.now (jobs_of flight.now) (map (node_job kind p.now) (node_numbers state.now)) }
     ensures serves { Serves state.now p.now normal.new }
 {
+    let count = normal.held().len();
     let mut best = None;
-    for n in 0..node_count(state) {
+    for i in 0..count {
+        let n = normal.held()[i];
         let next = Weighed {
-            weight: node_size(state, n as u16),
-            job: job_at(kind, p, n as u16),
+            weight: node_size(state, n.0),
+            job: job_at(kind, p, n),
         };
         best = lighter(state, flight, normal, best, next);
     }
@@ -111,7 +112,7 @@ fn lightest_overlap(
     let mut best = None;
     for i in 0..rules.len() {
         let first = rules[i];
-        for j in 0..rules.len() {
+        for j in i..rules.len() {
             let second = rules[j];
             let next = Weighed {
                 weight: node_size(state, first.node) + node_size(state, second.node),
@@ -139,6 +140,7 @@ fn lighter(
     ensures least { option_map (λ (w : Weighed). w.job) result ≡ merged (job_cmp (cost state.now) (weight_by selections.Size state.now)) (option_map (λ (w : Weighed). w.job) best) (least_choice selections.Size state.now (jobs_of flight.now) (next.job ∷ [])) }
     ensures weighed { IfSome result (IsWeighed state.now) }
     ensures of_either { (result ≡ best) ⊎ (result ≡ Some next) }
+    ensures held { normal.new.held.items ≡ normal.old.held.items }
     ensures serves { Serves state.now (process_of next.job) normal.new }
 {
     if is_lighter(next.weight, &best) && is_choice(state, flight, normal, &next.job) {

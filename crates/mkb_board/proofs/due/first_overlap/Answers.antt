@@ -7,13 +7,7 @@ use Rattle.kb_node.specs.declared.job.Job.TheVariants.{Overlap}
 use Rattle.mkb_model.specs.Plain.{rules_of}
 use Rattle.mkb_board.specs.Choosing.{is_choice, jobs_of}
 use Rattle.mkb_board.proofs.Picking.{find_part}
-use Rattle.mkb_board.proofs.Weighing.{rule_below}
 use Rattle.mkb_board.proofs.due.first_overlap.Goals as goal
-
-pub first_second-requires-clause-there : goal.first_second-requires-clause-there
-first_second-requires-clause-there c =
-    let d : RuleRef = record { node = 0; dir = 0 } in
-    rule_below c.args.state.now c.args.p.now c.args.rules.now c.loop-i.i d c.requires (omega arith)
 
 pub returns-in-Some : goal.returns-in-Some
 returns-in-Some c =

@@ -1,63 +1,94 @@
-use Rattle.std.proofs.Common.{ℕ, ◌+◌, ◌-◌, ◌<◌, ◌≤◌, ◌∙◌, ◌∷◌, length, map, ap, sym, subst, arith, IfSome}
+use Rattle.std.proofs.Common.{ℕ, ◌+◌, ◌<◌, ◌≤◌, ◌≡◌, ◌∙◌, ◌∷◌, List, length, map, drop, get_or, ap, refl, sym, subst, arith, IfSome}
 use Rattle.kb_lemmas.proofs.Membership.{contains_first}
 use Rattle.kb_label.specs.Names.{Name}
 use Rattle.kb_node.specs.declared.job.Job.{Job}
+use Rattle.kb_node.specs.declared.node.NodeId.{NodeId}
 use Rattle.mkb_model.specs.Jobs.{process_of}
-use Rattle.mkb_model.specs.Plain.{node_numbers, numbers_from, weight_by}
+use Rattle.mkb_model.specs.Plain.{node_numbers, weight_by}
 use Rattle.mkb_model.specs.declared.settings.Selection.TheVariants.{Size}
+use Rattle.mkb_rules.specs.Roles.{held_of}
 use Rattle.mkb_board.specs.Choosing.{jobs_of, node_job, HasNodes, StandsEarlier}
 use Rattle.mkb_board.specs.Normal.{Serves}
 use Rattle.mkb_board.specs.declared.lightest.Weighed.{Weighed}
-use Rattle.mkb_board.proofs.NodeJobs.{node_there, node_weight, nodes_rise, of_process}
+use Rattle.mkb_board.proofs.Having.{held_length, held_number, held_there}
+use Rattle.mkb_board.proofs.NodeJobs.{held_rise, node_there, node_weight, nodes_rise, of_process, unused_job}
 use Rattle.mkb_board.proofs.Weighing.{at_node, begins_at, ends_at, goes_on, IsBestBefore}
 use Rattle.mkb_board.proofs.lightest.lightest_at_node.Goals as goal
 
-pub loop-n-init : goal.loop-n-init
-loop-n-init c = record {
-  best = begins_at (node_job c.args.kind c.args.p.now) c.args.state.now (jobs_of c.args.flight.now) (nodes_rise c.args.kind c.args.p.now 0 (length c.args.state.now.nodes));
-  serves = c.requires;
-}
+pub loop-i-init : goal.loop-i-init
+loop-i-init c =
+    let b = c.args.state.now in
+    let p = c.args.p.now in
+    let flight = jobs_of c.args.flight.now in
+    record {
+      best = begins_at (node_job c.args.kind p) b p flight (nodes_rise c.args.kind p (held_of b p) (held_rise b p)) (unused_job c.args.kind b flight p);
+      held = refl;
+      serves = c.requires;
+    }
+
+pub node_size-requires : goal.node_size-requires
+node_size-requires c =
+    let same = c.held.ensures ∙ c.loop-i.invariant.held in
+    held_there c.args.state.now c.args.p.now c.held.result.now c.loop-i.i (record { 0 = 0 }) (ap (map (λ (n : NodeId). n.0)) same ∙ c.requires.held)
+    (omega (arith, c.loop-i-test.true, ap length same, ap length c.held-count.ensures))
 
 pub lighter-best-requires-clause-nodes : goal.lighter-best-requires-clause-nodes
 lighter-best-requires-clause-nodes c =
-    let there : c.loop-n.n < length c.args.state.now.nodes = omega arith in
-    subst {A = Job} (λ j. HasNodes c.args.state.now j) (sym c.job_at.ensures) (node_there c.args.state.now c.args.kind c.args.p.now c.loop-n.n there)
+    let b = c.args.state.now in
+    let d : NodeId = record { 0 = 0 } in
+    let same = c.held.ensures ∙ c.loop-i.invariant.held in
+    let there =
+    held_there b c.args.p.now c.held.result.now c.loop-i.i d (ap (map (λ (n : NodeId). n.0)) same ∙ c.requires.held)
+    (omega (arith, c.loop-i-test.true, ap length same, ap length c.held-count.ensures)) in
+    subst {A = Job} (λ j. HasNodes b j) (sym c.job_at.ensures) (node_there b c.args.kind c.args.p.now (get_or c.held.result.now c.loop-i.i d).0 there)
 
 pub lighter-best-requires-clause-serves : goal.lighter-best-requires-clause-serves
 lighter-best-requires-clause-serves c =
-    subst {A = Name} (λ q. Serves c.args.state.now q c.loop-n.normal) (sym (ap process_of c.job_at.ensures ∙ of_process c.args.kind c.args.p.now c.loop-n.n)) c.loop-n.invariant.serves
+    let n = (get_or c.held.result.now c.loop-i.i (record { 0 = 0 })).0 in
+    subst {A = Name} (λ q. Serves c.args.state.now q c.loop-i.normal) (sym (ap process_of c.job_at.ensures ∙ of_process c.args.kind c.args.p.now n)) c.loop-i.invariant.serves
 
 pub lighter-best-requires-clause-next : goal.lighter-best-requires-clause-next
 lighter-best-requires-clause-next c =
-    c.node_size.ensures.size ∙ node_weight c.args.state.now c.args.kind c.args.p.now c.loop-n.n ∙ ap (weight_by Size c.args.state.now) (sym c.job_at.ensures)
+    let n = (get_or c.held.result.now c.loop-i.i (record { 0 = 0 })).0 in
+    c.node_size.ensures.size ∙ node_weight c.args.state.now c.args.kind c.args.p.now n ∙ ap (weight_by Size c.args.state.now) (sym c.job_at.ensures)
 
 pub lighter-best-requires-clause-earlier : goal.lighter-best-requires-clause-earlier
 lighter-best-requires-clause-earlier c =
     let b = c.args.state.now in
-    let n = c.loop-n.n in
-    let f : ℕ → Job = node_job c.args.kind c.args.p.now in
-    let there : n < length b.nodes = omega arith in
-    subst {A = Job} (λ j. IfSome c.loop-n.best (λ (w : Weighed). StandsEarlier j w.job)) (sym c.job_at.ensures)
-    ((at_node f b (jobs_of c.args.flight.now) n c.loop-n.best there c.loop-n.invariant.best).earlier (f n) (contains_first (f n) (map f (numbers_from (n + 1) (length b.nodes - (n + 1))))))
+    let p = c.args.p.now in
+    let held = c.args.normal.now.held.items in
+    let i = c.loop-i.i in
+    let n = (get_or c.held.result.now i (record { 0 = 0 })).0 in
+    let f : ℕ → Job = node_job c.args.kind p in
+    let there : i < length (held_of b p) = omega (arith, c.loop-i-test.true, ap length c.held-count.ensures, held_length b p held c.requires.held) in
+    let is = held_number b p c.held.result.now held i (c.held.ensures ∙ c.loop-i.invariant.held) c.requires.held in
+    subst {A = Job} (λ j. IfSome c.loop-i.best (λ (w : Weighed). StandsEarlier j w.job)) (sym c.job_at.ensures)
+    ((at_node f b p (jobs_of c.args.flight.now) i n c.loop-i.best there is c.loop-i.invariant.best).earlier (f n) (contains_first (f n) (map f (drop (i + 1) (held_of b p)))))
 
-pub loop-n-preserved : goal.loop-n-preserved
-loop-n-preserved c =
+pub loop-i-preserved : goal.loop-i-preserved
+loop-i-preserved c =
     let b = c.args.state.now in
-    let n = c.loop-n.n in
-    let f : ℕ → Job = node_job c.args.kind c.args.p.now in
+    let p = c.args.p.now in
+    let held = c.args.normal.now.held.items in
+    let i = c.loop-i.i in
+    let n = (get_or c.held.result.now i (record { 0 = 0 })).0 in
+    let f : ℕ → Job = node_job c.args.kind p in
     let flight = jobs_of c.args.flight.now in
-    let rest = map f (numbers_from (n + 1) (length b.nodes - (n + 1))) in
-    let there : n < length b.nodes = omega arith in
+    let rest = map f (drop (i + 1) (held_of b p)) in
+    let there : i < length (held_of b p) = omega (arith, c.loop-i-test.true, ap length c.held-count.ensures, held_length b p held c.requires.held) in
+    let is = held_number b p c.held.result.now held i (c.held.ensures ∙ c.loop-i.invariant.held) c.requires.held in
     record {
       best =
-          goes_on b flight (map f (node_numbers b)) rest c.loop-n.best c.lighter-best.result (record { weight = c.node_size.result; job = c.job_at.result })
-          (subst {A = Job} (λ j. IsBestBefore b flight (map f (node_numbers b)) (j ∷ rest) c.loop-n.best) (sym c.job_at.ensures) (at_node f b flight n c.loop-n.best there c.loop-n.invariant.best))
+          goes_on b flight (map f (node_numbers b)) rest c.loop-i.best c.lighter-best.result (record { weight = c.node_size.result; job = c.job_at.result })
+          (subst {A = Job} (λ j. IsBestBefore b flight (map f (node_numbers b)) (j ∷ rest) c.loop-i.best) (sym c.job_at.ensures) (at_node f b p flight i n c.loop-i.best there is c.loop-i.invariant.best))
           c.lighter-best.ensures.least c.lighter-best.ensures.weighed c.lighter-best.ensures.of_either;
-      serves = subst {A = Name} (λ q. Serves b q c.lighter-best.new.normal) (ap process_of c.job_at.ensures ∙ of_process c.args.kind c.args.p.now n) c.lighter-best.ensures.serves;
+      held = c.lighter-best.ensures.held ∙ c.loop-i.invariant.held;
+      serves = subst {A = Name} (λ q. Serves b q c.lighter-best.new.normal) (ap process_of c.job_at.ensures ∙ of_process c.args.kind p n) c.lighter-best.ensures.serves;
     }
 
 pub returns-clause-lightest : goal.returns-clause-lightest
 returns-clause-lightest c =
     let b = c.args.state.now in
-    let all : length b.nodes ≤ c.loop-n.n = omega arith in
-    c.job_of.ensures ∙ ends_at (node_job c.args.kind c.args.p.now) b (jobs_of c.args.flight.now) c.loop-n.n c.loop-n.best all c.loop-n.invariant.best
+    let p = c.args.p.now in
+    let all : length (held_of b p) ≤ c.loop-i.i = omega (arith, c.loop-i-test.false, ap length c.held-count.ensures, held_length b p c.args.normal.now.held.items c.requires.held) in
+    c.job_of.ensures ∙ ends_at (node_job c.args.kind p) b p (jobs_of c.args.flight.now) c.loop-i.i c.loop-i.best all c.loop-i.invariant.best

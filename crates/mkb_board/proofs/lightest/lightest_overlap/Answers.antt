@@ -1,11 +1,11 @@
-use Rattle.std.proofs.Common.{◌+◌, ◌<◌, ◌≤◌, ◌∙◌, ◌++◌, List, length, map, drop, slice_index_or, ap, ap₂, arith}
+use Rattle.std.proofs.Common.{◌+◌, ◌<◌, ◌≤◌, ◌∙◌, ◌++◌, List, length, map, drop, get_or, slice_index_or, ap, ap₂, subst, sym, arith}
 use Rattle.kb_lemmas.proofs.Membership.{contains_first}
 use Rattle.kb_term.specs.declared.origin.RuleRef.{RuleRef}
 use Rattle.kb_node.specs.declared.job.Job.TheVariants.{Overlap}
 use Rattle.mkb_model.specs.Plain.{rules_of}
 use Rattle.mkb_board.specs.Choosing.{jobs_of}
 use Rattle.mkb_board.proofs.Rising.{overlaps_rise}
-use Rattle.mkb_board.proofs.Weighing.{begins, first_rule, goes_on, next_rule, no_rule, overlaps_of, second_rule, rule_below, two_weights}
+use Rattle.mkb_board.proofs.Weighing.{begins, first_rule, goes_on, next_rule, no_rule, overlaps_of, second_rule, rule_below, two_weights, IsBestOn}
 use Rattle.mkb_board.proofs.lightest.lightest_overlap.Goals as goal
 
 pub loop-i-init : goal.loop-i-init
@@ -52,10 +52,12 @@ pub loop-j-init : goal.loop-j-init
 loop-j-init c =
     let b = c.args.state.now in
     let p = c.args.p.now in
+    let flight = jobs_of c.args.flight.now in
+    let i = c.loop-i.i in
     let d : RuleRef = record { node = 0; dir = 0 } in
-    let there : c.loop-i.i < length (rules_of b p) = omega (arith, c.loop-i-test.true, ap length c.requires.rules) in
+    let there : i < length (rules_of b p) = omega (arith, c.loop-i-test.true, ap length c.requires.rules) in
     record {
-      best = first_rule b (jobs_of c.args.flight.now) p (slice_index_or c.args.rules.now c.loop-i.i d) d c.loop-i.i c.loop-i.best there (ap (λ (z : List RuleRef). slice_index_or z c.loop-i.i d) c.requires.rules) c.loop-i.invariant.best;
+      best = subst {A = List RuleRef} (λ rs. IsBestOn b flight p (get_or rs i d) i i c.loop-i.best) (sym c.requires.rules) (first_rule b flight p d i c.loop-i.best there c.loop-i.invariant.best);
       serves = c.loop-i.invariant.serves;
     }
 

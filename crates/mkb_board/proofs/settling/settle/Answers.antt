@@ -33,8 +33,11 @@ returns-then-count-le-MOST_AWAKE c =
     let b = c.args.state.now in
     settles b b c.wake.new.state (rests b (omega (arith, c.if-count-le-MOST_AWAKE.true, c.working-count.ensures))) c.wake.ensures
 
-pub working-count-requires-2 : goal.working-count-requires-2
-working-count-requires-2 c = record { rest = same_rest c.args.state.now c.rest.new.state (differs_rested c.args.state.now c.rest.new.state c.rest.ensures) c.requires.rest }
+pub working-count-requires-2-clause-rest : goal.working-count-requires-2-clause-rest
+working-count-requires-2-clause-rest c = same_rest c.args.state.now c.rest.new.state (differs_rested c.args.state.now c.rest.new.state c.rest.ensures) c.requires.rest
+
+pub working-count-requires-2-clause-sleepers : goal.working-count-requires-2-clause-sleepers
+working-count-requires-2-clause-sleepers c = rested_label c.args.state.now c.rest.new.state c.rest.ensures c.requires.in_order c.requires.sleepers
 
 pub wake-requires-2-clause-limited : goal.wake-requires-2-clause-limited
 wake-requires-2-clause-limited c = same_limits c.args.state.now c.rest.new.state (differs_rested c.args.state.now c.rest.new.state c.rest.ensures) c.requires.limited

@@ -1,17 +1,18 @@
-use Rattle.std.proofs.Common.{List, Contains, ap, subst, sym, ◌∙◌, length, arith}
-use Rattle.std.proofs.lemmas.List.Elements.{Contains-get_or}
-use Rattle.kb_label.specs.Names.{Name}
-use Rattle.mkb_model.proofs.Endings.{has_in}
-use Rattle.mkb_board.proofs.Sleepers.{working_as}
+use Rattle.std.proofs.Common.{◌+◌, ◌≡◌, length, ap, arith, sym, ◌∙◌}
+use Rattle.mkb_model.specs.Sleeping.{working}
+use Rattle.mkb_board.proofs.Going.{awake_work}
 use Rattle.mkb_board.proofs.settling.working.Goals as goal
 
-pub loop-i-init : goal.loop-i-init
-loop-i-init c = let all = ap length (working_as c.args.state.now) in record { counted = omega (arith, all); few = omega arith }
+pub overflow_sub-result : goal.overflow_sub-result
+overflow_sub-result c =
+    let b = c.args.state.now in
+    let all : length (working b b.asleep) + length b.asleep ≡ length b.living =
+    awake_work b c.requires.rest (sym c.has_closed.ensures ∙ c.if-not-has_closed.true) (sym c.has_over.ensures ∙ c.if-not-has_over.true) c.requires.in_order c.requires.sleepers in
+    omega (arith, all, ap length (c.processes.ensures ∙ c.log.ensures), ap length c.sleepers.ensures)
 
-pub is_working-requires-clause-lives : goal.is_working-requires-clause-lives
-is_working-requires-clause-lives c =
-    let living = c.processes-living.result.now in
-    let p = c.index-living-i.result in
-    has_in c.args.state.now.living p
-    (subst {A = List Name} (λ z. Contains z p) (c.processes-living.ensures ∙ c.log.ensures)
-    (subst {A = Name} (Contains living) (sym c.index-living-i.is) (Contains-get_or living c.loop-i.i p c.loop-i-test.true)))
+pub returns-then-not-has_over : goal.returns-then-not-has_over
+returns-then-not-has_over c =
+    let b = c.args.state.now in
+    let all : length (working b b.asleep) + length b.asleep ≡ length b.living =
+    awake_work b c.requires.rest (sym c.has_closed.ensures ∙ c.if-not-has_closed.true) (sym c.has_over.ensures ∙ c.if-not-has_over.true) c.requires.in_order c.requires.sleepers in
+    omega (arith, all, ap length (c.processes.ensures ∙ c.log.ensures), ap length c.sleepers.ensures)

@@ -5,6 +5,7 @@ use Rattle.mkb_model.specs.Verdicts.{verdict}
 use Rattle.mkb_model.specs.declared.entry.Ticket.{Ticket}
 use Rattle.mkb_model.proofs.Stated.{none_first}
 use Rattle.mkb_board.specs.Boards.{Seen, has_halt}
+use Rattle.mkb_board.proofs.AtRest.{legal_rest}
 use Rattle.mkb_board.proofs.Readable.{limited_on, ordered_on, waits_on}
 use Rattle.mkb_board.proofs.board.Board.take.Goals as goal
 
@@ -22,6 +23,9 @@ first_job-requires-clause-limited c = limited_on c.self.inside.state c.self.insi
 
 pub first_job-requires-clause-in_order : goal.first_job-requires-clause-in_order
 first_job-requires-clause-in_order c = ordered_on c.self.inside.state c.self.inside.flight.items c.self.inside.journal.items c.self.invariant.0.legal
+
+pub first_job-requires-clause-rest : goal.first_job-requires-clause-rest
+first_job-requires-clause-rest c = legal_rest c.self.inside.state c.self.inside.flight.items c.self.inside.journal.items c.self.invariant.0.legal
 
 -- what holds anyway holds where there is an error
 on_err : {T E P : Type 0} (r : Result T E) → P → OnErr r P

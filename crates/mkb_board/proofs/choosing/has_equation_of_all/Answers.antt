@@ -1,7 +1,7 @@
 use Rattle.std.proofs.Common.{◌<◌, length, arith, sym, ◌∙◌}
 use Rattle.mkb_model.specs.Plain.{is_equation}
 use Rattle.mkb_board.proofs.Picking.{filter_on}
-use Rattle.mkb_board.proofs.choosing.has_equation.Goals as goal
+use Rattle.mkb_board.proofs.choosing.has_equation_of_all.Goals as goal
 
 pub loop-n-preserved : goal.loop-n-preserved
 loop-n-preserved c =

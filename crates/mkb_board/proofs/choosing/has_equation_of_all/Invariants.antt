@@ -1,6 +1,6 @@
 use Rattle.std.proofs.Common.{◌≡◌, ◌-◌, length, filter}
 use Rattle.mkb_model.specs.Plain.{equations_of, is_equation, numbers_from}
-use Rattle.mkb_board.proofs.choosing.has_equation.Given as goal
+use Rattle.mkb_board.proofs.choosing.has_equation_of_all.Given as goal
 
 -- no node so far is an equation of the process
 abbrev pub invariant-loop-n : goal.invariant-loop-n

@@ -1,0 +1,17 @@
+use Rattle.std.proofs.Common.{List, Contains, ap, subst, sym, ◌∙◌, length, arith}
+use Rattle.std.proofs.lemmas.List.Elements.{Contains-get_or}
+use Rattle.kb_label.specs.Names.{Name}
+use Rattle.mkb_model.proofs.Endings.{has_in}
+use Rattle.mkb_board.proofs.Sleepers.{working_as}
+use Rattle.mkb_board.proofs.settling.count_working.Goals as goal
+
+pub loop-i-init : goal.loop-i-init
+loop-i-init c = let all = ap length (working_as c.args.state.now) in record { counted = omega (arith, all); few = omega arith }
+
+pub is_working-requires-clause-lives : goal.is_working-requires-clause-lives
+is_working-requires-clause-lives c =
+    let living = c.processes-living.result.now in
+    let p = c.index-living-i.result in
+    has_in c.args.state.now.living p
+    (subst {A = List Name} (λ z. Contains z p) (c.processes-living.ensures ∙ c.log.ensures)
+    (subst {A = Name} (Contains living) (sym c.index-living-i.is) (Contains-get_or living c.loop-i.i p c.loop-i-test.true)))
