@@ -4,7 +4,7 @@ use Rattle.std.specs.Prelude.{Bool, IsTrue, ◌↔◌}
 use Rattle.std.proofs.lemmas.Option.{same_Some}
 use Rattle.kb_term.specs.Tree.{Tree}
 use Rattle.kb_term.specs.Pair.{Pair, canonical_pair, ArePairWithin}
-use Rattle.kb_term.specs.Rule.{Rule, IsRule, rule_of}
+use Rattle.kb_term.specs.Rule.{Rule, IsRule, IsRuleBelow, rule_of}
 use Rattle.kb_term.specs.View.{tree_of}
 use Rattle.kb_term.specs.declared.term.Term.{Term}
 use Rattle.kb_term.specs.declared.origin.RuleRef.{RuleRef}
@@ -33,6 +33,11 @@ overlap_decided outer inner p pair s t b r q made h = (
   λ y. record { outer_rule = r; inner_rule = q; s = tree_of s; t = tree_of t; overlap = made; canonical = h.0 y },
   λ z. h.1 (one_pair outer inner p (tree_of s) (tree_of t) z.s z.t made z.overlap ∙ z.canonical),
 )
+
+-- a cited rule has variables below 64
+pub cited_below : (o : Option Pair) (d : ℕ) (rule : Rule) → IsCitedRule o d (Some rule) → IsRuleBelow 64 rule
+cited_below None d rule h = absurd h
+cited_below (Some e) d rule h = h.1
 
 -- the pair of a cited rule
 pub cited_pair : (o : Option Pair) (d : ℕ) (rule : Rule) → IsCitedRule o d (Some rule) → (e : Pair) × (o ≡ Some e) × (rule ≡ rule_of e d)

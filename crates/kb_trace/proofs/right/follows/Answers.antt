@@ -4,7 +4,7 @@ use Rattle.std.proofs.lemmas.Result.{IfOk-weaker}
 use Rattle.kb_term.specs.View.{equations_of_list}
 use Rattle.kb_overlap.specs.Trace.{item, IsRightInput, IsRightRewrite, IsRightOverlap, FollowsBy}
 use Rattle.kb_trace.specs.Steps.{IsCitedRule}
-use Rattle.kb_trace.proofs.Deciding.{rewrite_origin, overlap_origin}
+use Rattle.kb_trace.proofs.Deciding.{cited_below, rewrite_origin, overlap_origin}
 use Rattle.kb_trace.proofs.right.follows.Goals as goal
 
 pub returns-in-Input : goal.returns-in-Input
@@ -32,6 +32,11 @@ returns-in-Some-2 c =
     (λ (b : Bool). IsTrue b ↔ FollowsBy es earlier c.args.origin.now pair)
     (λ b h. subst (λ x. IsTrue b ↔ FollowsBy es earlier x pair) (sym o.is) (rewrite_origin es earlier o.node o.side o.position o.rule pair c.in-Some.old.now rule b at cited h))
     c.is_right_rewrite.ensures
+
+pub is_right_overlap-requires-clause-outer_variables : goal.is_right_overlap-requires-clause-outer_variables
+is_right_overlap-requires-clause-outer_variables c =
+    let cited = item c.args.earlier.now c.in-Overlap.outer.node in
+    cited_below cited c.in-Overlap.outer.dir c.in-Some-3.one (subst (IsCitedRule cited c.in-Overlap.outer.dir) c.in-Some-3.is c.in_ok-one-in-Overlap.ensures)
 
 pub returns-in-Some-4 : goal.returns-in-Some-4
 returns-in-Some-4 c =
