@@ -149,7 +149,7 @@ shelf_send : IsSend Shelf.the_row
 shelf_send = search (sendable, crosses, rule_send, global.the_send) depth 40 fits 100000
 
 pub board_send : IsSend Board.the_row
-board_send = search (sendable, crosses, state_send, entry_send, ticket.the_send, verdict.the_send, normal_send, shelf_send) depth 60
+board_send = search (sendable, crosses, state_send, entry_send, ticket.the_send, verdict.the_send, normal_send, shelf_send) depth 60 fits 100000
 
 pub shared_send : IsSend Shared.the_row
 shared_send = search (sendable, board_send) depth 20
