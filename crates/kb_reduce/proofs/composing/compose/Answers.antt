@@ -86,7 +86,7 @@ loop-preserved c =
     let told : c.new.result ≡ step = λ i. record { origin = (c.new.ensures.origin ∙ c.origin_of-origin.ensures) i; pair = (c.new.ensures.pair ∙ c.in_ok-pair-in-Ok.ensures ∙ ap (λ l. canonical l u) c.left.ensures) i } in
     let items : c.push.new.self.items ≡ old ++ (more ++ step ∷ []) = c.in_ok-push-in-Ok.ensures.items ∙ ap (λ s. c.loop.steps.items ++ s ∷ []) told ∙ ap (λ xs. xs ++ step ∷ []) c.loop.invariant.steps ∙ append_assoc old more (step ∷ []) in
     let number : length old + length more + 1 ≡ c.len.result = omega (arith, c.len.ensures, ap (length {A = TraceStep}) items, length-append old (more ++ step ∷ []), length-append more (step ∷ [])) in
-    let next : with_right rule u (length old + length more + 1) ≡ (c.new-in-Ok.result, c.len.result) = λ i. (sym (c.new-in-Ok.ensures ∙ ap (λ l. rule_between l u) (ap tree_of c.in_ok-left-in-Ok.ensures ∙ c.left-in-Ok.ensures)) i, number i) in
+    let next : with_right rule u (length old + length more + 1) ≡ (c.new-in-Ok.result, c.len.result) = λ i. (sym (c.new-in-Ok.ensures ∙ ap (λ l. rule_between l u) (ap tree_of c.in_ok-left-in-Ok.ensures.cases ∙ c.left-in-Ok.ensures)) i, number i) in
     record {
       more = more ++ step ∷ [];
       steps = items;
