@@ -61,6 +61,7 @@ use Rattle.mkb_model.specs.contracts.entry.Effect as Effect
 use Rattle.mkb_model.specs.contracts.entry.Entry as Entry
 use Rattle.mkb_rules.specs.contracts.state.State as State
 use Rattle.mkb_board.specs.contracts.board.Board as Board
+use Rattle.mkb_board.specs.contracts.board.Board.TheInside as BoardInside
 use Rattle.mkb_board.specs.contracts.normal.Normal as Normal
 use Rattle.mkb_board.specs.contracts.shelf.Shelf as Shelf
 use Rattle.turn_lock.proofs.lock.Turns.TheSendSync as turns
@@ -145,11 +146,14 @@ normal_send = search (sendable, crosses, rule_ref.the_send, roles.the_send, glob
 rule_send : IsSend Rule.the_row
 rule_send = search (sendable, crosses, term_crosses) depth 20
 
-shelf_send : IsSend Shelf.the_row
-shelf_send = search (sendable, crosses, rule_send, global.the_send) depth 40 fits 100000
+shelf_field : IsSend (Shelf.the_field).row
+shelf_field = struct_send (S.shape Shelf.the_type) (search (sendable, crosses, global.the_send) depth 20, (search (sendable, crosses, rule_send) depth 20, tt))
 
 pub board_send : IsSend Board.the_row
-board_send = search (sendable, crosses, state_send, entry_send, ticket.the_send, verdict.the_send, normal_send, shelf_send) depth 60 fits 100000
+board_send = view_send BoardInside.the_row _ _ _ _ (recorded_send (BoardInside.the_field).row _ _ (BoardInside.the_type).to_one (struct_send (S.shape BoardInside.the_type) (
+  state_send,
+  (search (sendable, crosses, verdict.the_send) depth 20, (search (sendable, crosses, ticket.the_send) depth 20, (search (sendable, crosses, entry_send) depth 20, (plain_send _ _ _ _ _, (plain_send _ _ _ _ _, (plain_send _ _ _ _ _, (search (sendable, crosses, normal_send) depth 20 fits 100000, (shelf_field, tt)))))))),
+)))
 
 pub shared_send : IsSend Shared.the_row
 shared_send = search (sendable, board_send) depth 20
