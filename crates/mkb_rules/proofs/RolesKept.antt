@@ -1,20 +1,20 @@
 -- How a process has the nodes, as it is kept, after a label is put and a node comes.
-use Rattle.std.proofs.Common.{ℕ, zero, suc, ◌<◌, ◌≤◌, ◌≡◌, refl, sym, ap, ap₂, ◌∙◌, subst, arith, List, [], ◌∷◌, ◌++◌, length, set, get_or, Bool, true, false, ◌⊎◌, inl, inr, ⊎_elim}
-use Rattle.std.specs.Prelude.{◌==◌, ◌≢◌}
+use Rattle.std.proofs.Common.{ℕ, zero, suc, ◌+◌, ◌<◌, ◌≤◌, ◌≡◌, refl, sym, ap, ap₂, ◌∙◌, subst, arith, List, [], ◌∷◌, ◌++◌, length, set, get_or, Bool, true, false, ◌⊎◌, inl, inr, ⊎_elim}
+use Rattle.std.specs.Prelude.{◌&&◌, ◌==◌, ◌≢◌}
 use Rattle.std.proofs.lemmas.Bool.Decides.{nat_tests}
 use Rattle.std.proofs.lemmas.List.{get_or-set_same, get_or-set_other, length-set}
 use mathlib.Core.Bool.{true≢false}
 use Rattle.kb_label.specs.Names.{Name, has}
 use Rattle.kb_node.specs.declared.node.LabelKind.{LabelKind}
 use Rattle.kb_node.specs.declared.node.LabelKind.TheVariants.{R0, R1, E, C0, C1, X}
-use Rattle.mkb_model.specs.Plain.{PlainNode}
+use Rattle.mkb_model.specs.Plain.{PlainNode, label_at}
 use Rattle.mkb_model.specs.Effects.{with_label}
 use Rattle.mkb_rules.specs.Accounts.{IsAccountOf, IsBare}
 use Rattle.mkb_rules.specs.Roles.{no_roles, roles_in, roles_at, with_role, with_role_at, AreRolesOf}
-use Rattle.mkb_rules.specs.Sizes.{AreSizesOf}
+use Rattle.mkb_rules.specs.Sizes.{size_if, size_at, is_open_kind, is_rule_kind, AreSizesOf}
 use Rattle.mkb_rules.specs.declared.account.Account.{Account}
 use Rattle.mkb_rules.specs.declared.roles.Roles.{Roles}
-use Rattle.mkb_rules.proofs.Paying.{sizes_more}
+use Rattle.mkb_rules.proofs.Paying.{sizes_moved, sizes_more}
 
 -- ---- a label is put
 
@@ -60,6 +60,49 @@ roles_moved xs n k l p roles h right m i = go (m == n) refl
       where
         test : m ≡ n → (m == n) ≡ true
         test same = grind (arith, nat_tests)
+
+-- the roles that the node's own label of this kind tells
+same_role : (xs : List PlainNode) (n : ℕ) (k : LabelKind) (p : Name) → n < length xs → with_role (roles_at xs n p) k (has (label_at xs n k) p) ≡ roles_at xs n p
+same_role [] n k p h = absurd (omega (arith, h))
+same_role (x ∷ xs) zero E p h = refl
+same_role (x ∷ xs) zero R0 p h = refl
+same_role (x ∷ xs) zero R1 p h = refl
+same_role (x ∷ xs) zero C0 p h = refl
+same_role (x ∷ xs) zero C1 p h = refl
+same_role (x ∷ xs) zero X p h = refl
+same_role (x ∷ xs) (suc n) k p h = same_role xs n k p (omega (arith, h))
+
+-- a label that changes no role of the node changes none
+same_roles : (xs : List PlainNode) (n : ℕ) (k : LabelKind) (l : List Name) (p : Name) → n < length xs → with_role (roles_at xs n p) k (has l p) ≡ roles_at xs n p → (m : ℕ) → roles_at xs m p ≡ roles_at (with_label n k l xs) m p
+same_roles xs n k l p h same m = go (m == n) refl
+  where
+    go : (b : Bool) → (m == n) ≡ b → roles_at xs m p ≡ roles_at (with_label n k l xs) m p
+    go true e =
+        let here : m ≡ n = grind (arith, nat_tests) in
+        ap (λ j. roles_at xs j p) here ∙ sym same ∙ roles_here xs n k l p h ∙ ap (λ j. roles_at (with_label n k l xs) j p) (sym here)
+    go false e = sym (other_roles xs n m k l p (λ here. absurd (true≢false (sym (test here) ∙ e))))
+      where
+        test : m ≡ n → (m == n) ≡ true
+        test here = grind (arith, nat_tests)
+
+-- an account stays right after a label that names its process as the one before did
+pub account_kept : (xs : List PlainNode) (n : ℕ) (k : LabelKind) (l : List Name) (a : Account) → n < length xs → has (label_at xs n k) a.sizes.process ≡ has l a.sizes.process → IsAccountOf xs a → IsAccountOf (with_label n k l xs) a
+account_kept xs n k l a h same right =
+    let p = a.sizes.process in
+    let role : with_role (roles_at xs n p) k (has l p) ≡ roles_at xs n p = ap (with_role (roles_at xs n p) k) (sym same) ∙ same_role xs n k p h in
+    record {
+      sizes = sizes_moved xs n k l a.sizes a.sizes h right.sizes refl
+          (ap (λ (b : Bool). a.sizes.open_sizes + size_if (is_open_kind k && b) (size_at xs n)) same)
+          (ap (λ (b : Bool). a.sizes.rule_sizes + size_if (is_rule_kind k && b) (size_at xs n)) same);
+      roles = λ m i. right.roles m i ∙ same_roles xs n k l p h role m;
+    }
+
+-- and after each label that counts for nobody
+pub account_uncounted : (xs : List PlainNode) (n : ℕ) (l : List Name) (a : Account) → n < length xs → IsAccountOf xs a → IsAccountOf (with_label n X l xs) a
+account_uncounted xs n l a h right = record {
+  sizes = sizes_moved xs n X l a.sizes a.sizes h right.sizes refl refl refl;
+  roles = λ m i. right.roles m i ∙ same_roles xs n X l a.sizes.process h refl m;
+}
 
 -- ---- a node comes
 

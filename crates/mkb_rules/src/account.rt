@@ -77,7 +77,7 @@ impl Account {
 }
 
 /// The accounts follow a label that is put into the table; where a number is too great, none is kept. They stand in the order of
-/// names, so each is found in the labels without a search.
+/// names, so each is found in the labels without a search. Those for whose process the label changes nothing stay untouched.
 pub(crate) fn follow(
     accounts: &mut Vec<Account>,
     table: &NodeTable<ListLabels>,
@@ -89,6 +89,9 @@ pub(crate) fn follow(
     requires right { All (IsAccountOf (plain_nodes table.now)) accounts.old.items }
     ensures { All (IsAccountOf (plain_nodes (with_label_at table.now n.0 kind label.now))) accounts.new.items }
 {
+    if matches!(kind, LabelKind::X) {
+        return;
+    }
     let size = table.size(n);
     let old = table.label(n, kind);
     let mut in_old = 0;
@@ -96,6 +99,9 @@ pub(crate) fn follow(
     for i in 0..accounts.len() {
         let had = old.has_from(&accounts[i].sizes.process, &mut in_old);
         let has = label.has_from(&accounts[i].sizes.process, &mut in_new);
+        if had == has {
+            continue;
+        }
         if !accounts[i].follow(n, kind, size, had, has) {
             accounts.clear();
             return;

@@ -1,7 +1,10 @@
-use Rattle.std.proofs.Common.{◌≡◌, ◌∙◌, ◌+◌, ◌<◌, Bool, ap, ap₂, sym, subst, arith, List, length, get_or, set}
+use Rattle.std.proofs.Common.{◌≡◌, ◌∙◌, ◌+◌, ◌<◌, ◌≤◌, Bool, true, false, refl, ap, ap₂, sym, subst, arith, List, length, get_or, set}
 use Rattle.std.specs.Prelude.{◌&&◌}
 use Rattle.std.proofs.lemmas.List.{get_or_default, get_or-set_same, get_or-set_other, length-set, length-map}
+use mathlib.Core.Bool.{beq}
 use Rattle.kb_label.specs.Names.{Name, has}
+use Rattle.kb_node.specs.declared.node.LabelKind.{LabelKind}
+use Rattle.kb_node.specs.declared.node.LabelKind.TheVariants.{X}
 use Rattle.kb_node.specs.Labelled.{with_label_at}
 use Rattle.mkb_model.specs.Plain.{PlainNode, label_at}
 use Rattle.mkb_model.specs.Effects.{with_label}
@@ -13,8 +16,15 @@ use Rattle.mkb_rules.specs.declared.account.Account.{Account}
 use Rattle.mkb_rules.specs.declared.roles.Roles.{Roles}
 use Rattle.mkb_rules.proofs.PutBack.{plain-with_label, plain-label}
 use Rattle.mkb_rules.proofs.Paying.{plain-size, sizes_moved, same_or_less}
-use Rattle.mkb_rules.proofs.RolesKept.{roles_moved}
+use Rattle.mkb_rules.proofs.RolesKept.{roles_moved, account_kept, account_uncounted}
 use Rattle.mkb_rules.proofs.account.follow.Goals as goal
+use Rattle.mkb_rules.proofs.account.follow.Goals.{in-X, in_default}
+
+same_bool : (a b : Bool) → beq a b ≡ true → a ≡ b
+same_bool true true e = refl
+same_bool true false e = absurd (cc)
+same_bool false true e = absurd (cc)
+same_bool false false e = refl
 
 pub loop-i-preserved : goal.loop-i-preserved
 loop-i-preserved c =
@@ -52,6 +62,44 @@ loop-i-preserved c =
           (λ w. subst {A = Account} (IsAccountOf (plain_nodes (with_label_at c.args.table.now n k l))) (sym (get_or-set_other now i j t d (λ e. absurd (omega (arith, e, w))))) (c.loop-i.invariant.done j d w (omega (arith, v, length-set now i t))));
       todo = λ j d u v. subst {A = Account} (IsAccountOf xs) (sym (get_or-set_other now i j t d (λ e. absurd (omega (arith, e, u))))) (c.loop-i.invariant.todo j d (omega (arith, u)) (omega (arith, v, length-set now i t)));
     }
+
+pub loop-i-preserved-then-had-has : goal.loop-i-preserved-then-had-has
+loop-i-preserved-then-had-has c =
+    let xs = plain_nodes c.args.table.now in
+    let n = c.args.n.0 in
+    let k = c.args.kind in
+    let l = c.args.label.now in
+    let i = c.loop-i.i in
+    let now = c.loop-i.accounts.items in
+    let there : n < length xs = omega (arith, c.requires.there, length-map c.args.table.now plain_node) in
+    let inside : i < length now = omega (arith, c.loop-i.invariant.count, c.loop-i-test.true) in
+    let here : i ≤ i = omega arith in
+    let kept = λ (d : Account).
+    let a : Account = get_or now i d in
+    let same : c.index.result.now.sizes.process ≡ a.sizes.process = ap (λ (z : Account). z.sizes.process) (c.index.ensures ∙ get_or_default now i c.index.result.now d inside) in
+    let same-2 : c.index-in-loop-i.result.now.sizes.process ≡ a.sizes.process = ap (λ (z : Account). z.sizes.process) (c.index-in-loop-i.ensures ∙ get_or_default now i c.index-in-loop-i.result.now d inside) in
+    let before : c.has_from-had.result ≡ has (label_at xs n k) a.sizes.process = c.has_from-had.ensures ∙ ap₂ has (plain-label c.args.table.now n k c.label-old.result.now c.label-old.ensures) same in
+    let after : c.has_from-has.result ≡ has l a.sizes.process = c.has_from-has.ensures ∙ ap (has l) same-2 in
+    subst {A = List PlainNode} (λ ys. IsAccountOf ys a) (sym (plain-with_label c.args.table.now n k l))
+    (account_kept xs n k l a there (sym before ∙ same_bool c.has_from-had.result c.has_from-has.result c.if-had-has.true ∙ after) (c.loop-i.invariant.todo i d here inside)) in
+    record {
+      count = c.loop-i.invariant.count;
+      done = λ j d u v. same_or_less (λ z. IsAccountOf (plain_nodes (with_label_at c.args.table.now n k l)) (get_or now z d)) i j u (kept d) (λ w. c.loop-i.invariant.done j d w v);
+      todo = λ j d u v. c.loop-i.invariant.todo j d (omega (arith, u)) v;
+    }
+
+pub returns-then-matches : goal.returns-then-matches
+returns-then-matches c = elim c.match-matches.branch [
+  | in-X w ↦ λ i d h.
+      let table = c.args.table.now in
+      let n = c.args.n.0 in
+      let l = c.args.label.now in
+      let a = get_or c.args.accounts.now.items i d in
+      let there : n < length (plain_nodes table) = omega (arith, c.requires.there, length-map table plain_node) in
+      subst {A = LabelKind} (λ k. IsAccountOf (plain_nodes (with_label_at table n k l)) a) (sym w.in-X.is)
+      (subst {A = List PlainNode} (λ ys. IsAccountOf ys a) (sym (plain-with_label table n X l)) (account_uncounted (plain_nodes table) n l a there (c.requires.right i d h)))
+  | in_default w ↦ absurd (cc)
+]
 
 pub returns : goal.returns
 returns c = λ k d h. c.loop-i.invariant.done k d (omega (arith, h, c.loop-i.invariant.count, c.loop-i-test.false)) h
