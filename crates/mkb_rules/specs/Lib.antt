@@ -1,4 +1,5 @@
 pub mod Parts
+pub mod Ranks
 pub mod Tabled
 pub mod Nodes
 pub mod Kept

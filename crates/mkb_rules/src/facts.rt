@@ -1,10 +1,11 @@
 // Facts that are found by what they are about.
-ghost use Rattle.std.specs.Prelude.{◌≡◌, ℕ, ◌+◌, ◌*◌, ◌<◌, ◌≤◌, ◌∷◌, ◌++◌, [], List, All, length, get_or, None, OnErr, OnOk, ◌&&◌, ◌==◌};
+ghost use Rattle.std.specs.Prelude.{◌≡◌, ◌+◌, ◌*◌, ◌<◌, ◌≤◌, ◌∷◌, ◌++◌, [], List, All, length, get_or, None, OnErr, OnOk, ◌&&◌, ◌==◌};
 ghost use Rattle.kb_node.specs.declared.job.Fact.{Fact as Told};
-ghost use Rattle.mkb_rules.specs.Tabled.{known_at, place, HasRoom, IsTabled, is_plain};
+ghost use Rattle.mkb_rules.specs.Tabled.{place, HasRoom, IsTabled, IsWider, is_plain};
 ghost use Rattle.mkb_rules.specs.Parts.{known_in};
 ghost use Rattle.mkb_model.specs.Jobs.{ref_eq};
 
+use crate::ranks::Ranks;
 use crate::row::Row;
 use crate::state::is_same;
 use kb_node::{Fact, NodeId};
@@ -14,10 +15,11 @@ use std::marker::Model;
 
 /// Facts in the order in which they became known. Contracts see them as their list.
 ///
-/// The first fact about a side of a node and a rule stands in the rule's row, at the number of the side.
+/// The first fact about a side of a node and a rule stands in the row of the side, at the rank of the rule.
 #[derive(Drop)]
 pub(crate) struct Facts {
     list: Vec<Fact>,
+    ranks: Ranks,
     rows: Vec<Row>,
 }
 
@@ -31,7 +33,7 @@ impl Model for Facts {
 
     ghost view = { λ f. f.list.items };
 
-    ghost invariant = { λ f. IsTabled f.rows.items f.list.items };
+    ghost invariant = { λ f. IsTabled f.ranks f.rows.items f.list.items };
 }
 
 impl Facts {
@@ -41,6 +43,7 @@ impl Facts {
     {
         Facts {
             list: Vec::new(alloc),
+            ranks: Ranks::new(alloc),
             rows: Vec::new(alloc),
         }
     }
@@ -52,11 +55,13 @@ impl Facts {
         if side > 1 || rule.dir > 1 {
             return first_of(self.list.as_slice(), n, side, rule);
         }
-        let row = place(rule.node, rule.dir);
-        if row < self.rows.len() {
-            self.rows[row].get(place(n.0, side))
-        } else {
-            None
+        let row = place(n.0, side);
+        if row >= self.rows.len() {
+            return None;
+        }
+        match self.ranks.rank_of(place(rule.node, rule.dir)) {
+            Some(rank) => self.rows[row].get(rank as usize),
+            None => None,
         }
     }
 
@@ -71,11 +76,11 @@ impl Facts {
     {
         let alloc = *self.list.allocator();
         for i in 0..facts.len() {
-            make_room(alloc, &mut self.rows, &facts[i])?;
+            make_room(alloc, &mut self.ranks, &mut self.rows, &facts[i])?;
         }
         self.list.extend_from_slice(facts)?;
         for i in 0..facts.len() {
-            note(&mut self.rows, &facts[i]);
+            note(&self.ranks, &mut self.rows, &facts[i]);
         }
         Ok(())
     }
@@ -115,24 +120,29 @@ fn first_of(facts: &[Fact], n: NodeId, side: u8, rule: RuleRef) -> Option<Found>
 }
 
 // Makes room for what the fact is about. What is known stays, after want of memory too.
-fn make_room(alloc: Global, rows: &mut Vec<Row>, fact: &Fact) -> Result<(), AllocError>
-    ensures room { OnOk result (HasRoom rows.new.items fact.now) }
-    ensures rooms { (f : Told) → HasRoom rows.old.items f → HasRoom rows.new.items f }
-    ensures kept { (i j : ℕ) → known_at rows.new.items i j ≡ known_at rows.old.items i j }
+fn make_room(
+    alloc: Global,
+    ranks: &mut Ranks,
+    rows: &mut Vec<Row>,
+    fact: &Fact,
+) -> Result<(), AllocError>
+    ensures room { OnOk result (HasRoom ranks.new rows.new.items fact.now) }
+    ensures rooms { (f : Told) → HasRoom ranks.old rows.old.items f → HasRoom ranks.new rows.new.items f }
+    ensures kept { (fs : List Told) → IsTabled ranks.old rows.old.items fs → IsTabled ranks.new rows.new.items fs }
 {
     if !is_plain(fact) {
         return Ok(());
     }
-    let row = place(fact.rule.node, fact.rule.dir);
+    let row = place(fact.node.0, fact.side);
     add_rows(alloc, rows, row + 1)?;
-    rows[row].make_room(place(fact.node.0, fact.side) + 1)
+    let rank = ranks.give(place(fact.rule.node, fact.rule.dir))?;
+    rows[row].make_room(rank as usize + 1)
 }
 
 // Adds rows without room behind the others until there are so many. What is known stays, after want of memory too.
 fn add_rows(alloc: Global, rows: &mut Vec<Row>, count: usize) -> Result<(), AllocError>
     ensures count { OnOk result (count ≤ length rows.new.items) }
-    ensures rooms { (f : Told) → HasRoom rows.old.items f → HasRoom rows.new.items f }
-    ensures kept { (i j : ℕ) → known_at rows.new.items i j ≡ known_at rows.old.items i j }
+    ensures wider { IsWider rows.old.items rows.new.items }
 {
     for _ in rows.len()..count {
         rows.push(Row::new(alloc))?;
@@ -141,13 +151,16 @@ fn add_rows(alloc: Global, rows: &mut Vec<Row>, count: usize) -> Result<(), Allo
 }
 
 // The fact is found by what it is about, unless an earlier one is about the same.
-fn note(rows: &mut Vec<Row>, fact: &Fact)
-    requires room { HasRoom rows.old.items fact.now }
-    ensures tabled { (fs : List Told) → IsTabled rows.old.items fs → IsTabled rows.new.items (fs ++ fact.now ∷ []) }
-    ensures rooms { (f : Told) → HasRoom rows.old.items f → HasRoom rows.new.items f }
+fn note(ranks: &Ranks, rows: &mut Vec<Row>, fact: &Fact)
+    requires room { HasRoom ranks.now rows.old.items fact.now }
+    ensures tabled { (fs : List Told) → IsTabled ranks.now rows.old.items fs → IsTabled ranks.now rows.new.items (fs ++ fact.now ∷ []) }
+    ensures rooms { (f : Told) → HasRoom ranks.now rows.old.items f → HasRoom ranks.now rows.new.items f }
 {
-    if is_plain(fact) {
-        let row = place(fact.rule.node, fact.rule.dir);
-        rows[row].note(place(fact.node.0, fact.side), fact.found);
+    if !is_plain(fact) {
+        return;
+    }
+    let row = place(fact.node.0, fact.side);
+    if let Some(rank) = ranks.rank_of(place(fact.rule.node, fact.rule.dir)) {
+        rows[row].note(rank as usize, fact.found);
     }
 }

@@ -1,4 +1,4 @@
-// Rows of what is known of one rule, by sides of nodes.
+// Rows of what is known on one side of a node, by ranks of rules.
 ghost use Rattle.std.specs.Prelude.{◌≡◌, ◌<◌, ◌≤◌, ℕ, [], length, get_or, None, Some, OnOk, set};
 ghost use Rattle.mkb_rules.specs.Tabled.{or_else};
 
@@ -6,7 +6,7 @@ use kb_term::Found;
 use std::alloc::{AllocError, Global};
 use std::marker::Model;
 
-/// What is known of one rule on each side of each node, by the numbers of the sides; none where nothing is known.
+/// What is known of each rule on one side of a node, by the ranks of the rules; none where nothing is known.
 #[derive(Drop)]
 pub(crate) struct Row {
     cells: Vec<Option<Found>>,
@@ -31,7 +31,7 @@ impl Row {
         }
     }
 
-    /// What is known of the side with this number.
+    /// What is known of the rule with this rank.
     pub(crate) fn get(&self, i: usize) -> Option<Found>
         ensures { result ≡ get_or self.now i None }
     {
@@ -42,7 +42,7 @@ impl Row {
         }
     }
 
-    /// Makes room for so many sides. What is known stays, after want of memory too.
+    /// Makes room for so many rules. What is known stays, after want of memory too.
     pub(crate) fn make_room(&mut self, len: usize) -> Result<(), AllocError>
         ensures room { OnOk result (len ≤ length self.new) }
         ensures longer { length self.old ≤ length self.new }
@@ -54,7 +54,7 @@ impl Row {
         Ok(())
     }
 
-    /// Notes what is found on the side with this number, unless something is known of it.
+    /// Notes what is found of the rule with this rank, unless something is known of it.
     pub(crate) fn note(&mut self, i: usize, found: Found)
         requires { i < length self.old }
         ensures { self.new ≡ set self.old i (or_else (get_or self.old i None) (Some found)) }

@@ -16,26 +16,28 @@ pub loop-i-preserved : goal.loop-i-preserved
 loop-i-preserved c =
     let facts = c.args.facts.now in
     let i = c.loop-i.i in
+    let room = HasRoom c.make_room.new.ranks c.make_room.new.rows.items in
     record {
       list = c.loop-i.invariant.list;
-      tabled = λ n w a hw ha. c.in_ok-make_room.ensures.kept _ _ ∙ c.loop-i.invariant.tabled n w a hw ha;
-      room = subst {A = List Fact} (All (HasRoom c.make_room.new.rows.items)) (sym (take_more facts i no_fact c.loop-i-test.true))
-          (All-append (HasRoom c.make_room.new.rows.items) (take i facts) (get_or facts i no_fact ∷ [])
+      tabled = c.in_ok-make_room.ensures.kept c.args.self.now c.loop-i.invariant.tabled;
+      room = subst {A = List Fact} (All room) (sym (take_more facts i no_fact c.loop-i-test.true))
+          (All-append room (take i facts) (get_or facts i no_fact ∷ [])
           (all_kept c.in_ok-make_room.ensures.rooms (take i facts) c.loop-i.invariant.room)
-          (all_one (HasRoom c.make_room.new.rows.items) (get_or facts i no_fact) c.in_ok-make_room.ensures.room));
+          (all_one room (get_or facts i no_fact) c.in_ok-make_room.ensures.room));
     }
 
 pub loop-i-2-init : goal.loop-i-2-init
 loop-i-2-init c =
     let before = c.args.self.now in
     let facts = c.args.facts.now in
+    let ranks = c.loop-i.self-inside.ranks in
     let rows = c.loop-i.self-inside.rows.items in
     let all : take c.loop-i.i facts ≡ facts = take_all c.loop-i.i facts (omega (arith, c.loop-i-test.false)) in
     let none : before ++ [] ≡ before = simp append-nil in
     record {
       list = c.in_ok-extend_from_slice.ensures.items ∙ ap (λ fs. fs ++ facts) c.loop-i.invariant.list;
-      tabled = subst {A = List Fact} (IsTabled rows) (sym none) c.loop-i.invariant.tabled;
-      room = subst {A = List Fact} (All (HasRoom rows)) all c.loop-i.invariant.room;
+      tabled = subst {A = List Fact} (IsTabled ranks rows) (sym none) c.loop-i.invariant.tabled;
+      room = subst {A = List Fact} (All (HasRoom ranks rows)) all c.loop-i.invariant.room;
     }
 
 pub loop-i-2-preserved : goal.loop-i-2-preserved
@@ -47,6 +49,6 @@ loop-i-2-preserved c =
     append_assoc before (take i facts) (get_or facts i no_fact ∷ []) ∙ ap (λ (fs : List Fact). before ++ fs) (sym (take_more facts i no_fact c.loop-i-2-test.true)) in
     record {
       list = c.loop-i-2.invariant.list;
-      tabled = subst {A = List Fact} (IsTabled c.note.new.rows.items) more (c.note.ensures.tabled (before ++ take i facts) c.loop-i-2.invariant.tabled);
+      tabled = subst {A = List Fact} (IsTabled c.loop-i-2.self-inside.ranks c.note.new.rows.items) more (c.note.ensures.tabled (before ++ take i facts) c.loop-i-2.invariant.tabled);
       room = all_kept c.note.ensures.rooms facts c.loop-i-2.invariant.room;
     }
