@@ -1,11 +1,13 @@
 -- Accounts of processes, as they are kept.
-use Rattle.std.specs.Prelude.{ℕ, ◌≡◌, List, [], Bool, true, false, not, ◌&&◌}
+use Rattle.std.specs.Prelude.{ℕ, ◌≡◌, List, [], Bool, true, false, not, ◌&&◌, ⊤}
 use Rattle.kb_label.specs.Names.{Name, has, name_eq, child, relabel}
 use Rattle.kb_node.specs.declared.node.LabelKind.{LabelKind}
 use Rattle.mkb_model.specs.Plain.{PlainNode, label_at}
 use Rattle.mkb_rules.specs.Roles.{AreRolesOf}
 use Rattle.mkb_rules.specs.Sizes.{AreSizesOf}
 use Rattle.mkb_rules.specs.declared.account.Account.{Account}
+use Rattle.mkb_rules.specs.declared.account.Concerned.{Concerned}
+use Rattle.mkb_rules.specs.declared.account.Concerned.TheVariants.{Anyone, Only}
 
 -- what the process pays, and how it has the first nodes, is as the account says
 pub record IsAccountOf (xs : List PlainNode) (a : Account) : Type 0 where
@@ -43,3 +45,8 @@ pub record IsBare (x : PlainNode) : Type 0 where
   pub equation : x.equation ≡ []
   pub constraint0 : x.constraint0 ≡ []
   pub constraint1 : x.constraint1 ≡ []
+
+-- but for those whom the change concerns both labels have the same names
+abbrev pub DiffersFor : Concerned → List Name → List Name → Type 0
+DiffersFor Anyone old new = ⊤
+DiffersFor (Only names) old new = (q : Name) → has names.now q ≡ false → has old q ≡ has new q

@@ -1,9 +1,9 @@
 // Accounts of processes: what is kept of them beside the nodes.
-ghost use Rattle.std.specs.Prelude.{◌≡◌, ◌+◌, ◌<◌, ◌≤◌, ◌&&◌, ◌++◌, ◌∷◌, [], List, length, All, IfOk, IfSome, IsTrue};
-ghost use Rattle.kb_label.specs.Names.{has};
+ghost use Rattle.std.specs.Prelude.{◌≡◌, ◌+◌, ◌<◌, ◌≤◌, ◌&&◌, ◌++◌, ◌∷◌, [], false, List, length, All, IfOk, IfSome, IsTrue};
+ghost use Rattle.kb_label.specs.Names.{has, Name};
 ghost use Rattle.kb_node.specs.Labelled.{with_label_at};
-ghost use Rattle.mkb_rules.specs.Accounts.{renamed, IsAccountOf, IsBare};
-ghost use Rattle.mkb_model.specs.Plain.{PlainNode};
+ghost use Rattle.mkb_rules.specs.Accounts.{renamed, DiffersFor, IsAccountOf, IsBare};
+ghost use Rattle.mkb_model.specs.Plain.{label_at, PlainNode};
 ghost use Rattle.mkb_rules.specs.Parts.{plain_nodes};
 ghost use Rattle.mkb_rules.specs.Roles.{no_roles, roles_at, with_role_at, AreRolesOf};
 ghost use Rattle.mkb_rules.specs.Sizes.{size_if, is_open_kind, is_rule_kind};
@@ -76,33 +76,67 @@ impl Account {
     }
 }
 
+/// Whom a label that is put anew may name otherwise than the one before.
+#[derive(Clone, Copy)]
+pub(crate) enum Concerned<'a> {
+    Anyone,
+    Only(&'a ListLabels),
+}
+
+impl<'a> Concerned<'a> {
+    // Whether the process may be concerned. Processes are asked for in their order, from place 0.
+    fn may_be(&self, process: &Process, place: &mut usize) -> bool
+        ensures { result ≡ false → (old new : List Name) → DiffersFor self.now old new → has old process.now ≡ has new process.now }
+    {
+        match self {
+            Concerned::Anyone => true,
+            Concerned::Only(names) => names.has_from(process, place),
+        }
+    }
+}
+
+/// Which label is put anew, and whom that concerns.
+#[derive(Clone, Copy)]
+pub(crate) struct Change<'a> {
+    pub(crate) node: NodeId,
+    pub(crate) kind: LabelKind,
+    pub(crate) concerned: Concerned<'a>,
+}
+
 /// The accounts follow a label that is put into the table; where a number is too great, none is kept. They stand in the order of
-/// names, so each is found in the labels without a search. Those for whose process the label changes nothing stay untouched.
+/// names, so each is found in the labels without a search.
 pub(crate) fn follow(
     accounts: &mut Vec<Account>,
     table: &NodeTable<ListLabels>,
-    n: NodeId,
-    kind: LabelKind,
+    change: &Change,
     label: &ListLabels,
 )
-    requires there { n.0 < length table.now }
+    requires there { change.now.node.0 < length table.now }
+    requires differs { DiffersFor change.now.concerned (label_at (plain_nodes table.now) change.now.node.0 change.now.kind) label.now }
     requires right { All (IsAccountOf (plain_nodes table.now)) accounts.old.items }
-    ensures { All (IsAccountOf (plain_nodes (with_label_at table.now n.0 kind label.now))) accounts.new.items }
+    ensures { All (IsAccountOf (plain_nodes (with_label_at table.now change.now.node.0 change.now.kind label.now))) accounts.new.items }
 {
-    if matches!(kind, LabelKind::X) {
+    if matches!(change.kind, LabelKind::X) {
         return;
     }
-    let size = table.size(n);
-    let old = table.label(n, kind);
+    let size = table.size(change.node);
+    let old = table.label(change.node, change.kind);
+    let mut among = 0;
     let mut in_old = 0;
     let mut in_new = 0;
     for i in 0..accounts.len() {
+        if !change
+            .concerned
+            .may_be(&accounts[i].sizes.process, &mut among)
+        {
+            continue;
+        }
         let had = old.has_from(&accounts[i].sizes.process, &mut in_old);
         let has = label.has_from(&accounts[i].sizes.process, &mut in_new);
         if had == has {
             continue;
         }
-        if !accounts[i].follow(n, kind, size, had, has) {
+        if !accounts[i].follow(change.node, change.kind, size, had, has) {
             accounts.clear();
             return;
         }

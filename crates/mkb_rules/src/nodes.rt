@@ -4,13 +4,13 @@ ghost use Rattle.mkb_model.specs.Plain.{label_at};
 ghost use Rattle.mkb_model.specs.Effects.{with_label, with_node, node_of, is_present, most_nodes, gains as with_gain, loses as with_loss, gains_equation as with_equation, gains_rule as with_rule};
 ghost use Rattle.kb_label.specs.Names.{minus};
 ghost use Rattle.mkb_rules.specs.Parts.{plain_nodes};
-ghost use Rattle.mkb_rules.specs.Accounts.{IsAccountOf};
+ghost use Rattle.mkb_rules.specs.Accounts.{DiffersFor, IsAccountOf};
 ghost use Rattle.mkb_rules.specs.Nodes.{put_back};
 ghost use Rattle.mkb_rules.specs.Roles.{AreRolesOf};
 ghost use Rattle.mkb_rules.specs.SetAside.{AreSetAside};
 ghost use Rattle.mkb_rules.specs.Sizes.{is_dead_at, AreAlive, AreSizesOf};
 
-use crate::account::Account;
+use crate::account::{Account, Change, Concerned};
 use crate::effects::label::rule_kind;
 use crate::labels::{copy_of, joined};
 use crate::role_row::RoleRow;
@@ -164,25 +164,25 @@ impl Nodes {
         self.table.truncate(self.kept);
     }
 
-    /// Puts a label in the place of the node's label of this kind.
+    /// Puts a label in the place of the one that changes.
     pub(crate) fn set(
         &mut self,
         log: &NameLog,
-        n: NodeId,
-        kind: LabelKind,
+        change: &Change,
         label: ListLabels,
     ) -> Result<(), AllocError>
-        requires { n.0 < length self.old.now }
-        ensures ok { OnOk result (self.new.now ≡ with_label n.0 kind label self.old.now) }
+        requires there { change.now.node.0 < length self.old.now }
+        requires differs { DiffersFor change.now.concerned (label_at self.old.now change.now.node.0 change.now.kind) label }
+        ensures ok { OnOk result (self.new.now ≡ with_label change.now.node.0 change.now.kind label self.old.now) }
         ensures before { self.new.before ≡ self.old.before }
         ensures err { OnErr result (self.new ≡ self.old) }
     {
         self.replaced.reserve(1)?;
-        let label = self.table.set_label(log, n, kind, label);
+        let label = self.table.set_label(log, change, label);
         self.replaced
             .push(Replaced {
-                node: n,
-                kind,
+                node: change.node,
+                kind: change.kind,
                 label,
             })
             .unwrap();
@@ -220,7 +220,12 @@ impl Nodes {
             return Ok(());
         }
         let label = joined(self.allocator(), log, self.label(n, kind), names)?;
-        self.set(log, n, kind, label)
+        let change = Change {
+            node: n,
+            kind,
+            concerned: Concerned::Only(names),
+        };
+        self.set(log, &change, label)
     }
 
     /// A label of a node loses these names.
@@ -239,7 +244,12 @@ impl Nodes {
             return Ok(());
         }
         let label = left(self.allocator(), log, self.label(n, kind), names)?;
-        self.set(log, n, kind, label)
+        let change = Change {
+            node: n,
+            kind,
+            concerned: Concerned::Only(names),
+        };
+        self.set(log, &change, label)
     }
 
     /// The names gain the node as an equation, but for those that have it as a rule.

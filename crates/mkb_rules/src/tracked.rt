@@ -3,12 +3,13 @@ ghost use Rattle.std.specs.Prelude.{◌≡◌, ℕ, List, [], Some, ◌+◌, ◌
 ghost use Rattle.kb_node.specs.Labelled.{label_in, with_label_at, HasPair, LacksPair, AddsNode};
 ghost use Rattle.kb_label.specs.Names.{Name};
 ghost use Rattle.mkb_rules.specs.Parts.{plain_nodes};
-ghost use Rattle.mkb_rules.specs.Accounts.{IsAccountOf};
+ghost use Rattle.mkb_model.specs.Plain.{label_at};
+ghost use Rattle.mkb_rules.specs.Accounts.{DiffersFor, IsAccountOf};
 ghost use Rattle.mkb_rules.specs.Roles.{AreRolesOf};
 ghost use Rattle.mkb_rules.specs.SetAside.{AreSetAside};
 ghost use Rattle.mkb_rules.specs.Sizes.{is_dead_at, AreAlive, AreSizesOf};
 
-use crate::account::{Account, account_of, follow, follow_new};
+use crate::account::{Account, Change, account_of, follow, follow_new};
 use crate::marks::Marks;
 use crate::role_row::RoleRow;
 use crate::set_aside::SetAside;
@@ -85,22 +86,22 @@ impl Tracked {
         !self.used.is_used(n) || self.table.is_dead(log, n)
     }
 
-    /// Puts a label in the place of the node's label of this kind, which it gives. It takes no memory.
+    /// Puts a label in the place of the one that changes, which it gives. It takes no memory.
     pub(crate) fn set_label(
         &mut self,
         log: &NameLog,
-        n: NodeId,
-        kind: LabelKind,
+        change: &Change,
         label: ListLabels,
     ) -> ListLabels
-        requires { n.0 < length self.old }
-        ensures old { option_map (λ node. label_in node kind) (slice_get self.old n.0) ≡ Some result }
-        ensures new { self.new ≡ with_label_at self.old n.0 kind label }
+        requires there { change.now.node.0 < length self.old }
+        requires differs { DiffersFor change.now.concerned (label_at (plain_nodes self.old) change.now.node.0 change.now.kind) label }
+        ensures old { option_map (λ node. label_in node change.now.kind) (slice_get self.old change.now.node.0) ≡ Some result }
+        ensures new { self.new ≡ with_label_at self.old change.now.node.0 change.now.kind label }
     {
-        follow(&mut self.accounts, &self.table, n, kind, &label);
-        let replaced = self.table.set_label(n, kind, label);
-        let is_dead = self.table.is_dead(log, n);
-        self.used.set(n, !is_dead);
+        follow(&mut self.accounts, &self.table, change, &label);
+        let replaced = self.table.set_label(change.node, change.kind, label);
+        let is_dead = self.table.is_dead(log, change.node);
+        self.used.set(change.node, !is_dead);
         replaced
     }
 

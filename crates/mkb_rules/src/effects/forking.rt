@@ -12,6 +12,7 @@ ghost use Rattle.mkb_rules.specs.Kept.{plain_certificates, plain_done};
 ghost use Rattle.mkb_rules.specs.Over.{lists_of};
 ghost use Rattle.mkb_rules.specs.Parts.{oriented_by};
 
+use crate::account::{Change, Concerned};
 use crate::applied::Applied;
 use crate::effects::label::{counted_up, node_count, node_label};
 use crate::effects::orienting::{certify, orient_nodes};
@@ -445,11 +446,19 @@ fn fork_label(
     ensures before { nodes.new.before ≡ nodes.old.before }
 {
     let old = node_label(nodes, n, kind);
+    if old.is_empty(fork.log) {
+        return Ok(true);
+    }
     if !old.has(fork.log, fork.process) {
         return Ok(is_without_children(old, fork));
     }
     let label = relabelled(alloc, fork.log, old, fork.process)?;
-    nodes.set(fork.log, n, kind, label)?;
+    let change = Change {
+        node: n,
+        kind,
+        concerned: Concerned::Anyone,
+    };
+    nodes.set(fork.log, &change, label)?;
     Ok(true)
 }
 

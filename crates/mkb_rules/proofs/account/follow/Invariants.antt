@@ -9,6 +9,6 @@ use Rattle.mkb_rules.proofs.account.follow.Given as goal
 abbrev pub invariant-loop-i : goal.invariant-loop-i
 invariant-loop-i l = record {
   count : length l.accounts.items ≡ l.i-end;
-  done : (j : ℕ) (d : Account) → j < l.i → j < length l.accounts.items → IsAccountOf (plain_nodes (with_label_at l.fn.table l.fn.n.0 l.fn.kind l.fn.label)) (get_or l.accounts.items j d);
+  done : (j : ℕ) (d : Account) → j < l.i → j < length l.accounts.items → IsAccountOf (plain_nodes (with_label_at l.fn.table l.fn.change.node.0 l.fn.change.kind l.fn.label)) (get_or l.accounts.items j d);
   todo : (j : ℕ) (d : Account) → l.i ≤ j → j < length l.accounts.items → IsAccountOf (plain_nodes l.fn.table) (get_or l.accounts.items j d);
 }

@@ -8,12 +8,12 @@ use Rattle.mkb_rules.proofs.nodes.Nodes.set.Goals as goal
 pub returns-clause-ok : goal.returns-clause-ok
 returns-clause-ok c =
     rw (← c.self.view_is)
-    (ap plain_nodes c.set_label-label.ensures.new ∙ plain-with_label c.self.inside.table c.args.n.0 c.args.kind c.args.label)
+    (ap plain_nodes c.set_label-label.ensures.new ∙ plain-with_label c.self.inside.table c.args.change.now.node.0 c.args.change.now.kind c.args.label)
 
 pub returns-clause-before : goal.returns-clause-before
 returns-clause-before c =
-    let r : Replaced = record { node = c.args.n; kind = c.args.kind; label = c.set_label-label.result } in
+    let r : Replaced = record { node = c.args.change.now.node; kind = c.args.change.now.kind; label = c.set_label-label.result } in
     rw (← c.self.view_is)
     (ap (λ rs. take c.self.inside.kept (put_back rs (plain_nodes c.set_label-label.new.self))) (rw (c.unwrap.ensures, c.in_ok-reserve.ensures.items) at c.push.ensures.items)
-    ∙ ap (λ ys. take c.self.inside.kept (put_back (c.self.inside.replaced.items ++ r ∷ []) ys)) (ap plain_nodes c.set_label-label.ensures.new ∙ plain-with_label c.self.inside.table c.args.n.0 c.args.kind c.args.label)
-    ∙ ap (take c.self.inside.kept) (put_back-put c.self.inside.replaced.items r (plain_nodes c.self.inside.table) c.args.label (plain-label c.self.inside.table c.args.n.0 c.args.kind c.set_label-label.result c.set_label-label.ensures.old)))
+    ∙ ap (λ ys. take c.self.inside.kept (put_back (c.self.inside.replaced.items ++ r ∷ []) ys)) (ap plain_nodes c.set_label-label.ensures.new ∙ plain-with_label c.self.inside.table c.args.change.now.node.0 c.args.change.now.kind c.args.label)
+    ∙ ap (take c.self.inside.kept) (put_back-put c.self.inside.replaced.items r (plain_nodes c.self.inside.table) c.args.label (plain-label c.self.inside.table c.args.change.now.node.0 c.args.change.now.kind c.set_label-label.result c.set_label-label.ensures.old)))

@@ -19,10 +19,10 @@ used-or_dead false e = absurd (true≢false e)
 pub invariant_of-self : goal.invariant_of-self
 invariant_of-self c =
     let xs = plain_nodes c.self.inside.table in
-    let nodes = ap plain_nodes c.set_label-replaced.ensures.new ∙ plain-with_label c.self.inside.table c.args.n.0 c.args.kind c.args.label in
-    let dead : not c.is_dead-is_dead.result ≡ false → is_dead_at (with_label c.args.n.0 c.args.kind c.args.label xs) c.args.n.0 ≡ true = λ e. ap (λ ys. is_dead_at ys c.args.n.0) (sym nodes) ∙ dead_plain c.set_label-replaced.new.self c.args.n.0 c.is_dead-is_dead.result c.is_dead-is_dead.ensures ∙ used-or_dead c.is_dead-is_dead.result e in
-    let put = marked xs c.self.inside.used c.args.n.0 c.args.kind c.args.label (not c.is_dead-is_dead.result) c.self.invariant.0 dead in (
+    let nodes = ap plain_nodes c.set_label-replaced.ensures.new ∙ plain-with_label c.self.inside.table c.args.change.now.node.0 c.args.change.now.kind c.args.label in
+    let dead : not c.is_dead-is_dead.result ≡ false → is_dead_at (with_label c.args.change.now.node.0 c.args.change.now.kind c.args.label xs) c.args.change.now.node.0 ≡ true = λ e. ap (λ ys. is_dead_at ys c.args.change.now.node.0) (sym nodes) ∙ dead_plain c.set_label-replaced.new.self c.args.change.now.node.0 c.is_dead-is_dead.result c.is_dead-is_dead.ensures ∙ used-or_dead c.is_dead-is_dead.result e in
+    let put = marked xs c.self.inside.used c.args.change.now.node.0 c.args.change.now.kind c.args.label (not c.is_dead-is_dead.result) c.self.invariant.0 dead in (
       subst {A = List PlainNode} (λ ys. AreMarked ys c.set.new.self) (sym nodes)
-          (subst {A = List Bool} (AreMarked (with_label c.args.n.0 c.args.kind c.args.label xs)) (sym c.set.ensures) put),
+          (subst {A = List Bool} (AreMarked (with_label c.args.change.now.node.0 c.args.change.now.kind c.args.label xs)) (sym c.set.ensures) put),
       subst {A = List (Node (List Name))} (λ ys. All (IsAccountOf (plain_nodes ys)) c.follow.new.accounts.items) (sym c.set_label-replaced.ensures.new) c.follow.ensures,
     )
