@@ -27,7 +27,7 @@ use Rattle.mkb_board.proofs.Firsts.{first_as, least_free, least_step}
 
 -- ---- by cost, then name
 
-abbrev by_kind : (Job → ℕ) → Job → Job → Ordering
+abbrev pub by_kind : (Job → ℕ) → Job → Job → Ordering
 by_kind weight i j = ordering_then (nat_cmp (kind_number i) (kind_number j)) (ordering_then (nat_cmp (weight i) (weight j)) (numbers_cmp (job_numbers i) (job_numbers j)))
 
 abbrev by_name : (Job → ℕ) → Job → Job → Ordering

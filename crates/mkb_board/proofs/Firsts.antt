@@ -27,7 +27,7 @@ abbrev pub least_free : Plain → List Job → List Name → Option Job
 least_free b flight ps = least (job_cmp (cost b) (weight b)) (filter (is_free flight) (flat_map (due_jobs_of b) ps))
 
 -- the least of one process is its first choice
-one_least : (b : Plain) (flight : List Job) (p : Name) → least (job_cmp (cost b) (weight b)) (filter (is_free flight) (due_jobs_of b p)) ≡ first_choice b flight p
+pub one_least : (b : Plain) (flight : List Job) (p : Name) → least (job_cmp (cost b) (weight b)) (filter (is_free flight) (due_jobs_of b p)) ≡ first_choice b flight p
 one_least b flight p = ap (least (job_cmp (cost b) (weight b))) (filter_both (is_free flight) (is_due b) (work_of b p ++ Close p ∷ []))
 
 -- the lesser of the first choice of one process and what the others would take

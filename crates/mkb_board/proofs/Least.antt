@@ -1,6 +1,6 @@
 -- The least job of several lists.
-use Rattle.std.proofs.Common.{ℕ, ◌≡◌, refl, sym, ap, ◌∙◌, subst, List, [], ◌∷◌, ◌++◌, map, filter, flat_map, Contains, Bool, true, false, cond, Option, Some, None, ⊎_elim}
-use Rattle.std.specs.Cmp.{IsTotalOrder}
+use Rattle.std.proofs.Common.{ℕ, ◌≡◌, refl, sym, ap, ap₂, ◌∙◌, subst, List, [], ◌∷◌, ◌++◌, map, filter, flat_map, Contains, Bool, true, false, cond, Option, Some, None, ⊎_elim, ◌⊎◌, inl, inr}
+use Rattle.std.specs.Cmp.{IsTotalOrder, tied_itself}
 use Rattle.std.specs.Cmp.Lexicographic.{slice_cmp}
 use Rattle.std.specs.Ordering.{ordering_then, ordering_reverse, is_le, nat_cmp}
 use Rattle.std.specs.List.{find}
@@ -9,7 +9,7 @@ use Rattle.std.specs.declared.cmp.Ordering.{Ordering}
 use Rattle.std.specs.declared.cmp.Ordering.TheVariants.{Less, Equal, Greater}
 use Rattle.std.specs.Option.{option_map_or}
 use Rattle.std.proofs.lemmas.Cmp.{alike_right, on_total, then_total, nat_cmp_total, nat_list_cmp_total}
-use Rattle.kb_lemmas.proofs.Membership.{contains_first, contains_behind, contains_mapped, contains_flat_map_back}
+use Rattle.kb_lemmas.proofs.Membership.{contains_cases, contains_first, contains_behind, contains_mapped, contains_flat_map_back, none_in}
 use Rattle.kb_lemmas.proofs.Options.{none_some, some_is}
 use Rattle.kb_label.specs.Names.{Name, name_cmp}
 use Rattle.kb_label.specs.NameOrder.{name_cmp-total}
@@ -17,6 +17,7 @@ use Rattle.kb_node.specs.declared.job.Job.{Job}
 use Rattle.mkb_model.specs.Jobs.{process_of, kind_number, job_numbers, numbers_cmp, job_cmp, lesser, least}
 use Rattle.mkb_board.specs.Choosing.{merged}
 use Rattle.mkb_model.proofs.Lists.{clash, false_unless, filter_in}
+use Rattle.mkb_model.proofs.Selections.{least-none}
 
 -- ---- the order of jobs
 
@@ -168,3 +169,22 @@ module _ {A : Type 0} (R : A → A → Ordering) where
       go : least R (filter t xs) ≡ find t xs → (b : Bool) → t x ≡ b → least R (filter t (x ∷ xs)) ≡ find t (x ∷ xs)
       go rec true e = ap (λ b. least R (cond b (x ∷ filter t xs) (filter t xs))) e ∙ first_least x (filter t xs) (λ y i. h.0 y (filter_in t xs y i).0) ∙ sym (ap (λ b. cond b (Some x) (find t xs)) e)
       go rec false e = ap (λ b. least R (cond b (x ∷ filter t xs) (filter t xs))) e ∙ rec ∙ sym (ap (λ b. cond b (Some x) (find t xs)) e)
+
+  -- the least stands behind none
+  pub least_below : IsTotalOrder R → (xs : List A) (y z : A) → least R xs ≡ Some y → Contains xs z → is_le (R y z) ≡ true
+  least_below o [] y z e i = none_in i
+  least_below o (x ∷ xs) y z e i = go (λ w f k. least_below o xs w z f k) (least R xs) refl e (contains_cases x xs z i)
+    where
+      go : ((w : A) → least R xs ≡ Some w → Contains xs z → is_le (R w z) ≡ true) → (s : Option A) → least R xs ≡ s → Some (option_map_or (lesser R x) s x) ≡ Some y → (x ≡ z) ⊎ Contains xs z → is_le (R y z) ≡ true
+      go rec None f e (inl h) = sym (ap₂ (λ u v. is_le (R u v)) (some_is e) h) ∙ ap is_le (tied_itself o x)
+      go rec None f e (inr k) = none_in (subst {A = List A} (λ l. Contains l z) (least-none R xs f) k)
+      go rec (Some w) f e h = by (is_le (R x w)) refl h
+        where
+          is : (b : Bool) → is_le (R x w) ≡ b → is_le (R (cond b x w) z) ≡ true → is_le (R y z) ≡ true
+          is b k h = subst {A = A} (λ u. is_le (R u z) ≡ true) (sym (pick x w b k) ∙ some_is e) h
+
+          by : (b : Bool) → is_le (R x w) ≡ b → (x ≡ z) ⊎ Contains xs z → is_le (R y z) ≡ true
+          by true k (inl h) = is true k (sym (ap (λ u. is_le (R x u)) h) ∙ ap is_le (tied_itself o x))
+          by true k (inr i) = is true k (le_trans_of o x w z k (rec w f i))
+          by false k (inl h) = is false k (subst {A = A} (λ u. is_le (R w u) ≡ true) h (le_or_back o x w k))
+          by false k (inr i) = is false k (rec w f i)

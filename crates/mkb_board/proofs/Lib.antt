@@ -1,5 +1,6 @@
 pub mod Asleep
 pub mod Better
+pub mod Cheapest
 pub mod Choices
 pub mod Costs
 pub mod Ends

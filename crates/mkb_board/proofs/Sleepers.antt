@@ -1,15 +1,16 @@
 -- Processes that fall asleep or wake, one after another.
 use Rattle.std.proofs.Common.{ℕ, zero, suc, ◌+◌, ◌-◌, ◌≤◌, ◌<◌, ◌≡◌, refl, sym, ap, ◌∙◌, subst, arith, List, [], ◌∷◌, filter, drop, length, get_or, Bool, true, false, cond, not, ◌&&◌, ◌||◌, Option, Some, None}
-use Rattle.std.specs.Prelude.{IfSome, option_map}
+use Rattle.std.specs.Prelude.{IfSome, nat_lt, option_map}
 use Rattle.std.specs.Fn.{iterate}
 use Rattle.std.specs.Option.{option_map_or}
 use Rattle.std.specs.Cmp.{IsTotalOrder}
 use Rattle.std.specs.Ordering.{ordering_then, is_le, nat_cmp}
 use Rattle.std.specs.declared.cmp.Ordering.{Ordering}
 use Rattle.std.proofs.lemmas.Cmp.{alike_right, on_total, then_total, nat_cmp_total}
-use Rattle.std.proofs.lemmas.Bool.{and_from, or_left, or_right}
+use Rattle.std.proofs.lemmas.Bool.{and_from, ltb-true, or_left, or_right}
 use Rattle.kb_lemmas.proofs.Booleans.{and_gives_left, and_gives_right}
 use Rattle.kb_lemmas.proofs.Options.{some_is}
+use Rattle.kb_jobs.proofs.Preorder.{nat_less}
 use Rattle.kb_label.specs.Names.{Name, name_cmp, name_eq, has, add, minus, IsInNameOrder}
 use Rattle.kb_label.specs.NameOrder.{name_cmp-total}
 use Rattle.kb_label.proofs.Members.{name_eq-eq, name_eq-refl, has-minus}
@@ -205,3 +206,31 @@ lesser_taken b = taken b costed_cmp (process_cmp b) (costed_agrees b) (process_c
 pub greater_taken : (b : Plain) (t : Name → Bool) (l : List Name) (n : ℕ) (p : Name) → n < length l → p ≡ get_or l n p → t p ≡ true → (best new : Option Costed) (next r : Costed) → IfSome best (IsPriced b)
     → next ≡ record { cost = cost b p; process = p } → Some r ≡ merged (λ c d. costed_cmp d c) best (Some next) → new ≡ Some r → IsStep b (turned_cmp b) t l n best new
 greater_taken b = taken b (λ c d. costed_cmp d c) (turned_cmp b) (λ c d h k. costed_agrees b d c k h) (turned_cmp-total b)
+
+-- one that costs more than the best so far is passed over, whether it passes the test or not
+pub dearer_passed : (b : Plain) (t : Name → Bool) (l : List Name) (n : ℕ) (p : Name) → n < length l → p ≡ get_or l n p → (best new : Option Costed) (next : Costed) → IfSome best (IsPriced b)
+    → next ≡ record { cost = cost b p; process = p } → option_map_or (λ (c : Costed). nat_lt c.cost next.cost) best false ≡ true → new ≡ best → IsStep b (process_cmp b) t l n best new
+dearer_passed b t l n p there is None new next priced costs dearer same = clash dearer refl
+dearer_passed b t l n p there is (Some c) new next priced costs dearer same = go (t p) refl
+  where
+    R : Name → Name → Ordering
+    R = process_cmp b
+
+    left : List Name
+    left = filter t (drop (n + 1) l)
+
+    less : cost b c.process < cost b p
+    less = omega (arith, ltb-true c.cost next.cost dearer, priced, ap (λ (z : Costed). z.cost) costs)
+
+    stays : merged R (Some c.process) (Some p) ≡ Some c.process
+    stays = ap (λ o. Some (cond (is_le (ordering_then o (name_cmp c.process p))) c.process p)) (nat_less (cost b c.process) (cost b p) (omega (arith, less)))
+
+    go : (x : Bool) → t p ≡ x → IsStep b R t l n (Some c) new
+    go false e = passed b R t l n p there is e (Some c) new priced same
+    go true e = subst {A = Option Costed} (IsStep b R t l n (Some c)) (sym same) (record {
+      pick =
+          sym (ap (λ o. merged R o (least R left)) stays)
+          ∙ merged_both R (process_cmp-total b) (Some c.process) (Some p) (least R left)
+          ∙ sym (ap (λ (ps : List Name). merged R (Some c.process) (least R ps)) (filter_at t l n p true there is e));
+      priced = priced;
+    })

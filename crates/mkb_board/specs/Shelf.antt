@@ -1,5 +1,5 @@
 -- Rules that are kept under their names.
-use Rattle.std.specs.Prelude.{ℕ, ◌+◌, ◌*◌, ◌≡◌, ◌≤◌, slice_get, Some}
+use Rattle.std.specs.Prelude.{ℕ, ◌+◌, ◌*◌, ◌≡◌, ◌≤◌, List, [], ◌∷◌, slice_get, Some, IfSome, ⊤}
 use Rattle.kb_term.specs.Rule.{Rule}
 use Rattle.kb_term.specs.declared.origin.RuleRef.{RuleRef}
 use Rattle.mkb_model.specs.Plain.{Plain, rule_at}
@@ -9,6 +9,14 @@ use Rattle.mkb_board.specs.declared.shelf.Shelf.{Shelf}
 abbrev pub place_of : RuleRef → ℕ
 place_of a = 2 * a.node + a.dir
 
--- each rule that is kept is the one that its name names on the board
+-- each name names the rule at its place on the board, and there are as many of both
+abbrev pub AreRulesAt : Plain → List RuleRef → List Rule → Type 0
+AreRulesAt b [] [] = ⊤
+AreRulesAt b [] (r ∷ rules) = ⊥
+AreRulesAt b (a ∷ names) [] = ⊥
+AreRulesAt b (a ∷ names) (r ∷ rules) = (rule_at b a ≡ Some r) × AreRulesAt b names rules
+
+-- each rule that is kept is the one that its name names on the board, and so are those of the last list
 pub record HoldsRules (b : Plain) (k : Shelf) : Type 0 where
   pub each : (a : RuleRef) (r : Rule) → a.dir ≤ 1 → slice_get k.rules.items (place_of a) ≡ Some (Some r) → rule_at b a ≡ Some r
+  pub last : IfSome k.last (λ l. AreRulesAt b l.names.items l.rules)

@@ -12,12 +12,12 @@ ghost use Rattle.mkb_board.specs.Normal.{AreAllNormal, AreNormal, Serves};
 ghost use Rattle.mkb_board.specs.declared.first.Choice.{Choice};
 
 use crate::choosing::is_over;
-use crate::cost::cost;
+use crate::cost::{cost, place_of};
 use crate::due::{first_work, is_free};
 use crate::holding::{held_nodes, rules_among};
 use crate::lightest::lightest_work;
 use crate::normal::Normal;
-use crate::settling::Costed;
+use crate::settling::{Costed, least_working};
 use kb_label::Process;
 use kb_node::Job;
 use kb_term::{Memory, RuleRef};
@@ -34,10 +34,35 @@ struct Choice {
 /// The first job beside those in flight, if there is one: the least due job of an awake process that clashes with none of
 /// them.
 ///
+/// The active process that costs least is searched before all others, and nearly always it has the job.
+///
 /// What is noted of one process at another's place is of no use, so each process has the place of its number, again from the first
-/// after the last. A process is searched only where it is not closed and its cost is below that of the best job so far. By the stated selection the search of a
-/// process ends at its first job that serves; by size it goes over its jobs of one kind.
+/// after the last. By the stated selection the search of a process ends at its first job that serves; by size it goes over its
+/// jobs of one kind.
 pub(crate) fn first_job(
+    state: &State,
+    flight: &[Ticket],
+    normals: &mut Vec<Normal>,
+) -> Result<Option<Job>, Memory>
+    requires limited { AreLimited state.now.problem.signature state.now.nodes }
+    requires rest { ClosedRest state.now }
+    requires in_order { IsInNameOrder state.now.living }
+    requires normals { AreAllNormal state.now normals.old.items }
+    ensures first { IfOk result (λ o. o ≡ first_job (record state.now { flight = flight.now })) }
+    ensures normals { AreAllNormal state.now normals.new.items }
+{
+    if let Some(process) = least_working(state) {
+        let place = place_of(state, &process) % normals.len();
+        if let Some(job) = first_choice(state, flight, &mut normals[place], &process)? {
+            return Ok(Some(job));
+        }
+    }
+    first_of_all(state, flight, normals)
+}
+
+// The same, by going over all processes. One is searched only where it is not closed and its cost is below that of the best job so
+// far.
+fn first_of_all(
     state: &State,
     flight: &[Ticket],
     normals: &mut Vec<Normal>,

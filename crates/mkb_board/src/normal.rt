@@ -101,8 +101,8 @@ fn is_among(rules: &[RuleRef], rule: RuleRef) -> bool
     false
 }
 
-// Whether both lists are the same.
-fn are_same(some: &[RuleRef], others: &[RuleRef]) -> bool
+/// Whether both lists are the same.
+pub(crate) fn are_same(some: &[RuleRef], others: &[RuleRef]) -> bool
     ensures { IsTrue result → some.now ≡ others.now }
 {
     if some.len() != others.len() {

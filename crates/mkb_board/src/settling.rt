@@ -1,6 +1,7 @@
 // Which processes fall asleep, and which wake, after a commit.
-ghost use Rattle.std.specs.Prelude.{◌≡◌, ◌-◌, ◌&&◌, [], false, not, length, option_map, Some, IsTrue};
+ghost use Rattle.std.specs.Prelude.{◌≡◌, ◌-◌, ◌&&◌, [], false, nat_lt, not, length, option_map, Some, IsTrue};
 ghost use Rattle.std.specs.Fn.{iterate};
+ghost use Rattle.std.specs.Option.{option_map_or};
 ghost use Rattle.std.specs.Ordering.{is_le};
 ghost use Rattle.kb_label.specs.Names.{has, IsInNameOrder};
 ghost use Rattle.mkb_model.specs.Jobs.{greatest, least};
@@ -165,6 +166,27 @@ fn greatest_working(state: &State) -> Option<Process>
     process_in(&best)
 }
 
+/// The active and awake process that costs least, and of equal costs the first by name.
+///
+/// A process is asked whether it works only where it costs no more than the best so far. It takes no memory.
+pub(crate) fn least_working(state: &State) -> Option<Process>
+    requires rest { ClosedRest state.now }
+    requires limited { AreLimited state.now.problem.signature state.now.nodes }
+    ensures { result ≡ least (process_cmp state.now) (working state.now state.now.asleep) }
+{
+    let living = state.log().processes();
+    let mut best = None;
+    for i in 0..living.len() {
+        let process = &living[i];
+        let next = with_cost(state, i, process);
+        if is_dearer(&next, &best) || !is_working(state, process) {
+            continue;
+        }
+        best = Some(lesser(best, next));
+    }
+    process_in(&best)
+}
+
 // The active sleeper that costs least, and of equal costs the first by name.
 fn least_waiting(state: &State) -> Option<Process>
     requires rest { ClosedRest state.now }
@@ -192,6 +214,16 @@ fn with_cost(state: &State, place: usize, p: &Process) -> Costed
     Costed {
         cost: cost(state, place, p),
         process: *p,
+    }
+}
+
+// Whether the process costs more than the best, if there is one.
+fn is_dearer(next: &Costed, best: &Option<Costed>) -> bool
+    ensures { result ≡ option_map_or (λ (c : Costed). nat_lt c.cost next.now.cost) best.now false }
+{
+    match best {
+        Some(best) => best.cost < next.cost,
+        None => false,
     }
 }
 

@@ -2,21 +2,25 @@
 ghost use Rattle.std.specs.Prelude.{◌≡◌, ◌≤◌, Some, IfOk, IfSome, OnOk, length};
 ghost use Rattle.mkb_model.specs.Plain.{Plain, rule_at};
 ghost use Rattle.mkb_rules.specs.Named.{IsRuleThere};
-ghost use Rattle.mkb_board.specs.Shelf.{HoldsRules, place_of};
+ghost use Rattle.mkb_board.specs.Shelf.{AreRulesAt, HoldsRules, place_of};
 
+use crate::normal::are_same;
 use crate::snapshots::named::pair_at;
+use kb_jobs::{NamedRules, SharedRules};
 use kb_node::NodeId;
 use kb_term::{Memory, Rule, RuleRef, rule_from};
 use mkb_rules::State;
 use std::alloc::{AllocError, Global};
 
-/// The rules that jobs read before, each under its name. Who reads one again gets a copy that shares its sides.
+/// The rules that jobs read before, each under its name. Who reads one again gets a copy that shares its sides. The list that
+/// was read last is kept whole: who reads the same names next shares it.
 ///
 /// A node keeps its pair, so a rule that is kept is the rule of its name on each later board.
 #[derive(Drop)]
 pub(crate) struct Shelf {
     alloc: Global,
     rules: Vec<Option<Rule>>,
+    last: Option<NamedRules>,
 }
 
 impl Shelf {
@@ -27,6 +31,7 @@ impl Shelf {
         Shelf {
             alloc,
             rules: Vec::new(alloc),
+            last: None,
         }
     }
 
@@ -45,8 +50,43 @@ impl Shelf {
             return Ok(rule);
         }
         let rule = new_rule(self.alloc, state, a)?;
-        let _kept = self.keep(a, &rule);
+        self.keep(a, &rule).ok();
         Ok(rule)
+    }
+
+    /// The list that was read last, where these are its names.
+    ///
+    /// # Errors
+    ///
+    /// Want of memory.
+    pub(crate) fn last_of(&self, names: &[RuleRef]) -> Result<Option<SharedRules>, AllocError>
+        ensures { (b : Plain) → HoldsRules b self.now → IfOk result (λ o. IfSome o (AreRulesAt b names.now)) }
+    {
+        match &self.last {
+            Some(last) if are_same(last.names.as_slice(), names) => {
+                let rules = last.rules.clone()?;
+                Ok(Some(rules))
+            }
+            _ => Ok(None),
+        }
+    }
+
+    /// Keeps the list with its names in place of the one that was read last.
+    ///
+    /// # Errors
+    ///
+    /// Want of memory; then what was kept is kept still.
+    pub(crate) fn keep_last(
+        &mut self,
+        names: &[RuleRef],
+        rules: &SharedRules,
+    ) -> Result<(), AllocError>
+        ensures { (b : Plain) → HoldsRules b self.old → AreRulesAt b names.now rules.now → HoldsRules b self.new }
+    {
+        let names = Vec::from_slice(self.alloc, names)?;
+        let rules = rules.clone()?;
+        self.last = Some(NamedRules { names, rules });
+        Ok(())
     }
 
     // A copy of the rule with the name, where it is kept.

@@ -44,8 +44,8 @@ pub(crate) fn rules_at(
     Ok(rules)
 }
 
-/// The rules with the names, and their names.
-#[tactic(auto, using(crate::proofs::Viewed::named_there))]
+/// The rules with the names, and their names. Where the list before has the same names, both share its rules.
+#[tactic(auto, using(crate::proofs::Viewed::named_there, crate::proofs::Kept::at_there, crate::proofs::Kept::listed_at, crate::proofs::Kept::as_many_at))]
 pub(crate) fn named_rules(
     alloc: Global,
     state: &State,
@@ -59,8 +59,12 @@ pub(crate) fn named_rules(
     ensures rules { IfOk result (λ rules. listed rules ≡ named_rules state.now names.items) }
     ensures as_many { IfOk result (λ rules. length rules.names.items ≡ length rules.rules) }
 {
+    if let Some(rules) = shelf.last_of(names.as_slice())? {
+        return Ok(NamedRules { names, rules });
+    }
     let rules = rules_at(alloc, state, shelf, names.as_slice())?;
     let rules = SharedRules::new(alloc, rules)?;
+    shelf.keep_last(names.as_slice(), &rules).ok();
     Ok(NamedRules { names, rules })
 }
 

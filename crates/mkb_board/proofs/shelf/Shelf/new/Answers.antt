@@ -1,5 +1,6 @@
+use Rattle.std.proofs.Common.{refl}
 use Rattle.mkb_board.proofs.Kept.{holds_none}
 use Rattle.mkb_board.proofs.shelf.Shelf.new.Goals as goal
 
 pub returns : goal.returns
-returns g c = holds_none c _ g.new.ensures.items
+returns g c = holds_none c _ g.new.ensures.items refl

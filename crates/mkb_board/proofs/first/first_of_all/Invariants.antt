@@ -8,7 +8,7 @@ use Rattle.mkb_board.specs.Choosing.{jobs_of, merged, IsCosted, StandsBefore}
 use Rattle.mkb_board.specs.Normal.{AreAllNormal}
 use Rattle.mkb_board.specs.declared.first.Choice.{Choice}
 use Rattle.mkb_board.proofs.Firsts.{least_free}
-use Rattle.mkb_board.proofs.first.first_job.Given as goal
+use Rattle.mkb_board.proofs.first.first_of_all.Given as goal
 
 -- the best so far and the awake processes that are left give the first job, and the best is of an earlier process
 abbrev pub invariant-loop-i : goal.invariant-loop-i
