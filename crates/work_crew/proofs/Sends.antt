@@ -60,6 +60,9 @@ use Rattle.mkb_model.specs.contracts.proposed.Proposed as Proposed
 use Rattle.mkb_model.specs.contracts.entry.Effect as Effect
 use Rattle.mkb_model.specs.contracts.entry.Entry as Entry
 use Rattle.mkb_rules.specs.contracts.state.State as State
+use Rattle.kb_jobs.specs.contracts.rules.NamedRules as NamedRules
+use Rattle.kb_jobs.specs.contracts.rules.SharedRules as SharedRules
+use Rattle.kb_jobs.specs.contracts.rules.SharedRules.TheInside as SharedInside
 use Rattle.mkb_board.specs.contracts.board.Board as Board
 use Rattle.mkb_board.specs.contracts.board.Board.TheInside as BoardInside
 use Rattle.mkb_board.specs.contracts.normal.Normal as Normal
@@ -146,8 +149,18 @@ normal_send = search (sendable, crosses, rule_ref.the_send, roles.the_send, glob
 rule_send : IsSend Rule.the_row
 rule_send = search (sendable, crosses, term_crosses) depth 20
 
+rule_sync : IsSync Rule.the_row
+rule_sync = search (sendable, crosses, term_crosses) depth 20
+
+shared_rules_send : IsSend SharedRules.the_row
+shared_rules_send = view_send SharedInside.the_row _ _ _ _ (recorded_send (SharedInside.the_field).row _ _ (SharedInside.the_type).to_one (struct_send (S.shape SharedInside.the_type) (search (sendable, crosses, rule_send, rule_sync) depth 20 fits 100000, tt)))
+
+named_send : IsSend NamedRules.the_row
+named_send = recorded_send (NamedRules.the_field).row _ _ (NamedRules.the_type).to_one (struct_send (S.shape NamedRules.the_type) (search (sendable, crosses, rule_ref.the_send) depth 20, (shared_rules_send, tt)))
+
 shelf_field : IsSend (Shelf.the_field).row
-shelf_field = struct_send (S.shape Shelf.the_type) (search (sendable, crosses, global.the_send) depth 20, (search (sendable, crosses, rule_send) depth 20, tt))
+shelf_field =
+    struct_send (S.shape Shelf.the_type) (search (sendable, crosses, global.the_send) depth 20, (search (sendable, crosses, rule_send) depth 20, (search (sendable, crosses, named_send) depth 20, tt)))
 
 pub board_send : IsSend Board.the_row
 board_send = view_send BoardInside.the_row _ _ _ _ (recorded_send (BoardInside.the_field).row _ _ (BoardInside.the_type).to_one (struct_send (S.shape BoardInside.the_type) (
