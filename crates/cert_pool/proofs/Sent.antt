@@ -3,18 +3,11 @@ use denote.RattleType.{RattleType}
 use denote.Struct.Declared as S
 use denote.Param.Send.{IsSend, IsSync, sendable, recorded_sync, struct_sync}
 use Rattle.std.proofs.Crossing.{crosses}
-use Rattle.kb_term.proofs.term.Terms.TheLaws.TheKnot.{crosses as term_crosses}
-use Rattle.kb_term.specs.contracts.rule.Rule as Rule
+use Rattle.kb_term.proofs.Crossing.{rule_send, rule_sync}
 use Rattle.kb_cert.proofs.certificate.Certificate.TheSendSync as certificate
 use Rattle.boxcar.proofs.vec.Vec.TheSendSync as kept
 use Rattle.cert_pool.specs.contracts.pool.Found as Found
 use Rattle.cert_pool.specs.contracts.pool.CertPool as CertPool
-
-rule_send : IsSend Rule.the_row
-rule_send = search (sendable, crosses, term_crosses) depth 20
-
-rule_sync : IsSync Rule.the_row
-rule_sync = search (sendable, crosses, term_crosses) depth 20
 
 pub found_send : IsSend Found.the_row
 found_send = search (sendable, crosses, rule_send, certificate.the_send) depth 40 fits 100000

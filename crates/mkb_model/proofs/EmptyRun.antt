@@ -14,14 +14,14 @@ use Rattle.mkb_model.specs.declared.entry.Effect.TheVariants.{Made}
 use Rattle.mkb_model.specs.declared.entry.Entry.{Entry}
 use Rattle.mkb_model.specs.declared.entry.Entry.TheVariants.{Take, Commit}
 
-abbrev row2 : Problem
-row2 = record { signature = []; equations = [] }
+abbrev no_equations : Problem
+no_equations = record { signature = []; equations = [] }
 
 abbrev e : Name
 e = []
 
 abbrev before : Plain
-before = opening row2 (stated 100)
+before = opening no_equations (stated 100)
 
 abbrev taken : Plain
 taken = in_flight 1 1 (Close e) before
@@ -29,11 +29,11 @@ taken = in_flight 1 1 (Close e) before
 abbrev ended : Plain
 ended = landed 1 (effect taken (Closed e))
 
-row2_closed : IsClosedOn before e
-row2_closed = record { overlaps = []; all = refl; joined = λ o c. none_in c; formed = λ h x c. none_in c }
+no_equations_closed : IsClosedOn before e
+no_equations_closed = record { overlaps = []; all = refl; joined = λ o c. none_in c; formed = λ h x c. none_in c }
 
-row2_take : IsTaking IsFirstJob [] before 1 1 (Close e) taken
-row2_take = record {
+no_equations_take : IsTaking IsFirstJob [] before 1 1 (Close e) taken
+no_equations_take = record {
   no_verdict = refl;
   no_halt = refl;
   worker_least = omega arith;
@@ -46,20 +46,20 @@ row2_take = record {
 abbrev first_moment : Moment
 first_moment = record { board = before; entry = Take 1 1 (Close e) }
 
-row2_finish : IsFinishing (first_moment ∷ []) taken 1 1 (Close e) (Closed e)
-row2_finish = record {
+no_equations_finish : IsFinishing (first_moment ∷ []) taken 1 1 (Close e) (Closed e)
+no_equations_finish = record {
   no_verdict = refl;
   flying = (0, omega arith, refl);
   before = before;
   taken = (0, omega arith, refl);
-  proposed = (refl, row2_closed);
+  proposed = (refl, no_equations_closed);
 }
 
-row2_commit : IsCommitting (first_moment ∷ []) taken 1 1 (Made (Closed e)) ended
-row2_commit = record {
+no_equations_commit : IsCommitting (first_moment ∷ []) taken 1 1 (Made (Closed e)) ended
+no_equations_commit = record {
   job = Close e;
   proposal = Closed e;
-  finishing = row2_finish;
+  finishing = no_equations_finish;
   acts = refl;
   names_effect = refl;
   leads_to = refl;
@@ -68,8 +68,8 @@ row2_commit = record {
 abbrev journal : List Entry
 journal = Take 1 1 (Close e) ∷ Commit 1 1 (Made (Closed e)) ∷ []
 
-row2_after : After row2 (stated 100) journal ended
-row2_after = (record { board = taken; entry = Commit 1 1 (Made (Closed e)) } ∷ first_moment ∷ [], refl, ((refl, row2_take), row2_commit))
+no_equations_after : After no_equations (stated 100) journal ended
+no_equations_after = (record { board = taken; entry = Commit 1 1 (Made (Closed e)) } ∷ first_moment ∷ [], refl, ((refl, no_equations_take), no_equations_commit))
 
-row2_alone : Alone row2 (stated 100) journal ended
-row2_alone = record { legal = row2_after; in_turn = refl; ended = refl }
+no_equations_alone : Alone no_equations (stated 100) journal ended
+no_equations_alone = record { legal = no_equations_after; in_turn = refl; ended = refl }

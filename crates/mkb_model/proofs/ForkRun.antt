@@ -23,7 +23,7 @@ use Rattle.mkb_model.specs.declared.proposed.Proposed.TheVariants.{Both, Deduce,
 use Rattle.mkb_model.specs.declared.entry.Effect.TheVariants.{Made}
 use Rattle.mkb_model.specs.declared.entry.Entry.{Entry}
 use Rattle.mkb_model.specs.declared.entry.Entry.TheVariants.{Take, Commit}
-use Rattle.mkb_model.proofs.Rows.{row3, node, rule, constant, e, p0}
+use Rattle.mkb_model.proofs.Rows.{two_constants, node, rule, constant, e, p0}
 use mathlib.Core.Bool.{true≢false}
 use Rattle.kb_lemmas.proofs.Membership.{all_none, all_one, none_in}
 
@@ -80,7 +80,7 @@ not_first h = not_above 1 0 (λ above. omega (arith, above)) (h 0 b_to_a (omega 
 -- ---- the boards
 
 abbrev pub board0 : Plain
-board0 = opening row3 (stated 100)
+board0 = opening two_constants (stated 100)
 
 abbrev pub fork_it : Proposed
 fork_it = Both e (node 0) (Lpo (0 ∷ 1 ∷ [])) (Lpo (1 ∷ 0 ∷ []))
@@ -115,14 +115,14 @@ forking = (
   (
     all_one (λ (r : Rule). LpoGreater (0 ∷ 1 ∷ []) r.left r.right) a_to_b a_above_b,
     [],
-    Lpo (1 ∷ 0 ∷ []) ∷ (map Linear (interpretations row3.signature) ++ map Kbo (kbo_orders row3.signature)),
+    Lpo (1 ∷ 0 ∷ []) ∷ (map Linear (interpretations two_constants.signature) ++ map Kbo (kbo_orders two_constants.signature)),
     refl,
     all_none (λ (c : Certificate). ¬ Orders c (a_to_b ∷ [])),
   ),
   (
     all_one (λ (r : Rule). LpoGreater (1 ∷ 0 ∷ []) r.left r.right) b_to_a b_above_a,
     Lpo (0 ∷ 1 ∷ []) ∷ [],
-    map Linear (interpretations row3.signature) ++ map Kbo (kbo_orders row3.signature),
+    map Linear (interpretations two_constants.signature) ++ map Kbo (kbo_orders two_constants.signature),
     refl,
     all_one (λ (c : Certificate). ¬ Orders c (b_to_a ∷ [])) (Lpo (0 ∷ 1 ∷ [])) not_first,
   ),
@@ -262,12 +262,12 @@ journal =
     ∷ Commit 1 3 (Made (Closed p0))
     ∷ []
 
-pub row3_after : After row3 (stated 100) journal board6
-row3_after = (
+pub two_constants_after : After two_constants (stated 100) journal board6
+two_constants_after = (
   moment6 ∷ moment5 ∷ moment4 ∷ moment3 ∷ moment2 ∷ moment1 ∷ [],
   refl,
   ((((((refl, taking1), committing2), taking3), committing4), taking5), committing6),
 )
 
-row3_alone : Alone row3 (stated 100) journal board6
-row3_alone = record { legal = row3_after; in_turn = refl; ended = refl }
+two_constants_alone : Alone two_constants (stated 100) journal board6
+two_constants_alone = record { legal = two_constants_after; in_turn = refl; ended = refl }

@@ -11,7 +11,7 @@ use Rattle.kb_term.specs.Pair.{IsSameEquation}
 use Rattle.kb_cert.specs.declared.family.Family.TheVariants.{Stated}
 use Rattle.kb_cert.specs.declared.certificate.Certificate.TheVariants.{Lpo}
 use Rattle.mkb_model.specs.Headline.{states_of}
-use Rattle.mkb_model.proofs.Rows.{row3, p0}
+use Rattle.mkb_model.proofs.Rows.{two_constants, p0}
 use Rattle.mkb_model.proofs.ForkRun.{one_in, a, b, a_to_b, a_above_b, board6, moment1, moment2, moment3, moment4, moment5, moment6}
 
 abbrev before : KbState
@@ -21,13 +21,13 @@ abbrev after : KbState
 after = record { equations = []; rules = a_to_b ∷ []; constraints = a_to_b ∷ [] }
 
 -- the states of process 0, in order
-row3_states : states_of (moment6 ∷ moment5 ∷ moment4 ∷ moment3 ∷ moment2 ∷ moment1 ∷ []) board6 p0 ≡ before ∷ before ∷ after ∷ after ∷ after ∷ after ∷ after ∷ []
-row3_states = refl
+two_constants_states : states_of (moment6 ∷ moment5 ∷ moment4 ∷ moment3 ∷ moment2 ∷ moment1 ∷ []) board6 p0 ≡ before ∷ before ∷ after ∷ after ∷ after ∷ after ∷ after ∷ []
+two_constants_states = refl
 
 keeps : {X : Type 0} (Same : X → X → Type 0) (xs : List X) → Keeps Same xs xs
 keeps Same xs y = (λ h. h, λ h. h)
 
-stays : (s : KbState) → KbReaches row3.signature s s
+stays : (s : KbState) → KbReaches two_constants.signature s s
 stays s = ([], s, refl, record { equations = keeps IsSameEquation s.equations; rules = keeps IsVariantRule s.rules; constraints = keeps IsVariantRule s.constraints })
 
 same_ab : IsSameEquation (a, b) (a, b)
@@ -52,10 +52,10 @@ gains_only {X} Same x y = (there, back)
     back : Has Same (x ∷ []) y → Has Same [] y ⊎ Same x y
     back (z, c, t) = inr (subst {A = X} (λ z. Same z y) (sym (one_in c)) t)
 
-forks : KbStep row3.signature before after
+forks : KbStep two_constants.signature before after
 forks = orient a b (Lpo (0 ∷ 1 ∷ []), (Stated, (0, omega arith, refl)), all_one (λ (r : Rule). LpoGreater (0 ∷ 1 ∷ []) r.left r.right) a_to_b a_above_b)
     (loses_only IsSameEquation (a, b) same_ab) (gains_only IsVariantRule a_to_b) (gains_only IsVariantRule a_to_b)
 
-row3_run : IsKbRun row3 (states_of (moment6 ∷ moment5 ∷ moment4 ∷ moment3 ∷ moment2 ∷ moment1 ∷ []) board6 p0)
-row3_run =
+two_constants_run : IsKbRun two_constants (states_of (moment6 ∷ moment5 ∷ moment4 ∷ moment3 ∷ moment2 ∷ moment1 ∷ []) board6 p0)
+two_constants_run =
     (stays before, (stays before, ((after ∷ [], after, (forks, refl), same_state after), (stays after, (stays after, (stays after, (stays after, tt)))))))

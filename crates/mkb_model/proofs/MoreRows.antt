@@ -17,7 +17,7 @@ use Rattle.kb_node.specs.declared.job.Job.TheVariants.{Reduce, Overlap}
 use Rattle.mkb_model.specs.declared.proposed.Proposed.{Proposed}
 use Rattle.mkb_model.specs.declared.proposed.Proposed.TheVariants.{Rewrite, One, Both, Refuse, Deduce, Unjoined}
 use Rattle.mkb_model.proofs.Replays.{turns}
-use Rattle.mkb_model.proofs.Rows.{row3, row7, row7_proposals, row10, row10_proposals, p00, fa_is_a, node, rule, constant, unary, symbol, e, p0, given_constant, given_unary}
+use Rattle.mkb_model.proofs.Rows.{two_constants, square_constant, square_constant_proposals, two_values, two_values_proposals, p00, fa_is_a, node, rule, constant, unary, symbol, e, p0, given_constant, given_unary}
 
 -- ---- f(a) == c, a == b: the rule f(a) -> c collapses by a -> b into the equation f(b) = c
 
@@ -41,13 +41,13 @@ collapsed_view = refl
 
 -- ---- two rules that were overlapped are not overlapped again
 
-overlapped_once : is_dropped (turns 1 (list_take 2 row7_proposals) (opening row7 (stated 100))) (Deduce (rule 0 0) (rule 0 0) (fa_is_a (rule 0 0) (rule 0 0) ∷ [])) ≡ true
+overlapped_once : is_dropped (turns 1 (list_take 2 square_constant_proposals) (opening square_constant (stated 100))) (Deduce (rule 0 0) (rule 0 0) (fa_is_a (rule 0 0) (rule 0 0) ∷ [])) ≡ true
 overlapped_once = refl
 
 -- ---- of three due overlaps of f(a) -> c and b -> c the stated selection takes that of the older rule with itself, the other one that of the smaller rule with itself
 
 abbrev pub by_size : Plain
-by_size = let b : Plain = turns 1 (list_take 7 row10_proposals) (opening row10 (stated 100)) in record b { living = p00 ∷ []; settings = record (stated 100) { selection = Size } }
+by_size = let b : Plain = turns 1 (list_take 7 two_values_proposals) (opening two_values (stated 100)) in record b { living = p00 ∷ []; settings = record (stated 100) { selection = Size } }
 
 smallest_overlap : first_job by_size ≡ Some (Overlap p00 (rule 2 0) (rule 2 0))
 smallest_overlap = refl
@@ -65,7 +65,7 @@ stated_cost = refl
 -- ---- a raw pair becomes an equation of the process alone
 
 abbrev pub forked_once : Plain
-forked_once = turns 1 (Both e (node 0) (Lpo (0 ∷ 1 ∷ [])) (Lpo (1 ∷ 0 ∷ [])) ∷ []) (opening row7 (stated 100))
+forked_once = turns 1 (Both e (node 0) (Lpo (0 ∷ 1 ∷ [])) (Lpo (1 ∷ 0 ∷ [])) ∷ []) (opening square_constant (stated 100))
 
 raw_pair : label (effect forked_once (Unjoined p0 (fa_is_a (rule 0 0) (rule 0 0) ∷ []))) 1 E ≡ p0 ∷ []
 raw_pair = refl
@@ -73,7 +73,7 @@ raw_pair = refl
 -- ---- a fork with 1,024 living processes
 
 abbrev pub crowded : Plain
-crowded = let b : Plain = opening row3 (stated 100) in record b { living = replicate 1024 e }
+crowded = let b : Plain = opening two_constants (stated 100) in record b { living = replicate 1024 e }
 
 abbrev pub forking : Proposed
 forking = Both e (node 0) (Lpo (0 ∷ 1 ∷ [])) (Lpo (1 ∷ 0 ∷ []))
@@ -87,7 +87,7 @@ crowded_over = refl
 crowded_equation : label (effect crowded forking) 0 E ≡ e ∷ []
 crowded_equation = refl
 
-not_crowded : limit_of (let b : Plain = opening row3 (stated 100) in record b { living = replicate 1023 e }) forking ≡ None
+not_crowded : limit_of (let b : Plain = opening two_constants (stated 100) in record b { living = replicate 1023 e }) forking ≡ None
 not_crowded = refl
 
 -- ---- 4,096 nodes: a new pair finds no room, one that is there does

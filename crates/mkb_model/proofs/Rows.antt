@@ -75,48 +75,48 @@ fact n w a = record { node = node n; side = w; rule = a; found = No }
 
 -- ---- a == b: a fork, no overlap, and process 0 closes
 
-abbrev pub row3 : Problem
-row3 = record { signature = symbol 97 0 ∷ symbol 98 0 ∷ []; equations = (constant 0, constant 1) ∷ [] }
+abbrev pub two_constants : Problem
+two_constants = record { signature = symbol 97 0 ∷ symbol 98 0 ∷ []; equations = (constant 0, constant 1) ∷ [] }
 
-abbrev pub row3_proposals : List Proposed
-row3_proposals =
+abbrev pub two_constants_proposals : List Proposed
+two_constants_proposals =
     Both e (node 0) (Lpo (0 ∷ 1 ∷ [])) (Lpo (1 ∷ 0 ∷ []))
     ∷ Deduce (rule 0 0) (rule 0 0) []
     ∷ Closed p0
     ∷ []
 
-row3_jobs : first_jobs 1 row3_proposals (opening row3 (stated 100)) ≡
+two_constants_jobs : first_jobs 1 two_constants_proposals (opening two_constants (stated 100)) ≡
     Some (Orient e (node 0))
     ∷ Some (Overlap p0 (rule 0 0) (rule 0 0))
     ∷ Some (Close p0)
     ∷ Some (Overlap p1 (rule 0 1) (rule 0 1))
     ∷ []
-row3_jobs = refl
+two_constants_jobs = refl
 
-row3_verdict : verdict (turns 1 row3_proposals (opening row3 (stated 100))) ≡ Some (Complete p0)
-row3_verdict = refl
+two_constants_verdict : verdict (turns 1 two_constants_proposals (opening two_constants (stated 100))) ≡ Some (Complete p0)
+two_constants_verdict = refl
 
 -- ---- f(x,y) == f(y,x): refused in both directions, and closed with its equation
 
-abbrev pub row4 : Problem
-row4 = record { signature = symbol 102 2 ∷ []; equations = (binary 0 (variable 0) (variable 1), binary 0 (variable 1) (variable 0)) ∷ [] }
+abbrev pub commuting : Problem
+commuting = record { signature = symbol 102 2 ∷ []; equations = (binary 0 (variable 0) (variable 1), binary 0 (variable 1) (variable 0)) ∷ [] }
 
-abbrev pub row4_proposals : List Proposed
-row4_proposals = Refuse e (node 0) ∷ Closed e ∷ []
+abbrev pub commuting_proposals : List Proposed
+commuting_proposals = Refuse e (node 0) ∷ Closed e ∷ []
 
-row4_jobs : first_jobs 1 row4_proposals (opening row4 (stated 100)) ≡ Some (Orient e (node 0)) ∷ Some (Close e) ∷ None ∷ []
-row4_jobs = refl
+commuting_jobs : first_jobs 1 commuting_proposals (opening commuting (stated 100)) ≡ Some (Orient e (node 0)) ∷ Some (Close e) ∷ None ∷ []
+commuting_jobs = refl
 
-row4_verdict : verdict (turns 1 row4_proposals (opening row4 (stated 100))) ≡ Some AllFailed
-row4_verdict = refl
+commuting_verdict : verdict (turns 1 commuting_proposals (opening commuting (stated 100))) ≡ Some AllFailed
+commuting_verdict = refl
 
 -- ---- f(f(x)) == g(x): a fork; process 0 deduces an equation, and process 1, which costs less from then on, closes
 
-abbrev pub row6 : Problem
-row6 = record { signature = symbol 102 1 ∷ symbol 103 1 ∷ []; equations = (unary 0 (unary 0 (variable 0)), unary 1 (variable 0)) ∷ [] }
+abbrev pub square : Problem
+square = record { signature = symbol 102 1 ∷ symbol 103 1 ∷ []; equations = (unary 0 (unary 0 (variable 0)), unary 1 (variable 0)) ∷ [] }
 
-abbrev pub row6_proposals : List Proposed
-row6_proposals =
+abbrev pub square_proposals : List Proposed
+square_proposals =
     Both e (node 0) (Lpo (0 ∷ 1 ∷ [])) (Lpo (1 ∷ 0 ∷ []))
     ∷ Deduce (rule 0 0) (rule 0 0) (record {
       outer = rule 0 0;
@@ -128,43 +128,43 @@ row6_proposals =
     ∷ Closed p1
     ∷ []
 
-row6_jobs : first_jobs 1 row6_proposals (opening row6 (stated 100)) ≡
+square_jobs : first_jobs 1 square_proposals (opening square (stated 100)) ≡
     Some (Orient e (node 0))
     ∷ Some (Overlap p0 (rule 0 0) (rule 0 0))
     ∷ Some (Overlap p1 (rule 0 1) (rule 0 1))
     ∷ Some (Close p1)
     ∷ Some (Reduce p0 (node 1))
     ∷ []
-row6_jobs = refl
+square_jobs = refl
 
-abbrev pub row6_end : Plain
-row6_end = turns 1 row6_proposals (opening row6 (stated 100))
+abbrev pub square_end : Plain
+square_end = turns 1 square_proposals (opening square (stated 100))
 
-row6_verdict : verdict row6_end ≡ Some (Complete p1)
-row6_verdict = refl
+square_verdict : verdict square_end ≡ Some (Complete p1)
+square_verdict = refl
 
-row6_cost0 : cost row6_end p0 ≡ 11
-row6_cost0 = refl
+square_cost0 : cost square_end p0 ≡ 11
+square_cost0 = refl
 
-row6_cost1 : cost row6_end p1 ≡ 5
-row6_cost1 = refl
+square_cost1 : cost square_end p1 ≡ 5
+square_cost1 = refl
 
-row6_nodes : length row6_end.nodes ≡ 2
-row6_nodes = refl
+square_nodes : length square_end.nodes ≡ 2
+square_nodes = refl
 
-row6_commits : row6_end.commits ≡ 4
-row6_commits = refl
+square_commits : square_end.commits ≡ 4
+square_commits = refl
 
 -- ---- f(a) == b, f(a) == c: eleven commits, with a simplified equation, a composed rule and two forks
 
-abbrev pub row10 : Problem
-row10 = record {
+abbrev pub two_values : Problem
+two_values = record {
   signature = symbol 102 1 ∷ symbol 97 0 ∷ symbol 98 0 ∷ symbol 99 0 ∷ [];
   equations = (unary 0 (constant 1), constant 2) ∷ (unary 0 (constant 1), constant 3) ∷ [];
 }
 
-abbrev pub row10_proposals : List Proposed
-row10_proposals =
+abbrev pub two_values_proposals : List Proposed
+two_values_proposals =
     Both e (node 0) (Lpo (0 ∷ 1 ∷ 2 ∷ 3 ∷ [])) (Lpo (2 ∷ 0 ∷ 1 ∷ 3 ∷ []))
     ∷ Rewrite (node 1) 0 [] (rule 0 0) Variant (given_constant 2)
     ∷ Facts (fact 2 0 (rule 0 0) ∷ fact 2 1 (rule 0 0) ∷ [])
@@ -178,7 +178,7 @@ row10_proposals =
     ∷ Closed p00
     ∷ []
 
-row10_jobs : first_jobs 1 row10_proposals (opening row10 (stated 100)) ≡
+two_values_jobs : first_jobs 1 two_values_proposals (opening two_values (stated 100)) ≡
     Some (Orient e (node 0))
     ∷ Some (Reduce p0 (node 1))
     ∷ Some (Reduce p0 (node 2))
@@ -192,35 +192,35 @@ row10_jobs : first_jobs 1 row10_proposals (opening row10 (stated 100)) ≡
     ∷ Some (Close p00)
     ∷ Some (Reduce p01 (node 0))
     ∷ []
-row10_jobs = refl
+two_values_jobs = refl
 
-abbrev pub row10_end : Plain
-row10_end = turns 1 row10_proposals (opening row10 (stated 100))
+abbrev pub two_values_end : Plain
+two_values_end = turns 1 two_values_proposals (opening two_values (stated 100))
 
-row10_verdict : verdict row10_end ≡ Some (Complete p00)
-row10_verdict = refl
+two_values_verdict : verdict two_values_end ≡ Some (Complete p00)
+two_values_verdict = refl
 
-row10_living : row10_end.living ≡ p1 ∷ p00 ∷ p01 ∷ []
-row10_living = refl
+two_values_living : two_values_end.living ≡ p1 ∷ p00 ∷ p01 ∷ []
+two_values_living = refl
 
-row10_view : view row10_end p00 ≡ record { equations = []; rules = rule 1 0 ∷ rule 2 0 ∷ []; constraints = rule 0 0 ∷ rule 2 0 ∷ [] }
-row10_view = refl
+two_values_view : view two_values_end p00 ≡ record { equations = []; rules = rule 1 0 ∷ rule 2 0 ∷ []; constraints = rule 0 0 ∷ rule 2 0 ∷ [] }
+two_values_view = refl
 
 -- ---- the same with a budget of one commit
 
-row11_verdict : verdict (turns 1 (Both e (node 0) (Lpo (0 ∷ 1 ∷ 2 ∷ 3 ∷ [])) (Lpo (2 ∷ 0 ∷ 1 ∷ 3 ∷ [])) ∷ []) (opening row10 (stated 1))) ≡ Some (Spent Commits)
-row11_verdict = refl
+one_commit_verdict : verdict (turns 1 (Both e (node 0) (Lpo (0 ∷ 1 ∷ 2 ∷ 3 ∷ [])) (Lpo (2 ∷ 0 ∷ 1 ∷ 3 ∷ [])) ∷ []) (opening two_values (stated 1))) ≡ Some (Spent Commits)
+one_commit_verdict = refl
 
 -- ---- f(f(x)) == a: eight commits; the pair of the last overlap is there already, as a rule
 
-abbrev pub row7 : Problem
-row7 = record { signature = symbol 102 1 ∷ symbol 97 0 ∷ []; equations = (unary 0 (unary 0 (variable 0)), constant 1) ∷ [] }
+abbrev pub square_constant : Problem
+square_constant = record { signature = symbol 102 1 ∷ symbol 97 0 ∷ []; equations = (unary 0 (unary 0 (variable 0)), constant 1) ∷ [] }
 
 abbrev pub fa_is_a : RuleRef → RuleRef → Deduced
 fa_is_a outer inner = record { outer = outer; inner = inner; position = 1 ∷ []; pair = record { first = unary 0 (constant 1); second = constant 1 } }
 
-abbrev pub row7_proposals : List Proposed
-row7_proposals =
+abbrev pub square_constant_proposals : List Proposed
+square_constant_proposals =
     One e (node 0) 0 (Lpo (0 ∷ 1 ∷ []))
     ∷ Deduce (rule 0 0) (rule 0 0) (fa_is_a (rule 0 0) (rule 0 0) ∷ [])
     ∷ Facts (fact 1 0 (rule 0 0) ∷ fact 1 1 (rule 0 0) ∷ [])
@@ -231,7 +231,7 @@ row7_proposals =
     ∷ Closed e
     ∷ []
 
-row7_jobs : first_jobs 1 row7_proposals (opening row7 (stated 100)) ≡
+square_constant_jobs : first_jobs 1 square_constant_proposals (opening square_constant (stated 100)) ≡
     Some (Orient e (node 0))
     ∷ Some (Overlap e (rule 0 0) (rule 0 0))
     ∷ Some (Reduce e (node 1))
@@ -242,112 +242,112 @@ row7_jobs : first_jobs 1 row7_proposals (opening row7 (stated 100)) ≡
     ∷ Some (Close e)
     ∷ None
     ∷ []
-row7_jobs = refl
+square_constant_jobs = refl
 
-row7_verdict : verdict (turns 1 row7_proposals (opening row7 (stated 100))) ≡ Some (Complete e)
-row7_verdict = refl
+square_constant_verdict : verdict (turns 1 square_constant_proposals (opening square_constant (stated 100))) ≡ Some (Complete e)
+square_constant_verdict = refl
 
 -- ---- a limit stops the only process
 
-row12_verdict : verdict (turns 1 (One e (node 0) 0 (Lpo (0 ∷ 1 ∷ [])) ∷ Limit (Overlap e (rule 0 0) (rule 0 0)) (record { redex = None; reason = Depth }) ∷ []) (opening row7 (stated 100))) ≡ Some (Spent (Over Depth))
-row12_verdict = refl
+stopped_verdict : verdict (turns 1 (One e (node 0) 0 (Lpo (0 ∷ 1 ∷ [])) ∷ Limit (Overlap e (rule 0 0) (rule 0 0)) (record { redex = None; reason = Depth }) ∷ []) (opening square_constant (stated 100))) ≡ Some (Spent (Over Depth))
+stopped_verdict = refl
 
 -- ---- f(f(x)) == a, b == c with tickets in flight: a fork while the overlap of the forked process is under way
 
-abbrev pub row15 : Problem
-row15 = record {
+abbrev pub fork_in_flight : Problem
+fork_in_flight = record {
   signature = symbol 102 1 ∷ symbol 97 0 ∷ symbol 98 0 ∷ symbol 99 0 ∷ [];
   equations = (unary 0 (unary 0 (variable 0)), constant 1) ∷ (constant 2, constant 3) ∷ [];
 }
 
 -- two tickets are finished, and two are in flight
-abbrev pub row15_flying : Plain
-row15_flying = take 4 (take 3 (turns 1 (One e (node 0) 0 (Lpo (0 ∷ 1 ∷ 2 ∷ 3 ∷ [])) ∷ Facts (fact 1 0 (rule 0 0) ∷ fact 1 1 (rule 0 0) ∷ []) ∷ []) (opening row15 (stated 100))))
+abbrev pub fork_in_flight_flying : Plain
+fork_in_flight_flying = take 4 (take 3 (turns 1 (One e (node 0) 0 (Lpo (0 ∷ 1 ∷ 2 ∷ 3 ∷ [])) ∷ Facts (fact 1 0 (rule 0 0) ∷ fact 1 1 (rule 0 0) ∷ []) ∷ []) (opening fork_in_flight (stated 100))))
 
-row15_flight : row15_flying.flight ≡
+fork_in_flight_flight : fork_in_flight_flying.flight ≡
     record { number = 3; worker = 1; job = Orient e (node 1) }
     ∷ record { number = 4; worker = 1; job = Overlap e (rule 0 0) (rule 0 0) }
     ∷ []
-row15_flight = refl
+fork_in_flight_flight = refl
 
-row15_idle : first_job row15_flying ≡ None
-row15_idle = refl
+fork_in_flight_idle : first_job fork_in_flight_flying ≡ None
+fork_in_flight_idle = refl
 
-abbrev pub row15_end : Plain
-row15_end = finish 4 (Deduce (rule 0 0) (rule 0 0) (fa_is_a (rule 0 0) (rule 0 0) ∷ [])) (finish 3 (Both e (node 1) (Lpo (0 ∷ 1 ∷ 2 ∷ 3 ∷ [])) (Lpo (0 ∷ 1 ∷ 3 ∷ 2 ∷ []))) row15_flying)
+abbrev pub fork_in_flight_end : Plain
+fork_in_flight_end = finish 4 (Deduce (rule 0 0) (rule 0 0) (fa_is_a (rule 0 0) (rule 0 0) ∷ [])) (finish 3 (Both e (node 1) (Lpo (0 ∷ 1 ∷ 2 ∷ 3 ∷ [])) (Lpo (0 ∷ 1 ∷ 3 ∷ 2 ∷ []))) fork_in_flight_flying)
 
-row15_equation : label row15_end 2 E ≡ p0 ∷ p1 ∷ []
-row15_equation = refl
+fork_in_flight_equation : label fork_in_flight_end 2 E ≡ p0 ∷ p1 ∷ []
+fork_in_flight_equation = refl
 
 -- ---- f(a) == b, f(a) == c with tickets in flight: an orientation is dropped, since its equation was rewritten meanwhile
 
-abbrev pub row16_flying : Plain
-row16_flying = take 3 (take 2 (turns 1 (Both e (node 0) (Lpo (0 ∷ 1 ∷ 2 ∷ 3 ∷ [])) (Lpo (2 ∷ 0 ∷ 1 ∷ 3 ∷ [])) ∷ []) (opening row10 (stated 100))))
+abbrev pub drop_in_flight_flying : Plain
+drop_in_flight_flying = take 3 (take 2 (turns 1 (Both e (node 0) (Lpo (0 ∷ 1 ∷ 2 ∷ 3 ∷ [])) (Lpo (2 ∷ 0 ∷ 1 ∷ 3 ∷ [])) ∷ []) (opening two_values (stated 100))))
 
-row16_flight : row16_flying.flight ≡
+drop_in_flight_flight : drop_in_flight_flying.flight ≡
     record { number = 2; worker = 1; job = Reduce p0 (node 1) }
     ∷ record { number = 3; worker = 1; job = Orient p0 (node 1) }
     ∷ []
-row16_flight = refl
+drop_in_flight_flight = refl
 
-row16_drop : is_dropped (finish 2 (Rewrite (node 1) 0 [] (rule 0 0) Variant (given_constant 2)) row16_flying) (One p0 (node 1) 0 (Lpo (0 ∷ 1 ∷ 2 ∷ 3 ∷ []))) ≡ true
-row16_drop = refl
+drop_in_flight_drop : is_dropped (finish 2 (Rewrite (node 1) 0 [] (rule 0 0) Variant (given_constant 2)) drop_in_flight_flying) (One p0 (node 1) 0 (Lpo (0 ∷ 1 ∷ 2 ∷ 3 ∷ []))) ≡ true
+drop_in_flight_drop = refl
 
 -- ---- the same after four tickets: a rule is composed while its overlaps are under way
 
-abbrev pub row17_flying : Plain
-row17_flying = take 7 (take 6 (take 5 (turns 1 (list_take 4 row10_proposals) (opening row10 (stated 100)))))
+abbrev pub compose_in_flight_flying : Plain
+compose_in_flight_flying = take 7 (take 6 (take 5 (turns 1 (list_take 4 two_values_proposals) (opening two_values (stated 100)))))
 
-row17_flight : row17_flying.flight ≡
+compose_in_flight_flight : compose_in_flight_flying.flight ≡
     record { number = 5; worker = 1; job = Reduce p00 (node 0) }
     ∷ record { number = 6; worker = 1; job = Overlap p00 (rule 0 0) (rule 0 0) }
     ∷ record { number = 7; worker = 1; job = Overlap p00 (rule 0 0) (rule 2 0) }
     ∷ []
-row17_flight = refl
+compose_in_flight_flight = refl
 
-abbrev pub row17_composed : Plain
-row17_composed = finish 5 (Rewrite (node 0) 1 [] (rule 2 0) Variant (given_constant 3)) row17_flying
+abbrev pub compose_in_flight_after : Plain
+compose_in_flight_after = finish 5 (Rewrite (node 0) 1 [] (rule 2 0) Variant (given_constant 3)) compose_in_flight_flying
 
-row17_label6 : effect_label row17_composed (Deduce (rule 0 0) (rule 0 0) []) ≡ p01 ∷ []
-row17_label6 = refl
+compose_in_flight_label : effect_label compose_in_flight_after (Deduce (rule 0 0) (rule 0 0) []) ≡ p01 ∷ []
+compose_in_flight_label = refl
 
-row17_drop7 : is_dropped (finish 6 (Deduce (rule 0 0) (rule 0 0) []) row17_composed) (Deduce (rule 0 0) (rule 2 0) []) ≡ true
-row17_drop7 = refl
+compose_in_flight_drop : is_dropped (finish 6 (Deduce (rule 0 0) (rule 0 0) []) compose_in_flight_after) (Deduce (rule 0 0) (rule 2 0) []) ≡ true
+compose_in_flight_drop = refl
 
 -- ---- x == f(x): the rule leads from side 1, since a variable comes first in the pair
 
-abbrev pub row1 : Problem
-row1 = record { signature = symbol 102 1 ∷ []; equations = (unary 0 (variable 0), variable 0) ∷ [] }
+abbrev pub identity_law : Problem
+identity_law = record { signature = symbol 102 1 ∷ []; equations = (unary 0 (variable 0), variable 0) ∷ [] }
 
-abbrev pub row1_proposals : List Proposed
-row1_proposals = One e (node 0) 1 (Lpo (0 ∷ [])) ∷ Deduce (rule 0 1) (rule 0 1) [] ∷ Closed e ∷ []
+abbrev pub identity_law_proposals : List Proposed
+identity_law_proposals = One e (node 0) 1 (Lpo (0 ∷ [])) ∷ Deduce (rule 0 1) (rule 0 1) [] ∷ Closed e ∷ []
 
-row1_jobs : first_jobs 1 row1_proposals (opening row1 (stated 100)) ≡ Some (Orient e (node 0)) ∷ Some (Overlap e (rule 0 1) (rule 0 1)) ∷ Some (Close e) ∷ None ∷ []
-row1_jobs = refl
+identity_law_jobs : first_jobs 1 identity_law_proposals (opening identity_law (stated 100)) ≡ Some (Orient e (node 0)) ∷ Some (Overlap e (rule 0 1) (rule 0 1)) ∷ Some (Close e) ∷ None ∷ []
+identity_law_jobs = refl
 
-row1_verdict : verdict (turns 1 row1_proposals (opening row1 (stated 100))) ≡ Some (Complete e)
-row1_verdict = refl
+identity_law_verdict : verdict (turns 1 identity_law_proposals (opening identity_law (stated 100))) ≡ Some (Complete e)
+identity_law_verdict = refl
 
 -- ---- a == a: no node, and a close at once
 
-abbrev pub row8 : Problem
-row8 = record { signature = symbol 97 0 ∷ []; equations = (constant 0, constant 0) ∷ [] }
+abbrev pub trivial_one : Problem
+trivial_one = record { signature = symbol 97 0 ∷ []; equations = (constant 0, constant 0) ∷ [] }
 
-row8_nodes : (opening row8 (stated 100)).nodes ≡ []
-row8_nodes = refl
+trivial_one_nodes : (opening trivial_one (stated 100)).nodes ≡ []
+trivial_one_nodes = refl
 
-row8_job : first_job (opening row8 (stated 100)) ≡ Some (Close e)
-row8_job = refl
+trivial_one_job : first_job (opening trivial_one (stated 100)) ≡ Some (Close e)
+trivial_one_job = refl
 
 -- ---- f(x) == x, f(y) == y: one node, from the first equation
 
-abbrev pub row9 : Problem
-row9 = record { signature = symbol 102 1 ∷ []; equations = (unary 0 (variable 0), variable 0) ∷ (unary 0 (variable 0), variable 0) ∷ [] }
+abbrev pub repeated_one : Problem
+repeated_one = record { signature = symbol 102 1 ∷ []; equations = (unary 0 (variable 0), variable 0) ∷ (unary 0 (variable 0), variable 0) ∷ [] }
 
-row9_origins : map (λ (x : PlainNode). x.origin) (opening row9 (stated 100)).nodes ≡ Input 1 ∷ []
-row9_origins = refl
+repeated_one_origins : map (λ (x : PlainNode). x.origin) (opening repeated_one (stated 100)).nodes ≡ Input 1 ∷ []
+repeated_one_origins = refl
 
 -- ---- f(a) == b, f(a) == c at the end of its run: where the nodes came from
 
-row10_origins : map (λ (x : PlainNode). x.origin) row10_end.nodes ≡ Input 1 ∷ Input 2 ∷ ByRewrite 1 0 [] (rule 0 0) ∷ []
-row10_origins = refl
+two_values_origins : map (λ (x : PlainNode). x.origin) two_values_end.nodes ≡ Input 1 ∷ Input 2 ∷ ByRewrite 1 0 [] (rule 0 0) ∷ []
+two_values_origins = refl

@@ -8,7 +8,7 @@ use Rattle.mkb_model.specs.DueJobs.{due_jobs}
 use Rattle.mkb_model.specs.Effects.{give_up}
 use Rattle.mkb_model.specs.Sleeping.{settled}
 use Rattle.mkb_model.specs.Journals.{opening, stated}
-use Rattle.mkb_model.proofs.Rows.{row3}
+use Rattle.mkb_model.proofs.Rows.{two_constants}
 
 -- all names of so many bits
 abbrev pub names_of : ℕ → List Name
@@ -27,7 +27,7 @@ sixty_five = relabel (replicate 6 true) (names_of 6)
 
 -- each has the equation
 abbrev pub crowd : Plain
-crowd = let b : Plain = opening row3 (stated 100) in record b { living = sixty_five; nodes = map (λ (x : PlainNode). record x { equation = sixty_five }) b.nodes }
+crowd = let b : Plain = opening two_constants (stated 100) in record b { living = sixty_five; nodes = map (λ (x : PlainNode). record x { equation = sixty_five }) b.nodes }
 
 -- of equal costs the last by name falls asleep
 last_sleeps : settled crowd ≡ last ∷ []
@@ -46,5 +46,5 @@ last_sleeps_on : settled (record crowd { asleep = last ∷ [] }) ≡ last ∷ []
 last_sleeps_on = refl
 
 -- a process that sleeps gets no job
-no_job : due_jobs (record (opening row3 (stated 100)) { asleep = [] ∷ [] }) ≡ []
+no_job : due_jobs (record (opening two_constants (stated 100)) { asleep = [] ∷ [] }) ≡ []
 no_job = refl

@@ -4,10 +4,10 @@ use denote.Struct.Declared as S
 use denote.Param.Send.{IsSend, IsSync, sendable, enum_sync, recorded_sync, struct_sync, view_sync}
 use Rattle.std.proofs.Crossing.{crosses}
 use Rattle.kb_term.proofs.term.Terms.TheLaws.TheKnot.{crosses as term_crosses}
+use Rattle.kb_term.proofs.Crossing.{rule_send, rule_sync}
 use Rattle.kb_term.proofs.origin.RuleRef.TheSendSync as rule_ref
 use Rattle.kb_term.proofs.signature.Signature.TheSendSync as signature
 use Rattle.kb_term.specs.contracts.pair.Pair as Pair
-use Rattle.kb_term.specs.contracts.rule.Rule as Rule
 use Rattle.kb_label.proofs.process.Process.TheSendSync as process
 use Rattle.kb_cert.proofs.certificate.Certificate.TheSendSync as certificate
 use Rattle.kb_cert.proofs.family.Family.TheSendSync as family
@@ -28,12 +28,6 @@ use Rattle.mkb_rounds.specs.contracts.stealing.Outcome as Outcome
 
 pair_sync : IsSync Pair.the_row
 pair_sync = search (sendable, crosses, term_crosses) depth 20
-
-rule_sync : IsSync Rule.the_row
-rule_sync = search (sendable, crosses, term_crosses) depth 20
-
-rule_send : IsSend Rule.the_row
-rule_send = search (sendable, crosses, term_crosses) depth 20
 
 shared_rules_sync : IsSync SharedRules.the_row
 shared_rules_sync = view_sync SharedInside.the_row _ _ _ _ (recorded_sync (SharedInside.the_field).row _ _ (SharedInside.the_type).to_one (struct_sync (S.shape SharedInside.the_type) (search (sendable, crosses, rule_send, rule_sync) depth 20 fits 100000, tt)))

@@ -5,6 +5,7 @@ use denote.Struct.Declared as S
 use denote.Param.Send.{IsSend, IsSync, sendable, plain_send, recorded_send, enum_send, struct_send, view_send}
 use Rattle.std.proofs.Crossing.{crosses}
 use Rattle.kb_term.proofs.term.Terms.TheLaws.TheKnot.{crosses as term_crosses}
+use Rattle.kb_term.proofs.Crossing.{rule_send, rule_sync}
 use Rattle.kb_term.proofs.origin.RuleRef.TheSendSync as rule_ref
 use Rattle.kb_term.proofs.origin.Found.TheSendSync as found
 use Rattle.kb_term.proofs.origin.Origin.TheSendSync as origin
@@ -53,7 +54,6 @@ use Rattle.mkb_rules.specs.contracts.tracked.Tracked as Tracked
 use Rattle.mkb_rules.specs.contracts.tracked.Tracked.TheInside as TrackedInside
 use Rattle.kb_term.specs.contracts.pair.Pair as Pair
 use Rattle.kb_term.specs.contracts.problem.Problem as Problem
-use Rattle.kb_term.specs.contracts.rule.Rule as Rule
 use Rattle.kb_node.specs.contracts.job.Deduced as Deduced
 use Rattle.mkb_model.specs.contracts.proposed.DeducedList as DeducedList
 use Rattle.mkb_model.specs.contracts.proposed.Proposed as Proposed
@@ -145,12 +145,6 @@ state_send = view_send StateInside.the_row _ _ _ _ (recorded_send (StateInside.t
 
 normal_send : IsSend Normal.the_row
 normal_send = search (sendable, crosses, rule_ref.the_send, roles.the_send, global.the_send) depth 40 fits 100000
-
-rule_send : IsSend Rule.the_row
-rule_send = search (sendable, crosses, term_crosses) depth 20
-
-rule_sync : IsSync Rule.the_row
-rule_sync = search (sendable, crosses, term_crosses) depth 20
 
 shared_rules_send : IsSend SharedRules.the_row
 shared_rules_send = view_send SharedInside.the_row _ _ _ _ (recorded_send (SharedInside.the_field).row _ _ (SharedInside.the_type).to_one (struct_send (S.shape SharedInside.the_type) (search (sendable, crosses, rule_send, rule_sync) depth 20 fits 100000, tt)))
