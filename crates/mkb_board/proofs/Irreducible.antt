@@ -1,12 +1,13 @@
 -- Nodes that none of some rules reduces.
-use Rattle.std.proofs.Common.{ℕ, suc, length, ◌<◌, ◌≡◌, zero, set, get_or, refl, sym, ap, ap₂, ◌∙◌, subst, arith, List, [], ◌∷◌, ◌++◌, filter, slice_get, Bool, true, false, cond, not, ◌&&◌, ◌||◌, ◌==◌, Option, Some, None}
+use Rattle.std.proofs.Common.{ℕ, suc, length, ◌<◌, ◌≡◌, zero, ◌≤◌, set, get_or, length-append, refl, sym, ap, ap₂, ◌∙◌, subst, arith, List, [], ◌∷◌, ◌++◌, ◌+◌, take, drop, map, filter, Contains, Bool, true, false, cond, not, ◌&&◌, ◌||◌, ◌==◌, ⊎_elim, Option, Some, None}
 use Rattle.std.specs.Prelude.{option_map}
 use Rattle.std.specs.List.{find, list_any}
 use Rattle.std.specs.Option.{option_or}
-use Rattle.std.proofs.lemmas.List.{length-set}
-use Rattle.std.specs.Prelude.{All}
+use Rattle.std.proofs.lemmas.List.{length-set, length-map, map-append, take-append-le, take_more, take_more_set, drop-set-lt, get_or-map, get_or-set_other}
+use Rattle.mkb_board.proofs.Better.{drop_at}
+use Rattle.std.proofs.lemmas.Grind.{get_or-set_at}
 use Rattle.std.proofs.lemmas.List.Elements.{All-set}
-use Rattle.std.proofs.lemmas.List.Folds.{find-append}
+use Rattle.std.proofs.lemmas.List.Folds.{find-append, list_any-append}
 use Rattle.kb_term.specs.declared.origin.RuleRef.{RuleRef}
 use Rattle.kb_term.specs.declared.origin.Found.{Found}
 use Rattle.kb_term.specs.declared.origin.Found.TheVariants.{No, Variant, Strict}
@@ -18,13 +19,16 @@ use Rattle.mkb_model.specs.DueJobs.{is_open, is_reducible}
 use Rattle.mkb_model.specs.Effects.{applied, effect, effect_label, give_up, limit_of}
 use Rattle.kb_label.specs.declared.verdict.Reason.{Reason}
 use Rattle.std.specs.Option.{option_map_or}
-use Rattle.std.proofs.lemmas.Bool.{eqb-true, or_parts, or_from}
+use Rattle.std.proofs.lemmas.Bool.{eqb-true, eqb-false, or_cases, or_left, or_right, or_parts, or_from}
+use Rattle.std.proofs.Math.Bool.{and-false}
 use Rattle.kb_lemmas.proofs.Booleans.{and_gives_left, and_gives_right}
 use Rattle.mkb_model.specs.declared.proposed.Proposed.{Proposed}
 use Rattle.mkb_model.specs.declared.proposed.Proposed.TheVariants.{Facts, Rewrite, One, Both, Refuse, Deduce, Unjoined, Closed, Limit}
-use Rattle.mkb_model.proofs.Lists.{any_in, any_none, clash}
+use Rattle.mkb_model.proofs.Lists.{any_in, in_any, filter_in, in_filter, same_test, not_of_false, decide, clash}
+use Rattle.mkb_model.proofs.Completed.{ref_self}
 use Rattle.mkb_rules.specs.Roles.{roles_of}
-use Rattle.mkb_board.specs.Normal.{AreAllNormal, AreNormal, NoneOpens, Serves, is_open_in, is_open_to}
+use Rattle.mkb_board.specs.Normal.{AreAllNormal, AreNormal, IsPast, Serves, is_among, is_open_in, is_open_to, recounted}
+use Rattle.mkb_board.specs.declared.normal.Noted.{Noted}
 use Rattle.mkb_rules.specs.declared.roles.Roles.{Roles}
 use Rattle.mkb_board.specs.declared.normal.Normal.{Normal}
 use Rattle.mkb_board.proofs.Picking.{any_filter}
@@ -61,10 +65,10 @@ reducible_by b p n =
     ∙ any_alike (λ (a : RuleRef). not (a.node == n) && list_any (λ w. is_open b p n w (known b n w a)) (0 ∷ 1 ∷ [])) (is_open_to b (roles_of b p n) n) (rules_of b p)
     (λ a. ap (λ z. not (a.node == n) && z) (ap₂ (λ x y. x || (y || false)) (open_zero b p n (known b n 0 a)) (open_one b p n (known b n 1 a))))
 
--- a node that is noted in its roles is not reducible
-pub noted_not : (b : Plain) (p : Name) (n : ℕ) (k : Normal) → Serves b p k → slice_get k.nodes.items n ≡ Some (Some (roles_of b p n)) → is_reducible b p n ≡ false
-noted_not b p n k h e =
-    reducible_by b p n ∙ ap (list_any (is_open_to b (roles_of b p n) n)) (sym h.rules) ∙ h.known.none n (roles_of b p n) e
+-- a node is reducible where one of the rules is open to it, by their arrival
+pub reducible_by_arrival : (b : Plain) (p : Name) (n : ℕ) (k : Normal) → Serves b p k → is_reducible b p n ≡ list_any (is_open_to b (roles_of b p n) n) k.arrived.items
+reducible_by_arrival b p n k h =
+    reducible_by b p n ∙ ap (list_any (is_open_to b (roles_of b p n) n)) (sym h.rules) ∙ sym (h.known.same (is_open_to b (roles_of b p n) n))
 
 -- ---- what is known stays known
 
@@ -87,11 +91,17 @@ rule_stays b c fs e r n a h = go (not (a.node == n)) h
 
 -- ---- what is noted stays
 
+past_stays : (b c : Plain) (fs : List Fact) → c.facts ≡ b.facts ++ fs → (rules : List RuleRef) (n : ℕ) (m : Noted) → IsPast b rules n m → IsPast c rules n m
+past_stays b c fs e rules n m h = record {
+  within = h.within;
+  none = any_still (is_open_to b m.roles n) (is_open_to c m.roles n) (take m.passed rules) (rule_stays b c fs e m.roles n) h.none;
+}
+
 -- what is noted holds where more facts are known
 pub normal_stays : (b c : Plain) (fs : List Fact) → c.facts ≡ b.facts ++ fs → (k : Normal) → AreNormal b k → AreNormal c k
 normal_stays b c fs e k h = record {
-  few = h.few;
-  none = λ n r i. any_still (is_open_to b r n) (is_open_to c r n) k.rules.items (rule_stays b c fs e r n) (h.none n r i);
+  same = h.same;
+  past = λ n d i. past_stays b c fs e k.arrived.items n (get_or k.nodes.items n d) (h.past n d i);
 }
 
 -- a commit adds facts at the end
@@ -118,34 +128,144 @@ effect_facts b x = grown_by b x (limit_of b x)
 pub normal_after : (b : Plain) (x : Proposed) (k : Normal) → AreNormal b k → AreNormal (effect b x) k
 normal_after b x k h = let e = effect_facts b x in normal_stays b (effect b x) e.0 e.1 k h
 
--- ---- the rules that are new
+-- ---- rules that come and go
 
 ref_same : (a b : RuleRef) → ref_eq a b ≡ true → a ≡ b
 ref_same a b e = ap₂ (λ n d. record { node = n; dir = d }) (eqb-true a.node b.node (and_gives_left (a.node == b.node) (a.dir == b.dir) e)) (eqb-true a.dir b.dir (and_gives_right (a.node == b.node) (a.dir == b.dir) e))
 
--- who is among rules of which none passes doesn't pass
-among_not : (q : RuleRef → Bool) (old : List RuleRef) (a : RuleRef) → list_any q old ≡ false → list_any (λ b. ref_eq b a) old ≡ true → q a ≡ false
-among_not q old a h e =
-    let i = any_in (λ b. ref_eq b a) old e in
-    subst {A = RuleRef} (λ z. q z ≡ false) (ref_same i.0 a i.2) (any_none q old h i.0 i.1)
+among_in : (rules : List RuleRef) (a : RuleRef) → is_among rules a ≡ true → Contains rules a
+among_in rules a e =
+    let i = any_in (λ b. ref_eq b a) rules e in
+    subst {A = RuleRef} (Contains rules) (ref_same i.0 a i.2) i.1
 
--- where none of the old rules passes, and none of those that are new, none does
-pub fresh_none : (q : RuleRef → Bool) (old rules : List RuleRef) → list_any q old ≡ false → list_any q (filter (λ a. not (list_any (λ b. ref_eq b a) old)) rules) ≡ false → list_any q rules ≡ false
-fresh_none q old [] h k = refl
-fresh_none q old (a ∷ rules) h k = go (list_any (λ b. ref_eq b a) old) refl k (fresh_none q old rules h)
+-- the old rules that stay, and behind them the new ones that weren't among them
+abbrev pub turned : List RuleRef → List RuleRef → List RuleRef
+turned old rules = filter (is_among rules) old ++ filter (λ a. not (is_among old a)) rules
+
+-- they are the new rules in another order
+pub turned_same : (q : RuleRef → Bool) (old rules : List RuleRef) → list_any q (turned old rules) ≡ list_any q rules
+turned_same q old rules = list_any-append q staying fresh ∙ same_test (list_any q staying || list_any q fresh) (list_any q rules) only all
   where
-    left : List RuleRef
-    left = filter (λ x. not (list_any (λ b. ref_eq b x) old)) rules
+    staying : List RuleRef
+    staying = filter (is_among rules) old
 
-    go : (t : Bool) → list_any (λ b. ref_eq b a) old ≡ t → list_any q (cond (not t) (a ∷ left) left) ≡ false → (list_any q left ≡ false → list_any q rules ≡ false) → (q a || list_any q rules) ≡ false
-    go true e l behind = or_from (q a) (list_any q rules) (among_not q old a h e) (behind l)
-    go false e l behind = let p = or_parts (q a) (list_any q left) l in or_from (q a) (list_any q rules) p.0 (behind p.1)
+    fresh : List RuleRef
+    fresh = filter (λ a. not (is_among old a)) rules
 
--- what is noted of the old rules and of those that are new holds of all
-pub turned : (b : Plain) (nodes : List (Option Roles)) (old fresh rules : List RuleRef) → NoneOpens b nodes old → NoneOpens b nodes fresh → fresh ≡ filter (λ a. not (list_any (λ c. ref_eq c a) old)) rules → NoneOpens b nodes rules
-turned b nodes old fresh rules h k e n r i = fresh_none (is_open_to b r n) old rules (h n r i) (subst {A = List RuleRef} (λ z. list_any (is_open_to b r n) z ≡ false) e (k n r i))
+    only : (list_any q staying || list_any q fresh) ≡ true → list_any q rules ≡ true
+    only e =
+        ⊎_elim
+        (λ h. let i = any_in q staying h in in_any q rules i.0 (among_in rules i.0 (filter_in (is_among rules) old i.0 i.1).1) i.2)
+        (λ h. let i = any_in q fresh h in in_any q rules i.0 (filter_in (λ a. not (is_among old a)) rules i.0 i.1).0 i.2)
+        (or_cases (list_any q staying) (list_any q fresh) e)
 
--- ---- room for more nodes
+    all : list_any q rules ≡ true → (list_any q staying || list_any q fresh) ≡ true
+    all e =
+        let i = any_in q rules e in
+        ⊎_elim
+        (λ h. or_left (list_any q staying) (list_any q fresh) (in_any q staying i.0 (in_filter (is_among rules) old i.0 (among_in old i.0 h) (in_any (λ b. ref_eq b i.0) rules i.0 i.1 (ref_self i.0))) i.2))
+        (λ h. or_right (list_any q staying) (list_any q fresh) (in_any q fresh i.0 (in_filter (λ a. not (is_among old a)) rules i.0 i.1 (not_of_false h)) i.2))
+        (decide (is_among old i.0))
+
+-- of none of the first old rules that pass, none that stays does
+stay_none : (q s : RuleRef → Bool) (xs : List RuleRef) → list_any q xs ≡ false → list_any q (filter s xs) ≡ false
+stay_none q s xs h = any_filter q s xs ∙ any_still q (λ x. s x && q x) xs (λ x e. ap (λ z. s x && z) e ∙ and-false (s x)) h
+
+few : (s : RuleRef → Bool) (xs : List RuleRef) → length (filter s xs) ≤ length xs
+few s [] = omega arith
+few s (x ∷ xs) = go (s x) (few s xs)
+  where
+    go : (t : Bool) → length (filter s xs) ≤ length xs → length (cond t (x ∷ filter s xs) (filter s xs)) ≤ length (x ∷ xs)
+    go true e = omega arith
+    go false e = omega arith
+
+few_first : (s : RuleRef → Bool) (c : ℕ) (xs ys : List RuleRef) → length (filter s (take c xs)) ≤ length (filter s xs ++ ys)
+few_first s zero xs ys = omega arith
+few_first s (suc c) [] ys = omega arith
+few_first s (suc c) (x ∷ xs) ys = go (s x) (few_first s c xs ys)
+  where
+    go : (t : Bool) → length (filter s (take c xs)) ≤ length (filter s xs ++ ys) → length (cond t (x ∷ filter s (take c xs)) (filter s (take c xs))) ≤ length (cond t (x ∷ filter s xs) (filter s xs) ++ ys)
+    go true e = omega arith
+    go false e = e
+
+-- where as many stay as there were, all do
+pub all_stay : (s : RuleRef → Bool) (xs : List RuleRef) → length xs ≤ length (filter s xs) → filter s xs ≡ xs
+all_stay s [] h = refl
+all_stay s (x ∷ xs) h = go (s x) h (all_stay s xs)
+  where
+    go : (t : Bool) → length (x ∷ xs) ≤ length (cond t (x ∷ filter s xs) (filter s xs)) → (length xs ≤ length (filter s xs) → filter s xs ≡ xs) → cond t (x ∷ filter s xs) (filter s xs) ≡ x ∷ xs
+    go true k e = ap (λ z. x ∷ z) (e (omega arith))
+    go false k e = absurd (omega (arith, few s xs))
+
+-- as many first ones as stay of so many are those that stay of so many
+first_stay : (s : RuleRef → Bool) (c : ℕ) (xs ys : List RuleRef) → take (length (filter s (take c xs))) (filter s xs ++ ys) ≡ filter s (take c xs)
+first_stay s zero xs ys = refl
+first_stay s (suc c) [] ys = refl
+first_stay s (suc c) (x ∷ xs) ys = go (s x) (first_stay s c xs ys)
+  where
+    go : (t : Bool) → take (length (filter s (take c xs))) (filter s xs ++ ys) ≡ filter s (take c xs) → take (length (cond t (x ∷ filter s (take c xs)) (filter s (take c xs)))) (cond t (x ∷ filter s xs) (filter s xs) ++ ys) ≡ cond t (x ∷ filter s (take c xs)) (filter s (take c xs))
+    go true e = ap (λ z. x ∷ z) e
+    go false e = e
+
+-- what is noted holds of the rules that stay, with the counts of these, and of others behind them
+pub past_staying : (b : Plain) (old rules stay more : List RuleRef) (counts : List ℕ) (n : ℕ) (m : Noted) → stay ≡ filter (is_among rules) old → ((c : ℕ) → get_or counts c (length stay) ≡ length (filter (is_among rules) (take c old))) → IsPast b old n m → IsPast b (stay ++ more) n (recounted counts (length stay) m)
+past_staying b old rules stay more counts n m same e h =
+    let s = is_among rules in
+    let q = is_open_to b m.roles n in
+    record {
+      within = omega (arith, e m.passed, few_first s m.passed old more, ap (λ (z : List RuleRef). length (z ++ more)) same);
+      none =
+          ap (λ z. list_any q (take z (stay ++ more))) (e m.passed) ∙ ap (λ z. list_any q (take (length (filter s (take m.passed old))) (z ++ more))) same
+          ∙ ap (list_any q) (first_stay s m.passed old more) ∙ stay_none q s (take m.passed old) h.none;
+    }
+
+-- what is noted holds where others arrive behind the rules
+pub past_more : (b : Plain) (old more : List RuleRef) (n : ℕ) (m : Noted) → IsPast b old n m → IsPast b (old ++ more) n m
+past_more b old more n m h = record {
+  within = omega (arith, h.within, length-append old more);
+  none = ap (list_any (is_open_to b m.roles n)) (take-append-le m.passed old more h.within) ∙ h.none;
+}
+
+-- what is noted of each node, after some rules were taken out
+pub all_staying : (b : Plain) (old rules stay more : List RuleRef) (counts : List ℕ) (nodes turned : List Noted) → stay ≡ filter (is_among rules) old → ((c : ℕ) → get_or counts c (length stay) ≡ length (filter (is_among rules) (take c old))) → turned ≡ map (recounted counts (length stay)) nodes → ((n : ℕ) (d : Noted) → n < length nodes → IsPast b old n (get_or nodes n d)) → (n : ℕ) (d : Noted) → n < length turned → IsPast b (stay ++ more) n (get_or turned n d)
+all_staying b old rules stay more counts nodes turned same e to h n d i =
+    let f = recounted counts (length stay) in
+    let there : n < length nodes = omega (arith, i, ap length to, length-map nodes f) in
+    subst {A = Noted} (IsPast b (stay ++ more) n) (sym (ap (λ (z : List Noted). get_or z n d) to ∙ get_or-map f nodes n d d there)) (past_staying b old rules stay more counts n (get_or nodes n d) same e (h n d there))
+
+-- the same where none was
+pub all_more : (b : Plain) (old stay more : List RuleRef) (nodes turned : List Noted) → stay ≡ old → turned ≡ nodes → ((n : ℕ) (d : Noted) → n < length nodes → IsPast b old n (get_or nodes n d)) → (n : ℕ) (d : Noted) → n < length turned → IsPast b (stay ++ more) n (get_or turned n d)
+all_more b old stay more nodes turned same to h n d i =
+    let there : n < length nodes = omega (arith, i, ap length to) in
+    let at_it : IsPast b old n (get_or turned n d) = subst {A = List Noted} (λ z. IsPast b old n (get_or z n d)) (sym to) (h n d there) in
+    subst {A = List RuleRef} (λ z. IsPast b (z ++ more) n (get_or turned n d)) (sym same) (past_more b old more n (get_or turned n d) at_it)
+
+-- one more element is mapped in its place
+pub mapped_more : {A : Type 0} (f : A → A) (xs ys : List A) (i : ℕ) (x d : A) → length xs ≡ length ys → i < length ys → take i xs ≡ map f (take i ys) → drop i xs ≡ drop i ys → x ≡ f (get_or xs i d) → (take (i + 1) (set xs i x) ≡ map f (take (i + 1) ys)) × (drop (i + 1) (set xs i x) ≡ drop (i + 1) ys)
+mapped_more {A} f xs ys i x d many there behind ahead e =
+    let here : i < length xs = omega arith in
+    let at_xs = drop_at xs i (get_or xs i d) d here refl in
+    let at_ys = drop_at ys i (get_or ys i d) d there refl in
+    let one : get_or xs i d ≡ get_or ys i d = cc in
+    let rest : drop (i + 1) xs ≡ drop (i + 1) ys = cc in (
+      take_more_set xs i x here ∙ ap₂ (λ (p : List A) (q : A). p ++ q ∷ []) behind (e ∙ ap f one) ∙ sym (map-append f (take i ys) (get_or ys i d ∷ [])) ∙ ap (map f) (sym (take_more ys i d there)),
+      drop-set-lt (i + 1) xs i x (omega arith) ∙ rest,
+    )
+
+-- what is noted of one more node
+pub past_noted : (b : Plain) (rules : List RuleRef) (nodes : List Noted) (a : ℕ) (noted : Noted) → ((n : ℕ) (d : Noted) → n < length nodes → IsPast b rules n (get_or nodes n d)) → IsPast b rules a noted → (n : ℕ) (d : Noted) → n < length (set nodes a noted) → IsPast b rules n (get_or (set nodes a noted) n d)
+past_noted b rules nodes a noted h k n d i = ⊎_elim here elsewhere (decide (n == a))
+  where
+    there : n < length nodes
+    there = omega (arith, i, length-set nodes a noted)
+
+    here : (n == a) ≡ true → IsPast b rules n (get_or (set nodes a noted) n d)
+    here e =
+        let same : n ≡ a = eqb-true n a e in
+        subst {A = Noted} (IsPast b rules n) (sym (get_or-set_at nodes a n noted d same (omega (arith, there, same)))) (subst {A = ℕ} (λ z. IsPast b rules z noted) (sym same) k)
+
+    elsewhere : (n == a) ≡ false → IsPast b rules n (get_or (set nodes a noted) n d)
+    elsewhere e = subst {A = Noted} (IsPast b rules n) (sym (get_or-set_other nodes a n noted d (eqb-false n a e))) (h n d there)
 
 -- ---- what is noted of several processes
 

@@ -1,15 +1,17 @@
--- Nodes that are known to be reduced by none of some rules.
-use Rattle.std.specs.Prelude.{ℕ, List, [], ◌∷◌, map, Bool, true, false, ◌&&◌, ◌||◌, ◌==◌, ◌≡◌, ◌<◌, ◌≤◌, All, length, not, slice_get, Option, Some, None}
+-- Nodes, and how many of some rules are known not to reduce them.
+use Rattle.std.specs.Prelude.{ℕ, List, [], ◌∷◌, map, take, get_or, Bool, true, false, ◌&&◌, ◌||◌, ◌==◌, ◌≡◌, ◌<◌, ◌≤◌, All, length, not, Option, Some, None}
 use Rattle.std.specs.List.{list_any}
 use Rattle.kb_term.specs.declared.origin.RuleRef.{RuleRef}
 use Rattle.kb_term.specs.declared.origin.Found.{Found}
 use Rattle.kb_term.specs.declared.origin.Found.TheVariants.{No, Variant, Strict}
 use Rattle.kb_label.specs.Names.{Name}
 use Rattle.kb_node.specs.declared.node.NodeId.{NodeId}
+use Rattle.mkb_model.specs.Jobs.{ref_eq}
 use Rattle.mkb_model.specs.Plain.{Plain, rules_of, known, other}
 use Rattle.mkb_rules.specs.Roles.{AreRolesOf, has_rule, held_of}
 use Rattle.mkb_rules.specs.declared.roles.Roles.{Roles}
 use Rattle.mkb_board.specs.declared.normal.Normal.{Normal}
+use Rattle.mkb_board.specs.declared.normal.Noted.{Noted}
 
 -- whoever has the node in these roles may rewrite a redex of this kind on side w: any where it is an equation, or the rule with w on the right, and a strict one on the left
 abbrev pub is_usable_in : Roles → ℕ → Found → Bool
@@ -26,14 +28,23 @@ is_open_in r w (Some found) = is_usable_in r w found
 abbrev pub is_open_to : Plain → Roles → ℕ → RuleRef → Bool
 is_open_to b r n a = not (a.node == n) && list_any (λ w. is_open_in r w (known b n w a)) (0 ∷ 1 ∷ [])
 
--- no side of a node that is noted, in the roles that are noted for it, is open to one of these rules
-abbrev pub NoneOpens : Plain → List (Option Roles) → List RuleRef → Type 0
-NoneOpens b nodes rules = (n : ℕ) (r : Roles) → slice_get nodes n ≡ Some (Some r) → list_any (is_open_to b r n) rules ≡ false
+-- the rule is one of these
+abbrev pub is_among : List RuleRef → RuleRef → Bool
+is_among rules a = list_any (λ b. ref_eq b a) rules
 
--- none of the rules reduces a node that is noted
+-- the first rules, as many as the node passed in the roles that are noted for it, aren't open to it
+pub record IsPast (b : Plain) (rules : List RuleRef) (n : ℕ) (noted : Noted) : Type 0 where
+  pub within : noted.passed ≤ length rules
+  pub none : list_any (is_open_to b noted.roles n) (take noted.passed rules) ≡ false
+
+-- what is noted after some rules were taken out: as many rules are passed as the counts say
+abbrev pub recounted : List ℕ → ℕ → Noted → Noted
+recounted counts all noted = record noted { passed = get_or counts noted.passed all }
+
+-- the rules are the same by their arrival, and what is noted of each node holds
 pub record AreNormal (b : Plain) (k : Normal) : Type 0 where
-  pub few : length k.nodes.items ≤ 4096
-  pub none : NoneOpens b k.nodes.items k.rules.items
+  pub same : (q : RuleRef → Bool) → list_any q k.arrived.items ≡ list_any q k.rules.items
+  pub past : (n : ℕ) (d : Noted) → n < length k.nodes.items → IsPast b k.arrived.items n (get_or k.nodes.items n d)
 
 -- the rules, the nodes and the roles are those of the process
 pub record Serves (b : Plain) (p : Name) (k : Normal) : Type 0 where

@@ -1,15 +1,13 @@
 // Nodes that no rule reduces.
-ghost use Rattle.std.specs.Prelude.{◌≡◌, ◌<◌, ◌≤◌, length, map, not, false, filter, slice_get, Some, IfOk, IsTrue, OnOk};
+ghost use Rattle.std.specs.Prelude.{ℕ, ◌≡◌, ◌<◌, ◌++◌, length, map, not, filter, get_or, nat_lt, take, IfOk, IsTrue, OnOk};
 ghost use Rattle.std.specs.List.{list_any};
-ghost use Rattle.std.specs.Option.{option_map_or};
 ghost use Rattle.kb_term.specs.declared.origin.RuleRef.{RuleRef as Reference};
 ghost use Rattle.kb_node.specs.declared.job.Job.TheVariants as jobs;
 ghost use Rattle.kb_node.specs.declared.node.NodeId.{NodeId as Numbered};
-ghost use Rattle.mkb_model.specs.Jobs.{ref_eq};
 ghost use Rattle.mkb_model.specs.Plain.{Plain, known, other, rules_of};
 ghost use Rattle.mkb_model.specs.DueJobs.{is_work_due};
 ghost use Rattle.mkb_rules.specs.Roles.{AreRolesOf, has_rule, held_of, roles_of};
-ghost use Rattle.mkb_board.specs.Normal.{AreAllNormal, AreNormal, NoneOpens, Serves, is_open_in, is_open_to};
+ghost use Rattle.mkb_board.specs.Normal.{AreAllNormal, AreNormal, IsPast, Serves, is_among, is_open_in, is_open_to, recounted};
 
 use crate::choosing::{is_equation, is_rule, node_count};
 use crate::due::is_same;
@@ -77,21 +75,9 @@ pub(crate) fn is_open_to(state: &State, roles: Roles, n: NodeId, rule: RuleRef) 
         && (is_open_side(state, roles, n, 0, rule) || is_open_side(state, roles, n, 1, rule))
 }
 
-// Whether some side is open to one of the rules.
-fn is_open_to_any(state: &State, roles: Roles, n: NodeId, rules: &[RuleRef]) -> bool
-    ensures { result ≡ list_any (is_open_to state.now roles n.0) rules.now }
-{
-    for i in 0..rules.len() {
-        if is_open_to(state, roles, n, rules[i]) {
-            return true;
-        }
-    }
-    false
-}
-
 // Whether the rule is among these.
 fn is_among(rules: &[RuleRef], rule: RuleRef) -> bool
-    ensures { result ≡ list_any (λ a. ref_eq a rule) rules.now }
+    ensures { result ≡ is_among rules.now rule }
 {
     for i in 0..rules.len() {
         if is_same(rules[i], rule) {
@@ -116,28 +102,82 @@ pub(crate) fn are_same(some: &[RuleRef], others: &[RuleRef]) -> bool
     true
 }
 
-// The rules that aren't among the old ones.
-fn fresh(alloc: Global, old: &[RuleRef], rules: &[RuleRef]) -> Result<Vec<RuleRef>, AllocError>
-    ensures { IfOk result (λ fresh. fresh.items ≡ filter (λ a. not (list_any (λ b. ref_eq b a) old.now)) rules.now) }
-{
-    let mut fresh = Vec::new(alloc);
-    for i in 0..rules.len() {
-        if !is_among(old, rules[i]) {
-            fresh.push(rules[i])?;
-        }
-    }
-    Ok(fresh)
+// Rules that stay, in their order; and for each number how many of so many first ones stay, where not all are that many.
+#[derive(Drop)]
+struct Stayed {
+    rules: Vec<RuleRef>,
+    counts: Vec<usize>,
 }
 
-/// Rules, and for each node the roles in which none of them is known to reduce it any more, where that is noted; and how the process
-/// that it was turned to last has the nodes.
+impl Stayed {
+    // How many of so many first rules stay.
+    fn count(&self, passed: usize) -> usize
+        ensures { result ≡ get_or self.now.counts.items passed (length self.now.rules.items) }
+    {
+        match self.counts.get(passed) {
+            Some(count) => *count,
+            None => self.rules.len(),
+        }
+    }
+}
+
+// Those of the rules that stay: they are among the new ones.
+fn kept(alloc: Global, arrived: &[RuleRef], rules: &[RuleRef]) -> Result<Stayed, AllocError>
+    ensures rules { IfOk result (λ kept. kept.rules.items ≡ filter (is_among rules.now) arrived.now) }
+    ensures counts { IfOk result (λ kept. (c : ℕ) → get_or kept.counts.items c (length kept.rules.items) ≡ length (filter (is_among rules.now) (take c arrived.now))) }
+{
+    let mut kept = Vec::new(alloc);
+    let mut counts = Vec::new(alloc);
+    for i in 0..arrived.len() {
+        counts.push(kept.len())?;
+        if is_among(rules, arrived[i]) {
+            kept.push(arrived[i])?;
+        }
+    }
+    Ok(Stayed {
+        rules: kept,
+        counts,
+    })
+}
+
+// Adds those of the rules that aren't among the old ones.
+fn push_fresh(kept: &mut Vec<RuleRef>, old: &[RuleRef], rules: &[RuleRef]) -> Result<(), AllocError>
+    ensures { OnOk result (kept.new.items ≡ kept.old.items ++ filter (λ a. not (is_among old.now a)) rules.now) }
+{
+    for i in 0..rules.len() {
+        if !is_among(old, rules[i]) {
+            kept.push(rules[i])?;
+        }
+    }
+    Ok(())
+}
+
+// What is noted of a node: how a process had it, and how many of the first rules by arrival were then not open to it.
+#[derive(Clone, Copy)]
+struct Noted {
+    roles: Roles,
+    passed: usize,
+}
+
+// Notes of each node how many of the rules that it passed stay.
+fn recount(nodes: &mut [Noted], kept: &Stayed)
+    ensures { nodes.new ≡ map (recounted kept.now.counts.items (length kept.now.rules.items)) nodes.old }
+{
+    for i in 0..nodes.len() {
+        nodes[i].passed = kept.count(nodes[i].passed);
+    }
+}
+
+/// Rules, in their order and by arrival, and for each node the roles in which it was asked about and how many of the first rules by
+/// arrival are known not to be open to it; and how the process that it was turned to last has the nodes.
 ///
 /// What is known of a side of a node and a rule stays known, so what is noted holds on each later board.
 #[derive(Drop)]
 pub(crate) struct Normal {
     alloc: Global,
     rules: Vec<RuleRef>,
-    nodes: Vec<Option<Roles>>,
+    arrived: Vec<RuleRef>,
+    nodes: Vec<Noted>,
     roles: Vec<Roles>,
     held: Vec<NodeId>,
 }
@@ -164,6 +204,7 @@ impl Normal {
         Normal {
             alloc,
             rules: Vec::new(alloc),
+            arrived: Vec::new(alloc),
             nodes: Vec::new(alloc),
             roles: Vec::new(alloc),
             held: Vec::new(alloc),
@@ -175,7 +216,7 @@ impl Normal {
         self.alloc
     }
 
-    /// Takes the nodes and the rules of the process, and forgets each node to which one of the rules that are new is open.
+    /// Takes the nodes and the rules of the process. What is noted of the rules that it has already stays noted.
     ///
     /// # Errors
     ///
@@ -195,13 +236,9 @@ impl Normal {
     {
         self.make_room(node_count(state))?;
         self.take_nodes(state, p, held)?;
-        if are_same(self.rules.as_slice(), rules) {
-            return Ok(());
+        if !are_same(self.rules.as_slice(), rules) {
+            self.take_rules(rules)?;
         }
-        let fresh = fresh(self.alloc, self.rules.as_slice(), rules)?;
-        let rules = Vec::from_slice(self.alloc, rules)?;
-        self.forget(state, fresh.as_slice());
-        self.rules = rules;
         Ok(())
     }
 
@@ -222,6 +259,25 @@ impl Normal {
         self.roles.extend_from_slice(state.roles(p))
     }
 
+    // Takes these rules: those that it has stay in their order of arrival, and the others arrive behind them.
+    fn take_rules(&mut self, rules: &[RuleRef]) -> Result<(), AllocError>
+        ensures known { (b : Plain) → AreNormal b self.old → AreNormal b self.new }
+        ensures roles { self.new.roles.items ≡ self.old.roles.items }
+        ensures held { self.new.held.items ≡ self.old.held.items }
+        ensures rules { OnOk result (self.new.rules.items ≡ rules.now) }
+    {
+        let own = Vec::from_slice(self.alloc, rules)?;
+        let kept = kept(self.alloc, self.arrived.as_slice(), rules)?;
+        let mut arrived = Vec::from_slice(self.alloc, kept.rules.as_slice())?;
+        push_fresh(&mut arrived, self.arrived.as_slice(), rules)?;
+        if kept.rules.len() < self.arrived.len() {
+            recount(&mut self.nodes, &kept);
+        }
+        self.arrived = arrived;
+        self.rules = own;
+        Ok(())
+    }
+
     /// The nodes that the process has as an equation or as a rule, in their order.
     pub(crate) fn held(&self) -> &[NodeId]
         ensures { result.now ≡ self.now.held.items }
@@ -240,55 +296,60 @@ impl Normal {
 
     // Makes room to note so many nodes.
     fn make_room(&mut self, count: u32) -> Result<(), AllocError>
-        requires { count ≤ 4096 }
         ensures rules { self.new.rules.items ≡ self.old.rules.items }
         ensures known { (b : Plain) → AreNormal b self.old → AreNormal b self.new }
     {
         if self.nodes.len() < count as usize {
-            self.nodes.resize(count as usize, None)?;
+            let nothing = Noted {
+                roles: Roles {
+                    equation: false,
+                    first: false,
+                    second: false,
+                },
+                passed: 0,
+            };
+            self.nodes.resize(count as usize, nothing)?;
         }
         Ok(())
     }
 
-    // Forgets each node that is open to one of these rules.
-    fn forget(&mut self, state: &State, fresh: &[RuleRef])
-        requires { AreNormal state.now self.old }
-        ensures known { AreNormal state.now self.new }
-        ensures rules { self.new.rules.items ≡ self.old.rules.items }
-        ensures roles { self.new.roles.items ≡ self.old.roles.items }
-        ensures held { self.new.held.items ≡ self.old.held.items }
-        ensures fresh { NoneOpens state.now self.new.nodes.items fresh.now }
-    {
-        for i in 0..self.nodes.len() {
-            if is_noted_open(state, NodeId(i as u16), self.nodes[i], fresh) {
-                self.nodes[i] = None;
-            }
-        }
-    }
-
-    // Whether these roles are noted for the node.
-    fn is_noted(&self, n: NodeId, roles: Roles) -> bool
-        ensures { IsTrue result → slice_get self.now.nodes.items n.0 ≡ Some (Some roles) }
+    // How many of the first rules by arrival are noted not to be open to the node in these roles.
+    fn passed(&self, n: NodeId, roles: Roles) -> usize
+        ensures { (b : Plain) → AreNormal b self.now → IsPast b self.now.arrived.items n.0 (record { roles = roles; passed = result }) }
     {
         match self.nodes.get(n.0 as usize) {
-            Some(Some(noted)) => noted.is_same(roles),
-            _ => false,
+            Some(noted) if noted.roles.is_same(roles) => noted.passed,
+            _ => 0,
         }
     }
 
-    // Notes the roles for the node, where there is room.
-    fn note(&mut self, n: NodeId, roles: Roles)
+    // Where the first rule by arrival stands that is open to the node in these roles; without one, how many rules there are.
+    fn first_open(&self, state: &State, roles: Roles, n: NodeId) -> usize
+        requires { AreNormal state.now self.now }
+        ensures past { IsPast state.now self.now.arrived.items n.0 (record { roles = roles; passed = result }) }
+        ensures open { nat_lt result (length self.now.arrived.items) ≡ list_any (is_open_to state.now roles n.0) self.now.arrived.items }
+    {
+        for i in self.passed(n, roles)..self.arrived.len() {
+            if is_open_to(state, roles, n, self.arrived[i]) {
+                return i;
+            }
+        }
+        self.arrived.len()
+    }
+
+    // Notes it of the node, where there is room.
+    fn note(&mut self, n: NodeId, noted: Noted)
         ensures rules { self.new.rules.items ≡ self.old.rules.items }
         ensures roles { self.new.roles.items ≡ self.old.roles.items }
         ensures held { self.new.held.items ≡ self.old.held.items }
-        ensures known { (b : Plain) → AreNormal b self.old → list_any (is_open_to b roles n.0) self.old.rules.items ≡ false → AreNormal b self.new }
+        ensures known { (b : Plain) → AreNormal b self.old → IsPast b self.old.arrived.items n.0 noted → AreNormal b self.new }
     {
         if (n.0 as usize) < self.nodes.len() {
-            self.nodes[n.0 as usize] = Some(roles);
+            self.nodes[n.0 as usize] = noted;
         }
     }
 
-    /// Whether the process, whose rules these are, may reduce the node. Where it may not, that is noted.
+    /// Whether the process, whose rules these are, may reduce the node. How many rules can't is noted.
     pub(crate) fn is_reduce_due(&mut self, state: &State, p: &Process, n: NodeId) -> bool
         requires there { n.0 < length state.now.nodes }
         requires serves { Serves state.now p.now self.old }
@@ -297,23 +358,12 @@ impl Normal {
         ensures serves { Serves state.now p.now self.new }
     {
         let roles = self.roles_of(state, p, n);
-        if !roles.is_in_use() || self.is_noted(n, roles) {
+        if !roles.is_in_use() {
             return false;
         }
-        if is_open_to_any(state, roles, n, self.rules.as_slice()) {
-            return true;
-        }
-        self.note(n, roles);
-        false
-    }
-}
-
-// Whether one of these rules is open to the node in the roles that are noted for it.
-fn is_noted_open(state: &State, n: NodeId, noted: Option<Roles>, rules: &[RuleRef]) -> bool
-    ensures { result ≡ option_map_or (λ r. list_any (is_open_to state.now r n.0) rules.now) noted false }
-{
-    match noted {
-        Some(roles) => is_open_to_any(state, roles, n, rules),
-        None => false,
+        let passed = self.first_open(state, roles, n);
+        let is_due = passed < self.arrived.len();
+        self.note(n, Noted { roles, passed });
+        is_due
     }
 }
