@@ -7,6 +7,7 @@ ghost use Rattle.kb_match.specs.Matching.{IsMatchAnswer};
 ghost use Rattle.kb_match.specs.Extending.{Gives, IsExtended, IsAbsent, IsPresent};
 ghost use Rattle.kb_match.specs.Binding.{bindings_of_list};
 
+use crate::fitting::fits;
 use kb_term::{Memory, Subst, Term};
 use smallvec::SmallVec;
 use std::alloc::Global;
@@ -17,11 +18,14 @@ const INLINE_BINDINGS: usize = 8;
 /// The substitution that makes the pattern the subject, with the variables of the pattern alone, each once, in the order of
 /// first occurrence; none where there is none.
 ///
-/// It takes time linear in the subject, times a look-up among the pattern's variables. Subterms are copied once the whole pattern
-/// has matched, and into the substitution alone.
+/// It takes time linear in the subject, times a look-up among the pattern's variables. No variable is bound before the pattern
+/// fits the subject. Subterms are copied once the whole pattern has matched, and into the substitution alone.
 pub fn match_term(alloc: Global, pattern: &Term, subject: &Term) -> Result<Option<Subst>, Memory>
     ensures { IfOk result (IsMatchAnswer (tree_of pattern.now) (tree_of subject.now)) }
 {
+    if !fits(pattern, subject) {
+        return Ok(None);
+    }
     let mut bindings = SmallVec::new(alloc);
     if extend(pattern, subject, &mut bindings)? {
         Ok(Some(copied(alloc, bindings.as_slice())?))
@@ -36,6 +40,9 @@ pub fn match_term(alloc: Global, pattern: &Term, subject: &Term) -> Result<Optio
 pub fn matches(alloc: Global, pattern: &Term, subject: &Term) -> Result<bool, Memory>
     ensures { IfOk result (λ b. IsTrue b ↔ Matches (tree_of pattern.now) (tree_of subject.now)) }
 {
+    if !fits(pattern, subject) {
+        return Ok(false);
+    }
     extend(pattern, subject, &mut SmallVec::new(alloc))
 }
 

@@ -10,7 +10,7 @@ use Rattle.kb_term.specs.Rule.{Rule}
 use Rattle.kb_term.specs.Substitution.{Matches}
 use Rattle.kb_term.specs.Position.{subtree_at, positions_of, positions_in}
 use Rattle.kb_rewrite.specs.NormalForm.{IsFirstRedex, HasNoRedex}
-use Rattle.kb_rewrite.specs.Search.{IsRootRedex, IsFirstRule, IsFirstMatch, HasNone, IsFirstAt}
+use Rattle.kb_rewrite.specs.Search.{IsRootRedex, IsFirstRule, HasNone, IsFirstAt}
 use Rattle.kb_rewrite.proofs.Positions.{subtree-in, subtree-below}
 
 root-first : (t : Tree) → (after : List (List ℕ)) × (positions_of t ≡ [] ∷ after)
@@ -138,6 +138,6 @@ first_same P {t} {u} {p} {q} i d e h = subst (λ v. IsFirstAt P v q i) d (subst 
 pub none_same : (P : Tree → ℕ → Type 0) {t u : Tree} → t ≡ u → HasNone P t → HasNone P u
 none_same P e h = subst (HasNone P) e h
 
--- no rule applies to the term, or to an equal one
-pub no_match : (rules : List Rule) (strict_only : Bool) (whole : Tree) {t u : Tree} {o : Option (ℕ × List (ℕ × Tree))} → t ≡ u → o ≡ None → IsFirstMatch rules strict_only whole t o → (j : ℕ) → ¬ IsRootRedex rules strict_only whole u j
-no_match rules strict_only whole {t} {u} {o} d e h = subst (λ v. (j : ℕ) → ¬ IsRootRedex rules strict_only whole v j) d (subst (IsFirstMatch rules strict_only whole t) e h)
+-- no rule applies to the term, nor to an equal one
+pub none_applies : (rules : List Rule) (strict_only : Bool) (whole : Tree) {t u : Tree} {o : Option ℕ} → t ≡ u → o ≡ None → IsFirstRule (IsRootRedex rules strict_only whole t) o → (j : ℕ) → ¬ IsRootRedex rules strict_only whole u j
+none_applies rules strict_only whole {t} {u} {o} d e h = subst (λ v. (j : ℕ) → ¬ IsRootRedex rules strict_only whole v j) d (subst (IsFirstRule (IsRootRedex rules strict_only whole t)) e h)

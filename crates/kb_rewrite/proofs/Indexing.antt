@@ -1,5 +1,5 @@
 -- The first rule that applies is among those that an index finds.
-use Rattle.std.proofs.Common.{ℕ, zero, suc, ◌+◌, ◌-◌, ◌<◌, ◌≤◌, ◌≡◌, inl, inr, ⊎_elim, refl, sym, ap, ◌∙◌, arith, subst, List, length, get_or, Option, Some, None, Contains}
+use Rattle.std.proofs.Common.{ℕ, zero, suc, ◌+◌, ◌-◌, ◌<◌, ◌≤◌, ◌≡◌, inl, inr, ⊎_elim, refl, sym, ap, ◌∙◌, arith, subst, List, length, get_or, Some, Contains}
 use Rattle.std.specs.Prelude.{Bool, slice_get}
 use Rattle.std.specs.List.Sorted.{IsStrictlyIncreasing}
 use Rattle.std.proofs.lemmas.Bool.{cases_lt}
@@ -14,7 +14,7 @@ use Rattle.rule_index.specs.declared.mark.Mark.{Mark}
 use Rattle.rule_index.specs.declared.index.RuleIndex.{RuleIndex}
 use Rattle.rule_index.specs.Marks.{marks_of}
 use Rattle.rule_index.specs.Index.{Holds, IsThere, IsWith, IsCandidate}
-use Rattle.kb_rewrite.specs.Search.{Applies, IsRootRedex, IsMatch, IsMatchIfAny, IsFirstMatch}
+use Rattle.kb_rewrite.specs.Search.{Applies, IsFirstRule, IsRootRedex}
 use Rattle.kb_rewrite.specs.Indexed.{IsNumbered, IsHeld, IsRepeated, IsIndexOf}
 use Rattle.kb_rewrite.proofs.FirstRedexes.{rule_inside}
 
@@ -113,20 +113,16 @@ index_same rules index n rule there indexed (j, held) = record {
         let one : rule ≡ r = same_Some _ _ (sym there ∙ subst (λ k. slice_get rules k ≡ Some r) d e) in
         (j, omega (arith, d, indexed.below j (marks_of rule.left) held.held), subst (λ (q : Rule). IsHeld rules index q.left j) one held)
 
--- the first rule that matches
-pub first_match_some : (rules inside : List Rule) (strict_only : Bool) (whole u : Tree) (i : ℕ) (d : Rule) (o : Option (List (ℕ × Tree))) (m : List (ℕ × Tree)) → inside ≡ rules → i < length inside → o ≡ Some m → IsMatchIfAny (get_or inside i d) strict_only whole u o
-    → ((j : ℕ) → j < i → ¬ IsRootRedex rules strict_only whole u j) → IsFirstMatch rules strict_only whole u (Some (i, m))
-first_match_some rules inside strict_only whole u i d o m same room is tried none =
-    let rule = get_or inside i d in
-    let found : IsMatch rule m u × Applies rule strict_only whole u = subst (IsMatchIfAny rule strict_only whole u) is tried in
-    let there : slice_get rules i ≡ Some rule = subst (λ (rs : List Rule). slice_get rs i ≡ Some rule) same (slice_get-get_or inside i d room) in
-    (((rule, there, found.1), none), λ r e. subst (λ (q : Rule). IsMatch q m u) (same_Some _ _ (sym there ∙ e)) found.0)
+-- the first rule that applies
+pub first_rule_some : (rules inside : List Rule) (strict_only : Bool) (whole u : Tree) (i : ℕ) (d : Rule) → inside ≡ rules → i < length inside → Applies (get_or inside i d) strict_only whole u
+    → ((j : ℕ) → j < i → ¬ IsRootRedex rules strict_only whole u j) → IsFirstRule (IsRootRedex rules strict_only whole u) (Some i)
+first_rule_some rules inside strict_only whole u i d same room applies none =
+    ((get_or inside i d, subst (λ (rs : List Rule). slice_get rs i ≡ Some (get_or inside i d)) same (slice_get-get_or inside i d room), applies), none)
 
-pub first_match_none : (rules inside : List Rule) (strict_only : Bool) (whole u : Tree) (i : ℕ) (d : Rule) (o : Option (List (ℕ × Tree))) → inside ≡ rules → i < length inside → o ≡ None → IsMatchIfAny (get_or inside i d) strict_only whole u o → ¬ IsRootRedex rules strict_only whole u i
-first_match_none rules inside strict_only whole u i d o same room is tried (r, e, applies) =
-    let rule = get_or inside i d in
-    let there : slice_get rules i ≡ Some rule = subst (λ (rs : List Rule). slice_get rs i ≡ Some rule) same (slice_get-get_or inside i d room) in
-    subst (IsMatchIfAny rule strict_only whole u) is tried (subst (λ (q : Rule). Applies q strict_only whole u) (same_Some _ _ (sym e ∙ there)) applies)
+pub first_rule_none : (rules inside : List Rule) (strict_only : Bool) (whole u : Tree) (i : ℕ) (d : Rule) → inside ≡ rules → i < length inside → ¬ Applies (get_or inside i d) strict_only whole u → ¬ IsRootRedex rules strict_only whole u i
+first_rule_none rules inside strict_only whole u i d same room none (r, e, applies) =
+    let there : slice_get rules i ≡ Some (get_or inside i d) = subst (λ (rs : List Rule). slice_get rs i ≡ Some (get_or inside i d)) same (slice_get-get_or inside i d room) in
+    none (subst (λ (q : Rule). Applies q strict_only whole u) (same_Some _ _ (sym e ∙ there)) applies)
 
 -- before the k-th candidate no rule applies, where none of the earlier candidates does
 pub none_before_candidate : (rules : List Rule) (strict_only : Bool) (whole u : Tree) (index : RuleIndex) (keys : List ℕ) (k i : ℕ) → IsIndexOf (length rules) rules index

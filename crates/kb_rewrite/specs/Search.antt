@@ -2,7 +2,7 @@
 use Rattle.std.specs.Prelude.{ℕ, ◌<◌, ◌≡◌, Bool, true, List, ◌∷◌, ◌++◌, Contains, Option, Some, None, slice_get, Result}
 use Rattle.kb_term.specs.Tree.{Tree}
 use Rattle.kb_term.specs.Position.{subtree_at, positions_of}
-use Rattle.kb_term.specs.Substitution.{instance, substitution_of, Matches, IsVariant}
+use Rattle.kb_term.specs.Substitution.{Matches, IsVariant}
 use Rattle.kb_term.specs.Rule.{Rule}
 use Rattle.kb_term.specs.Proving.{RewritesAt}
 use Rattle.kb_term.specs.Made.{IsLimitedAnswer}
@@ -23,21 +23,6 @@ IsRootRedex rules strict_only whole u i = (rule : Rule) × (slice_get rules i �
 abbrev pub IsFirstRule : (ℕ → Type 0) → Option ℕ → Type 0
 IsFirstRule P None = (j : ℕ) → ¬ P j
 IsFirstRule P (Some i) = P i × ((j : ℕ) → j < i → ¬ P j)
-
--- the substitution makes the left side of the rule the term
-abbrev pub IsMatch : Rule → List (ℕ × Tree) → Tree → Type 0
-IsMatch rule m u = instance (substitution_of m) rule.left ≡ u
-
--- the rule's match with the term u itself; none where the rule doesn't apply to it
-abbrev pub IsMatchIfAny : Rule → Bool → Tree → Tree → Option (List (ℕ × Tree)) → Type 0
-IsMatchIfAny rule strict_only whole u None = ¬ Applies rule strict_only whole u
-IsMatchIfAny rule strict_only whole u (Some m) = IsMatch rule m u × Applies rule strict_only whole u
-
--- the number of the first rule that applies to the term u itself, and its match; none where none does
-abbrev pub IsFirstMatch : List Rule → Bool → Tree → Tree → Option (ℕ × List (ℕ × Tree)) → Type 0
-IsFirstMatch rules strict_only whole u None = IsFirstRule (IsRootRedex rules strict_only whole u) None
-IsFirstMatch rules strict_only whole u (Some e) =
-    IsFirstRule (IsRootRedex rules strict_only whole u) (Some e.0) × ((rule : Rule) → slice_get rules e.0 ≡ Some rule → IsMatch rule e.1 u)
 
 -- no number has the property of a subterm
 abbrev pub HasNone : (Tree → ℕ → Type 0) → Tree → Type 0

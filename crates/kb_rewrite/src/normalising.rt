@@ -4,6 +4,7 @@ ghost use Rattle.kb_term.specs.View.{tree_of};
 ghost use Rattle.kb_rewrite.specs.NormalForm.{IsRedex, StrategyStep, NormalisesTo};
 ghost use Rattle.kb_rewrite.specs.Answers.{normalised, IsTried};
 
+use crate::rewriting::matched;
 use crate::system::System;
 use kb_term::{Limit, Memory, Rule, Term, Terms, instance_of, term_limit};
 use std::alloc::Global;
@@ -99,9 +100,11 @@ impl<'a> System<'a> {
     fn rewrite_root(&self, alloc: Global, t: &Term) -> Result<Option<Term>, Memory>
         ensures { IfOk result (λ o. MatchOption o ((i : ℕ) → ¬ IsRedex self.now false (tree_of t.now) [] i) (λ u. StrategyStep self.now (tree_of t.now) (tree_of u))) }
     {
-        let Some((i, m)) = self.first_match(alloc, t, false, t)? else {
+        let Some(i) = self.first_applying(alloc, t, false, t)? else {
             return Ok(None);
         };
-        Ok(Some(instance_of(alloc, &m, self.rules()[i].right())?))
+        let rule = &self.rules()[i];
+        let m = matched(alloc, rule.left(), t)?;
+        Ok(Some(instance_of(alloc, &m, rule.right())?))
     }
 }

@@ -78,7 +78,7 @@ impl<'a> System<'a> {
         ensures first { IfOk result (λ o. IfSome o (λ e. IsFirstAt (IsRootRedex self.now strict_only (tree_of whole.now)) (tree_of t.now) (reverse e.0.items) e.1)) }
         ensures none { result ≡ Ok None → HasNone (IsRootRedex self.now strict_only (tree_of whole.now)) (tree_of t.now) }
     {
-        if let Some((i, _)) = self.first_match(alloc, whole, strict_only, t)? {
+        if let Some(i) = self.first_applying(alloc, whole, strict_only, t)? {
             return Ok(Some((Vec::new(alloc), i)));
         }
         match t {

@@ -1,7 +1,7 @@
 // One step of the strategy.
 ghost use Rattle.std.specs.Prelude.{◌≡◌, Some, IfOk, false};
 ghost use Rattle.kb_term.specs.Position.{subtree_at};
-ghost use Rattle.kb_term.specs.Substitution.{instance, substitution_of};
+ghost use Rattle.kb_term.specs.Substitution.{instance, substitution_of, Matches};
 ghost use Rattle.kb_term.specs.View.{tree_of};
 ghost use Rattle.kb_rewrite.specs.NormalForm.{MatchesAt, IsRedex};
 ghost use Rattle.kb_rewrite.specs.Search.{IsStepAnswer};
@@ -30,7 +30,14 @@ fn matched_at(alloc: Global, pattern: &Term, t: &Term, p: &Position) -> Result<S
     requires { MatchesAt (tree_of pattern.now) (tree_of t.now) p.now }
     ensures { IfOk result (λ m. subtree_at (tree_of t.now) p.now ≡ Some (instance (substitution_of m) (tree_of pattern.now))) }
 {
-    let u = subterm(t, p).unwrap();
-    let found = match_term(alloc, pattern, u)?;
+    matched(alloc, pattern, subterm(t, p).unwrap())
+}
+
+/// The substitution by which the pattern matches the term.
+pub(crate) fn matched(alloc: Global, pattern: &Term, t: &Term) -> Result<Subst, Memory>
+    requires { Matches (tree_of pattern.now) (tree_of t.now) }
+    ensures { IfOk result (λ m. instance (substitution_of m) (tree_of pattern.now) ≡ tree_of t.now) }
+{
+    let found = match_term(alloc, pattern, t)?;
     Ok(found.unwrap())
 }

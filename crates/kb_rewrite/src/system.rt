@@ -1,11 +1,11 @@
 // Rules to rewrite with.
 ghost use Rattle.std.specs.Prelude.{◌≡◌, ◌<◌, ◌^◌, ◌↔◌, IfOk, IsTrue, length};
 ghost use Rattle.kb_term.specs.View.{tree_of};
-ghost use Rattle.kb_rewrite.specs.Search.{IsMatchIfAny, IsFirstMatch};
+ghost use Rattle.kb_rewrite.specs.Search.{Applies, IsFirstRule, IsRootRedex};
 ghost use Rattle.kb_rewrite.specs.Indexed.{IsNumbered, IsRepeated};
 
-use kb_match::match_term;
-use kb_term::{Memory, Rule, Subst, Term, is_variant};
+use kb_match::matches;
+use kb_term::{Memory, Rule, Term, is_variant};
 use rule_index::RuleIndex;
 use std::alloc::Global;
 use std::marker::Model;
@@ -86,21 +86,21 @@ impl<'a> System<'a> {
         self.rules
     }
 
-    /// The number of the first rule that matches the term and isn't passed over for the whole term, and its match.
-    pub(crate) fn first_match(
+    /// The number of the first rule that matches the term and isn't passed over for the whole term; none where there is none.
+    pub(crate) fn first_applying(
         &self,
         alloc: Global,
         whole: &Term,
         strict_only: bool,
         t: &Term,
-    ) -> Result<Option<(usize, Subst)>, Memory>
-        ensures { IfOk result (IsFirstMatch self.now strict_only (tree_of whole.now) (tree_of t.now)) }
+    ) -> Result<Option<usize>, Memory>
+        ensures { IfOk result (IsFirstRule (IsRootRedex self.now strict_only (tree_of whole.now) (tree_of t.now))) }
     {
         match &self.lookup {
             Lookup::Scan => {
                 for i in 0..self.rules.len() {
-                    if let Some(m) = matched(alloc, &self.rules[i], whole, strict_only, t)? {
-                        return Ok(Some((i, m)));
+                    if applies(alloc, &self.rules[i], whole, strict_only, t)? {
+                        return Ok(Some(i));
                     }
                 }
             }
@@ -108,8 +108,8 @@ impl<'a> System<'a> {
                 let keys = index.candidates(t)?;
                 for k in 0..keys.len() {
                     let i = keys[k] as usize;
-                    if let Some(m) = matched(alloc, &self.rules[i], whole, strict_only, t)? {
-                        return Ok(Some((i, m)));
+                    if applies(alloc, &self.rules[i], whole, strict_only, t)? {
+                        return Ok(Some(i));
                     }
                 }
             }
@@ -132,21 +132,18 @@ fn is_repeated(rules: &[Rule], index: &RuleIndex, left: &Term) -> Result<bool, M
     Ok(false)
 }
 
-/// The match of the rule's left side with the term; none where there is none, or the rule is passed over for the whole term.
-fn matched(
+/// Whether the rule's left side matches the term, and the rule isn't passed over for the whole term.
+fn applies(
     alloc: Global,
     rule: &Rule,
     whole: &Term,
     strict_only: bool,
     t: &Term,
-) -> Result<Option<Subst>, Memory>
-    ensures { IfOk result (IsMatchIfAny rule.now strict_only (tree_of whole.now) (tree_of t.now)) }
+) -> Result<bool, Memory>
+    ensures { IfOk result (λ b. IsTrue b ↔ Applies rule.now strict_only (tree_of whole.now) (tree_of t.now)) }
 {
-    let Some(m) = match_term(alloc, rule.left(), t)? else {
-        return Ok(None);
-    };
-    if strict_only && is_variant(whole, rule.left()) {
-        return Ok(None);
+    if !matches(alloc, rule.left(), t)? {
+        return Ok(false);
     }
-    Ok(Some(m))
+    Ok(!strict_only || !is_variant(whole, rule.left()))
 }

@@ -134,10 +134,8 @@ pub fn measure_more(slots: &[Slot], known: &mut Vec<Option<Extent>>) -> bool
 pub fn nothing_known(alloc: Global, count: usize) -> Result<Vec<Option<Extent>>, Memory>
     ensures { IfOk result (λ v. v.items ≡ replicate count None) }
 {
-    let mut known = Vec::new(alloc);
-    for k in 0..count {
-        known.push(None)?;
-    }
+    let mut known = Vec::with_capacity(alloc, count)?;
+    known.resize(count, None)?;
     Ok(known)
 }
 
@@ -156,7 +154,7 @@ pub fn all_known(alloc: Global, known: &[Option<Extent>]) -> Result<Option<Vec<E
     ensures all { IfOk result (λ o. IfSome o (λ v. map Some v.items ≡ known.now)) }
     ensures missing { result ≡ Ok None → (i : ℕ) × (i < length known.now) × (extent_at known.now i ≡ None) }
 {
-    let mut extents = Vec::new(alloc);
+    let mut extents = Vec::with_capacity(alloc, known.len())?;
     for i in 0..known.len() {
         match known[i] {
             None => return Ok(None),

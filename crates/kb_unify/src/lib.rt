@@ -1,6 +1,7 @@
 //! Unification of first-order terms.
 #![tactic(auto)]
 
+mod clashing;
 mod extent;
 mod fault;
 mod reading;

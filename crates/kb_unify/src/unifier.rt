@@ -8,12 +8,16 @@ ghost use Rattle.kb_unify.specs.Reading.{IsTableOf};
 ghost use Rattle.kb_unify.specs.Answer.{unifier_limit, IsUnified, IsUnifyAnswer};
 ghost use Rattle.kb_term.specs.Tree.{HasVariablesBelow};
 
+use crate::clashing::clashes;
 use crate::extent::measure;
 use crate::fault::UnifyFault;
 use crate::reading::{limit_passed, read_off};
-use crate::table::{Slot, close, flatten, reserve};
+use crate::table::{Slot, close, flatten};
 use kb_term::{Limit, Memory, Subst, Term};
 use std::alloc::Global;
+
+// So many places have room in a table before it is moved: the variables, both terms, and what most terms are made of.
+const ROOM: usize = 192;
 
 /// What is found of two terms: that nothing unifies them, a limit that the most general unifier passes, or the unifier.
 #[derive(Drop)]
@@ -29,8 +33,8 @@ pub fn table_of(alloc: Global, a: &Term, b: &Term) -> Result<Vec<Slot>, Memory>
     requires b_variables { HasVariablesBelow 128 (tree_of b.now) }
     ensures { IfOk result (λ v. IsTableOf (tree_of a.now) (tree_of b.now) v.items) }
 {
-    let mut slots = Vec::new(alloc);
-    reserve(130, &mut slots)?;
+    let mut slots = Vec::with_capacity(alloc, ROOM)?;
+    slots.resize(130, Slot::Free)?;
     flatten(a, 128, &mut slots)?;
     flatten(b, 129, &mut slots)?;
     Ok(slots)
@@ -54,6 +58,9 @@ pub fn solve(alloc: Global, a: &Term, b: &Term) -> Result<Unified, Memory>
     requires b_variables { HasVariablesBelow 128 (tree_of b.now) }
     ensures { IfOk result (λ u. IsUnified (tree_of a.now) (tree_of b.now) u) }
 {
+    if clashes(a, b) {
+        return Ok(Unified::Clash);
+    }
     let mut slots = table_of(alloc, a, b)?;
     if !close_table(alloc, &mut slots)? {
         return Ok(Unified::Clash);
@@ -76,6 +83,7 @@ pub fn solve(alloc: Global, a: &Term, b: &Term) -> Result<Unified, Memory>
 ///
 /// The terms are put as flat equations between places into one table, and equal places are united (Baader and Nipkow,
 /// Term Rewriting and All That, 4.8, unification of term graphs); each union takes one place or one node off the table.
+/// Terms that differ in a symbol at one position clash before there is a table.
 pub fn unify(alloc: Global, a: &Term, b: &Term) -> Result<Option<Subst>, UnifyFault>
     requires a_variables { HasVariablesBelow 128 (tree_of a.now) }
     requires b_variables { HasVariablesBelow 128 (tree_of b.now) }

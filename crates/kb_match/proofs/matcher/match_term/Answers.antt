@@ -6,8 +6,13 @@ use Rattle.kb_term.specs.View.{tree_of}
 use Rattle.kb_match.specs.Binding.{bindings_of_list}
 use Rattle.kb_match.specs.Matching.{IsMatchList}
 use Rattle.kb_match.specs.Extending.{IsExtended}
+use Rattle.std.proofs.lemmas.Bool.{false≢true}
+use Rattle.kb_match.proofs.FittingLaws.{fits_from_match}
 use Rattle.kb_match.proofs.Extensions.{match_from}
 use Rattle.kb_match.proofs.matcher.match_term.Goals as goal
+
+pub returns-then-not-fits : goal.returns-then-not-fits
+returns-then-not-fits c = λ m. false≢true (c.if-not-fits.ensures.1 (fits_from_match (tree_of c.args.pattern.now) (tree_of c.args.subject.now) m))
 
 pub returns-then-branch : goal.returns-then-branch
 returns-then-branch c =

@@ -1,7 +1,7 @@
 use Rattle.std.proofs.Common.{ℕ, ◌<◌, get_or}
 use Rattle.kb_term.specs.View.{tree_of}
 use Rattle.kb_rewrite.specs.Search.{IsRootRedex}
-use Rattle.kb_rewrite.proofs.system.System.first_match.Given as goal
+use Rattle.kb_rewrite.proofs.system.System.first_applying.Given as goal
 
 -- none of the rules so far applies
 abbrev pub invariant-loop-i : goal.invariant-loop-i
