@@ -26,3 +26,4 @@ pub mod Bounded
 pub mod RuleBelow
 pub mod Subtrees
 pub mod FewArguments
+pub mod LesserPairs
