@@ -27,3 +27,4 @@ pub mod RuleBelow
 pub mod Subtrees
 pub mod FewArguments
 pub mod Crossing
+pub mod LesserPairs
