@@ -1,6 +1,6 @@
 -- Where none is closed and none gave up.
-use Rattle.std.proofs.Common.{◌+◌, ◌≡◌, refl, sym, ap, ap₂, ◌∙◌, arith, List, [], ◌∷◌, length, filter, Contains, Bool, true, false, cond, not, ◌&&◌, Option, Some, None}
-use Rattle.std.specs.List.{find, list_any}
+use Rattle.std.proofs.Common.{◌+◌, ◌≡◌, refl, ap, ap₂, ◌∙◌, arith, List, [], ◌∷◌, length, filter, Contains, Bool, true, false, cond, not, ◌&&◌, ◌||◌, Some, None}
+use Rattle.std.specs.List.{find, list_all, list_any}
 use Rattle.std.proofs.lemmas.List.Filters.{length-filter_both}
 use Rattle.std.proofs.Math.Bool.{and-false}
 use Rattle.kb_lemmas.proofs.Membership.{contains_first, contains_behind}
@@ -47,6 +47,18 @@ nobody_over b p h = none_any (λ (g : GivenUp). has g.names p) b.over (λ g i. n
 -- no process is complete
 pub none_complete : (b : Plain) → not (is_empty b.closed) ≡ false → find (is_complete b) b.living ≡ None
 none_complete b none = none_to_find (is_complete b) b.living (λ p. ap (λ z. no_members (equations_of b p) && z) (nobody_named b.closed p none) ∙ and-false (no_members (equations_of b p)))
+
+-- where nobody gave up, to have stopped is to have failed
+pub all_stopped : (b : Plain) → some_over b ≡ false → list_all (λ (p : Name). is_failed b p || is_over b p) b.living ≡ list_all (is_failed b) b.living
+all_stopped b going = each b.living
+  where
+    neither : (x y : Bool) → y ≡ false → (x || y) ≡ x
+    neither true y e = refl
+    neither false y e = e
+
+    each : (ps : List Name) → list_all (λ (p : Name). is_failed b p || is_over b p) ps ≡ list_all (is_failed b) ps
+    each [] = refl
+    each (p ∷ ps) = ap₂ (λ (x y : Bool). x && y) (neither (is_failed b p) (is_over b p) (nobody_over b p going)) (each ps)
 
 module _ (b : Plain) (rest : ClosedRest b) (unclosed : not (is_empty b.closed) ≡ false) (going : some_over b ≡ false) where
   -- each is active

@@ -1,5 +1,5 @@
 -- How a process has a node, by its labels and as it is kept.
-use Rattle.std.proofs.Common.{ℕ, zero, suc, ◌+◌, ◌<◌, ◌≡◌, ◌++◌, ◌||◌, ◌&&◌, not, refl, sym, ap, ap₂, ◌∙◌, arith, subst, List, [], ◌∷◌, length, map, filter, flat_map, drop, get_or, Contains, Bool, true, false, cond, Some}
+use Rattle.std.proofs.Common.{ℕ, zero, suc, ◌+◌, ◌<◌, ◌≡◌, ◌++◌, ◌||◌, ◌&&◌, not, refl, sym, ap, ap₂, ◌∙◌, arith, subst, List, [], ◌∷◌, length, map, filter, flat_map, get_or, Contains, Bool, true, false, cond, Some}
 use Rattle.std.specs.List.{find}
 use Rattle.std.proofs.Math.ListN.{get_or-map}
 use Rattle.std.proofs.lemmas.List.{length-map, map-append}
@@ -13,14 +13,13 @@ use Rattle.kb_node.specs.declared.job.Job.TheVariants.{Reduce, Orient}
 use Rattle.kb_node.specs.declared.node.LabelKind.TheVariants.{X}
 use Rattle.kb_node.specs.declared.node.NodeId.{NodeId}
 use Rattle.mkb_model.specs.Jobs.{is_free}
-use Rattle.mkb_model.specs.Plain.{Plain, directions, equations_of, is_equation, is_rule, label, node_numbers, rules_of}
+use Rattle.mkb_model.specs.Plain.{Plain, directions, is_equation, is_rule, label, node_numbers, rules_of}
 use Rattle.mkb_model.specs.DueJobs.{is_reducible}
 use Rattle.mkb_model.proofs.Lists.{filter_in, numbers_in}
 use Rattle.mkb_rules.specs.Sizes.{is_dead_at, AreAlive}
 use Rattle.mkb_rules.proofs.Paying.{dead_labels}
 use Rattle.mkb_board.specs.Choosing.{is_choice}
 use Rattle.mkb_rules.specs.Roles.{held_of, is_in_use, roles_of, rules_in}
-use Rattle.mkb_board.proofs.Better.{drop_at}
 
 -- the rules of whoever has the node so are those that the process has in it
 pub rules_of_roles : (b : Plain) (p : Name) (n : ℕ) → rules_in n (roles_of b p n) ≡ filter (is_rule b p) (directions n)
@@ -106,22 +105,6 @@ module _ (used : ℕ → Bool) where
 -- the rules of a process are those in the nodes that it has
 pub rules_held : (b : Plain) (p : Name) → filter (is_rule b p) (flat_map directions (held_of b p)) ≡ rules_of b p
 rules_held b p = rules_kept (λ n. is_in_use (roles_of b p n)) (is_rule b p) (unused_rules b p) (node_numbers b)
-
--- its equations are among them
-pub equations_held : (b : Plain) (p : Name) (l : List NodeId) → map (λ (n : NodeId). n.0) l ≡ held_of b p → equations_of b p ≡ filter (is_equation b p) (map (λ (n : NodeId). n.0) l)
-equations_held b p l e = sym (ap (filter (is_equation b p)) e ∙ filter_kept (is_equation b p) (λ n. is_in_use (roles_of b p n)) none (node_numbers b))
-  where
-    none : (n : ℕ) → is_in_use (roles_of b p n) ≡ false → is_equation b p n ≡ false
-    none n h = (or_parts (is_equation b p n) (is_rule b p (record { node = n; dir = 0 }) || is_rule b p (record { node = n; dir = 1 })) h).0
-
--- from one node on
-pub equations_from : (b : Plain) (p : Name) (l : List NodeId) (i : ℕ) → i < length l → {t : Bool} → is_equation b p (get_or l i (record { 0 = 0 })).0 ≡ t
-    → filter (is_equation b p) (map (λ (n : NodeId). n.0) (drop i l)) ≡ cond t ((get_or l i (record { 0 = 0 })).0 ∷ filter (is_equation b p) (map (λ (n : NodeId). n.0) (drop (i + 1) l))) (filter (is_equation b p) (map (λ (n : NodeId). n.0) (drop (i + 1) l)))
-equations_from b p l i there e =
-    let n : NodeId = get_or l i (record { 0 = 0 }) in
-    let rest = filter (is_equation b p) (map (λ (k : NodeId). k.0) (drop (i + 1) l)) in
-    ap (λ (ks : List NodeId). filter (is_equation b p) (map (λ (k : NodeId). k.0) ks)) (drop_at l i n (record { 0 = 0 }) there refl)
-    ∙ ap (λ (x : Bool). cond x (n.0 ∷ rest) rest) e
 
 -- the nodes that a process has are those of the nodes that aren't dead
 pub held_alive : (b : Plain) (p : Name) (l : List NodeId) → AreAlive b.nodes l → filter (λ n. is_in_use (roles_of b p n)) (map (λ (n : NodeId). n.0) l) ≡ held_of b p

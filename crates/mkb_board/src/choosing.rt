@@ -1,14 +1,12 @@
 // The verdict, and which jobs are due.
-ghost use Rattle.std.specs.Prelude.{◌≡◌, ◌<◌, ◌≤◌, ◌&&◌, ◌||◌, not, length, map, IsTrue};
+ghost use Rattle.std.specs.Prelude.{◌≡◌, ◌<◌, ◌≤◌, ◌&&◌, ◌||◌, not, false, length, IsTrue};
 ghost use Rattle.std.specs.List.{find, list_all, list_any};
 ghost use Rattle.std.specs.Prelude.{option_and_then};
 ghost use Rattle.kb_label.specs.Names.{Name, has};
 ghost use Rattle.kb_node.specs.declared.node.LabelKind.TheVariants.{E};
-ghost use Rattle.kb_node.specs.declared.node.NodeId.{NodeId as Numbered};
 ghost use Rattle.mkb_model.specs.Plain.{is_equation, is_rule, is_over, over_reason, equations_of, rule_kind, label};
 ghost use Rattle.mkb_model.specs.Verdicts.{verdict, is_complete, first_over};
 ghost use Rattle.mkb_model.specs.Sleeping.{is_active, is_failed, no_members};
-ghost use Rattle.mkb_rules.specs.Roles.{held_of};
 ghost use Rattle.mkb_board.specs.Choosing.{ClosedRest};
 
 use kb_label::{Labels, ListLabels, Process, Reason, Spent, Verdict};
@@ -47,26 +45,45 @@ fn first_complete(state: &State) -> Option<Process>
         return None;
     }
     let living = state.log().processes();
+    let mut closed = 0;
     for i in 0..living.len() {
-        if is_complete(state, &living[i]) {
+        if is_complete(state, i, &living[i], &mut closed) {
             return Some(living[i]);
         }
     }
     None
 }
 
-// Whether each process has failed.
+// Whether each process has failed. The last one by name, which is mostly the last to fail, is asked before all others.
 fn have_all_failed(state: &State) -> bool
     requires rest { ClosedRest state.now }
     ensures { result ≡ list_all (is_failed state.now) state.now.living }
 {
     let living = state.log().processes();
+    if goes_last_on(state) {
+        return false;
+    }
+    let mut closed = 0;
     for i in 0..living.len() {
-        if !is_failed(state, &living[i]) {
+        if !is_failed(state, i, &living[i], &mut closed) {
             return false;
         }
     }
     true
+}
+
+// Whether the last process by name has not failed.
+fn goes_last_on(state: &State) -> bool
+    requires rest { ClosedRest state.now }
+    ensures { IsTrue result → list_all (is_failed state.now) state.now.living ≡ false }
+{
+    let living = state.log().processes();
+    if living.is_empty() {
+        return false;
+    }
+    let last = living.len() - 1;
+    let mut closed = last;
+    !is_failed(state, last, &living[last], &mut closed)
 }
 
 // Whether each process has failed or given up.
@@ -74,9 +91,13 @@ fn have_all_stopped(state: &State) -> bool
     requires rest { ClosedRest state.now }
     ensures { result ≡ list_all (λ (p : Name). is_failed state.now p || is_over state.now p) state.now.living }
 {
+    if !state.has_over() {
+        return have_all_failed(state);
+    }
     let living = state.log().processes();
+    let mut closed = 0;
     for i in 0..living.len() {
-        if !is_failed(state, &living[i]) && !is_over(state, &living[i]) {
+        if !is_failed(state, i, &living[i], &mut closed) && !is_over(state, &living[i]) {
             return false;
         }
     }
@@ -103,34 +124,22 @@ pub(crate) fn is_over(state: &State, p: &Process) -> bool
     state.over(p).is_some()
 }
 
-// Whether the process is closed and has no equation.
-fn is_complete(state: &State, p: &Process) -> bool
+// Whether the process at this place among the living has no equation and is closed. Who is closed is searched for from a place on.
+fn is_complete(state: &State, place: usize, p: &Process, closed: &mut usize) -> bool
     ensures { result ≡ is_complete state.now p.now }
 {
-    state.is_closed(p) && !has_equation(state, p)
+    !has_equation(state, place, p) && state.is_closed_from(p, closed)
 }
 
-// Whether the process has an equation.
-fn has_equation(state: &State, p: &Process) -> bool
+// Whether the process at this place among the living has an equation. It goes over the nodes only where the state doesn't keep it
+// at the place.
+fn has_equation(state: &State, place: usize, p: &Process) -> bool
     ensures { result ≡ not (no_members (equations_of state.now p.now)) }
 {
-    match state.held(p) {
-        Some(held) => has_equation_among(state, p, held),
+    match state.has_equation(place, p) {
+        Some(has) => has,
         None => has_equation_of_all(state, p),
     }
-}
-
-// Whether one of these nodes, which are all that the process has, is an equation of it.
-fn has_equation_among(state: &State, p: &Process, held: &[NodeId]) -> bool
-    requires { map (λ (n : Numbered). n.0) held.now ≡ held_of state.now p.now }
-    ensures { result ≡ not (no_members (equations_of state.now p.now)) }
-{
-    for i in 0..held.len() {
-        if is_equation(state, p, held[i]) {
-            return true;
-        }
-    }
-    false
 }
 
 // Whether one of all nodes is an equation of the process.
@@ -174,22 +183,23 @@ pub(crate) fn has_label(state: &State, p: &Process, n: NodeId, kind: LabelKind) 
     state.nodes().label(n, kind).has(state.log(), p)
 }
 
-/// Whether the process has neither failed nor given up. It takes no memory.
-pub(crate) fn is_active(state: &State, p: &Process) -> bool
+/// Whether the process at this place among the living has neither failed nor given up. Who is closed is searched for from a place on,
+/// which is left behind the process. It takes no memory.
+pub(crate) fn is_active(state: &State, place: usize, p: &Process, closed: &mut usize) -> bool
     requires rest { ClosedRest state.now }
     requires lives { IsTrue (has state.now.living p.now) }
     ensures { result ≡ is_active state.now p.now }
 {
-    !is_failed(state, p) && !is_over(state, p)
+    !is_failed(state, place, p, closed) && !is_over(state, p)
 }
 
 // Whether the process has not given up, has an equation and nothing is due for it: where it is closed with an equation.
-fn is_failed(state: &State, p: &Process) -> bool
+fn is_failed(state: &State, place: usize, p: &Process, closed: &mut usize) -> bool
     requires rest { ClosedRest state.now }
     requires lives { IsTrue (has state.now.living p.now) }
     ensures { result ≡ is_failed state.now p.now }
 {
-    state.is_closed(p) && has_equation(state, p)
+    state.is_closed_from(p, closed) && has_equation(state, place, p)
 }
 
 /// How many nodes there are.

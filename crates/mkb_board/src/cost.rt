@@ -18,6 +18,14 @@ pub(crate) fn place_of(state: &State, p: &Process) -> usize {
     }
 }
 
+/// The same, where the process is first looked for at a place.
+pub(crate) fn place_from(state: &State, p: &Process, place: usize) -> usize {
+    match state.log().processes().get(place) {
+        Some(process) if *process == *p => place,
+        _ => place_of(state, p),
+    }
+}
+
 /// The cost of the process at this place among the living: the sizes of its equations and its constraints, and of its rules where
 /// the selection counts them. It takes no memory, and goes over the nodes only where the state doesn't keep it at the place.
 pub(crate) fn cost(state: &State, place: usize, p: &Process) -> u32

@@ -76,13 +76,14 @@ fn first_of_all(
 {
     let living = state.log().processes();
     let mut best = None;
+    let mut asleep = 0;
     for i in 0..living.len() {
         let process = &living[i];
         let cost = cost(state, i, process);
         if !is_below(cost, &best) {
             continue;
         }
-        if state.is_asleep(process) {
+        if state.is_asleep_from(process, &mut asleep) {
             continue;
         }
         let next = Costed {

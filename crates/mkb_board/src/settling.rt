@@ -13,7 +13,7 @@ ghost use Rattle.mkb_board.specs.Choosing.{costed_cmp, merged, ClosedRest};
 ghost use Rattle.mkb_board.specs.declared.settling.Costed.{Costed};
 
 use crate::choosing::is_active;
-use crate::cost::{cost, place_of};
+use crate::cost::{cost, place_from};
 use kb_label::{Living, Process};
 use mkb_rules::State;
 
@@ -132,21 +132,39 @@ fn count_working(state: &State) -> usize
 {
     let living = state.log().processes();
     let mut count = 0;
+    let mut from = Places::first();
     for i in 0..living.len() {
-        if is_working(state, &living[i]) {
+        if is_working(state, i, &living[i], &mut from) {
             count += 1;
         }
     }
     count
 }
 
-// Whether the process is active and awake.
-fn is_working(state: &State, p: &Process) -> bool
+/// Where a pass over processes in their order goes on to search for those that are closed and those that sleep.
+#[derive(Drop)]
+struct Places {
+    closed: usize,
+    asleep: usize,
+}
+
+impl Places {
+    // Before all of them.
+    fn first() -> Places {
+        Places {
+            closed: 0,
+            asleep: 0,
+        }
+    }
+}
+
+// Whether the process at this place among the living is active and awake. In a pass over them none is searched for.
+fn is_working(state: &State, place: usize, p: &Process, from: &mut Places) -> bool
     requires rest { ClosedRest state.now }
     requires lives { IsTrue (has state.now.living p.now) }
     ensures { result ≡ (not (has state.now.asleep p.now) && is_active state.now p.now) }
 {
-    !state.is_asleep(p) && is_active(state, p)
+    !state.is_asleep_from(p, &mut from.asleep) && is_active(state, place, p, &mut from.closed)
 }
 
 // The active and awake process that costs most, and of equal costs the last by name.
@@ -157,9 +175,10 @@ fn greatest_working(state: &State) -> Option<Process>
 {
     let living = state.log().processes();
     let mut best = None;
+    let mut from = Places::first();
     for i in 0..living.len() {
         let process = &living[i];
-        if is_working(state, process) {
+        if is_working(state, i, process, &mut from) {
             best = Some(greater(best, with_cost(state, i, process)));
         }
     }
@@ -176,10 +195,11 @@ pub(crate) fn least_working(state: &State) -> Option<Process>
 {
     let living = state.log().processes();
     let mut best = None;
+    let mut from = Places::first();
     for i in 0..living.len() {
         let process = &living[i];
         let next = with_cost(state, i, process);
-        if is_dearer(&next, &best) || !is_working(state, process) {
+        if is_dearer(&next, &best) || !is_working(state, i, process, &mut from) {
             continue;
         }
         best = Some(lesser(best, next));
@@ -196,12 +216,15 @@ fn least_waiting(state: &State) -> Option<Process>
 {
     let sleepers = state.sleepers();
     let mut best = None;
+    let mut place = 0;
+    let mut closed = 0;
     for i in 0..sleepers.len() {
         let process = &sleepers[i];
-        if is_active(state, process) {
-            let place = place_of(state, process);
+        place = place_from(state, process, place);
+        if is_active(state, place, process, &mut closed) {
             best = Some(lesser(best, with_cost(state, place, process)));
         }
+        place = place.saturating_add(1);
     }
     process_in(&best)
 }

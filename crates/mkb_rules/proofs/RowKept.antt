@@ -1,18 +1,20 @@
 -- The lists of nodes and rules of a process, when its roles in a node change and when a node comes.
-use Rattle.std.proofs.lemmas.Bool.{eqb-true}
-use Rattle.std.proofs.Common.{ℕ, zero, suc, ◌+◌, ◌<◌, ◌≡◌, refl, sym, ap, ap₂, ◌∙◌, arith, subst, List, [], ◌∷◌, ◌++◌, length, map, filter, flat_map, set, get_or, cond, Bool, true, false}
-use Rattle.std.specs.Prelude.{◌&&◌, ◌==◌, insert, remove, Ok, Err, Option, Some, IfSome}
+use Rattle.std.proofs.lemmas.Bool.{eqb-true, lt-ltb}
+use Rattle.std.proofs.Common.{ℕ, zero, suc, ◌+◌, ◌<◌, ◌≡◌, refl, sym, ap, ap₂, ◌∙◌, arith, subst, List, [], ◌∷◌, ◌++◌, length, map, filter, flat_map, set, get_or, cond, Bool, true, false, not, ◌≤◌}
+use Rattle.std.specs.Prelude.{◌&&◌, ◌==◌, insert, nat_lt, remove, Ok, Err, Option, Some, IfSome}
 use Rattle.std.specs.Ordering.{nat_cmp}
 use Rattle.std.specs.List.Sorted.{IsBinarySearchResult}
 use Rattle.std.proofs.lemmas.Grind.{flat_map-append}
 use Rattle.std.proofs.lemmas.List.{get_or-set_same, get_or-set_other, length-set, map-append}
 use Rattle.std.proofs.lemmas.List.Elements.{filter-append}
+use Rattle.std.proofs.lemmas.List.Sums.{get_or-le-sum_by, sum_by-cons, sum_by-set}
 use Rattle.kb_label.specs.Names.{Name, has}
 use Rattle.kb_node.specs.declared.node.LabelKind.TheVariants.{R0, R1, E}
 use Rattle.kb_node.specs.declared.node.NodeId.{NodeId}
 use Rattle.kb_term.specs.declared.origin.RuleRef.{RuleRef}
-use Rattle.mkb_model.specs.Plain.{Plain, PlainNode, directions, is_rule, label_at, numbers_from, rules_of}
-use Rattle.mkb_rules.specs.Roles.{but_for, has_rule, held_by, held_of, is_in_use, no_roles, roles_at, roles_of, rules_by, rules_in, AreRolesOf}
+use Rattle.mkb_model.specs.Plain.{Plain, PlainNode, directions, equations_of, is_equation, is_rule, label_at, numbers_from, rules_of}
+use Rattle.mkb_model.specs.Sleeping.{no_members}
+use Rattle.mkb_rules.specs.Roles.{but_for, has_rule, held_by, held_of, is_in_use, no_roles, roles_at, roles_of, rules_by, rules_in, AreRolesOf, equation_count}
 use Rattle.mkb_rules.specs.declared.roles.Roles.{Roles}
 use Rattle.mkb_rules.proofs.Costs.{numbers_next}
 use Rattle.mkb_rules.proofs.Listing.{agreeing, apart}
@@ -168,6 +170,45 @@ module _ (row : List Roles) (r : Roles) where
   pub rules_pushed : (l : List RuleRef) (n : ℕ) → n ≡ length row → l ≡ rules_by row → l ++ rules_in n r ≡ rules_by (row ++ r ∷ [])
   rules_pushed l n e h = ap₂ (λ (k : List RuleRef) (m : ℕ). k ++ rules_in m r) h e ∙ sym rules_longer
 
+-- ---- how many equations
+
+abbrev counted : Roles → ℕ
+counted r = cond r.equation 1 0
+
+pub equations_set : (row : List Roles) (n : ℕ) (r was : Roles) → n < length row → was ≡ get_or row n was → equation_count (set row n r) + counted was ≡ equation_count row + counted r
+equations_set row n r was within is = ap (λ s. equation_count (set row n r) + counted s) is ∙ sum_by-set counted row n r was within
+
+pub equations_before : (row : List Roles) (n : ℕ) (was : Roles) → n < length row → was ≡ get_or row n was → counted was ≤ equation_count row
+equations_before row n was within is = subst {A = Roles} (λ s. counted s ≤ equation_count row) (sym is) (get_or-le-sum_by counted row n was within)
+
+pub equations_few : (row : List Roles) → equation_count row ≤ length row
+equations_few [] = omega arith
+equations_few (r ∷ row) = omega (arith, sum_by-cons counted r row, equations_few row, one r.equation)
+  where
+    one : (t : Bool) → cond t 1 0 ≤ 1
+    one true = omega arith
+    one false = omega arith
+
+-- some node passes a test that agrees with the roles just where there is an equation
+pub equations_some : (t : ℕ → Bool) (row : List Roles) (a : ℕ) → ((m : ℕ) → m < length row → (get_or row m no_roles).equation ≡ t (a + m)) → not (no_members (filter t (numbers_from a (length row)))) ≡ nat_lt 0 (equation_count row)
+equations_some t [] a same = refl
+equations_some t (r ∷ row) a same =
+    go r.equation (same 0 (omega arith) ∙ ap t first) (sum_by-cons counted r row) (equations_some t row (a + 1) (λ m w. same (suc m) (omega (arith, w)) ∙ ap t (shifted m)))
+  where
+    left : List ℕ
+    left = filter t (numbers_from (a + 1) (length row))
+
+    first : a + 0 ≡ a
+    first = omega arith
+
+    shifted : (m : ℕ) → a + suc m ≡ a + 1 + m
+    shifted m = omega arith
+
+    go : (x : Bool) → x ≡ t a → equation_count (r ∷ row) ≡ cond x 1 0 + equation_count row → not (no_members left) ≡ nat_lt 0 (equation_count row)
+        → not (no_members (cond (t a) (a ∷ left) left)) ≡ nat_lt 0 (equation_count (r ∷ row))
+    go true e n h = ap (λ y. not (no_members (cond y (a ∷ left) left))) (sym e) ∙ sym (lt-ltb 0 (equation_count (r ∷ row)) (omega (arith, n)))
+    go false e n h = ap (λ y. not (no_members (cond y (a ∷ left) left))) (sym e) ∙ h ∙ sym (ap (nat_lt 0) {y = equation_count row} (omega (arith, n)))
+
 -- ---- the lists of all nodes
 
 -- what is kept of a node is what its labels say
@@ -187,3 +228,8 @@ module _ (b : Plain) (p : Name) (row : List Roles) (right : AreRolesOf b.nodes p
   rules_whole =
       ap (λ (k : ℕ). filter (λ (a : RuleRef). has_rule (get_or row a.node no_roles) a.dir) (flat_map directions (numbers_from 0 k))) whole
       ∙ rules_agree (λ (a : RuleRef). has_rule (get_or row a.node no_roles) a.dir) (is_rule b p) 0 (length b.nodes) (λ m w. ap (λ s. has_rule s 0) (roles_same m (omega (arith, w)))) (λ m w. ap (λ s. has_rule s 1) (roles_same m (omega (arith, w))))
+
+  pub equations_whole : nat_lt 0 (equation_count row) ≡ not (no_members (equations_of b p))
+  equations_whole =
+      sym (equations_some (is_equation b p) row 0 (λ m w. ap (λ s. s.equation) (roles_same m (omega (arith, whole, w))) ∙ ap (is_equation b p) (omega arith)))
+      ∙ ap (λ (k : ℕ). not (no_members (filter (is_equation b p) (numbers_from 0 k)))) whole

@@ -1,5 +1,5 @@
 -- How a process has each node, as it is kept.
-use Rattle.std.specs.Prelude.{ℕ, zero, suc, ◌≡◌, ◌<◌, Bool, false, ◌||◌, if◌then◌else◌, List, [], ◌∷◌, ◌++◌, filter, length, get_or, set, slice_get}
+use Rattle.std.specs.Prelude.{ℕ, zero, suc, ◌≡◌, ◌<◌, Bool, false, ◌||◌, if◌then◌else◌, List, [], ◌∷◌, ◌++◌, filter, length, get_or, set, slice_get, sum_by}
 use Rattle.std.specs.List.{flat_map}
 use Rattle.std.specs.Option.{option_map_or}
 use Rattle.kb_label.specs.Names.{Name, has}
@@ -61,6 +61,10 @@ held_of b p = filter (λ n. is_in_use (roles_of b p n)) (node_numbers b)
 -- the nodes, of those whose roles are kept, that have one, in their order
 abbrev pub held_by : List Roles → List ℕ
 held_by row = filter (λ n. is_in_use (get_or row n no_roles)) (numbers_from 0 (length row))
+
+-- how many of the nodes whose roles are kept are equations
+abbrev pub equation_count : List Roles → ℕ
+equation_count row = sum_by (λ (r : Roles). if r.equation then 1 else 0) row
 
 -- the rules in the nodes whose roles are kept, by node, then direction
 abbrev pub rules_by : List Roles → List RuleRef

@@ -1,10 +1,10 @@
-// How a process has nodes, with lists of those that it has and of its rules.
-ghost use Rattle.std.specs.Prelude.{◌≡◌, ◌<◌, ◌≤◌, ◌++◌, ◌∷◌, [], ℕ, Bool, List, length, filter, map, option_map, set, IfOk, IfSome, OnOk, OnErr};
+// How a process has nodes, with lists of those that it has and of its rules, and how many equations it has.
+ghost use Rattle.std.specs.Prelude.{◌≡◌, ◌<◌, ◌≤◌, ◌++◌, ◌∷◌, [], ℕ, Bool, List, length, filter, map, nat_lt, option_map, set, if◌then◌else◌, IfOk, IfSome, OnOk, OnErr};
 ghost use Rattle.std.specs.List.{flat_map};
 ghost use Rattle.kb_term.specs.declared.origin.RuleRef.{RuleRef as Reference};
 ghost use Rattle.kb_node.specs.declared.node.NodeId.{NodeId as Numbered};
 ghost use Rattle.mkb_model.specs.Plain.{directions, numbers_from};
-ghost use Rattle.mkb_rules.specs.Roles.{but_for, held_by, rules_by, with_role_at};
+ghost use Rattle.mkb_rules.specs.Roles.{but_for, equation_count, held_by, rules_by, with_role_at};
 ghost use Rattle.mkb_rules.specs.declared.roles.Roles.{Roles as Had};
 
 use crate::roles::{Roles, push_held, push_rules};
@@ -13,11 +13,12 @@ use kb_term::RuleRef;
 use std::alloc::{AllocError, Global};
 use std::marker::Model;
 
-/// How a process has each of the first nodes, and lists of those that it has and of its rules, where they are kept. Contracts see
-/// how it has the nodes.
+/// How a process has each of the first nodes, how many of them are its equations, and lists of those that it has and of its rules,
+/// where they are kept. Contracts see how it has the nodes.
 #[derive(Drop)]
 pub(crate) struct RoleRow {
     roles: Vec<Roles>,
+    equations: usize,
     held: Option<Vec<NodeId>>,
     rules: Option<Vec<RuleRef>>,
 }
@@ -26,13 +27,13 @@ impl Model for RoleRow {
     ghost use Rattle.std.specs.Prelude.{◌≡◌, List, IfSome, map};
     ghost use Rattle.kb_node.specs.declared.node.NodeId.{NodeId};
     ghost use Rattle.mkb_rules.specs.declared.roles.Roles.{Roles};
-    ghost use Rattle.mkb_rules.specs.Roles.{held_by, rules_by};
+    ghost use Rattle.mkb_rules.specs.Roles.{equation_count, held_by, rules_by};
 
     ghost Value = { List Roles };
 
     ghost view = { λ m. m.roles.items };
 
-    ghost invariant = { λ m. IfSome m.held (λ l. map (λ (n : NodeId). n.0) l.items ≡ held_by m.roles.items) × IfSome m.rules (λ l. l.items ≡ rules_by m.roles.items) };
+    ghost invariant = { λ m. IfSome m.held (λ l. map (λ (n : NodeId). n.0) l.items ≡ held_by m.roles.items) × IfSome m.rules (λ l. l.items ≡ rules_by m.roles.items) × (m.equations ≡ equation_count m.roles.items) };
 }
 
 impl RoleRow {
@@ -42,6 +43,7 @@ impl RoleRow {
     {
         RoleRow {
             roles: Vec::new(alloc),
+            equations: 0,
             held: Some(Vec::new(alloc)),
             rules: Some(Vec::new(alloc)),
         }
@@ -58,6 +60,7 @@ impl RoleRow {
         let alloc = *self.roles.allocator();
         Ok(RoleRow {
             roles: Vec::from_slice(alloc, self.roles.as_slice())?,
+            equations: self.equations,
             held: copied(alloc, &self.held)?,
             rules: copied(alloc, &self.rules)?,
         })
@@ -68,6 +71,13 @@ impl RoleRow {
         ensures { result.now ≡ self.now }
     {
         self.roles.as_slice()
+    }
+
+    /// Whether one of the nodes is its equation. It takes constant time.
+    pub(crate) fn has_equation(&self) -> bool
+        ensures { result ≡ nat_lt 0 (equation_count self.now) }
+    {
+        self.equations > 0
     }
 
     /// Those of the nodes that it has as an equation or as a rule, in their order; none where that isn't kept.
@@ -110,7 +120,9 @@ impl RoleRow {
         requires { n.0 < length self.old }
         ensures { self.new ≡ set self.old n.0 roles }
     {
+        let was = self.roles[n.0 as usize];
         self.roles[n.0 as usize] = roles;
+        self.equations = self.equations - one_if(was.equation) + one_if(roles.equation);
         self.held = held_with(self.held.take(), n, roles);
         self.rules = rules_with(self.rules.take(), n, roles);
     }
@@ -126,10 +138,19 @@ impl RoleRow {
         ensures err { OnErr result (self.new ≡ self.old) }
     {
         self.roles.push(roles)?;
+        self.equations += one_if(roles.equation);
         self.held = held_more(self.held.take(), n, roles);
         self.rules = rules_more(self.rules.take(), n, roles);
         Ok(())
     }
+}
+
+// One, where it is so.
+fn one_if(is_so: bool) -> usize
+    ensures value { result ≡ (if is_so then 1 else 0) }
+    ensures most { result ≤ 1 }
+{
+    if is_so { 1 } else { 0 }
 }
 
 // The same list again, where there is one.

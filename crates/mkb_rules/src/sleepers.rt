@@ -1,5 +1,6 @@
 // The processes that sleep.
-ghost use Rattle.std.specs.Prelude.{◌≡◌, ◌<◌, ◌≤◌, [], ◌∷◌, length, insert, is_ok, IsOk, IfOk, IfErr, OnOk, OnErr};
+ghost use Rattle.std.specs.Prelude.{◌≡◌, ◌<◌, ◌≤◌, [], ◌∷◌, length, insert, is_ok, true, IsOk, IfOk, IfErr, IsTrue, OnOk, OnErr};
+ghost use Rattle.kb_label.specs.Kept.{AreAfter, AreBefore};
 ghost use Rattle.kb_label.specs.Names.{add, has, minus, relabel};
 
 use kb_label::{MAX_BITS, MAX_LIVING, Process};
@@ -51,6 +52,50 @@ impl Sleepers {
         ensures { result ≡ has self.now p.now }
     {
         self.place(p).is_ok()
+    }
+
+    /// Whether the process sleeps. The search begins at a place, and leaves the place behind the process.
+    pub(crate) fn has_from(&self, p: &Process, place: &mut usize) -> bool
+        ensures { result ≡ has self.now p.now }
+    {
+        if self.is_at(p, *place) {
+            *place = place.saturating_add(1);
+            return true;
+        }
+        if self.are_before(p, *place) && self.are_after(p, *place) {
+            return false;
+        }
+        match self.place(p) {
+            Ok(at) => {
+                *place = at.saturating_add(1);
+                true
+            }
+            Err(at) => {
+                *place = at;
+                false
+            }
+        }
+    }
+
+    // Whether the name at the place is the process's.
+    fn is_at(&self, p: &Process, place: usize) -> bool
+        ensures { IsTrue result → has self.now p.now ≡ true }
+    {
+        place < self.names.len() && self.names[place] == *p
+    }
+
+    // Whether the names before the place come before the process: the last of them does.
+    fn are_before(&self, p: &Process, place: usize) -> bool
+        ensures { IsTrue result → AreBefore self.now place p.now }
+    {
+        place == 0 || (place <= self.names.len() && self.names[place - 1].cmp(p).is_lt())
+    }
+
+    // Whether the names from the place on come after the process: the first of them does.
+    fn are_after(&self, p: &Process, place: usize) -> bool
+        ensures { IsTrue result → AreAfter self.now place p.now }
+    {
+        place >= self.names.len() || self.names[place].cmp(p).is_gt()
     }
 
     /// The process falls asleep. It takes no memory where fewer sleep than may live.

@@ -1,11 +1,12 @@
 // The state: the board without flight and journal.
-ghost use Rattle.std.specs.Prelude.{◌≡◌, ◌<◌, ◌&&◌, [], ◌∷◌, length, map, not, Some, IfSome, IsSome, MatchOption};
+ghost use Rattle.std.specs.Prelude.{◌≡◌, ◌<◌, ◌&&◌, [], ◌∷◌, length, map, not, Some, IfSome, IsSome, IsTrue, MatchOption};
 ghost use Rattle.std.specs.List.{list_any};
 ghost use Rattle.kb_label.specs.Names.{add, has, is_empty, minus, name_eq};
 ghost use Rattle.kb_node.specs.declared.node.LabelKind.TheVariants.{X};
 ghost use Rattle.kb_node.specs.declared.node.NodeId.{NodeId as Numbered};
 ghost use Rattle.mkb_model.specs.Jobs.{ref_eq, ref_le};
-ghost use Rattle.mkb_model.specs.Plain.{GivenUp as OverFor, cost, known, done_in, done_of, label, over_reason, certificate_of, rules_of};
+ghost use Rattle.mkb_model.specs.Plain.{GivenUp as OverFor, cost, equations_of, known, done_in, done_of, label, over_reason, certificate_of, rules_of};
+ghost use Rattle.mkb_model.specs.Sleeping.{no_members};
 ghost use Rattle.mkb_rules.specs.Parts.{plain_nodes};
 ghost use Rattle.mkb_rules.specs.Overlapped.{is_overlapped};
 ghost use Rattle.mkb_rules.specs.Roles.{AreRolesOf, held_by, held_of, rules_by};
@@ -185,6 +186,19 @@ impl State {
         self.nodes.sizes(place, p)?.cost(self.settings.selection)
     }
 
+    /// Whether the process at this place among the living has an equation, where that is kept. It is for each living process, where
+    /// memory allows, and takes constant time.
+    pub fn has_equation(&self, place: usize, p: &Process) -> Option<bool>
+        ensures { IfSome result (λ has. has ≡ not (no_members (equations_of self.now p.now))) }
+    {
+        let row = self.nodes.row(place, p)?;
+        if self.is_whole(row) {
+            Some(row.has_equation())
+        } else {
+            None
+        }
+    }
+
     /// How a process has each of the first nodes, where that is kept; else of none. It is kept for each living process and for all
     /// nodes, where memory allows.
     pub fn roles(&self, p: &Process) -> &[Roles]
@@ -228,11 +242,14 @@ impl State {
         ensures rules { IfSome result (λ row. rules_by row.now ≡ rules_of self.now p.now) }
     {
         let row = self.row(p)?;
-        if row.as_slice().len() == self.nodes.len() as usize {
-            Some(row)
-        } else {
-            None
-        }
+        if self.is_whole(row) { Some(row) } else { None }
+    }
+
+    // Whether it is how a process has all nodes.
+    fn is_whole(&self, row: &RoleRow) -> bool
+        ensures { IsTrue result → length row.now ≡ length self.now.nodes }
+    {
+        row.as_slice().len() == self.nodes.len() as usize
     }
 
     /// Whether a process is closed.
@@ -240,6 +257,14 @@ impl State {
         ensures { result ≡ has self.now.closed p.now }
     {
         self.closed.has(&self.log, p)
+    }
+
+    /// Whether a process is closed. The search begins at a place, from 0, and leaves the place behind the process, so that of processes
+    /// that are asked for in their order each is found in constant time where most of them are closed.
+    pub fn is_closed_from(&self, p: &Process, place: &mut usize) -> bool
+        ensures { result ≡ has self.now.closed p.now }
+    {
+        self.closed.has_from(p, place)
     }
 
     /// Whether some process is closed. It takes constant time.
@@ -263,11 +288,12 @@ impl State {
         self.over.reason_of(&self.log, p)
     }
 
-    /// Whether a process is asleep.
-    pub fn is_asleep(&self, p: &Process) -> bool
+    /// Whether a process is asleep. The search begins at a place, from 0, and leaves the place behind the process, so that of processes
+    /// that are asked for in their order each is found in constant time where most of them are asleep.
+    pub fn is_asleep_from(&self, p: &Process, place: &mut usize) -> bool
         ensures { result ≡ has self.now.asleep p.now }
     {
-        self.asleep.has(p)
+        self.asleep.has_from(p, place)
     }
 
     /// The processes that are asleep, in their order.

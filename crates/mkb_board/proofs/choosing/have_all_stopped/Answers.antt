@@ -2,6 +2,7 @@ use Rattle.std.proofs.Common.{List, Contains, subst, sym, ◌∙◌}
 use Rattle.std.proofs.lemmas.List.Elements.{Contains-get_or}
 use Rattle.kb_label.specs.Names.{Name}
 use Rattle.mkb_model.proofs.Endings.{has_in}
+use Rattle.mkb_board.proofs.Going.{all_stopped}
 use Rattle.mkb_board.proofs.choosing.have_all_stopped.Goals as goal
 
 pub is_failed-requires-clause-lives : goal.is_failed-requires-clause-lives
@@ -11,3 +12,6 @@ is_failed-requires-clause-lives c =
     has_in c.args.state.now.living p
     (subst {A = List Name} (λ z. Contains z p) (c.processes-living.ensures ∙ c.log.ensures)
     (subst {A = Name} (Contains living) (sym c.index-living-i.is) (Contains-get_or living c.loop-i.i p c.loop-i-test.true)))
+
+pub returns-then-not-has_over : goal.returns-then-not-has_over
+returns-then-not-has_over c = c.have_all_failed.ensures ∙ sym (all_stopped c.args.state.now (sym c.has_over.ensures ∙ c.if-not-has_over.true))

@@ -70,8 +70,8 @@ loop-i-preserved-then-not-is_below c = record {
         sym (best_next b flight p (minus left b.asleep) best best stays)
         ∙ sym (ap (λ (ps : List Name). merged (job_cmp (cost b) (weight b)) best (least_free b flight ps)) up) ∙ c.loop-i.invariant.least
 
-pub loop-i-preserved-then-is_asleep : goal.loop-i-preserved-then-is_asleep
-loop-i-preserved-then-is_asleep c =
+pub loop-i-preserved-then-is_asleep_from : goal.loop-i-preserved-then-is_asleep_from
+loop-i-preserved-then-is_asleep_from c =
     let b = c.args.state.now in
     let p = c.index-living-i.result in
     let left = drop (c.loop-i.i + 1) b.living in
@@ -79,7 +79,7 @@ loop-i-preserved-then-is_asleep c =
     let there : c.loop-i.i < length b.living = omega (arith, c.loop-i-test.true, ap length same) in
     let is = c.index-living-i.is ∙ ap (λ (l : List Name). get_or l c.loop-i.i p) same in
     let from = drop_at b.living c.loop-i.i p p there is in
-    let up = filter_at (λ q. not (has b.asleep q)) b.living c.loop-i.i p false there is (ap not (sym c.is_asleep.ensures ∙ c.if-is_asleep.true)) in
+    let up = filter_at (λ q. not (has b.asleep q)) b.living c.loop-i.i p false there is (ap not (sym c.is_asleep_from.ensures ∙ c.if-is_asleep_from.true)) in
     record {
       least = sym (ap (λ (ps : List Name). merged (job_cmp (cost b) (weight b)) (option_map (λ (k : Choice). k.job) c.loop-i.best) (least_free b (jobs_of c.args.flight.now) ps)) up) ∙ c.loop-i.invariant.least;
       costed = c.loop-i.invariant.costed;
@@ -97,7 +97,7 @@ loop-i-preserved c =
     let there : c.loop-i.i < length b.living = omega (arith, c.loop-i-test.true, ap length same) in
     let is = c.index-living-i.is ∙ ap (λ (l : List Name). get_or l c.loop-i.i p) same in
     let from = drop_at b.living c.loop-i.i p p there is in
-    let up = filter_at (λ q. not (has b.asleep q)) b.living c.loop-i.i p true there is (ap not (sym c.is_asleep.ensures ∙ c.if-is_asleep.false)) in
+    let up = filter_at (λ q. not (has b.asleep q)) b.living c.loop-i.i p true there is (ap not (sym c.is_asleep_from.ensures ∙ c.if-is_asleep_from.false)) in
     let job_in = λ (o : Option Choice). option_map (λ (k : Choice). k.job) o in
     record {
       least =
