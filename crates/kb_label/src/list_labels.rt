@@ -147,18 +147,6 @@ impl ListLabels {
         Ok(ListLabels { names })
     }
 
-    /// The same label again.
-    ///
-    /// # Errors
-    ///
-    /// Want of memory.
-    pub fn copy(&self) -> Result<ListLabels, AllocError>
-        ensures { IfOk result (λ label. label ≡ self.now) }
-    {
-        let names = self.names.copy()?;
-        Ok(ListLabels { names })
-    }
-
     /// Whether the process is in the label. The search begins at a place, from 0, and leaves the place behind the process, so that of
     /// processes that are asked for in their order each is found in constant time where the label has most of them.
     pub fn has_from(&self, process: &Process, place: &mut usize) -> bool
