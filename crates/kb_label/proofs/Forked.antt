@@ -9,7 +9,7 @@ use Rattle.kb_label.specs.Names.{Name, root, child, bit_cmp, name_eq, is_beginni
 use Rattle.kb_label.specs.declared.process.TheConstants.{MAX_BITS}
 use Rattle.kb_label.specs.Forks.{IsForked, at_first, at_fork}
 use Rattle.kb_label.proofs.Members.{name_eq-refl, name_eq-eq, has-add, has-minus}
-use Rattle.kb_label.proofs.Ordered.{ordered-add, ordered-filter, length-add, length-without}
+use Rattle.kb_label.proofs.Ordered.{ordered-add, ordered-without, length-add, length-without}
 
 -- ---- tests
 
@@ -108,7 +108,7 @@ module _ (p : Name) (l : List Name) (h : has l p ≡ true) where
 
     ordered-relabel : IsInNameOrder (relabel p l)
     ordered-relabel =
-        subst IsInNameOrder (sym relabelled) (ordered-add (child p false) (add (child p true) (minus l (p ∷ []))) (ordered-add (child p true) (minus l (p ∷ [])) (ordered-filter (λ q. not (has (p ∷ []) q)) l all.in_order)))
+        subst IsInNameOrder (sym relabelled) (ordered-add (child p false) (add (child p true) (minus l (p ∷ []))) (ordered-add (child p true) (minus l (p ∷ [])) (ordered-without p l all.in_order)))
 
     other : (q : Name) → name_eq q p ≡ false → q ≡ p → ⊥
     other q e w = true≢false (sym (ap (name_eq q) (sym w) ∙ name_eq-refl q) ∙ e)

@@ -1,5 +1,5 @@
 -- Lists of names in their order.
-use Rattle.std.specs.Prelude.{List, [], ◌∷◌, Bool, true, false, ◌||◌, not, cond, ◌≡◌, refl, filter, length, suc}
+use Rattle.std.specs.Prelude.{ℕ, List, [], ◌∷◌, Bool, true, false, ◌||◌, not, cond, ◌≡◌, refl, filter, length, remove, suc}
 use Rattle.std.proofs.Common.{ap, sym, ◌∙◌, subst}
 use mathlib.Core.Bool.{true≢false}
 use Rattle.std.specs.Cmp.{eq_by_cmp_equiv}
@@ -85,6 +85,14 @@ ordered-filter f (q ∷ l) o = go (f q) (ordered-filter f l (rest q l o))
     go true left = ordered-filter_after f q l o
     go false left = left
 
+-- all names but one
+pub ordered-without : (p : Name) (l : List Name) → IsInNameOrder l → IsInNameOrder (minus l (p ∷ []))
+ordered-without p l o = ordered-filter (λ q. not (has (p ∷ []) q)) l o
+
+-- where taking out what stands at a place leaves all names but one
+pub ordered-left : (p : Name) (l : List Name) (k : ℕ) (m : List Name) → IsInNameOrder l → m ≡ remove l k → remove l k ≡ minus l (p ∷ []) → IsInNameOrder m
+ordered-left p l k m o e w = rw (e, w) (ordered-without p l o)
+
 -- ---- the names of two lists
 
 pub ordered-join_after : (p : Name) (l m : List Name) → IsInNameOrder (p ∷ l) → IsInNameOrder (p ∷ m) → IsInNameOrder (p ∷ join l m)
@@ -118,7 +126,7 @@ length-add p (q ∷ l) h = go (name_cmp p q) refl (length-add p l (or_right (nam
     go Greater e ih = ap suc ih
 
 -- where p isn't named, taking it out changes nothing
-minus-absent : (p : Name) (l : List Name) → has l p ≡ false → minus l (p ∷ []) ≡ l
+pub minus-absent : (p : Name) (l : List Name) → has l p ≡ false → minus l (p ∷ []) ≡ l
 minus-absent p [] h = refl
 minus-absent p (q ∷ l) h = go (name_eq q p) (name_eq-sym q p ∙ or_left (name_eq p q) (has l p) h) (minus-absent p l (or_right (name_eq p q) (has l p) h))
   where

@@ -1,5 +1,5 @@
 -- What a binary search in a list of names answers.
-use Rattle.std.specs.Prelude.{ℕ, List, [], ◌∷◌, true, false, ◌||◌, ◌≡◌, refl, length, suc, zero, ◌<◌, ◌≤◌, ◌-◌, insert, is_ok, Result, Ok, Err, IfOk, IfErr}
+use Rattle.std.specs.Prelude.{ℕ, List, [], ◌∷◌, Bool, true, false, ◌||◌, not, cond, ◌≡◌, refl, length, suc, zero, ◌<◌, ◌≤◌, ◌-◌, insert, remove, is_ok, Result, Ok, Err, IfOk, IfErr}
 use Rattle.std.proofs.Common.{ap, ap₂, add-one, subst, sym, ◌∙◌, arith, get_or}
 use mathlib.Core.Bool.{true≢false}
 use Rattle.std.proofs.lemmas.List.{get_or_default}
@@ -10,10 +10,10 @@ use Rattle.std.proofs.lemmas.List.Sorted.{searchable_from_sorted}
 use Rattle.std.specs.declared.cmp.Ordering.TheVariants.{Less, Equal, Greater}
 use Rattle.std.proofs.Math.Bool.{or-true}
 use Rattle.kb_label.specs.Kept.{AreBefore, AreAfter}
-use Rattle.kb_label.specs.Names.{Name, name_cmp, name_eq, has, add, by_order, IsInNameOrder}
+use Rattle.kb_label.specs.Names.{Name, name_cmp, name_eq, has, add, minus, by_order, IsInNameOrder}
 use Rattle.kb_label.specs.NameOrder.{name_cmp-total, name_cmp-equal, name_eq-by_cmp}
-use Rattle.kb_label.proofs.Ordered.{turned, turned_back, rest, lower, before-absent, add-later}
-use Rattle.kb_label.proofs.Members.{name_eq-refl}
+use Rattle.kb_label.proofs.Ordered.{turned, turned_back, rest, lower, before-absent, add-later, minus-absent}
+use Rattle.kb_label.proofs.Members.{name_eq-refl, name_eq-eq}
 
 adjacent : (l : List Name) → IsInNameOrder l → (k : ℕ) (d : Name) → suc k < length l → name_cmp (get_or l k d) (get_or l (suc k) d) ≡ Less
 adjacent [] o k d h = absurd (omega arith)
@@ -44,6 +44,20 @@ add-present p (q ∷ l) o h = go (name_cmp p q) refl (add-present p l (rest q l 
     go Less e ih = absurd (true≢false (sym h ∙ before-absent p (q ∷ l) (lower p q l e o)))
     go Equal e ih = refl
     go Greater e ih = ap (q ∷◌) (ih (rw (name_eq-by_cmp p q ∙ ap is_eq e) at h))
+
+-- the name that stands at a place is taken out there
+remove-place : (l : List Name) (p : Name) (k : ℕ) → IsInNameOrder l → k < length l → get_or l k p ≡ p → remove l k ≡ minus l (p ∷ [])
+remove-place [] p k o h e = absurd (omega arith)
+remove-place (q ∷ l) p zero o h e = go (name_eq q p) (ap (name_eq q) (sym e) ∙ name_eq-refl q)
+  where
+    go : (b : Bool) → b ≡ true → l ≡ cond (not (b || false)) (q ∷ minus l (p ∷ [])) (minus l (p ∷ []))
+    go true w = sym (minus-absent p l (before-absent p l (subst (λ r. IsInNameOrder (r ∷ l)) e o)))
+    go false w = absurd (true≢false (sym w))
+remove-place (q ∷ l) p (suc k) o h e = go (name_eq q p) refl (remove-place l p k (rest q l o) (omega arith) e)
+  where
+    go : (b : Bool) → name_eq q p ≡ b → remove l k ≡ minus l (p ∷ []) → remove (q ∷ l) (suc k) ≡ cond (not (b || false)) (q ∷ minus l (p ∷ [])) (minus l (p ∷ []))
+    go true w ih = absurd (true≢false (sym (at-has l p k (omega arith) e) ∙ before-absent p l (subst (λ r. IsInNameOrder (r ∷ l)) (name_eq-eq q p w) o)))
+    go false w ih = ap (q ∷◌) ih
 
 module _ (p : Name) where
   -- the names below the place come before p, and the others after it
@@ -92,6 +106,14 @@ module _ (l : List Name) (p : Name) (o : IsInNameOrder l) where
   pub search-present : (r : Result ℕ ℕ) → IsSearchInRange r (length l) → IsBinarySearchResult (λ q. name_cmp q p) l r → IfOk r (λ _. add p l ≡ l)
   search-present (Ok k) w h = add-present p l o (at-has l p k w (name_cmp-equal (get_or l k p) p (h p)))
   search-present (Err k) w h = tt
+
+  pub search-there : (r : Result ℕ ℕ) → IsSearchInRange r (length l) → IfOk r (λ k. k < length l)
+  search-there (Ok k) w = w
+  search-there (Err k) w = tt
+
+  pub search-left : (r : Result ℕ ℕ) → IsSearchInRange r (length l) → IsBinarySearchResult (λ q. name_cmp q p) l r → IfOk r (λ k. remove l k ≡ minus l (p ∷ []))
+  search-left (Ok k) w h = remove-place l p k o w (name_cmp-equal (get_or l k p) p (h p))
+  search-left (Err k) w h = tt
 
   pub search-absent : (r : Result ℕ ℕ) → IsSearchInRange r (length l) → IsBinarySearchResult (λ q. name_cmp q p) l r → IfErr r (λ k. insert l k p ≡ add p l)
   search-absent (Ok k) w h = tt

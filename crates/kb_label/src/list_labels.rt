@@ -1,6 +1,6 @@
 // Labels that are plain lists of names.
-ghost use Rattle.std.specs.Prelude.{◌≡◌, ◌<◌, length, OnOk, OnErr, IsTrue};
-ghost use Rattle.kb_label.specs.Names.{has, relabel, join, meet, minus, is_empty};
+ghost use Rattle.std.specs.Prelude.{◌≡◌, ◌+◌, ◌<◌, ◌≤◌, [], ◌∷◌, length, insert, remove, is_ok, IfOk, IfErr, OnOk, OnErr, IsTrue, vec_len, vec_capacity};
+ghost use Rattle.kb_label.specs.Names.{add, has, relabel, join, meet, minus, is_empty, IsInNameOrder};
 
 use crate::labels::Labels;
 use crate::living::Living;
@@ -14,7 +14,6 @@ use std::marker::Model;
 /// It changes no label: after a fork, whoever keeps a `ListLabels` relabels it.
 #[derive(Drop)]
 pub struct NameLog {
-    living: NameList,
     names: Vec<Process>,
 }
 
@@ -26,9 +25,9 @@ impl Model for NameLog {
 
     ghost Value = { List Name };
 
-    ghost view = { λ log. log.living };
+    ghost view = { λ log. log.names.items };
 
-    ghost invariant = { λ log. IsForked log.living × (length log.living ≤ MAX_BITS + 1) × (log.names.items ≡ log.living) };
+    ghost invariant = { λ log. IsForked log.names.items × (length log.names.items ≤ MAX_BITS + 1) };
 }
 
 impl NameLog {
@@ -44,21 +43,23 @@ impl Living for NameLog {
     ghost living_names = { λ log. log };
 
     fn start(alloc: Global) -> Result<NameLog, AllocError> {
-        let living = NameList::of(alloc, Process::root())?;
-        let names = living.names()?;
-        Ok(NameLog { living, names })
+        let mut names = Vec::new(alloc);
+        names.push(Process::root())?;
+        Ok(NameLog { names })
     }
 
     fn fork(&mut self, process: &Process) -> Result<(), AllocError> {
-        let living = self.living.forked(process)?;
-        let names = living.names()?;
-        self.living = living;
-        self.names = names;
+        self.names.reserve(1)?;
+        if let Ok(place) = place_of(self.names.as_slice(), process) {
+            self.names.remove(place);
+            put(&mut self.names, process.child(true));
+            put(&mut self.names, process.child(false));
+        }
         Ok(())
     }
 
     fn is_living(&self, process: &Process) -> bool {
-        self.living.has(process)
+        place_of(self.names.as_slice(), process).is_ok()
     }
 
     fn living(&self) -> u32 {
@@ -70,10 +71,36 @@ impl Living for NameLog {
     }
 
     fn copy(&self) -> Result<NameLog, AllocError> {
-        let living = self.living.copy()?;
-        let names = living.names()?;
-        Ok(NameLog { living, names })
+        let mut names = Vec::with_capacity(*self.names.allocator(), self.names.len() + 1)?;
+        names.extend_from_slice(self.names.as_slice())?;
+        Ok(NameLog { names })
     }
+}
+
+// Adds a name at its place, where there is room for it.
+fn put(names: &mut Vec<Process>, name: Process)
+    requires in_order { IsInNameOrder names.old.items }
+    requires room { vec_len names.old < vec_capacity names.old }
+    ensures items { names.new.items ≡ add name names.old.items }
+    ensures len { vec_len names.new ≤ vec_len names.old + 1 }
+    ensures capacity { vec_capacity names.old ≤ vec_capacity names.new }
+{
+    if let Err(place) = place_of(names.as_slice(), &name) {
+        names.insert(place, name).unwrap();
+    }
+}
+
+// Where a name stands among others, or where it would have to be put.
+fn place_of(names: &[Process], name: &Process) -> Result<usize, usize>
+    requires { IsInNameOrder names.now }
+    ensures found { is_ok result ≡ has names.now name.now }
+    ensures present { IfOk result (λ _. add name.now names.now ≡ names.now) }
+    ensures there { IfOk result (λ place. place < length names.now) }
+    ensures left { IfOk result (λ place. remove names.now place ≡ minus names.now (name.now ∷ [])) }
+    ensures within { IfErr result (λ place. place ≤ length names.now) }
+    ensures absent { IfErr result (λ place. insert names.now place name.now ≡ add name.now names.now) }
+{
+    names.binary_search(name)
 }
 
 /// A label that is the list of its names.
@@ -105,6 +132,19 @@ impl ListLabels {
         ensures err { OnErr result (self.new ≡ self.old) }
     {
         self.names.relabel(process)
+    }
+
+    /// The label in which the two children of a process stand in its place, where this one has it.
+    ///
+    /// # Errors
+    ///
+    /// Want of memory.
+    pub fn relabelled(&self, process: &Process) -> Result<ListLabels, AllocError>
+        requires { length process.now < MAX_BITS }
+        ensures { IfOk result (λ label. label ≡ relabel process.now self.now) }
+    {
+        let names = self.names.relabelled(process)?;
+        Ok(ListLabels { names })
     }
 
     /// Whether the process is in the label. The search begins at a place, from 0, and leaves the place behind the process, so that of

@@ -1,5 +1,5 @@
 // Lists of names in their order.
-ghost use Rattle.std.specs.Prelude.{◌≡◌, ◌<◌, ◌≤◌, [], ◌∷◌, length, true, insert, is_ok, OnOk, OnErr, IfOk, IfErr, IsTrue};
+ghost use Rattle.std.specs.Prelude.{◌≡◌, ◌+◌, ◌<◌, ◌≤◌, [], ◌∷◌, length, true, insert, remove, is_ok, OnOk, OnErr, IfOk, IfErr, IsTrue, vec_len, vec_capacity};
 ghost use Rattle.kb_label.specs.Kept.{AreBefore, AreAfter};
 ghost use Rattle.kb_label.specs.Names.{has, add, join, meet, minus, relabel, is_empty, IsInNameOrder};
 
@@ -34,15 +34,6 @@ impl NameList {
         NameList {
             names: Vec::new(alloc),
         }
-    }
-
-    /// The name of one process.
-    pub(crate) fn of(alloc: Global, process: Process) -> Result<NameList, AllocError>
-        ensures { IfOk result (λ names. names ≡ process ∷ []) }
-    {
-        let mut names = Vec::new(alloc);
-        names.push(KeptName::of(alloc, &process)?)?;
-        Ok(NameList { names })
     }
 
     /// Whether there is no name.
@@ -156,24 +147,54 @@ impl NameList {
         ensures ok { OnOk result (self.new ≡ relabel process.now self.old) }
         ensures err { OnErr result (self.new ≡ self.old) }
     {
-        if self.has(process) {
-            let names = self.forked(process)?;
-            *self = names;
+        match self.place(process) {
+            Ok(place) => self.relabel_at(place, process),
+            Err(_) => Ok(()),
         }
+    }
+
+    // Puts the two children of the process that is named at the place there. What can want memory comes first.
+    fn relabel_at(&mut self, place: usize, process: &Process) -> Result<(), AllocError>
+        requires short { length process.now < MAX_BITS }
+        requires within { place < length self.old }
+        requires named { remove self.old place ≡ minus self.old (process.now ∷ []) }
+        requires has { IsTrue (has self.old process.now) }
+        ensures ok { OnOk result (self.new ≡ relabel process.now self.old) }
+        ensures err { OnErr result (self.new ≡ self.old) }
+    {
+        let alloc = *self.names.allocator();
+        let first = KeptName::of(alloc, &process.child(false))?;
+        let second = KeptName::of(alloc, &process.child(true))?;
+        self.names.reserve(1)?;
+        self.names.remove(place);
+        put(&mut self.names, second);
+        put(&mut self.names, first);
         Ok(())
     }
 
-    /// The names after a fork of a process that is named.
-    pub(crate) fn forked(&self, process: &Process) -> Result<NameList, AllocError>
-        requires named { IsTrue (has self.now process.now) }
-        requires short { length process.now < MAX_BITS }
+    /// The names in which the two children of a process stand in its place.
+    pub(crate) fn relabelled(&self, process: &Process) -> Result<NameList, AllocError>
+        requires { length process.now < MAX_BITS }
         ensures { IfOk result (λ names. names ≡ relabel process.now self.now) }
     {
-        let mut names = self.copy()?;
-        names.remove(process);
-        names.add(&process.child(true))?;
-        names.add(&process.child(false))?;
-        Ok(names)
+        match self.place(process) {
+            Ok(place) => {
+                let mut names = self.copy_with_room()?;
+                names.relabel_at(place, process)?;
+                Ok(names)
+            }
+            Err(_) => self.copy(),
+        }
+    }
+
+    // The same names again, with room for one more.
+    fn copy_with_room(&self) -> Result<NameList, AllocError>
+        ensures { IfOk result (λ names. names ≡ self.now) }
+    {
+        let room = self.names.len().saturating_add(1);
+        let mut names: Vec<KeptName> = Vec::with_capacity(*self.names.allocator(), room)?;
+        names.extend_from_slice(self.names.as_slice())?;
+        Ok(NameList { names })
     }
 
     /// Whether the process is named. The search begins at a place, and leaves the place behind the process.
@@ -224,16 +245,15 @@ impl NameList {
     fn has_kept(&self, name: &KeptName) -> bool
         ensures { result ≡ has self.now name.now }
     {
-        self.names
-            .as_slice()
-            .binary_search_by(|other| other.beside(name))
-            .is_ok()
+        kept_place(self.names.as_slice(), name).is_ok()
     }
 
     // Where the name stands, or where it would have to be put.
     fn place(&self, process: &Process) -> Result<usize, usize>
         ensures found { is_ok result ≡ has self.now process.now }
         ensures present { IfOk result (λ _. add process.now self.now ≡ self.now) }
+        ensures there { IfOk result (λ place. place < length self.now) }
+        ensures left { IfOk result (λ place. remove self.now place ≡ minus self.now (process.now ∷ [])) }
         ensures within { IfErr result (λ place. place ≤ length self.now) }
         ensures absent { IfErr result (λ place. insert self.now place process.now ≡ add process.now self.now) }
     {
@@ -241,12 +261,29 @@ impl NameList {
             .as_slice()
             .binary_search_by(|name| name.against(process))
     }
+}
 
-    // Takes a name out, where it is there.
-    fn remove(&mut self, process: &Process)
-        ensures { self.new ≡ minus self.old (process.now ∷ []) }
-    {
-        self.names.retain(|name| !name.against(process).is_eq());
+// Where a name stands among others, or where it would have to be put.
+fn kept_place(names: &[KeptName], name: &KeptName) -> Result<usize, usize>
+    requires { IsInNameOrder names.now }
+    ensures found { is_ok result ≡ has names.now name.now }
+    ensures present { IfOk result (λ _. add name.now names.now ≡ names.now) }
+    ensures within { IfErr result (λ place. place ≤ length names.now) }
+    ensures absent { IfErr result (λ place. insert names.now place name.now ≡ add name.now names.now) }
+{
+    names.binary_search_by(|other| other.beside(name))
+}
+
+// Adds a name at its place, where there is room for it.
+fn put(names: &mut Vec<KeptName>, name: KeptName)
+    requires in_order { IsInNameOrder names.old.items }
+    requires room { vec_len names.old < vec_capacity names.old }
+    ensures items { names.new.items ≡ add name names.old.items }
+    ensures len { vec_len names.new ≤ vec_len names.old + 1 }
+    ensures capacity { vec_capacity names.old ≤ vec_capacity names.new }
+{
+    if let Err(place) = kept_place(names.as_slice(), &name) {
+        names.insert(place, name).unwrap();
     }
 }
 

@@ -1,5 +1,5 @@
 -- The orders of processes, by their places.
-use Rattle.std.proofs.Common.{suc, ◌≡◌, ◌<◌, ◌≤◌, Bool, true, false, List, [], ◌∷◌, length, get_or, set, insert, Option, Some, IsSome, option_map, if◌then◌else◌, refl, ap, arith}
+use Rattle.std.proofs.Common.{suc, ◌≡◌, ◌<◌, ◌≤◌, Bool, true, false, List, [], ◌∷◌, length, get_or, set, insert, Option, Some, IsSome, option_map, if◌then◌else◌, refl, ap, ap₂, arith}
 use Rattle.std.specs.List.{find}
 use Rattle.kb_label.specs.Names.{Name, child, name_eq}
 use Rattle.kb_cert.specs.declared.certificate.Certificate.{Certificate}
@@ -64,18 +64,18 @@ certified_nowhere (c ∷ cs) p q h = placed_by (name_eq c.name p) h (λ k. certi
     placed_by false k f = ap (λ (z : List OrderOf). record { name = c.name; certificate = c.certificate } ∷ z) (f (omega arith))
 
 -- both children at the place
-pub forked_there : (cs : List Certified) (p : Name) (x : Certified) → place_in (plain_certificates cs) p < length cs → x ≡ get_or cs (place_in (plain_certificates cs) p) x
-    → plain_certificates (insert (set cs (place_in (plain_certificates cs) p) (record { name = child p false; certificate = x.certificate })) (suc (place_in (plain_certificates cs) p)) (record { name = child p true; certificate = x.certificate })) ≡ forked_certificates p (plain_certificates cs)
-forked_there [] p x h e = absurd (omega arith)
-forked_there (c ∷ cs) p x h e = placed_by (name_eq c.name p) h e (λ k f. forked_there cs p x k f)
+pub forked_there : (cs : List Certified) (p : Name) (x y : Certified) → place_in (plain_certificates cs) p < length cs → y ≡ get_or cs (place_in (plain_certificates cs) p) y → x ≡ get_or (insert cs (suc (place_in (plain_certificates cs) p)) (record { name = child p true; certificate = y.certificate })) (place_in (plain_certificates cs) p) x
+    → plain_certificates (set (insert cs (suc (place_in (plain_certificates cs) p)) (record { name = child p true; certificate = y.certificate })) (place_in (plain_certificates cs) p) (record { name = child p false; certificate = x.certificate })) ≡ forked_certificates p (plain_certificates cs)
+forked_there [] p x y h e f = absurd (omega arith)
+forked_there (c ∷ cs) p x y h e f = placed_by (name_eq c.name p) h e f (λ k g j. forked_there cs p x y k g j)
   where
-    placed_by : (t : Bool) → (if t then 0 else suc (place_in (plain_certificates cs) p)) < length (c ∷ cs) → x ≡ get_or (c ∷ cs) (if t then 0 else suc (place_in (plain_certificates cs) p)) x
-        → (place_in (plain_certificates cs) p < length cs → x ≡ get_or cs (place_in (plain_certificates cs) p) x
-        → plain_certificates (insert (set cs (place_in (plain_certificates cs) p) (record { name = child p false; certificate = x.certificate })) (suc (place_in (plain_certificates cs) p)) (record { name = child p true; certificate = x.certificate })) ≡ forked_certificates p (plain_certificates cs))
-        → plain_certificates (insert (set (c ∷ cs) (if t then 0 else suc (place_in (plain_certificates cs) p)) (record { name = child p false; certificate = x.certificate })) (suc (if t then 0 else suc (place_in (plain_certificates cs) p))) (record { name = child p true; certificate = x.certificate }))
+    placed_by : (t : Bool) → (if t then 0 else suc (place_in (plain_certificates cs) p)) < length (c ∷ cs) → y ≡ get_or (c ∷ cs) (if t then 0 else suc (place_in (plain_certificates cs) p)) y → x ≡ get_or (insert (c ∷ cs) (suc (if t then 0 else suc (place_in (plain_certificates cs) p))) (record { name = child p true; certificate = y.certificate })) (if t then 0 else suc (place_in (plain_certificates cs) p)) x
+        → (place_in (plain_certificates cs) p < length cs → y ≡ get_or cs (place_in (plain_certificates cs) p) y → x ≡ get_or (insert cs (suc (place_in (plain_certificates cs) p)) (record { name = child p true; certificate = y.certificate })) (place_in (plain_certificates cs) p) x
+        → plain_certificates (set (insert cs (suc (place_in (plain_certificates cs) p)) (record { name = child p true; certificate = y.certificate })) (place_in (plain_certificates cs) p) (record { name = child p false; certificate = x.certificate })) ≡ forked_certificates p (plain_certificates cs))
+        → plain_certificates (set (insert (c ∷ cs) (suc (if t then 0 else suc (place_in (plain_certificates cs) p))) (record { name = child p true; certificate = y.certificate })) (if t then 0 else suc (place_in (plain_certificates cs) p)) (record { name = child p false; certificate = x.certificate }))
         ≡ (if t then (record { name = child p false; certificate = c.certificate } ∷ record { name = child p true; certificate = c.certificate } ∷ plain_certificates cs) else (record { name = c.name; certificate = c.certificate } ∷ forked_certificates p (plain_certificates cs)))
-    placed_by true k e f = ap (λ (y : Certified). record { name = child p false; certificate = y.certificate } ∷ record { name = child p true; certificate = y.certificate } ∷ plain_certificates cs) e
-    placed_by false k e f = ap (λ (z : List OrderOf). record { name = c.name; certificate = c.certificate } ∷ z) (f (omega arith) e)
+    placed_by true k e f g = ap₂ (λ (z w : Certified). record { name = child p false; certificate = z.certificate } ∷ record { name = child p true; certificate = w.certificate } ∷ plain_certificates cs) f e
+    placed_by false k e f g = ap (λ (z : List OrderOf). record { name = c.name; certificate = c.certificate } ∷ z) (g (omega arith) e f)
 
 -- no order of the process is there, so none of its children
 pub forked_nowhere : (cs : List Certified) (p : Name) → length cs ≤ place_in (plain_certificates cs) p → plain_certificates cs ≡ forked_certificates p (plain_certificates cs)

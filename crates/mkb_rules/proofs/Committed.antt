@@ -7,8 +7,8 @@ use Rattle.kb_label.specs.declared.verdict.Reason.{Reason}
 use Rattle.kb_label.specs.declared.verdict.Reason.TheVariants.{Nodes, Processes}
 use Rattle.kb_cert.specs.declared.certificate.Certificate.{Certificate}
 use Rattle.kb_node.specs.declared.node.NodeId.{NodeId}
-use Rattle.mkb_model.specs.Plain.{Plain, PlainNode}
-use Rattle.mkb_model.specs.Effects.{applied, counted, effect_label, first_some, forked_node, give_up, limit_of, most_living, oriented, some_if}
+use Rattle.mkb_model.specs.Plain.{Certified, Plain, PlainNode}
+use Rattle.mkb_model.specs.Effects.{applied, certify_in, counted, effect_label, first_some, forked_certificates, forked_node, give_up, limit_of, most_living, oriented, some_if}
 use Rattle.mkb_model.specs.declared.proposed.Proposed.{Proposed}
 use Rattle.mkb_model.specs.declared.proposed.Proposed.TheVariants.{Both}
 use Rattle.mkb_rules.specs.Applying.{applied_as, Commits}
@@ -38,7 +38,11 @@ fork_crowded b p n c0 c1 many =
 abbrev pub fork_of_nodes : Name → NodeId → List PlainNode → List PlainNode
 fork_of_nodes p n xs = oriented (child p true) (record { node = n.0; dir = 1 }) (oriented (child p false) (record { node = n.0; dir = 0 }) (map (forked_node p) xs))
 
-pub fork_made : (b mid : Plain) (parts : Forked) (p : Name) (n : NodeId) (c0 c1 : Certificate) → IsForkOf b p c0 c1 parts → mid ≡ record b { nodes = fork_of_nodes p n b.nodes } → counted (with_parts parts mid) ≡ counted (applied b (Both p n c0 c1))
+-- the orders after the fork
+abbrev pub fork_of_orders : Name → Certificate → Certificate → List Certified → List Certified
+fork_of_orders p c0 c1 cs = certify_in (child p true) c1 (certify_in (child p false) c0 (forked_certificates p cs))
+
+pub fork_made : (b mid : Plain) (parts : Forked) (p : Name) (n : NodeId) (c0 c1 : Certificate) → IsForkOf b p parts → mid ≡ record b { nodes = fork_of_nodes p n b.nodes; certificates = fork_of_orders p c0 c1 b.certificates } → counted (with_parts parts mid) ≡ counted (applied b (Both p n c0 c1))
 fork_made b mid parts p n c0 c1 h e =
     ap (λ (m : Plain). counted (with_parts parts m)) e
     ∙ (λ i. record {
@@ -53,5 +57,5 @@ fork_made b mid parts p n c0 c1 h e =
       asleep = h.asleep i;
       commits = b.commits + 1;
       flight = b.flight;
-      certificates = h.certificates i;
+      certificates = fork_of_orders p c0 c1 b.certificates;
     })

@@ -1,13 +1,17 @@
 -- The lists of processes for which rules have been overlapped.
-use Rattle.std.proofs.Common.{ℕ, zero, suc, ◌+◌, ◌<◌, ◌≤◌, ◌≡◌, refl, ap, arith, List, [], ◌∷◌, ◌++◌, length, get_or, Bool, true, false, cond, not}
+use Rattle.std.proofs.Common.{ℕ, zero, suc, ◌+◌, ◌<◌, ◌≤◌, ◌≡◌, ◌∙◌, refl, ap, sym, arith, List, [], ◌∷◌, ◌++◌, length, get_or, Bool, true, false, cond, not}
 use Rattle.std.specs.Prelude.{◌&&◌, slice_set}
 use Rattle.std.specs.List.{position_or_len}
-use Rattle.kb_label.specs.Names.{Name, join}
+use Rattle.kb_label.specs.Names.{Name, has, join, relabel}
+use Rattle.kb_label.proofs.Sets.{relabel-absent}
 use Rattle.kb_term.specs.declared.origin.RuleRef.{RuleRef}
 use Rattle.mkb_model.specs.Jobs.{ref_eq}
+use Rattle.mkb_model.specs.Plain.{Done}
 use Rattle.mkb_model.specs.Effects.{gains_done_in}
 use Rattle.mkb_rules.specs.declared.state.DonePair.{DonePair}
 use Rattle.mkb_rules.specs.Kept.{plain_done}
+use Rattle.mkb_rules.specs.Forking.{forked_done, with_names_at, with_new_names}
+use Rattle.mkb_rules.specs.declared.effects.forking.NewNames.{NewNames}
 
 module _ (a b : RuleRef) (l : List Name) where
   -- whether the list is kept for the two rules
@@ -40,3 +44,45 @@ module _ (a b : RuleRef) (l : List Name) where
           → plain_done (x ∷ (ds ++ record { first = a; second = b; names = l } ∷ [])) ≡ cond t (record { first = x.first; second = x.second; names = join x.names l } ∷ plain_done ds) (record { first = x.first; second = x.second; names = x.names } ∷ gains_done_in a b l (plain_done ds))
       go true u ih = absurd (omega (arith, u))
       go false u ih = ap (λ rest. record { first = x.first; second = x.second; names = x.names } ∷ rest) (ih (omega (arith, u)))
+
+-- the names at a place are others
+pub names_put : (ds : List DonePair) (i : ℕ) (l : List Name) (d : DonePair) → i < length ds → d ≡ get_or ds i d → plain_done (slice_set ds i (record d { names = l })) ≡ with_names_at i l (plain_done ds)
+names_put [] i l d h e = absurd (omega (arith, h))
+names_put (x ∷ ds) zero l d h e = ap (λ (y : DonePair). plain_done (record y { names = l } ∷ ds)) e
+names_put (x ∷ ds) (suc i) l d h e = ap (λ rest. record { first = x.first; second = x.second; names = x.names } ∷ rest) (names_put ds i l d (omega (arith, h)) e)
+
+-- behind the end there is no place
+pub names_beyond : (ds : List DonePair) (i : ℕ) (l : List Name) → length ds ≤ i → plain_done ds ≡ with_names_at i l (plain_done ds)
+names_beyond [] i l h = refl
+names_beyond (x ∷ ds) zero l h = absurd (omega (arith, h))
+names_beyond (x ∷ ds) (suc i) l h = ap (λ rest. record { first = x.first; second = x.second; names = x.names } ∷ rest) (names_beyond ds i l (omega (arith, h)))
+
+-- new names that come last are put in last
+pub new_names-more : (ns : List NewNames) (n : NewNames) (ds : List Done) → with_new_names (ns ++ n ∷ []) ds ≡ with_names_at n.place n.names (with_new_names ns ds)
+new_names-more [] n ds = refl
+new_names-more (m ∷ ns) n ds = new_names-more ns n (with_names_at m.place m.names ds)
+
+-- the first lists are those after a fork of p
+abbrev pub done_front : Name → ℕ → List Done → List Done
+done_front p zero ds = ds
+done_front p (suc i) [] = []
+done_front p (suc i) (d ∷ ds) = record d { names = relabel p d.names } ∷ done_front p i ds
+
+-- the next list has its new names
+pub front_named : (p : Name) (i : ℕ) (ds : List DonePair) (d : DonePair) → i < length ds → d ≡ get_or ds i d → with_names_at i (relabel p d.names) (done_front p i (plain_done ds)) ≡ done_front p (suc i) (plain_done ds)
+front_named p i [] d h e = absurd (omega (arith, h))
+front_named p zero (x ∷ ds) d h e = ap (λ (y : DonePair). record { first = x.first; second = x.second; names = relabel p y.names } ∷ plain_done ds) e
+front_named p (suc i) (x ∷ ds) d h e = ap (λ rest. record { first = x.first; second = x.second; names = relabel p x.names } ∷ rest) (front_named p i ds d (omega (arith, h)) e)
+
+-- the next list stays where p is not named
+pub front_other : (p : Name) (i : ℕ) (ds : List DonePair) (d : DonePair) → i < length ds → d ≡ get_or ds i d → has d.names p ≡ false → done_front p i (plain_done ds) ≡ done_front p (suc i) (plain_done ds)
+front_other p i [] d h e w = absurd (omega (arith, h))
+front_other p zero (x ∷ ds) d h e w = ap (λ (l : List Name). record { first = x.first; second = x.second; names = l } ∷ plain_done ds) (sym (relabel-absent p x.names (ap (λ (y : DonePair). has y.names p) (sym e) ∙ w)))
+front_other p (suc i) (x ∷ ds) d h e w = ap (λ rest. record { first = x.first; second = x.second; names = relabel p x.names } ∷ rest) (front_other p i ds d (omega (arith, h)) e w)
+
+-- the front of all of them is the whole
+pub front_all : (p : Name) (i : ℕ) (ds : List DonePair) → length ds ≤ i → done_front p i (plain_done ds) ≡ forked_done p (plain_done ds)
+front_all p zero [] h = refl
+front_all p zero (x ∷ ds) h = absurd (omega (arith, h))
+front_all p (suc i) [] h = refl
+front_all p (suc i) (x ∷ ds) h = ap (λ rest. record { first = x.first; second = x.second; names = relabel p x.names } ∷ rest) (front_all p i ds (omega (arith, h)))

@@ -1,17 +1,27 @@
 -- The parts of a state after a fork.
-use Rattle.std.specs.Prelude.{ℕ, zero, suc, List, [], ◌∷◌, ◌≡◌, map, true, false}
-use Rattle.kb_label.specs.Names.{Name, child, relabel}
-use Rattle.kb_cert.specs.declared.certificate.Certificate.{Certificate}
+use Rattle.std.specs.Prelude.{ℕ, zero, suc, List, [], ◌∷◌, ◌≡◌, map}
+use Rattle.kb_label.specs.Names.{Name, relabel}
 use Rattle.mkb_model.specs.Plain.{Plain, PlainNode, Done, GivenUp as OverFor}
-use Rattle.mkb_model.specs.Effects.{certify_in, forked_node, forked_certificates}
-use Rattle.mkb_rules.specs.Kept.{plain_done, plain_certificates}
+use Rattle.mkb_model.specs.Effects.{forked_node}
 use Rattle.mkb_rules.specs.Over.{lists_of}
 use Rattle.mkb_rules.specs.declared.effects.forking.Forked.{Forked}
+use Rattle.mkb_rules.specs.declared.effects.forking.NewNames.{NewNames}
 use Rattle.mkb_rules.specs.declared.state.GivenUp.{GivenUp}
 
 -- the pairs of overlapped rules after a fork of p
 abbrev pub forked_done : Name → List Done → List Done
 forked_done p ds = map (λ (d : Done). record d { names = relabel p d.names }) ds
+
+-- the pairs of overlapped rules, with other names at a place
+abbrev pub with_names_at : ℕ → List Name → List Done → List Done
+with_names_at i l [] = []
+with_names_at zero l (d ∷ ds) = record d { names = l } ∷ ds
+with_names_at (suc i) l (d ∷ ds) = d ∷ with_names_at i l ds
+
+-- the pairs of overlapped rules, with all these new names
+abbrev pub with_new_names : List NewNames → List Done → List Done
+with_new_names [] ds = ds
+with_new_names (n ∷ ns) ds = with_new_names ns (with_names_at n.place n.names ds)
 
 -- those that gave up, after a fork of p
 abbrev pub forked_over : Name → List OverFor → List OverFor
@@ -34,22 +44,20 @@ fork_at p n [] = []
 fork_at p zero (x ∷ xs) = forked_node p x ∷ xs
 fork_at p (suc n) (x ∷ xs) = x ∷ fork_at p n xs
 
--- the parts are those of the board after a fork of p, in which each child has its order
-pub record IsForkOf (b : Plain) (p : Name) (c0 c1 : Certificate) (f : Forked) : Type 0 where
+-- the parts are those of the board after a fork of p
+pub record IsForkOf (b : Plain) (p : Name) (f : Forked) : Type 0 where
   pub living : f.log ≡ relabel p b.living
-  pub done : plain_done f.done.items ≡ forked_done p b.done
+  pub done : with_new_names f.done.items b.done ≡ forked_done p b.done
   pub closed : f.closed ≡ relabel p b.closed
   pub over : lists_of f.over ≡ forked_over p b.over
   pub asleep : f.asleep ≡ relabel p b.asleep
-  pub certificates : plain_certificates f.certificates.items ≡ certify_in (child p true) c1 (certify_in (child p false) c0 (forked_certificates p b.certificates))
 
 -- the board with these parts
 abbrev pub with_parts : Forked → Plain → Plain
 with_parts f b = record b {
   living = f.log;
-  done = plain_done f.done.items;
+  done = with_new_names f.done.items b.done;
   closed = f.closed;
   over = lists_of f.over;
   asleep = f.asleep;
-  certificates = plain_certificates f.certificates.items;
 }

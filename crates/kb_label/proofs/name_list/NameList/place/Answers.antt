@@ -2,7 +2,7 @@ use Rattle.std.proofs.Common.{◌≡◌, ◌∙◌, rules}
 use Rattle.std.specs.List.Sorted.{IsBinarySearchResult}
 use Rattle.std.proofs.lemmas.Fn.{always_returns_same}
 use Rattle.kb_label.specs.Names.{name_cmp, IsInNameOrder}
-use Rattle.kb_label.proofs.Searched.{search-found, search-present, search-absent}
+use Rattle.kb_label.proofs.Searched.{search-found, search-present, search-there, search-left, search-absent}
 use Rattle.kb_label.proofs.name_list.NameList.place.Goals as goal
 
 same : (c : goal.After-binary_search_by) → c.as_slice.result.now ≡ c.args.self.now
@@ -21,6 +21,14 @@ returns-clause-found c =
 pub returns-clause-present : goal.returns-clause-present
 returns-clause-present c =
     rw (← same c) (search-present c.as_slice.result.now c.args.process.now (in_order c) c.binary_search_by.result c.binary_search_by.ensures.bound (searched c))
+
+pub returns-clause-there : goal.returns-clause-there
+returns-clause-there c =
+    rw (← same c) (search-there c.as_slice.result.now c.args.process.now (in_order c) c.binary_search_by.result c.binary_search_by.ensures.bound)
+
+pub returns-clause-left : goal.returns-clause-left
+returns-clause-left c =
+    rw (← same c) (search-left c.as_slice.result.now c.args.process.now (in_order c) c.binary_search_by.result c.binary_search_by.ensures.bound (searched c))
 
 pub returns-clause-absent : goal.returns-clause-absent
 returns-clause-absent c =
