@@ -288,6 +288,13 @@ impl State {
         self.over.reason_of(&self.log, p)
     }
 
+    /// Whether a process is asleep.
+    pub fn is_asleep(&self, p: &Process) -> bool
+        ensures { result ≡ has self.now.asleep p.now }
+    {
+        self.asleep.has(p)
+    }
+
     /// Whether a process is asleep. The search begins at a place, from 0, and leaves the place behind the process, so that of processes
     /// that are asked for in their order each is found in constant time where most of them are asleep.
     pub fn is_asleep_from(&self, p: &Process, place: &mut usize) -> bool
