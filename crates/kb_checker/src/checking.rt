@@ -81,8 +81,12 @@ fn equation_reject(failure: Failure) -> Reject
     }
 }
 
-/// The rules without the steps that they cite.
-fn rules_alone(alloc: Global, rules: &[(Rule, u32)]) -> Result<Vec<Rule>, Memory>
+/// The rules without the steps that they cite, in their order.
+///
+/// # Errors
+///
+/// Want of memory.
+pub fn rules_alone(alloc: Global, rules: &[(Rule, u32)]) -> Result<Vec<Rule>, Memory>
     ensures { IfOk result (λ alone. alone.items ≡ rules_of rules.now) }
 {
     let mut alone = Vec::new(alloc);

@@ -1,7 +1,7 @@
 // The reduction of an answer.
 ghost use Rattle.std.specs.Prelude.{◌≡◌, ◌<◌, ◌++◌, List, IfOk};
 ghost use Rattle.kb_overlap.specs.Trace.{TraceStep};
-ghost use Rattle.kb_checker.specs.Answers.{Answer as Answer_, IsAnswer, IsGoodAnswer, rules_of};
+ghost use Rattle.kb_checker.specs.Answers.{Answer as Answer_, IsAnswer, IsGoodAnswer};
 ghost use Rattle.kb_reduce.specs.Reducing.{IsReducedSystem};
 ghost use Rattle.kb_reduce.specs.Telling.{IsReduction};
 ghost use Rattle.kb_reduce.specs.declared.reduction.Reduction.{Reduction as Reduction_};
@@ -9,7 +9,7 @@ ghost use Rattle.kb_reduce.specs.declared.reduction.Reduction.{Reduction as Redu
 use crate::composing::{Composed, compose};
 use crate::reduction::{Reduction, Why};
 use crate::thinning::thin;
-use kb_checker::{Answer, Checked, check};
+use kb_checker::{Answer, Checked, check, rules_alone};
 use kb_term::{Memory, Rule};
 use kb_trace::Trace;
 use std::alloc::Global;
@@ -52,17 +52,6 @@ pub fn reduce(alloc: Global, a: &Answer) -> Result<Reduction, Memory>
     }
     thin(alloc, &mut rules)?;
     Ok(Reduction::Reduced(with_rules(alloc, a, rules, Trace::new(steps))?))
-}
-
-/// The rules without the steps that they cite.
-fn rules_alone(alloc: Global, rules: &[(Rule, u32)]) -> Result<Vec<Rule>, Memory>
-    ensures { IfOk result (λ alone. alone.items ≡ rules_of rules.now) }
-{
-    let mut alone = Vec::new(alloc);
-    for rule in rules {
-        alone.push(rule.0.clone()?)?;
-    }
-    Ok(alone)
 }
 
 /// The answer with other rules and another trace.

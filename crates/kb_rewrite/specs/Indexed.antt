@@ -1,5 +1,5 @@
--- Rules that are found by an index of their left sides.
-use Rattle.std.specs.Prelude.{ℕ, ◌≤◌, ◌<◌, ◌≡◌, List, length, Some, slice_get, ⊤}
+-- Rules that are found by an index of their left sides, or by the roots of these.
+use Rattle.std.specs.Prelude.{ℕ, ◌≤◌, ◌<◌, ◌≡◌, List, length, All, Some, slice_get, ⊤}
 use Rattle.kb_term.specs.Tree.{Tree}
 use Rattle.kb_term.specs.Rule.{Rule}
 use Rattle.rule_index.specs.declared.mark.Mark.{Mark}
@@ -8,6 +8,8 @@ use Rattle.rule_index.specs.Marks.{marks_of}
 use Rattle.rule_index.specs.Index.{Holds}
 use Rattle.kb_rewrite.specs.declared.system.Lookup.{Lookup}
 use Rattle.kb_rewrite.specs.declared.system.Lookup.TheVariants.{Scan, Index}
+use Rattle.kb_rewrite.specs.declared.roots.Roots.{Roots}
+use Rattle.kb_rewrite.specs.Roots.{IsNoted}
 
 -- each key is the number of a rule, whose left side has the marks
 abbrev pub IsNumbered : List Rule → RuleIndex → Type 0
@@ -34,3 +36,8 @@ pub record IsIndexOf (n : ℕ) (rules : List Rule) (index : RuleIndex) : Type 0 
 abbrev pub Finds : List Rule → Lookup → Type 0
 Finds rules Scan = ⊤
 Finds rules (Index index) = IsIndexOf (length rules) rules index
+
+-- the rules are found so, and the root of each left side is noted
+pub record IsPrepared (rules : List Rule) (lookup : Lookup) (roots : Roots) : Type 0 where
+  pub found : Finds rules lookup
+  pub noted : All (λ (rule : Rule). IsNoted roots rule.left) rules

@@ -1,4 +1,5 @@
 pub mod NormalForm
 pub mod Search
+pub mod Roots
 pub mod Indexed
 pub mod Answers

@@ -6,6 +6,7 @@ mod laws;
 mod normalising;
 mod redex;
 mod rewriting;
+mod roots;
 mod system;
 
 pub use encompassing::found;

@@ -4,6 +4,7 @@ ghost use Rattle.kb_term.specs.View.{tree_of};
 ghost use Rattle.kb_rewrite.specs.Search.{Applies, IsFirstRule, IsRootRedex};
 ghost use Rattle.kb_rewrite.specs.Indexed.{IsNumbered, IsRepeated};
 
+use crate::roots::Roots;
 use kb_match::matches;
 use kb_term::{Memory, Rule, Term, is_variant};
 use rule_index::RuleIndex;
@@ -22,12 +23,14 @@ pub(crate) enum Lookup {
 
 /// Rules in their order, and how the first of them that applies to a term is found.
 ///
-/// Both ways find the same rule. A scan tries each rule at each position and needs no preparation; the index is built once, and
-/// then a position costs what the term and the rules that fit it cost, so it is the one for systems of many rules.
+/// Both ways find the same rule. A scan tries each rule at each position and needs little preparation; the index is built once, and
+/// then a position costs what the term and the rules that fit it cost, so it is the one for systems of many rules. Either way no
+/// rule is tried at a position where the roots of the left sides say that none can match.
 #[derive(Drop)]
 pub struct System<'a> {
     rules: &'a [Rule],
     lookup: Lookup,
+    roots: Roots,
 }
 
 impl<'a> Model for System<'a> {
@@ -35,7 +38,7 @@ impl<'a> Model for System<'a> {
     ghost use Rattle.std.specs.Coded.{coded_list};
     ghost use Rattle.kb_term.specs.Coding.{coded_rule};
     ghost use Rattle.kb_term.specs.Rule.{Rule};
-    ghost use Rattle.kb_rewrite.specs.Indexed.{Finds};
+    ghost use Rattle.kb_rewrite.specs.Indexed.{IsPrepared};
 
     ghost Value = { List Rule };
 
@@ -43,7 +46,7 @@ impl<'a> Model for System<'a> {
 
     ghost view = { λ s. s.rules.now };
 
-    ghost invariant = { λ s. Finds s.rules.now s.lookup };
+    ghost invariant = { λ s. IsPrepared s.rules.now s.lookup s.roots };
 }
 
 impl<'a> System<'a> {
@@ -54,6 +57,7 @@ impl<'a> System<'a> {
         System {
             rules,
             lookup: Lookup::Scan,
+            roots: Roots::of(rules),
         }
     }
 
@@ -76,6 +80,7 @@ impl<'a> System<'a> {
         Ok(System {
             rules,
             lookup: Lookup::Index(index),
+            roots: Roots::of(rules),
         })
     }
 
@@ -96,6 +101,9 @@ impl<'a> System<'a> {
     ) -> Result<Option<usize>, Memory>
         ensures { IfOk result (IsFirstRule (IsRootRedex self.now strict_only (tree_of whole.now) (tree_of t.now))) }
     {
+        if !self.roots.may_match(t) {
+            return Ok(None);
+        }
         match &self.lookup {
             Lookup::Scan => {
                 for i in 0..self.rules.len() {

@@ -24,7 +24,7 @@ bounds-self-inside-i-in-loop-k c =
     let key = c.index.result.now in
     let index = c.in-Index.index in
     let t = tree_of c.args.t.now in
-    let indexed : IsIndexOf (length rules) rules index = subst (Finds rules) c.in-Index.is c.self.invariant in
+    let indexed : IsIndexOf (length rules) rules index = subst (Finds rules) c.in-Index.is c.self.invariant.found in
     let found : IsCandidate index t key = (c.in_ok-keys-in-Index.ensures.keys key).0 (key_at c.in_ok-keys-in-Index.keys.items c.loop-k.k key (omega (arith, c.loop-k-test.true, c.len-k-end.ensures)) c.index.ensures) in
     candidate_inside rules index t key indexed.numbered found
 
@@ -36,7 +36,7 @@ returns-then-branch-2 c =
     let index = c.in-Index.index in
     let t = tree_of c.args.t.now in
     let whole = tree_of c.args.whole.now in
-    let indexed : IsIndexOf (length rules) rules index = subst (Finds rules) c.in-Index.is c.self.invariant in
+    let indexed : IsIndexOf (length rules) rules index = subst (Finds rules) c.in-Index.is c.self.invariant.found in
     let room : c.loop-k.k < length keys = omega (arith, c.loop-k-test.true, c.len-k-end.ensures) in
     let here : key ≡ get_or keys c.loop-k.k 0 = number_at keys c.loop-k.k key room c.index.ensures in
     let found : IsCandidate index t key = (c.in_ok-keys-in-Index.ensures.keys key).0 (key_at keys c.loop-k.k key room c.index.ensures) in
@@ -53,7 +53,7 @@ loop-k-preserved c =
     let index = c.in-Index.index in
     let t = tree_of c.args.t.now in
     let whole = tree_of c.args.whole.now in
-    let indexed : IsIndexOf (length rules) rules index = subst (Finds rules) c.in-Index.is c.self.invariant in
+    let indexed : IsIndexOf (length rules) rules index = subst (Finds rules) c.in-Index.is c.self.invariant.found in
     let room : c.loop-k.k < length keys = omega (arith, c.loop-k-test.true, c.len-k-end.ensures) in
     let here : key ≡ get_or keys c.loop-k.k 0 = number_at keys c.loop-k.k key room c.index.ensures in
     let found : IsCandidate index t key = (c.in_ok-keys-in-Index.ensures.keys key).0 (key_at keys c.loop-k.k key room c.index.ensures) in
@@ -69,6 +69,6 @@ returns-after-loop-k c j redex =
     let keys = c.in_ok-keys-in-Index.keys.items in
     let t = tree_of c.args.t.now in
     let whole = tree_of c.args.whole.now in
-    let indexed : IsIndexOf (length rules) rules c.in-Index.index = subst (Finds rules) c.in-Index.is c.self.invariant in
+    let indexed : IsIndexOf (length rules) rules c.in-Index.index = subst (Finds rules) c.in-Index.is c.self.invariant.found in
     let f = found_before rules c.args.strict_only whole t c.in-Index.index keys j indexed c.in_ok-keys-in-Index.ensures.matches (subst (λ (rs : List Rule). IsRootRedex rs c.args.strict_only whole t j) (sym c.self.view_is) redex) in
     c.loop-k.invariant f.0 (omega (arith, f.1, c.loop-k-test.false, c.len-k-end.ensures)) (subst (λ (rs : List Rule). IsRootRedex rs c.args.strict_only whole t (get_or keys f.0 0)) c.self.view_is f.3)
