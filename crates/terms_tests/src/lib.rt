@@ -12,6 +12,8 @@ mod matching;
 #[cfg(test)]
 mod overlapping;
 #[cfg(test)]
+mod parts;
+#[cfg(test)]
 mod rewriting;
 #[cfg(test)]
 mod terms;

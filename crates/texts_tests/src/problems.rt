@@ -33,6 +33,19 @@ fn variables_look_like_no_symbol(rt: HostRuntime) -> Result<(), Fail> {
     Ok(())
 }
 
+#[test]
+fn a_problem_gives_its_parts_back(rt: HostRuntime) {
+    let Ok(problem) = parse_problem(rt.alloc(), b"(RULES f(a) == a)") else {
+        panic!(&rt; "not read");
+    };
+    let (signature, equations) = problem.into_parts();
+    let symbols = signature.into_symbols();
+    assert!(rt;
+        symbols.len() == 2 && symbols[0].0.as_slice() == b"f".as_slice() && symbols[0].1 == 1
+    );
+    assert!(rt; equations.len() == 1);
+}
+
 // What is read: how many symbols and equations, or the refusal.
 #[derive(Clone, Copy, Debug, PartialEq, Eq)]
 enum Answer {

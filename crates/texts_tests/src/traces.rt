@@ -161,6 +161,14 @@ fn a_step_has_a_line(rt: HostRuntime) {
 }
 
 #[test]
+fn a_step_gives_its_parts_back(rt: HostRuntime) {
+    let alloc = rt.alloc();
+    let pair = pair_of(alloc, &Term::Var(7), &Term::Var(3)).expect(&rt, "memory");
+    let (origin, pair) = Step::new(Origin::Input(1), pair).into_parts();
+    assert!(rt; matches!(&origin, Origin::Input(1)) && *pair.second() == Term::Var(1));
+}
+
+#[test]
 fn nothing_wanted_of_no_nodes_is_no_trace(rt: HostRuntime) {
     let alloc = rt.alloc();
     let nodes: Vec<(Pair, Origin)> = Vec::new(alloc);
