@@ -1,6 +1,5 @@
 // The line of each entry of a board.
 ghost use Rattle.std.specs.Prelude.{◌≡◌, IfOk, Some, option_map};
-ghost use Rattle.kb_overlap.specs.Trace.{other_side as other_side_of};
 ghost use Rattle.kb_term.specs.View.{tree_of};
 ghost use Rattle.mkb_model.specs.Effects.{node_of};
 ghost use Rattle.mkb_rules.specs.Parts.{plain_nodes};
@@ -9,20 +8,10 @@ ghost use Rattle.kb_journal.specs.EntryLines.{commit_line, line_of as line_of_en
 use crate::entry_line::EntryLine;
 use kb_label::ListLabels;
 use kb_node::{Job, NodeId, NodeTable};
+use kb_overlap::other_side_of;
 use kb_term::{Memory, Pair, Term, canonical};
 use mkb_model::{Effect, Entry, Proposed};
 use std::alloc::Global;
-
-// The side of the pair that is not this one.
-fn other_side(pair: &Pair, side: u8) -> &Term
-    ensures { tree_of result.now ≡ other_side_of pair.now side }
-{
-    if side == 0 {
-        pair.second()
-    } else {
-        pair.first()
-    }
-}
 
 // The node of a pair that one node has.
 fn number_of(nodes: &NodeTable<ListLabels>, pair: &Pair) -> Option<u16>
@@ -47,7 +36,7 @@ fn target_of(
     ensures { IfOk result (λ target. target ≡ option_map (node_of (plain_nodes nodes.now)) (pair_with (plain_nodes nodes.now) node.0 side (tree_of outcome.now))) }
 {
     let before = nodes.pair(node)?;
-    match canonical(alloc, outcome, other_side(&before, side))? {
+    match canonical(alloc, outcome, other_side_of(&before, side))? {
         None => Ok(None),
         Some(pair) => Ok(number_of(nodes, &pair)),
     }

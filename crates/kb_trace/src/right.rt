@@ -3,13 +3,13 @@ ghost use Rattle.std.specs.Prelude.{◌≡◌, ◌≤◌, ◌↔◌, Some, None,
 ghost use Rattle.kb_term.specs.Pair.{ArePairWithin, canonical_pair};
 ghost use Rattle.kb_term.specs.Rule.{IsRule, IsRuleBelow, rule_of as rule_of_pair};
 ghost use Rattle.kb_term.specs.View.{tree_of, equations_of_list};
-ghost use Rattle.kb_overlap.specs.Trace.{item as item_of, side, other_side, IsRightInput, IsRightRewrite, IsRightOverlap, IsOriginOfForm, FollowsBy, IsRightOrigin};
+ghost use Rattle.kb_overlap.specs.Trace.{item as item_of, IsRightInput, IsRightRewrite, IsRightOverlap, IsOriginOfForm, FollowsBy, IsRightOrigin};
 ghost use Rattle.kb_overlap.specs.View.{sides_of};
 ghost use Rattle.kb_trace.specs.Steps.{IsRewritten, IsOverlapped, IsPairWithin, IsCitedRule};
 
 use crate::rule::is_rule;
 use kb_match::match_term;
-use kb_overlap::{Overlap, overlap_at};
+use kb_overlap::{Overlap, other_side_of, overlap_at, side_of};
 use kb_term::{
     Memory, Origin, Pair, Position, Rule, RuleRef, Term, TermFault, apart, canonical, instance_of,
     pair_limit, replace, rule_of, subterm,
@@ -179,19 +179,6 @@ fn is_right_rewrite(
         None => Ok(false),
         Some(result) => is_canonical_pair(alloc, &result, other_side_of(old, w), pair),
     }
-}
-
-/// Side 0 is the first term, any other the second.
-fn side_of(pair: &Pair, w: u8) -> &Term
-    ensures { tree_of result.now ≡ side pair.now w }
-{
-    if w == 0 { pair.first() } else { pair.second() }
-}
-
-fn other_side_of(pair: &Pair, w: u8) -> &Term
-    ensures { tree_of result.now ≡ other_side pair.now w }
-{
-    if w == 0 { pair.second() } else { pair.first() }
 }
 
 /// What the rule makes of the term at the position; none where it doesn't rewrite the term there, or where the result

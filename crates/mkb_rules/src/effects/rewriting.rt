@@ -20,6 +20,7 @@ use crate::nodes::Nodes;
 use crate::state::State;
 use kb_label::{Labels, ListLabels, NameLog, Reason};
 use kb_node::{LabelKind, NodeFault, NodeId};
+use kb_overlap::other_side_of;
 use kb_term::{
     Found, Memory, Origin, Pair, Position, Rule, RuleRef, Term, canonical, numbered_rule,
 };
@@ -116,7 +117,7 @@ impl State {
             position: position.clone()?,
             rule,
         };
-        target_for(alloc, rest_of(&pair, side), outcome, origin)
+        target_for(alloc, other_side_of(&pair, side), outcome, origin)
     }
 
     // What the sources of a rewriting lose.
@@ -177,17 +178,6 @@ impl State {
         let left = met(alloc, &self.log, &sources.names, from_left)?;
         sources.left = strict_only(alloc, kind, left);
         Ok(())
-    }
-}
-
-// The side of the pair that is not this one.
-fn rest_of(pair: &Pair, side: u8) -> &Term
-    ensures { tree_of result.now ≡ other_side pair.now side }
-{
-    if side == 0 {
-        pair.second()
-    } else {
-        pair.first()
     }
 }
 
