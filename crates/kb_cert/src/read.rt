@@ -1,5 +1,5 @@
 // Reading the text of a certificate.
-ghost use Rattle.std.specs.Prelude.{◌≡◌, ◌∷◌, ◌≤◌, ◌<◌, ◌+◌, ◌++◌, ℕ, List, Bool, true, false, take, drop, length, map, decimal, IfOk, MatchOption, IsTrue, ◌↔◌, slice_index, Contains};
+ghost use Rattle.std.specs.Prelude.{◌≡◌, ◌∷◌, ◌≤◌, ◌<◌, ◌+◌, ◌++◌, ℕ, List, Bool, true, false, take, drop, length, map, decimal, IfOk, MatchOption, IsTrue, ◌↔◌, slice_index};
 ghost use Rattle.kb_term.specs.Signature.{SymbolEntry, IsSignature};
 ghost use Rattle.kb_term.specs.declared.term.Symbol.{Symbol};
 ghost use Rattle.kb_linear.specs.Limits.{interpretation_of};
@@ -11,7 +11,7 @@ ghost use Rattle.kb_cert.specs.Reading.{IsFieldEnd, SpellsNames, SpellsNumbers, 
 use crate::certificate::Certificate;
 use kb_kbo::{Kbo, MAX_WEIGHT};
 use kb_linear::Interp;
-use kb_lpo::Precedence;
+use kb_lpo::{Precedence, is_listed};
 use kb_term::{Memory, Signature, Symbol};
 use std::alloc::Global;
 
@@ -192,24 +192,12 @@ fn read_rows(
     }
 }
 
-/// Whether the symbol is one of these.
-fn is_among(symbols: &[Symbol], f: Symbol) -> bool
-    ensures { IsTrue result ↔ Contains (map (λ (g : Symbol). g.0) symbols.now) f.0 }
-{
-    for i in 0..symbols.len() {
-        if symbols[i] == f {
-            return true;
-        }
-    }
-    false
-}
-
 /// Whether no symbol stands there twice.
 fn are_different(symbols: &[Symbol]) -> bool
     ensures { IsTrue result ↔ AreDifferent (map (λ (f : Symbol). f.0) symbols.now) }
 {
     for i in 0..symbols.len() {
-        if is_among(&symbols[i + 1..], symbols[i]) {
+        if is_listed(&symbols[i + 1..], symbols[i]) {
             return false;
         }
     }

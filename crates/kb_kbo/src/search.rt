@@ -13,7 +13,7 @@ use crate::known::Known;
 use crate::level::MAX_SYMBOLS;
 use crate::needs::{Asked, asked_of, gather, may_orient};
 use crate::order::greater;
-use kb_lpo::Precedence;
+use kb_lpo::{Precedence, is_listed};
 use kb_term::{Memory, Rule, Signature, Symbol};
 use std::alloc::Global;
 
@@ -32,18 +32,6 @@ fn orients(weights: &[u8], symbols: &[Symbol], rules: &[Rule]) -> bool
         }
     }
     true
-}
-
-/// Whether the symbol is listed.
-fn is_listed(symbols: &[Symbol], f: Symbol) -> bool
-    ensures { IsTrue result ↔ Contains (numbers symbols.now) f.0 }
-{
-    for i in 0..symbols.len() {
-        if symbols[i] == f {
-            return true;
-        }
-    }
-    false
 }
 
 /// Whether `f` may stand behind the listed symbols: it is none of them, and no other is known to be above it.

@@ -15,4 +15,4 @@ pub use laws::{
 };
 pub use order::{agreement, is_above, lpo_greater};
 pub use precedence::Precedence;
-pub use search::{search_lpo, search_lpo_from};
+pub use search::{is_listed, search_lpo, search_lpo_from};

@@ -132,7 +132,7 @@ fn decided(known: &Known, rules: &[Rule], before: Option<Known>) -> Option<Known
 }
 
 /// Whether the symbol is listed.
-fn is_listed(symbols: &[Symbol], f: Symbol) -> bool
+pub fn is_listed(symbols: &[Symbol], f: Symbol) -> bool
     ensures { IsTrue result ↔ Contains (numbers symbols.now) f.0 }
 {
     for i in 0..symbols.len() {
