@@ -1,5 +1,5 @@
 -- Symbols that are all different, and names that tell them apart.
-use Rattle.std.proofs.Common.{ℕ, zero, suc, ◌+◌, ◌-◌, ◌≤◌, ◌<◌, ◌≡◌, ⊎_elim, refl, sym, ap, ap₂, ◌∙◌, subst, arith, List, [], ◌∷◌, ◌++◌, length, map, filter, take, drop, get_or, All, Contains, true, false, ◌==◌, zero-lt-suc, suc-le-suc}
+use Rattle.std.proofs.Common.{ℕ, zero, suc, ◌+◌, ◌-◌, ◌≤◌, ◌<◌, ◌≡◌, ⊎_elim, refl, sym, ap, ap₂, ◌∙◌, subst, arith, List, [], ◌∷◌, ◌++◌, length, map, filter, take, drop, get_or, All, Contains, true, ◌==◌, zero-lt-suc, suc-le-suc}
 use Rattle.std.specs.Prelude.{not, ◌&&◌, nat_eq, nat_lt}
 use Rattle.std.specs.List.{list_all}
 use Rattle.std.proofs.lemmas.Bool.{cases_lt, lt-ltb, eq-eqb, eqb-true, ne_eqb, ltb-true, and_parts}
@@ -134,11 +134,6 @@ precedence_twice sig s text count old new c o h n symbols p =
     let a = names_read sig text count old new c o h in
     let r = precedence_from sig symbols p.precedence_is in
     n (subst AreDifferent (same_names sig s symbols (numbers new) r.within a.each (p.spelling ∙ sym a.spelling)) r.different)
-
-pub precedence_unread : (sig : Signature) (text : List ℕ) (count : ℕ) (old new : List Symbol) → count ≡ length sig → SpellsNames sig count text old new false → (symbols : List ℕ) → ¬ IsPrecedenceText sig text symbols
-precedence_unread sig text count old new c h symbols p =
-    let r = precedence_from sig symbols p.precedence_is in
-    h symbols (record { count_is = r.count ∙ sym c; each = r.within; spelling = p.spelling })
 
 -- a symbol among those behind it, as the program reads them
 pub among_behind : (symbols : List Symbol) (i : ℕ) (d : Symbol) → i < length symbols → Contains (numbers (take (length symbols - (i + 1)) (drop (i + 1) symbols))) (get_or symbols i d).0 → Contains (numbers (drop (i + 1) symbols)) (get_or (numbers symbols) i 0)

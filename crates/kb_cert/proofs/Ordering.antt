@@ -1,6 +1,6 @@
 -- What a member orders, by lists of rules: no rules, sublists, renamed rules, and one rule more.
 use Rattle.std.proofs.Common.{ℕ, ◌≡◌, subst₂, arith, List, [], ◌∷◌, ◌++◌, All, Contains}
-use Rattle.std.proofs.lemmas.List.Elements.{All-contains, All-nil, All-head, All-cons, All-push, Contains-get_or}
+use Rattle.std.proofs.lemmas.List.Elements.{All-contains, All-nil, All-head, All-push, Contains-get_or}
 use Rattle.kb_term.specs.Tree.{Tree, variable}
 use Rattle.kb_term.specs.Substitution.{rename}
 use Rattle.kb_term.specs.Rule.{Rule}
@@ -54,7 +54,3 @@ pub orders_push : (c : Certificate) (rules : List Rule) (r : Rule) → Orders c 
 orders_push (Lpo p) rules r h k = All-push (λ (r : Rule). LpoGreater p r.left r.right) rules r h (All-head (λ (r : Rule). LpoGreater p r.left r.right) r [] k)
 orders_push (Linear i) rules r h k = All-push (λ (r : Rule). LinearGreater i r.left r.right) rules r h (All-head (λ (r : Rule). LinearGreater i r.left r.right) r [] k)
 orders_push (Kbo o) rules r h k = All-push (λ (r : Rule). KboGreater o r.left r.right) rules r h (All-head (λ (r : Rule). KboGreater o r.left r.right) r [] k)
-
--- one rule that is greater on its left
-pub one_ordered : (P : Rule → Type 0) (r : Rule) → P r → All P (r ∷ [])
-one_ordered P r h = All-cons P r [] h (All-nil P)

@@ -1,6 +1,6 @@
 -- What comparisons ask, and the table of all rules.
 use Rattle.std.proofs.Common.{ℕ, zero, suc, ◌≡◌, ◌<◌, ◌≤◌, ◌+◌, ◌*◌, refl, sym, ap, ◌∙◌, subst, subst₂, arith, List, [], ◌∷◌, ◌++◌, length, get_or, drop}
-use Rattle.std.specs.Prelude.{Vec, slice_index}
+use Rattle.std.specs.Prelude.{Vec}
 use Rattle.std.specs.declared.alloc.Global.{Global}
 use Rattle.std.proofs.lemmas.List.{append_assoc}
 use Rattle.std.proofs.lemmas.List.Elements.{All-append}
@@ -10,9 +10,7 @@ use Rattle.kb_kbo.specs.KnuthBendix.{KboOrder, KboGreater, weight, weight_in, sy
 use Rattle.kb_kbo.specs.Measures.{order_of}
 use Rattle.kb_kbo.specs.Orders.{KboOrients}
 use Rattle.kb_kbo.specs.Asking.{value_of, Asks, AsksAtTie, AreAsked, AreAskedAll}
-use Rattle.kb_kbo.specs.Search.{IsBetween}
 use Rattle.kb_kbo.specs.declared.level.Level.{Level}
-use Rattle.kb_kbo.specs.declared.level.Tally.{Tally}
 use Rattle.kb_linear.specs.Forms.{weighted}
 use Rattle.std.proofs.Math.Nat.{mul-le-mul_left}
 use Rattle.std.proofs.Math.Seq.{drop-cons}
@@ -79,11 +77,3 @@ asked_cons order levels i d h a =
     let n : suc i ≡ i + 1 = omega arith in
     let e : drop i levels ≡ get_or levels i d ∷ drop (i + 1) levels = drop-cons levels i d h ∙ ap (λ (m : ℕ). get_or levels i d ∷ drop m levels) n in
     subst (Asks order) e a
-
--- a value that is computed is that of the order
-pub value_is : (order : KboOrder) (weights : List ℕ) (tally : Tally) (value : ℕ) → IsBetween order weights weights → ((a : ℕ → ℕ) → ((f : ℕ) → f < 8 → slice_index weights f ≤ a f) → value ≤ value_of tally a)
-    → ((a : ℕ → ℕ) → ((f : ℕ) → f < 8 → a f ≤ slice_index weights f) → value_of tally a ≤ value) → value ≡ value_of tally (symbol_weight order)
-value_is order weights tally value b l m =
-    let h = l (symbol_weight order) (λ f k. (b f k).0) in
-    let k = m (symbol_weight order) (λ f k. (b f k).1) in
-    omega arith

@@ -7,7 +7,7 @@ use Rattle.kb_term.specs.View.{tree_of}
 use Rattle.kb_term.specs.declared.term.Term.{Term}
 use Rattle.kb_lpo.specs.PathOrder.{IsAbove, LpoGreater}
 use Rattle.kb_lpo.specs.Agreeing.{At, Between, HasWitness, IsAgreement, IsNoWitness}
-use Rattle.kb_lpo.proofs.Exact.{by_symbol, by_arguments, by_witness, each_below, witness_by_symbol, witness_behind, witness_at_end, greater_at_difference, not_both_ways}
+use Rattle.kb_lpo.proofs.Exact.{by_symbol, by_arguments, by_witness, each_below, witness_by_symbol, witness_behind, witness_at_end, not_both_ways}
 use Rattle.kb_lpo.proofs.Exact as Exact
 use Rattle.kb_lpo.proofs.Places.{at_same, at_within}
 
@@ -39,9 +39,6 @@ module _ (p : List ℕ) (s t : Tree) (f g : ℕ) (ss ts : List Tree) (es : s ≡
 
   pub witness_after_end : (n : ℕ) → f ≡ g → IsAgreement ss ts n → (length ss ≤ n) ⊎ (length ts ≤ n) → LpoGreater p s t → HasWitness p t ss n
   witness_after_end n e a h l = subst (λ z. HasWitness p z ss n) (sym (same_symbol e)) (witness_at_end p f n ss ts a h (subst₂ (LpoGreater p) es (same_symbol e) l))
-
-  pub difference_needed : (n : ℕ) → f ≡ g → IsAgreement ss ts n → LpoGreater p s t → Between (IsNoWitness p t) ss (n + 1) (length ss) → (u v : Tree) → At ss n u → At ts n v → LpoGreater p u v
-  difference_needed n e a l b u v c d = greater_at_difference p f n (length ss) ss ts u v a c d (omega arith) (subst (λ z. Between (IsNoWitness p z) ss (n + 1) (length ss)) (same_symbol e) b) (subst₂ (LpoGreater p) es (same_symbol e) l)
 
 -- where there is a witness, one is found before the end
 pub witness_before : (p : List ℕ) (t : Tree) (items : List Term) (n i : ℕ) → HasWitness p t (map tree_of items) n → Between (IsNoWitness p t) (map tree_of items) n i → i < length items

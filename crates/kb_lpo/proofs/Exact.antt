@@ -126,10 +126,6 @@ variable_above p s x l = occurs_to x s (lesser_variables x (path_from_lpo p l) r
 pub part_below : (p : List ℕ) (g k : ℕ) (s : Tree) (ts : List Tree) (v : Tree) → At ts k v → LpoGreater p s (apply g (trees_of ts)) → LpoGreater p s v
 part_below p g k s ts v a l = lpo_from_path p (path_trans p (path_from_lpo p l) v (has_argument (at_argument ts k v a)))
 
--- with no witness behind it, the first difference is greater
-pub greater_at_difference : (p : List ℕ) (f n i : ℕ) (ss ts : List Tree) (u v : Tree) → IsAgreement ss ts n → At ss n u → At ts n v → length ss ≤ i → Between (IsNoWitness p (apply f (trees_of ts))) ss (n + 1) i → LpoGreater p (apply f (trees_of ss)) (apply f (trees_of ts)) → LpoGreater p u v
-greater_at_difference p f n i ss ts u v g a b h w l = ⊎_elim (λ m. m) (λ m. absurd (not_behind_difference p f n i ss ts u v g a b m h w l)) (lpo_decides p u v)
-
 -- with no witness, the symbol is above
 pub symbol_needed : (p : List ℕ) (f g i : ℕ) (ss ts : List Tree) → ¬ (f ≡ g) → length ss ≤ i → Between (IsNoWitness p (apply g (trees_of ts))) ss 0 i → LpoGreater p (apply f (trees_of ss)) (apply g (trees_of ts)) → IsAbove p f g
 symbol_needed p f g i ss ts d h w l = ⊎_elim (λ a. a) (λ n. absurd (not_by_symbol p f g i ss ts d (λ a. omega arith) h w l)) (cases_lt (place_in p f) (place_in p g))
@@ -166,16 +162,3 @@ witness_at_end p f n ss ts g e l = ⊎_elim (λ w. w) (λ h. absurd (not_behind_
 
 pub each_below : (p : List ℕ) (g n i : ℕ) (s : Tree) (ts : List Tree) → LpoGreater p s (apply g (trees_of ts)) → Between (λ u. LpoGreater p s u) ts n i
 each_below p g n i s ts l k u h j a = part_below p g k s ts u a l
-
--- a symbol that is not above needs a witness
-pub only_at : (p : List ℕ) (t : Tree) (xs : List Tree) (k i : ℕ) (u : Tree) → At xs k u → ¬ (u ≡ t) → length xs ≤ i → Between (IsNoWitness p t) xs 0 k → Between (IsNoWitness p t) xs (k + 1) i → HasWitness p t xs 0 → LpoGreater p u t
-only_at p t xs k i u a d h before behind (j, v, q, b, w) = go (cases_lt j k) (cases_eq j k) w
-  where
-    l : j < length xs
-    l = at_within xs j v b
-
-    go : (j < k) ⊎ (k ≤ j) → (j ≡ k) ⊎ (j ≡ k → ⊥) → (v ≡ t) ⊎ LpoGreater p v t → LpoGreater p u t
-    go (inl m) e w = let n = before j v q m b in absurd (⊎_elim n.0 n.1 w)
-    go (inr m) (inl e) (inl y) = absurd (d (at_same xs k u v a (subst (λ z. At xs z v) e b) ∙ y))
-    go (inr m) (inl e) (inr y) = subst (λ z. LpoGreater p z t) (sym (at_same xs k u v a (subst (λ z. At xs z v) e b))) y
-    go (inr m) (inr e) w = let n = behind j v (omega (arith, e)) (omega (arith, l)) b in absurd (⊎_elim n.0 n.1 w)

@@ -95,15 +95,6 @@ extended_new n s es new a is = subst (IsExtended (n ∷ []) (λ k. k n ≡ s) es
   single = λ g. gives_append (substitution_of (es ++ (n, s) ∷ [])) es ((n, s) ∷ []) (gives_other (substitution_of es) (substitution_of (es ++ (n, s) ∷ [])) es (λ x c. substitution_kept es ((n, s) ∷ []) x c) g) (substitution_new es n s a, tt);
 })
 
--- no patterns
-pub extended_none : (E : (ℕ → Tree) → Type 0) (es : List (ℕ × Tree)) → ((k : ℕ → Tree) → E k) → IsExtended [] E es es
-extended_none E es h = record {
-  variables = λ vs e. e ∙ ap distinct (sym (append-nil vs));
-  there = λ k g _. g;
-  back = λ k g. (g, h k);
-  single = λ g. g;
-}
-
 -- one after another
 extended_both : (xs ys : List ℕ) (E F : (ℕ → Tree) → Type 0) (ds bs cs : List (ℕ × Tree)) → IsExtended xs E ds bs → IsExtended ys F bs cs → IsExtended (xs ++ ys) (λ k. E k × F k) ds cs
 extended_both xs ys E F ds bs cs a b = record {

@@ -40,9 +40,6 @@ sides_eq-same s t h =
     let both = and_parts (s.first.0 == t.first.0) (s.second.0 == t.second.0) h in
     λ i. record { first = record { 0 = eqb-true s.first.0 t.first.0 both.0 i }; second = record { 0 = eqb-true s.second.0 t.second.0 both.1 i } }
 
-sides_eq-refl : (s : Sides) → sides_eq s s ≡ true
-sides_eq-refl s = ap₂ ◌&&◌ (eq_itself s.first.0) (eq_itself s.second.0)
-
 -- ---- where no key is found
 
 less_after : {X : Type 0} (p : X → Bool) (xs : List X) → nat_lt (1 + position_or_len p xs) (suc (length xs)) ≡ false → nat_lt (position_or_len p xs) (length xs) ≡ false

@@ -26,10 +26,6 @@ use Rattle.kb_term.proofs.Variants.{rename-rename, rename_same, variables_rename
 use Rattle.kb_term.proofs.Subtrees.{subtree-instance, replace-there, subtree_variables}
 use Rattle.kb_overlap.proofs.Uniqueness.{variables_of_rule, shift, shifted_unifies}
 
--- 64 added to each variable, and taken off
-add_64 : ℕ → ℕ
-add_64 n = n + 64
-
 renamed_back : (t : Tree) → rename (λ n. n - 64) (rename (λ n. n + 64) t) ≡ t
 renamed_back t = rename-rename (λ n. n - 64) (λ n. n + 64) t ∙ rename_same (λ n. n + 64 - 64) t (λ x c. omega arith)
 

@@ -1,12 +1,12 @@
 -- The limit that the two sides of an overlap pass, from sizes and depths of their parts.
-use Rattle.std.proofs.Common.{ℕ, zero, suc, ◌+◌, ◌≤◌, ◌≡◌, refl, sym, ap, ap₂, ◌∙◌, arith, List, [], ◌∷◌, length, Option, Some, None, option_map, option_and_then, Bool, true, false}
+use Rattle.std.proofs.Common.{ℕ, zero, suc, ◌+◌, ◌≤◌, ◌≡◌, refl, sym, ap, ap₂, ◌∙◌, arith, List, [], ◌∷◌, Option, Some, None, option_map, option_and_then, Bool, true, false}
 use Rattle.std.specs.Prelude.{min, nat_lt, ◌||◌}
 use Rattle.std.proofs.lemmas.Option.{same_Some}
 use Rattle.kb_term.specs.Tree.{Tree, Trees, variable, apply, no_trees, more_trees, tree_size, trees_size, tree_depth, trees_depth}
 use Rattle.kb_term.specs.Position.{argument, with_argument, subtree_at, replace_at}
-use Rattle.kb_term.specs.Pair.{first_limit, limit_if, term_limit, pair_limit, variables_of_pair}
+use Rattle.kb_term.specs.Pair.{first_limit, limit_if, pair_limit}
 use Rattle.kb_term.specs.declared.limit.Limit.{Limit}
-use Rattle.kb_term.specs.declared.limit.Limit.TheVariants.{Size, Depth, Variables}
+use Rattle.kb_term.specs.declared.limit.Limit.TheVariants.{Size, Depth}
 use Rattle.kb_unify.specs.Extent.{IsExtent}
 use Rattle.kb_unify.specs.declared.extent.Extent.{Extent}
 use Rattle.kb_overlap.specs.Found.{parts_limit}
@@ -77,18 +77,6 @@ pair_limit-size s t h = rw h refl
 
 pub pair_limit-depth : (s t : Tree) → (nat_lt 512 (tree_size s) || nat_lt 512 (tree_size t)) ≡ false → (nat_lt 64 (tree_depth s) || nat_lt 64 (tree_depth t)) ≡ true → pair_limit s t ≡ Some Depth
 pair_limit-depth s t h k = rw (h, k) refl
-
--- the limit of the second side, where the first passes none
-pub pair_limit-second : (s t : Tree) (limit : Limit) → tree_size s ≤ 512 → tree_depth s ≤ 64 → term_limit t ≡ Some limit → pair_limit s t ≡ Some limit
-pair_limit-second s t limit h k e =
-    let a : nat_lt 512 (tree_size s) ≡ false = grind arith in
-    let b : nat_lt 64 (tree_depth s) ≡ false = grind arith in
-    rw (a, b) (go (nat_lt 512 (tree_size t)) (nat_lt 64 (tree_depth t)) e)
-  where
-    go : (x y : Bool) → first_limit (limit_if x Size ∷ limit_if y Depth ∷ []) ≡ Some limit → first_limit (limit_if x Size ∷ limit_if y Depth ∷ limit_if (nat_lt 64 (length (variables_of_pair s t))) Variables ∷ []) ≡ Some limit
-    go true y e = e
-    go false true e = e
-    go false false e = absurd (cc)
 
 -- tests of capped numbers
 cap-size : (n m : ℕ) → m ≡ min n 513 → nat_lt 512 m ≡ nat_lt 512 n

@@ -26,14 +26,6 @@ pub record IsCriticalPair (outer inner : Rule) (p : List ℕ) (m : ℕ → Tree)
   pub by_outer : s ≡ instance m outer.right
   pub by_inner : replace_at (instance m outer.left) p (instance m inner.right) ≡ Some t
 
--- s and t are the critical pair of the two rules at p, up to the choice of variables
-pub record IsOverlap (outer inner : Rule) (p : List ℕ) (s t : Tree) : Type 0 where
-  pub renamed : Rule
-  pub m : ℕ → Tree
-  pub renamed_apart : IsRenamedApart outer inner renamed
-  pub overlaps : OverlapsAt outer renamed p m
-  pub pair : IsCriticalPair outer renamed p m s t
-
 -- the limit that an overlap passes: by a term that m gives to a variable, else by the peak, else by the pair
 abbrev pub overlap_limit : Rule → Rule → (ℕ → Tree) → Tree → Tree → Option Limit
 overlap_limit outer inner m s t =

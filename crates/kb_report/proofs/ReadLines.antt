@@ -39,9 +39,6 @@ line_is_read P f text line rest x l i = line_read P f text x rest (this_line P f
 pub not_begun : (line word xs : List ℕ) → pointwise nat_eq (take (length word) line) word ≡ false → ¬ (line ≡ word ++ xs)
 not_begun line word xs h e = other_text (take (length word) line) word (sym h) (ap (take (length word)) e ∙ take_front word xs)
 
-pub no_count : (line word digits : List ℕ) (highest : ℕ) → highest ≤ 5000 → line ≡ word ++ digits → ((n : ℕ) → n < 100000 → ¬ (decimal n ≡ digits)) → (n : ℕ) → ¬ IsLineOf (λ n. n ≤ highest) (counted_line word) line n
-no_count line word digits highest l e h n k = let small = k.form in h n (omega arith) (append_cancel_left word (decimal n) digits (sym k.spelling ∙ e))
-
 pub high_count : (line word digits : List ℕ) (highest number : ℕ) → highest ≤ 5000 → line ≡ word ++ digits → number < 100000 → decimal number ≡ digits → highest < number → (n : ℕ) → ¬ IsLineOf (λ n. n ≤ highest) (counted_line word) line n
 high_count line word digits highest number l e b d h n k =
     let small = k.form in

@@ -7,7 +7,7 @@ use Rattle.kb_term.specs.Pair.{term_limit}
 use Rattle.kb_term.specs.Rule.{Rule}
 use Rattle.kb_term.specs.Proving.{IsPath}
 use Rattle.kb_term.specs.declared.limit.Limit.{Limit}
-use Rattle.kb_rewrite.specs.NormalForm.{StrategyStep, IsRunWithinLimits, HasNoRedex, NormalisesTo, form, long, large}
+use Rattle.kb_rewrite.specs.NormalForm.{StrategyStep, IsRunWithinLimits, HasNoRedex, NormalisesTo, form, large}
 use Rattle.kb_rewrite.proofs.Irreducible.{normal_from}
 
 -- a path, and one step more
@@ -34,6 +34,3 @@ answers_form rules t u n (path, h, e) few none = (path, h, e, few, normal_from r
 
 pub answers_large : (rules : List Rule) (t u v : Tree) (n : ℕ) (l : Limit) → Run rules t u n → n < 10000 → StrategyStep rules u v → term_limit v ≡ Some l → NormalisesTo rules t (large l)
 answers_large rules t u v n l (path, h, e) few s limit = (path, u, v, h, omega (arith, few, e), s, limit)
-
-pub answers_long : (rules : List Rule) (t u v : Tree) → Run rules t u 10000 → StrategyStep rules u v → NormalisesTo rules t (long 10000)
-answers_long rules t u v (path, h, e) (p, i, first, w) = (refl, path, u, h, e, (p, i, first.redex))

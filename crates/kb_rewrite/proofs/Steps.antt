@@ -33,9 +33,6 @@ take-whole : (us : List Tree) → take (length us) us ≡ us
 take-whole [] = refl
 take-whole (u ∷ us) = ap (u ∷◌) (take-whole us)
 
-pub whole-taken : (us : List Tree) (n : ℕ) → n ≡ length us → take n us ≡ us
-whole-taken us n e = ap (λ j. take j us) e ∙ take-whole us
-
 -- a rule that is used at a position where its left side matches
 pub rewrites_at : (rule : Rule) (p : List ℕ) (m : ℕ → Tree) (t made : Tree) (answer : Result Term TermFault) → subtree_at t p ≡ Some (instance m rule.left) → made ≡ instance m rule.right → IsSomeAnd (replace_at t p made) (λ v. IsLimitedAnswer v answer) → (v : Tree) × RewritesAt rule p t v × IsLimitedAnswer v answer
 rewrites_at rule p m t made answer at is h =

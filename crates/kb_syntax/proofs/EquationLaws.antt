@@ -1,11 +1,11 @@
 -- Equations, one token more.
-use Rattle.std.proofs.Common.{◌≡◌, refl, ap, sym, ◌∙◌, ℕ, List, [], Option, Some, None, Bool, true, false}
+use Rattle.std.proofs.Common.{◌≡◌, refl, sym, ℕ, List, [], Option, Some, None, false}
 use Rattle.std.specs.Prelude.{option_map, option_and_then, is_some}
 use Rattle.kb_text.specs.Tokens.{Token, arrow, equals}
 use Rattle.kb_text.specs.Grammar.{Sign, Written}
-use Rattle.kb_text.specs.Fronts.{TermFront, in_left, behind_sign, in_right}
+use Rattle.kb_text.specs.Fronts.{TermFront, in_left, behind_sign}
 use Rattle.kb_text.specs.Machine.{next_term, next_equation, is_whole, sign_of, or_try}
-use Rattle.kb_syntax.specs.Sides.{token_at, where_so}
+use Rattle.kb_syntax.specs.Sides.{token_at}
 use Rattle.kb_text.specs.declared.lexer.Form.{Form}
 use Rattle.kb_text.specs.declared.lexer.Form.TheVariants.{Mark as MarkForm, Identifier, End}
 use Rattle.kb_text.specs.declared.lexer.Mark.TheVariants.{Arrow, Equals}
@@ -31,19 +31,3 @@ same_sign : (f : Form) (name : List ℕ) → sign_of (token_at f []) ≡ sign_of
 same_sign (MarkForm m) name = refl
 same_sign Identifier name = refl
 same_sign End name = refl
-
--- a token that is no sign goes on with the left side
-pub left_goes_on : (u v : TermFront) (b : Bool) (f : Form) (name : List ℕ) → is_some (sign_of (token_at f [])) ≡ false → where_so b v ≡ next_term u (token_at f name) → where_so b (in_left v) ≡ next_equation (in_left u) (token_at f name)
-left_goes_on u v b f name h e =
-    go b ∙ (λ i. or_try (option_map in_left (e i)) (sym (no_sign (sign_of (token_at f name)) (is_whole u) behind_sign (ap is_some (sym (same_sign f name)) ∙ h)) i))
-  where
-    go : (b : Bool) → where_so b (in_left v) ≡ or_try (option_map in_left (where_so b v)) None
-    go true = refl
-    go false = refl
-
-pub right_goes_on : (l : Written) (s : Sign) (u v : TermFront) (b : Bool) (t : Token) → where_so b v ≡ next_term u t → where_so b (in_right l s v) ≡ next_equation (in_right l s u) t
-right_goes_on l s u v b t e = go b ∙ ap (option_map (in_right l s)) e
-  where
-    go : (b : Bool) → where_so b (in_right l s v) ≡ option_map (in_right l s) (where_so b v)
-    go true = refl
-    go false = refl

@@ -1,5 +1,5 @@
 -- The name alone at the end of a side is the last token.
-use Rattle.std.proofs.Common.{◌≡◌, refl, ap, sym, ◌∙◌, subst, ℕ, zero, suc, List, [], Option, Some, None, Bool, true, false, cond, ◌&&◌}
+use Rattle.std.proofs.Common.{◌≡◌, refl, ap, sym, ◌∙◌, subst, ℕ, zero, suc, List, [], Option, Some, None, Bool, true, false, cond}
 use Rattle.std.specs.Prelude.{is_some, option_and_then, option_map}
 use Rattle.std.proofs.lemmas.Option.{same_Some}
 use Rattle.kb_lemmas.proofs.Options.{some_of_map}
@@ -8,7 +8,7 @@ use Rattle.kb_text.specs.Tokens.{Token, left_paren, right_paren, comma, identifi
 use Rattle.kb_text.specs.Grammar.{Written, alone, applied, Arguments, no_arguments, argument, WrittenEquation}
 use Rattle.kb_text.specs.Fronts.{TermFront, whole, opened, within, EquationFront, in_left, behind_sign, in_right}
 use Rattle.kb_text.specs.Machine.{next_term, with_last, behind_argument, next_equation, whole_equation, or_try, begin_term, is_whole, sign_of}
-use Rattle.kb_text.specs.Refusals.{last_alone, is_some_and}
+use Rattle.kb_text.specs.Refusals.{last_alone}
 use Rattle.kb_syntax.specs.Looks.{Look, outside, at_word, at_variables, at_rules, at_equation, at_skipped, look_side, next_look, next_in_rules, word_look, added_variables, with_names, spot_at, Spot}
 use Rattle.kb_syntax.specs.Sides.{equation_side}
 use Rattle.kb_syntax.specs.Reader.{IsNextReader, TellsLast, name_notes, use_notes, prepared, place_look}
@@ -155,23 +155,3 @@ pub told_start : (vars : List Name) (l : Look) → l ≡ outside → TellsLast v
 told_start vars l h = λ c e.
     let no : None ≡ Some c = ap (λ (l : Look). option_and_then last_alone (look_side l)) (sym h) ∙ e in
     absurd (cc)
-
--- whether a variable alone ends a side, as it is told
-pub told_last : (vars : List Name) (u : TermFront) (b : Bool) → TellsLast vars (Some u) b → (b && is_some (last_alone u)) ≡ is_some_and (last_alone u) (is_among vars)
-told_last vars u b h = go (last_alone u) h
-  where
-    by : (b : Bool) → (b && true) ≡ b
-    by true = refl
-    by false = refl
-
-    go : (o : Option Name) → ((c : Name) → o ≡ Some c → b ≡ is_among vars c) → (b && is_some o) ≡ is_some_and o (is_among vars)
-    go None h = no b
-      where
-        no : (b : Bool) → (b && false) ≡ false
-        no true = refl
-        no false = refl
-    go (Some c) h = by b ∙ h c refl
-
--- where it is told, none clashes alone
-pub told_variable : (vars : List Name) (u : TermFront) (c : Name) → TellsLast vars (Some u) true → last_alone u ≡ Some c → is_among vars c ≡ true
-told_variable vars u c h e = sym (h c e)

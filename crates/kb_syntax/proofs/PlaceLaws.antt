@@ -1,5 +1,5 @@
 -- Where tokens stand.
-use Rattle.std.proofs.Common.{◌≡◌, refl, ap, ◌∙◌, arith, ℕ, zero, suc, ◌-◌, List, [], ◌∷◌, get_or, drop}
+use Rattle.std.proofs.Common.{◌≡◌, refl, ap, arith, ℕ, zero, suc, ◌-◌, List, [], get_or, drop}
 use Rattle.std.specs.Prelude.{map}
 use Rattle.kb_text.specs.Tokens.{Placed, tokens_from}
 use Rattle.kb_text.specs.Starts.{first_and_rest}
@@ -9,21 +9,6 @@ use Rattle.kb_text.specs.declared.lexer.Found.{Found}
 
 abbrev pub places : List Placed → List ℕ
 places ts = map (λ (t : Placed). t.at) ts
-
-pub place_first : (bytes : List ℕ) (f : Found) → get_or (places (first_and_rest bytes f)) 0 0 ≡ f.at
-place_first bytes f = go f.form
-  where
-    go : (form : Form) → get_or (places (first_and_rest bytes (record f { form = form }))) 0 0 ≡ f.at
-    go (MarkForm m) = refl
-    go Identifier = refl
-    go End = refl
-
-pub place_end : (bytes : List ℕ) (f : Found) (n : ℕ) → f.form ≡ End → (n ≡ 0 → ⊥) → get_or (places (first_and_rest bytes f)) n 0 ≡ 0
-place_end bytes f n e h = ap (λ (form : Form). get_or (places (first_and_rest bytes (record f { form = form }))) n 0) e ∙ go n h
-  where
-    go : (n : ℕ) → (n ≡ 0 → ⊥) → get_or (f.at ∷ []) n 0 ≡ 0
-    go zero h = absurd (h refl)
-    go (suc n) h = refl
 
 pub place_next : (bytes : List ℕ) (f : Found) (n : ℕ) → (f.form ≡ End → ⊥) → (n ≡ 0 → ⊥) → get_or (places (first_and_rest bytes f)) n 0 ≡ get_or (places (tokens_from 0 f.end (drop f.end bytes))) (n - 1) 0
 place_next bytes f n e h = go f.form e n h

@@ -17,11 +17,10 @@ use Rattle.kb_text.specs.Fronts.{TermFront, in_left, behind_sign, in_right, Sect
 use Rattle.kb_text.specs.Problems.{Spells, MeetsLimits, symbol_names, equation_variables, variables_of, equations_of, all_names, all_uses, arity_in, entry_of, symbols_among, is_rules, equation_of as problem_equation}
 use Rattle.kb_text.specs.Refusals.{ShowNothing, IsFirstShown, IsRefused, by_tokens, place_of, side_of, front_variables, front_names, front_uses, is_open}
 use Rattle.kb_text.specs.Machine.{best, kinds, bad_token, judged, may_end, next_front, first_from, go, from_next, start}
-use Rattle.kb_syntax.specs.Moves.{side_names_of}
-use Rattle.kb_syntax.specs.Looks.{Look, outside, at_word, at_variables, at_rules, at_equation, at_skipped, look_of, look_side, next_look, depth_of, spot_at}
+use Rattle.kb_syntax.specs.Looks.{Look, outside, look_of, look_side, next_look, depth_of, spot_at}
 use Rattle.kb_syntax.specs.Sides.{token_at}
 use Rattle.kb_syntax.specs.Written.{equation_of}
-use Rattle.kb_syntax.specs.Reader.{Stands, place_look, IsNextReader, IsShortSide, AreEmpty, IsProblemNoted, problem_from, count_at, name_notes, use_notes}
+use Rattle.kb_syntax.specs.Reader.{Stands, place_look, IsNextReader, IsShortSide, AreEmpty, IsProblemNoted, problem_from, name_notes, use_notes}
 use Rattle.kb_syntax.specs.Refused.{IsFault, IsRefusal}
 use Rattle.kb_text.specs.declared.kind.Kind.{Kind}
 use Rattle.kb_text.specs.declared.kind.Kind.TheVariants.{BadToken, Unclosed, BadSection}
@@ -37,8 +36,7 @@ use Rattle.kb_text.proofs.Exact.{first_exact, nothing_more, empty_nothing, start
 use Rattle.kb_text.proofs.Sound.{front_sound}
 use Rattle.kb_text.proofs.RunTexts.{closed_at, is_some_is}
 use Rattle.kb_syntax.proofs.LookLaws.{HasDepth, next-look, side-look, front_look}
-use Rattle.kb_syntax.proofs.Known.{count-known}
-use Rattle.kb_syntax.proofs.Fine.{Fine, FineEquation, fine_use, is_short}
+use Rattle.kb_syntax.proofs.Fine.{Fine, fine_use, is_short}
 use Rattle.kb_text.proofs.IdentifierLaws.{AllPairs-map}
 use Rattle.std.proofs.lemmas.Slice.Eq.{bytes_eq-Decides}
 use Rattle.std.proofs.lemmas.Bool.{and_parts}
@@ -87,17 +85,6 @@ start_reached bytes r u e p = record {
 
 -- ---- bounds
 
-few_equations : (n : Notes) (p : Place) (f : Front) → Stands n p f → Fine f → length n.equations.items ≤ 256
-few_equations n p f st fine = omega (arith, fine.count, count-known n f.open_section f.sections st.equations, more n (look_of f.open_section))
-  where
-    more : (n : Notes) (l : Look) → length n.equations.items ≤ count_at n l
-    more n outside = omega arith
-    more n at_word = omega arith
-    more n at_variables = omega arith
-    more n at_rules = omega arith
-    more n (at_equation e) = omega arith
-    more n (at_skipped k) = omega arith
-
 -- a side has no more tokens than stand before
 side_tokens : (o : Option SectionFront) (u : TermFront) → side_of o ≡ Some u → length (term_front_tokens u) ≤ length (open_tokens o)
 side_tokens None u e = absurd (cc)
@@ -125,20 +112,6 @@ short_side bytes at number r b h = subst IsShortSide (sym (ap look_side h.stands
         let some = side_tokens h.front.open_section u e in
         let few_tokens : length (term_front_tokens u) ≤ 1048576 = omega (arith, all, some, number_is, few, within, b) in
         omega (arith, few_tokens)
-
-pub few_noted : (bytes : List ℕ) (at number : ℕ) (r : Reader) → Reached bytes at number r → length r.notes.equations.items ≤ 256
-few_noted bytes at number r h = few_equations r.notes r.place h.front h.stands h.fine
-
-pub small_size : (bytes : List ℕ) (at number : ℕ) (r : Reader) → Reached bytes at number r → r.notes.size ≤ 512
-small_size bytes at number r h = omega (arith, h.stands.size, go h.front.open_section h.fine.open_equation)
-  where
-    go : (o : Option SectionFront) → FineEquation (front_variables h.front) o → length (side_names_of o) ≤ 512
-    go None k = omega arith
-    go (Some begun) k = omega arith
-    go (Some (in_variables xs)) k = omega arith
-    go (Some in_rules) k = omega arith
-    go (Some (in_equation es e)) k = k.size
-    go (Some (in_skipped x ts)) k = omega arith
 
 depth_bound : (ts : List Token) (n m : ℕ) → open_after n ts ≡ Some m → m ≤ n + length ts
 depth_bound [] n m h = omega (arith, same_Some n m h)

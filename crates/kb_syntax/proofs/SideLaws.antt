@@ -226,16 +226,6 @@ bare : (v : Written) → (next_term (whole v) comma ≡ None) × (next_term (who
 bare (alone c) = (refl, refl)
 bare (applied f ts) = (refl, refl)
 
-pub bare_side : (s : Side) (t : WrittenTerm) → s.inner ≡ Whole t → length s.outer.items ≡ 0 → (None ≡ next_term (side_front s) comma) × (None ≡ next_term (side_front s) right_paren)
-bare_side s t e h = (sym (ap (λ (u : TermFront). next_term u comma) is ∙ (bare (written_of t)).0), sym (ap (λ (u : TermFront). next_term u right_paren) is ∙ (bare (written_of t)).1))
-  where
-    go : (xs : List Application) → length xs ≡ 0 → enclosed (map application_of xs) (whole (written_of t)) ≡ whole (written_of t)
-    go [] h = refl
-    go (x ∷ xs) h = absurd (omega arith)
-
-    is : side_front s ≡ whole (written_of t)
-    is = front_is s (Whole t) e ∙ go s.outer.items h
-
 -- the front of a side whose end is whole, with the last application around it
 split_front : (s : Side) (t : WrittenTerm) (outer : List Application) (a : Application) → s.inner ≡ Whole t → s.outer.items ≡ outer ++ a ∷ []
     → side_front s ≡ enclosed (map application_of outer) (within a.name.now (args a.arguments.items) (whole (written_of t)))

@@ -13,7 +13,7 @@ use Rattle.kb_text.proofs.RewrittenLists.{among-append}
 use Rattle.kb_text.proofs.WrittenLists.{number_of-le}
 use Rattle.kb_text.specs.Grammar.{WrittenEquation}
 use Rattle.kb_text.specs.Problems.{equation_variables, names_in, variables_among}
-use Rattle.kb_syntax.specs.Looks.{with_names, is_one_more}
+use Rattle.kb_syntax.specs.Looks.{is_one_more}
 use Rattle.kb_syntax.specs.Variables.{VariableNames, AreNumbered, names_at, with_found, variable_number}
 use Rattle.kb_syntax.proofs.WrittenArguments.{with_names-among, names-firsts}
 use Rattle.kb_syntax.proofs.Numbers.{same_number}
@@ -202,9 +202,6 @@ note-old names is v x e k n p = sym e ∙ (λ i. record { declared = names; foun
     with : cond (is_among names x) (with_name (names_at names is) x) (names_at names is) ≡ names_at names is
     with = (λ i. cond (k i) (cond (found_at names is x true k n (grind (arith, le, p)) i) (names_at names is) (names_at names is ++ x ∷ [])) (names_at names is))
 
-pub note-none : (v : VariableNames) (x : Name) → is_among v.declared x ≡ false → v ≡ noted v x
-note-none v x h = λ i. record v { found = sym (ap (λ (b : Bool). cond b (with_name v.found x) v.found) h) i }
-
 pub place-some : (names : List Name) (is : List ℕ) (v : VariableNames) (x : Name) (at : ℕ) → viewed names is ≡ v → is_among names x ≡ true → AreNumbered names is → at ≡ place_in is (number_of names x) → at < length is → (is_among v.found x ≡ true) × (number_of v.found x ≡ at)
 place-some names is v x at e k n p h = (
   ap (λ (w : VariableNames). is_among w.found x) (sym e) ∙ found_at names is x true k n (grind (arith, p, h)),
@@ -225,13 +222,6 @@ number-some vars x n e = go (is_among vars x) e
     go : (b : Bool) → cond b (Some (number_of vars x)) None ≡ Some n → (b ≡ true) × (n ≡ number_of vars x)
     go true e = (refl, sym (same_Some (number_of vars x) n e))
     go false e = absurd (cc)
-
-pub number-none : (vars : List Name) (x : Name) → variable_number vars x ≡ None → is_among vars x ≡ false
-number-none vars x e = go (is_among vars x) e
-  where
-    go : (b : Bool) → cond b (Some (number_of vars x)) None ≡ None → b ≡ false
-    go true e = absurd (cc)
-    go false e = refl
 
 pub number-is_some : (vars : List Name) (x : Name) → is_some (variable_number vars x) ≡ is_among vars x
 number-is_some vars x = go (is_among vars x)
@@ -283,13 +273,6 @@ one-more names is v x at len n e k m p l c = same ∙ (λ i. not (sym among i)) 
 
 pub with_found-among : (v : VariableNames) (xs ys : List Name) → with_found v (variables_among v.declared (xs ++ ys)) ≡ with_found (with_found v (variables_among v.declared xs)) (variables_among v.declared ys)
 with_found-among v xs ys = λ i. record v { found = with_names-among v.declared v.found xs ys i }
-
-pub noted-found : (v : VariableNames) (x : Name) → noted v x ≡ with_found v (variables_among v.declared (x ∷ []))
-noted-found v x = λ i. record v { found = go (is_among v.declared x) i }
-  where
-    go : (b : Bool) → cond b (with_name v.found x) v.found ≡ with_names v.found (cond b (x ∷ []) [])
-    go true = refl
-    go false = refl
 
 -- the variables that are found in both sides are those of the equation
 pub equation-found : (v none left right : VariableNames) (e : WrittenEquation) → none ≡ record v { found = [] } → left ≡ with_found none (variables_among none.declared (names_in e.left)) → right ≡ with_found left (variables_among left.declared (names_in e.right)) → right ≡ record v { found = equation_variables v.declared e }

@@ -1,9 +1,7 @@
 -- A test of two lists of terms, member by member.
-use Rattle.std.proofs.Common.{◌≡◌, refl, sym, ap, ap₂, ◌∙◌, arith, ℕ, suc, ◌+◌, ◌<◌, ◌≤◌, List, [], ◌∷◌, length, get_or, drop, Bool, true, false}
+use Rattle.std.proofs.Common.{◌≡◌, refl, sym, ap, ap₂, ◌∙◌, ℕ, suc, List, [], ◌∷◌, length, Bool, true, false}
 use Rattle.std.specs.Prelude.{map, ◌&&◌, ◌==◌}
 use Rattle.std.proofs.lemmas.Bool.{eq-eqb, ne_eqb}
-use Rattle.std.proofs.lemmas.List.{drop_all}
-use Rattle.std.proofs.Math.Seq.{drop-cons}
 use Rattle.kb_term.specs.declared.term.Symbol.{Symbol}
 use Rattle.kb_term.specs.declared.term.Term.TheVariants.{App}
 use Rattle.kb_term.specs.Tree.{Tree, variable, apply, trees_of, trees_eq, tree_eq}
@@ -18,14 +16,6 @@ both P [] [] = true
 both P [] (u ∷ us) = false
 both P (t ∷ ts) [] = false
 both P (t ∷ ts) (u ∷ us) = P (tree_of t) (tree_of u) && both P ts us
-
-pub both-more : (P : Tree → Tree → Bool) (ts us : List Term) (i : ℕ) (t u : Term) → i < length ts → i < length us → t ≡ get_or ts i t → u ≡ get_or us i u → both P (drop i ts) (drop i us) ≡ (P (tree_of t) (tree_of u) && both P (drop (i + 1) ts) (drop (i + 1) us))
-both-more P ts us i t u h k d e =
-    let j : i + 1 ≡ suc i = omega arith in
-    rw (drop-cons ts i t h, drop-cons us i u k, j, ← d, ← e) refl
-
-pub both-end : (P : Tree → Tree → Bool) (ts us : List Term) (i : ℕ) → length ts ≤ i → length us ≤ i → both P (drop i ts) (drop i us) ≡ true
-both-end P ts us i h k = ap₂ (both P) (drop_all i ts h) (drop_all i us k)
 
 pub both-long : (P : Tree → Tree → Bool) (ts us : List Term) → ¬ (length ts ≡ length us) → both P ts us ≡ false
 both-long P [] [] n = absurd (n refl)

@@ -33,10 +33,6 @@ has-no_place (y ∷ ys) x h = go (has-no_place ys x) (y == x) refl
         let l : 1 + place_in ys x ≡ suc (length ys) = rw e at k in
         rw e (ih (omega (arith, l)))
 
--- what a list has, its first members have
-take-has : (n x : ℕ) (xs : List ℕ) → length xs ≤ n → has x (take n xs) ≡ has x xs
-take-has n x xs h = ap (has x) (take_all n xs h)
-
 pub names-new : (n : ℕ) (vs names : List ℕ) (x : ℕ) → names ≡ take n (distinct vs) → length names < n → has x names ≡ false → names ++ x ∷ [] ≡ take n (distinct (vs ++ x ∷ []))
 names-new n vs names x e h k =
     let short : length (distinct vs) < n = omega (arith, h, ap (length {A = ℕ}) e, length-take n (distinct vs)) in

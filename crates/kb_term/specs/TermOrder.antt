@@ -115,13 +115,6 @@ term_cmp-total = record {
   congr = λ s t u e. ap (λ k. tree_cmp k (tree_of u)) (tree_cmp-equal (tree_of s) (tree_of t) e);
 }
 
-pub tree_cmp-total : IsTotalOrder tree_cmp
-tree_cmp-total = record {
-  antisymm = tree_flip;
-  trans = tree_less;
-  congr = λ s t u e. ap (λ k. tree_cmp k u) (tree_cmp-equal s t e);
-}
-
 -- whether two pairs are one
 abbrev pub pair_eq : Pair → Pair → Bool
 pair_eq d e = is_eq (pair_cmp d e)

@@ -35,6 +35,6 @@ pub use replacement::replace;
 pub use rule::{Rule, numbered_rule, rule_from, rule_of};
 pub use signature::Signature;
 pub use subst::{Subst, apply, instance_of};
-pub use term::{Symbol, Term, Terms, compare, depth, size, total_size};
+pub use term::{Symbol, Term, Terms, compare, depth, size};
 pub use variables::{apart, has_variables_below, is_rule_below, variable_bound};
 pub use variant::is_variant;

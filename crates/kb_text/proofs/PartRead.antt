@@ -63,16 +63,6 @@ pub record IsPartRead (signature : Signature) (d arity : ℕ) (behind : List ℕ
   pub ends : IsNameEnd (drop at behind)
   pub left : (us : Trees) (rest : List ℕ) → AreBounded signature d us → length (list_of us) ≡ arity → IsNameEnd rest → behind ≡ arguments_text (names_of signature) us ++ rest → IsLeft signature d arity (drop at behind) i rest
 
-pub none_read : (signature : Signature) (d arity : ℕ) (behind : List ℕ) → IsNameEnd behind → IsPartRead signature d arity behind [] 0 0
-none_read signature d arity behind h = record {
-  count = refl;
-  within = omega arith;
-  bounded = tt;
-  spelling = refl;
-  ends = h;
-  left = λ us rest b n e k. (us, b, omega (arith, n), k);
-}
-
 pub part_more : (signature : Signature) → IsSignature signature → (d arity : ℕ) (behind : List ℕ) (items : List Tree) (i at : ℕ) (rest : List ℕ) (t : Tree) (size : ℕ) → IsPartRead signature d arity behind items i at → i < arity → drop at behind ≡ separator i ∷ rest → BeginsWithTerm signature rest d t size
     → IsPartRead signature d arity behind (items ++ t ∷ []) (suc i) (at + (1 + size))
 part_more signature s d arity behind items i at rest t size p l cut b = record {

@@ -1,17 +1,17 @@
 -- The overlap of two rules at one position.
-use Rattle.std.proofs.Common.{ℕ, zero, suc, ◌+◌, ◌≡◌, ◌∙◌, refl, sym, ap, subst, arith, inl, inr, List, [], ◌∷◌, ◌++◌, map, Contains, Option, Some, None, Result, Ok, Err}
+use Rattle.std.proofs.Common.{ℕ, zero, suc, ◌+◌, ◌≡◌, ◌∙◌, refl, sym, ap, subst, arith, inl, inr, List, [], ◌∷◌, map, Contains, Option, Some, None, Ok, Err}
 use Rattle.std.specs.Prelude.{option_and_then}
 use Rattle.std.proofs.lemmas.List.Elements.{Contains-append_left, Contains-append_right, Contains-append_cases}
 use Rattle.kb_lemmas.proofs.Membership.{contains_map, contains_cases, contains_first, contains_behind, contains_mapped}
 use Rattle.kb_term.specs.Tree.{Tree, Trees, variable, apply, no_trees, more_trees}
 use Rattle.kb_term.specs.Position.{argument, subtree_at, function_positions_of, function_positions_in}
-use Rattle.kb_term.specs.Pair.{Pair, canonical_pair}
+use Rattle.kb_term.specs.Pair.{canonical_pair}
 use Rattle.kb_term.specs.Rule.{Rule, IsRuleBelow, apart}
 use Rattle.kb_term.specs.View.{tree_of}
 use Rattle.kb_term.specs.declared.term.Term.{Term}
 use Rattle.kb_term.specs.declared.limit.Limit.{Limit}
 use Rattle.kb_term.proofs.Arguments.{argument-zero}
-use Rattle.kb_overlap.specs.Overlap.{Overlap, IsOverlapOrLimit, IsRenamedApart, HasNoOverlapAt, canonical_sides}
+use Rattle.kb_overlap.specs.Overlap.{Overlap, IsOverlapOrLimit, canonical_sides}
 use Rattle.kb_overlap.specs.Found.{AreVariablesBelow, IsFoundAt}
 use Rattle.kb_overlap.proofs.Finding.{apart_is, none_there}
 use Rattle.kb_overlap.proofs.Uniqueness.{overlap_alike}
@@ -58,10 +58,6 @@ mutual
   function_listed_in no_trees n k p g us e = absurd (cc)
   function_listed_in (more_trees t ts) n zero p g us e = Contains-append_left (map (n ∷◌) (function_positions_of t)) (function_positions_in ts (suc n)) ((0 + n) ∷ p) (subst (λ x. Contains (map (n ∷◌) (function_positions_of t)) (x ∷ p)) (omega arith) (contains_map (n ∷◌) (function_positions_of t) p (function_listed t p g us e)))
   function_listed_in (more_trees t ts) n (suc k) p g us e = Contains-append_right (map (n ∷◌) (function_positions_of t)) (function_positions_in ts (suc n)) ((suc k + n) ∷ p) (subst (λ x. Contains (function_positions_in ts (suc n)) (x ∷ p)) (omega arith) (function_listed_in ts (suc n) k p g us e))
-
--- nothing stands at the position
-pub nothing_overlaps : (A B : Rule) (p : List ℕ) → subtree_at A.left p ≡ None → IsOverlapped A B p None
-nothing_overlaps A B p none s t h = absurd (let there = h.overlaps.there in cc)
 
 -- a variable stands there
 pub variable_overlaps : (A B : Rule) (p : List ℕ) (n : ℕ) → subtree_at A.left p ≡ Some (variable n) → IsOverlapped A B p None

@@ -1,10 +1,10 @@
 -- What one use of a rule makes.
-use Rattle.std.proofs.Common.{ℕ, ◌≡◌, ◌∙◌, refl, sym, ap, subst, List, Some, None, Result, Ok, Err}
+use Rattle.std.proofs.Common.{ℕ, ◌≡◌, ◌∙◌, sym, ap, subst, List, Some, None, Ok, Err}
 use Rattle.std.specs.Prelude.{IsSomeAnd}
 use Rattle.std.proofs.lemmas.Option.{same_Some}
 use Rattle.kb_term.specs.Tree.{Tree}
 use Rattle.kb_term.specs.Position.{subtree_at, replace_at}
-use Rattle.kb_term.specs.Substitution.{instance, Matches}
+use Rattle.kb_term.specs.Substitution.{instance}
 use Rattle.kb_term.specs.Pair.{IsWithin}
 use Rattle.kb_term.specs.Rule.{Rule, IsRule}
 use Rattle.kb_term.specs.Proving.{RewritesAt}
@@ -12,7 +12,6 @@ use Rattle.kb_term.specs.Made.{IsLimitedAnswer}
 use Rattle.kb_term.specs.View.{tree_of}
 use Rattle.kb_term.specs.declared.term.Term.{Term}
 use Rattle.kb_term.specs.declared.limit.Limit.{Limit}
-use Rattle.kb_term.specs.declared.fault.TermFault.{TermFault}
 use Rattle.kb_term.specs.declared.fault.TermFault.TheVariants.{Large}
 use Rattle.kb_term.proofs.Instances.{agree_at, instance-agree}
 use Rattle.kb_term.proofs.Steps.{occurs_from, occurs_to}
@@ -26,14 +25,6 @@ rewritten_once rule p t u v r (m, w) (k, z) =
     let same : instance m rule.left ≡ instance k rule.left = same_Some _ _ (sym w.redex ∙ z.redex) in
     let right = instance-agree m k rule.right (λ n o. agree_at m k rule.left same n (occurs_from n rule.left (r.holds_variables n (occurs_to n rule.right o)))) in
     same_Some _ _ (sym w.result ∙ ap (replace_at t p) right ∙ z.result)
-
--- nothing stands at the position
-pub nothing_there : (rule : Rule) (p : List ℕ) (t : Tree) → subtree_at t p ≡ None → IsRewritten rule p t None
-nothing_there rule p t none v (m, w) within = absurd (let there = w.redex in cc)
-
--- what stands there is no instance of the left side
-pub nothing_matches : (rule : Rule) (p : List ℕ) (t redex : Tree) → subtree_at t p ≡ Some redex → ¬ Matches rule.left redex → IsRewritten rule p t None
-nothing_matches rule p t redex there none v (m, w) within = none (m, same_Some _ _ (sym w.redex ∙ there))
 
 -- the result passes a limit
 pub too_large : (rule : Rule) (p : List ℕ) (m : ℕ → Tree) (t made : Tree) (limit : Limit) → IsRule rule → subtree_at t p ≡ Some (instance m rule.left) → made ≡ instance m rule.right

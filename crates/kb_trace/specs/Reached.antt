@@ -1,9 +1,8 @@
 -- The trace of the nodes that wanted ones reach through origins.
-use Rattle.std.specs.Prelude.{ℕ, ◌≡◌, ◌+◌, ◌<◌, ◌↔◌, ◌⊎◌, Bool, false, IsTrue, List, [], ◌∷◌, length, filter, get_or, All, AllPairs, Contains, Some, slice_get}
-use Rattle.std.specs.List.{AllZip, range_with_len}
+use Rattle.std.specs.Prelude.{ℕ, ◌≡◌, ◌+◌, ◌<◌, ◌↔◌, ◌⊎◌, Bool, false, IsTrue, List, [], ◌∷◌, length, get_or, AllPairs, Contains, Some, slice_get}
+use Rattle.std.specs.List.{AllZip}
 use Rattle.kb_term.specs.Pair.{Pair, place_in}
 use Rattle.kb_term.specs.Proving.{IsPath}
-use Rattle.kb_term.specs.declared.origin.RuleRef.{RuleRef}
 use Rattle.kb_term.specs.declared.origin.Origin.{Origin}
 use Rattle.kb_term.specs.declared.origin.Origin.TheVariants.{Input, Rewrite, Overlap}
 use Rattle.kb_overlap.specs.Trace.{TraceStep}
@@ -56,7 +55,3 @@ pub record AreMarks (nodes : List (Pair × Origin)) (wanted : List ℕ) (marks :
 pub record HasMarked (ns : List ℕ) (old new : List Bool) : Type 0 where
   pub count : length new ≡ length old
   pub marked : (n : ℕ) → IsTrue (get_or new n false) ↔ (IsTrue (get_or old n false) ⊎ Contains ns n)
-
--- how many members before a number are marked
-abbrev pub marked_before : List Bool → ℕ → ℕ
-marked_before marks n = length (filter (λ m. get_or marks m false) (range_with_len 0 n))

@@ -7,7 +7,7 @@ use Rattle.kb_term.specs.declared.origin.Origin.{Origin}
 use Rattle.kb_term.specs.declared.origin.Origin.TheVariants.{Input, Rewrite, Overlap}
 use Rattle.kb_overlap.specs.Trace.{TraceStep}
 use Rattle.kb_text.specs.Names.{Name}
-use Rattle.kb_text.specs.Lines.{line, IsBadLine}
+use Rattle.kb_text.specs.Lines.{line}
 use Rattle.kb_text.specs.Terms.{names_of, infix_text, IsPairForm}
 
 -- e for the root, else argument numbers joined by dots
@@ -69,7 +69,3 @@ pub record IsTraceForm (sig : Signature) (t : List TraceStep) : Type 0 where
 -- the bytes are the text of such a trace
 abbrev pub IsTraceText : Signature → List ℕ → Type 0
 IsTraceText sig bytes = (t : List TraceStep) × IsTraceForm sig t × (bytes ≡ trace_text sig t)
-
--- the line of a text that is the first that isn't of the form of a trace's text
-abbrev pub IsBadTraceLine : Signature → List ℕ → ℕ → Type 0
-IsBadTraceLine sig bytes n = IsBadLine (IsTraceText sig) bytes n

@@ -58,15 +58,6 @@ argument-less slots es r i h shallow f first count at k p =
     let here : first + k < length slots = omega (arith, inside, p) in
     (here, omega (arith, depth-listed slots es w s i h, depth-listed slots es w s (first + k) here, depth-values w first count k p, ap tree_depth value, shallow))
 
--- a link's place has the same depth
-pub link-same : (slots : List Slot) (es : List Extent) → IsReadable slots es → (i j : ℕ) → i < length slots → slot_at slots i ≡ Link j → (j < i) × (depth_at es j ≡ depth_at es i)
-link-same slots es r i j h at =
-    let w = r.solution.0 in
-    let s = r.solution.1 in
-    let value : w i ≡ w j = s.values i ∙ ap (value_of w i) at in
-    let below : j < i = subst (IsSlot (length slots) i) at (r.table i) in
-    (below, depth-listed slots es w s j (omega (arith, below, h)) ∙ ap (λ t. min (tree_depth t) 65) (sym value) ∙ sym (depth-listed slots es w s i h))
-
 -- the measure falls
 suc-mul : (d n : ℕ) → suc d * n ≡ d * n + n
 suc-mul d n = grind arith

@@ -199,9 +199,6 @@ module _ (rules : List NamedRule) (held : HoldVariables (as_rules rules)) where
   pub formed_alike : (o q : NamedOverlap) → AreAlike o q → IsFormed rules o → IsFormed rules q
   formed_alike o q a = of_sides (HaveForms rules) forms_there o q a
 
-  pub joined_alike : (equations : List (Tree × Tree)) (o q : NamedOverlap) → AreAlike o q → IsJoined rules equations o → IsJoined rules equations q
-  joined_alike equations o q a = of_sides (FormsMeet rules (IsJoinedBy equations)) (meets_there (IsJoinedBy equations) (joined_there equations)) o q a
-
   pub unjoined_alike : (equations : List (Tree × Tree)) (o q : NamedOverlap) → AreAlike o q → IsUnjoined rules equations o → IsUnjoined rules equations q
   unjoined_alike equations o q a = of_sides (FormsMeet rules (λ u v. ¬ IsJoinedBy equations u v)) (meets_there (λ u v. ¬ IsJoinedBy equations u v) (unjoined_there equations)) o q a
 

@@ -177,10 +177,6 @@ journal_of (m ∷ ms) = journal_of ms ++ m.entry ∷ []
 abbrev pub After : Problem → Settings → List Entry → Plain → Type 0
 After P s J c = (ms : List Moment) × (journal_of ms ≡ J) × IsRun P s ms c
 
--- the journal is legal
-abbrev pub IsLegal : Problem → Settings → List Entry → Type 0
-IsLegal P s J = (c : Plain) × After P s J c
-
 -- what each line of a journal text keeps of an entry: of a take its worker, ticket and job, of every other but a halt the ticket
 pub data Move : Type 0 where
   takes : ℕ → ℕ → Job → Move

@@ -16,7 +16,7 @@ use Rattle.mkb_model.specs.declared.entry.Entry.TheVariants.{Take, Commit}
 use Rattle.mkb_model.specs.declared.proposed.Proposed.{Proposed}
 use Rattle.mkb_model.specs.declared.settings.Settings.{Settings}
 use Rattle.mkb_model.proofs.Changes.{Fits}
-use Rattle.mkb_model.proofs.Fitting.{fits_run, pairs_follow, pairs_stay}
+use Rattle.mkb_model.proofs.Fitting.{fits_run, pairs_stay}
 
 -- the proposal has its effect on the board
 pub record IsMaking (past : List Moment) (b : Plain) (w t : ℕ) (x : Proposed) (c : Plain) : Type 0 where
@@ -56,10 +56,6 @@ stopping past b w t r c f = f.leads_to ∙ ap (λ (o : Option Reason). landed t 
     go : (o : Option Reason) → limit_of b f.proposal ≡ o → Over r ≡ option_map_or Over o (Made f.proposal) → limit_of b f.proposal ≡ Some r
     go None e k = absurd (cc)
     go (Some s) e k = e ∙ ap Some (sym (over_is r s k))
-
--- pairs stay at a commit, and no two are the same after it
-pub commit_keeps : (past : List Moment) (b : Plain) (w t : ℕ) (e : Effect) (c : Plain) → IsCommitting past b w t e c → KeepsPairs b.nodes c.nodes
-commit_keeps past b w t e c f = pairs_follow IsFreeJob past b (Commit w t e) c f
 
 pub commit_fits : (P : Problem) (n : Settings) (past : List Moment) (b : Plain) (w t : ℕ) (e : Effect) (c : Plain) → IsPossibleRun P n past b → IsCommitting past b w t e c → Fits c.nodes
 commit_fits P n past b w t e c run f = fits_run IsFreeJob P n (record { board = b; entry = Commit w t e } ∷ past) c (run, f)

@@ -1,5 +1,5 @@
 -- The arguments of a term come in one after another.
-use Rattle.std.proofs.Common.{ℕ, ◌≡◌, ◌+◌, ◌<◌, ◌≤◌, List, [], ◌∷◌, ◌++◌, length, take, get_or, refl, sym, ap, subst, ◌∙◌, arith}
+use Rattle.std.proofs.Common.{ℕ, ◌≡◌, ◌+◌, ◌<◌, ◌≤◌, List, [], ◌∷◌, ◌++◌, length, take, get_or, sym, ap, subst, ◌∙◌, arith}
 use Rattle.std.specs.Prelude.{map, sum_by}
 use Rattle.std.proofs.lemmas.List.{length-map, map_more, map_push, take_all, get_or-take}
 use Rattle.std.proofs.lemmas.List.Sums.{sum_by_more_le}
@@ -35,9 +35,6 @@ pub record HaveCome (old now : List Tree) (items : List Term) (k : ℕ) (ids : L
   pub came : now ≡ with_missing old (subterms_row (map tree_of (take k items)))
   pub terms : terms_at now ids ≡ map tree_of (take k items)
   pub below : AreBelow (length now) ids
-
-pub come_none : (old : List Tree) (items : List Term) → HaveCome old old items 0 []
-come_none old items = record { came = refl; terms = refl; below = tt }
 
 pub come_front : (old now : List Tree) (items : List Term) (k : ℕ) (ids : List TermId) → HaveCome old now items k ids → IsFront old now
 come_front old now items k ids h = subst (IsFront old) (sym h.came) (missing_front old (subterms_row (map tree_of (take k items))))
