@@ -33,7 +33,7 @@ use Rattle.kb_checker.specs.Verdicts.{IsProved, IsAccepted}
 use Rattle.kb_checker.proofs.Proved.{traced_proved}
 
 -- the rows of a certificate interpret the signature
-rows_fit : (g : Signature) (i : Interpretation) → are_rows g i ≡ true → IsInterpretationOf g i
+pub rows_fit : (g : Signature) (i : Interpretation) → are_rows g i ≡ true → IsInterpretationOf g i
 rows_fit [] [] h = tt
 rows_fit [] (row ∷ i) h = absurd (cc)
 rows_fit (f ∷ g) [] h = absurd (cc)
@@ -45,7 +45,7 @@ rows_fit (f ∷ g) (row ∷ i) h =
     ((grind (arith, n), λ k d l. (small.coefficients k d l).0), rows_fit g i q.1)
 
 -- each symbol weighs at least 1 in a certificate
-certificate_weighs : (g : Signature) (o : KboOrder) → IsTrue (is_certificate g (Kbo o)) → HasWeights o
+pub certificate_weighs : (g : Signature) (o : KboOrder) → IsTrue (is_certificate g (Kbo o)) → HasWeights o
 certificate_weighs g o h = All-weaker (λ n. (1 ≤ n) × (n ≤ 15)) (λ n. 1 ≤ n) (λ n w. w.0) o.weights (tested g o.weights o.precedence h).1
 
 -- what a certificate of the signature orders are rules
@@ -55,7 +55,7 @@ oriented_rules g (Linear i) m rules well h = linear_rules g i (rows_fit g i m) r
 oriented_rules g (Kbo o) m rules well h = All-weaker (λ (r : Rule). KboGreater o r.left r.right) IsRule (kbo_rule o (certificate_weighs g o m)) rules h
 
 -- and halt
-oriented_halts : (g : Signature) (c : Certificate) → IsTrue (is_certificate g c) → (rules : List Rule) → All (IsRuleOver g) rules → Orders c rules → IsTerminating g rules
+pub oriented_halts : (g : Signature) (c : Certificate) → IsTrue (is_certificate g c) → (rules : List Rule) → All (IsRuleOver g) rules → Orders c rules → IsTerminating g rules
 oriented_halts g (Lpo p) m rules over h = terminating_by_lpo p g rules over h
 oriented_halts g (Linear i) m rules over h = interpretation_halts g i (rows_fit g i m) rules over h
 oriented_halts g (Kbo o) m rules over h = terminating_by_kbo g o (certificate_weighs g o m) rules over h

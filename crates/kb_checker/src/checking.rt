@@ -132,7 +132,7 @@ fn is_traced(alloc: Global, trace: &[Step], rule: &Rule, cited: u32) -> Result<b
 }
 
 /// Whether these are the sides of the pair.
-fn has_sides(pair: &Pair, first: &Term, second: &Term) -> bool
+pub fn has_sides(pair: &Pair, first: &Term, second: &Term) -> bool
     ensures { IsTrue result ↔ (pair.now ≡ pair_of first.now second.now) }
 {
     *pair.first() == *first && *pair.second() == *second

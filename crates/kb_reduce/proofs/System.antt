@@ -24,10 +24,10 @@ use Rattle.kb_laws.proofs.CompletionLaws.{Members, proves_from, proves_to, from_
 use Rattle.kb_laws.proofs.Complete.{proved_by_joining}
 use Rattle.kb_laws.proofs.ConfluenceLaws.{joinable_by_confluence}
 use Rattle.kb_laws.proofs.RunLaws.{Chain, step_chain}
-use Rattle.kb_checker.proofs.Sound.{oriented_rules}
+use Rattle.kb_checker.proofs.Sound.{oriented_rules, oriented_halts as certified_halts}
 use Rattle.kb_reduce.proofs.Below.{connected, normal_reached}
 use Rattle.kb_reduce.proofs.Reducible.{reducible, step_joined}
-use Rattle.kb_reduce.proofs.Certified.{chains_certified, certified_halts}
+use Rattle.kb_reduce.proofs.Certified.{chains_certified}
 
 -- each new rule is an old one with a right side that is reached; each old right side reaches a normal form; each old left side has a step by the new rules
 pub record IsReducing (old new : List Rule) : Type 0 where

@@ -1,8 +1,8 @@
 // Right sides that are normalised, with the steps that show it.
-ghost use Rattle.std.specs.Prelude.{◌≡◌, ◌≢◌, ◌-◌, ◌<◌, ◌≤◌, ◌^◌, ◌↔◌, ℕ, Some, IfOk, IsTrue, length, slice_get};
+ghost use Rattle.std.specs.Prelude.{◌≡◌, ◌≢◌, ◌-◌, ◌<◌, ◌≤◌, ◌^◌, ℕ, Some, IfOk, length, slice_get};
 ghost use Rattle.kb_term.specs.Pair.{canonical as canonical_of, variables_of_pair};
 ghost use Rattle.kb_term.specs.Rule.{Rule as Rule_};
-ghost use Rattle.kb_term.specs.View.{tree_of, pair_of as pair_of_terms};
+ghost use Rattle.kb_term.specs.View.{tree_of};
 ghost use Rattle.kb_term.specs.declared.limit.Limit.TheVariants as limits;
 ghost use Rattle.kb_term.specs.declared.origin.Origin.TheVariants as origins;
 ghost use Rattle.kb_checker.specs.Answers.{IsAnswer, IsGoodAnswer, IsTraced, rules_of};
@@ -11,7 +11,7 @@ ghost use Rattle.kb_reduce.specs.Telling.{IsLimitWhy};
 ghost use Rattle.kb_reduce.specs.Running.{IsBehind, IsComposing};
 
 use crate::reduction::Why;
-use kb_checker::Answer;
+use kb_checker::{Answer, has_sides};
 use kb_rewrite::{MAX_STEPS, first_redex, step};
 use kb_term::{Limit, Memory, Origin, Pair, Position, Rule, RuleRef, Term, TermFault, canonical};
 use kb_trace::Step;
@@ -110,13 +110,6 @@ fn direction(steps: &[Step], rule: &(Rule, u32)) -> u8
     } else {
         1
     }
-}
-
-/// Whether these are the sides of the pair.
-fn has_sides(pair: &Pair, first: &Term, second: &Term) -> bool
-    ensures { IsTrue result ↔ (pair.now ≡ pair_of_terms first.now second.now) }
-{
-    *pair.first() == *first && *pair.second() == *second
 }
 
 // The limit of one term that is passed.
