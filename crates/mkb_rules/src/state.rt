@@ -367,10 +367,13 @@ impl GivenUp {
             || !self.steps.is_empty(log)
     }
 
-    /// The reason for which a process gave up, the first of the six.
+    /// The reason for which a process gave up, the first of the six. It takes constant time where nobody gave up.
     pub(crate) fn reason_of(&self, log: &NameLog, p: &Process) -> Option<Reason>
         ensures { result ≡ over_in (lists_of self.now) p.now }
     {
+        if !self.has_any(log) {
+            return None;
+        }
         if self.nodes.has(log, p) {
             return Some(Reason::Nodes);
         }
