@@ -1,49 +1,112 @@
 -- The lists of processes for which rules have been overlapped.
-use Rattle.std.proofs.Common.{ℕ, zero, suc, ◌+◌, ◌<◌, ◌≤◌, ◌≡◌, ◌∙◌, refl, ap, sym, arith, List, [], ◌∷◌, ◌++◌, length, get_or, Bool, true, false, cond, not}
-use Rattle.std.specs.Prelude.{◌&&◌, slice_set}
+use Rattle.std.proofs.Common.{ℕ, zero, suc, ◌+◌, ◌<◌, ◌≤◌, ◌≡◌, ◌∙◌, refl, ap, sym, arith, List, [], ◌∷◌, ◌++◌, length, get_or, position, Some, None, Bool, true, false, cond, not}
+use Rattle.std.specs.Prelude.{◌&&◌, nat_lt, slice_set}
 use Rattle.std.specs.List.{position_or_len}
+use Rattle.std.proofs.lemmas.Bool.Decides.{nat_tests}
+use Rattle.std.proofs.lemmas.Option.{same_Some}
 use Rattle.kb_label.specs.Names.{Name, has, join, relabel}
 use Rattle.kb_label.proofs.Sets.{relabel-absent}
 use Rattle.kb_term.specs.declared.origin.RuleRef.{RuleRef}
 use Rattle.mkb_model.specs.Jobs.{ref_eq}
-use Rattle.mkb_model.specs.Plain.{Done}
+use Rattle.mkb_model.specs.Plain.{Done, done_in}
 use Rattle.mkb_model.specs.Effects.{gains_done_in}
-use Rattle.mkb_rules.specs.declared.state.DonePair.{DonePair}
+use Rattle.mkb_rules.specs.declared.overlapped.DonePair.{DonePair}
+use Rattle.mkb_rules.specs.Keyed.{is_kept_for}
 use Rattle.mkb_rules.specs.Kept.{plain_done}
 use Rattle.mkb_rules.specs.Forking.{forked_done, with_names_at, with_new_names}
 use Rattle.mkb_rules.specs.declared.effects.forking.NewNames.{NewNames}
 
-module _ (a b : RuleRef) (l : List Name) where
-  -- whether the list is kept for the two rules
-  abbrev is_for : DonePair → Bool
-  is_for d = ref_eq d.first a && ref_eq d.second b
+-- where an item is found
+found_at : {X : Type 0} (p : X → Bool) (xs : List X) (i : ℕ) → Some i ≡ position p xs → (i ≡ position_or_len p xs) × (i < length xs)
+found_at p xs i h = go (nat_lt (position_or_len p xs) (length xs)) refl h
+  where
+    go : (t : Bool) → nat_lt (position_or_len p xs) (length xs) ≡ t → Some i ≡ cond t (Some (position_or_len p xs)) None → (i ≡ position_or_len p xs) × (i < length xs)
+    go true e g = let same = same_Some i (position_or_len p xs) g in (same, grind (arith, nat_tests))
+    go false e g = absurd (cc)
 
+-- where none is found
+pub nowhere : {X : Type 0} (p : X → Bool) (xs : List X) → None ≡ position p xs → length xs ≤ position_or_len p xs
+nowhere p xs h = go (nat_lt (position_or_len p xs) (length xs)) refl h
+  where
+    go : (t : Bool) → nat_lt (position_or_len p xs) (length xs) ≡ t → None ≡ cond t (Some (position_or_len p xs)) None → length xs ≤ position_or_len p xs
+    go true e g = absurd (cc)
+    go false e g = grind (arith, nat_tests)
+
+plain_length : (ds : List DonePair) → length (plain_done ds) ≡ length ds
+plain_length [] = refl
+plain_length (d ∷ ds) = ap suc (plain_length ds)
+
+-- whether the list is kept for the two rules
+abbrev is_for : RuleRef → RuleRef → DonePair → Bool
+is_for a b d = ref_eq d.first a && ref_eq d.second b
+
+module _ (a b : RuleRef) (l : List Name) where
   -- the names join the list that is kept
-  pub gains_done-kept : (ds : List DonePair) (i : ℕ) (d : DonePair) → i ≡ position_or_len is_for ds → i < length ds → d ≡ get_or ds i d
+  gains_done-kept : (ds : List DonePair) (i : ℕ) (d : DonePair) → i ≡ position_or_len (is_kept_for a b) (plain_done ds) → i < length ds → d ≡ get_or ds i d
       → plain_done (slice_set ds i (record d { names = join d.names l })) ≡ gains_done_in a b l (plain_done ds)
   gains_done-kept [] i d is h e = absurd (omega (arith, h))
-  gains_done-kept (x ∷ ds) zero d is h e = go (is_for x) refl is
+  gains_done-kept (x ∷ ds) zero d is h e = go (is_for a b x) refl is
     where
-      go : (t : Bool) → is_for x ≡ t → zero ≡ cond (not t) (1 + position_or_len is_for ds) 0
+      go : (t : Bool) → is_for a b x ≡ t → zero ≡ cond (not t) (1 + position_or_len (is_kept_for a b) (plain_done ds)) 0
           → plain_done (record d { names = join d.names l } ∷ ds) ≡ cond t (record { first = x.first; second = x.second; names = join x.names l } ∷ plain_done ds) (record { first = x.first; second = x.second; names = x.names } ∷ gains_done_in a b l (plain_done ds))
       go true g u = ap (λ (y : DonePair). plain_done (record y { names = join y.names l } ∷ ds)) e
       go false g u = absurd (omega (arith, u))
-  gains_done-kept (x ∷ ds) (suc i) d is h e = go (is_for x) is (λ u. gains_done-kept ds i d u (omega (arith, h)) e)
+  gains_done-kept (x ∷ ds) (suc i) d is h e = go (is_for a b x) is (λ u. gains_done-kept ds i d u (omega (arith, h)) e)
     where
-      go : (t : Bool) → suc i ≡ cond (not t) (1 + position_or_len is_for ds) 0 → (i ≡ position_or_len is_for ds → plain_done (slice_set ds i (record d { names = join d.names l })) ≡ gains_done_in a b l (plain_done ds))
+      go : (t : Bool) → suc i ≡ cond (not t) (1 + position_or_len (is_kept_for a b) (plain_done ds)) 0 → (i ≡ position_or_len (is_kept_for a b) (plain_done ds) → plain_done (slice_set ds i (record d { names = join d.names l })) ≡ gains_done_in a b l (plain_done ds))
           → plain_done (x ∷ slice_set ds i (record d { names = join d.names l })) ≡ cond t (record { first = x.first; second = x.second; names = join x.names l } ∷ plain_done ds) (record { first = x.first; second = x.second; names = x.names } ∷ gains_done_in a b l (plain_done ds))
       go true u ih = absurd (omega (arith, u))
       go false u ih = ap (λ rest. record { first = x.first; second = x.second; names = x.names } ∷ rest) (ih (omega (arith, u)))
 
   -- where no list is kept, one more comes at the end
-  pub gains_done-more : (ds : List DonePair) → length ds ≤ position_or_len is_for ds → plain_done (ds ++ record { first = a; second = b; names = l } ∷ []) ≡ gains_done_in a b l (plain_done ds)
+  gains_done-more : (ds : List Done) → length ds ≤ position_or_len (is_kept_for a b) ds → ds ++ record { first = a; second = b; names = l } ∷ [] ≡ gains_done_in a b l ds
   gains_done-more [] h = refl
-  gains_done-more (x ∷ ds) h = go (is_for x) h (λ u. gains_done-more ds u)
+  gains_done-more (x ∷ ds) h = go (is_kept_for a b x) h (λ u. gains_done-more ds u)
     where
-      go : (t : Bool) → suc (length ds) ≤ cond (not t) (1 + position_or_len is_for ds) 0 → (length ds ≤ position_or_len is_for ds → plain_done (ds ++ record { first = a; second = b; names = l } ∷ []) ≡ gains_done_in a b l (plain_done ds))
-          → plain_done (x ∷ (ds ++ record { first = a; second = b; names = l } ∷ [])) ≡ cond t (record { first = x.first; second = x.second; names = join x.names l } ∷ plain_done ds) (record { first = x.first; second = x.second; names = x.names } ∷ gains_done_in a b l (plain_done ds))
+      go : (t : Bool) → suc (length ds) ≤ cond (not t) (1 + position_or_len (is_kept_for a b) ds) 0 → (length ds ≤ position_or_len (is_kept_for a b) ds → ds ++ record { first = a; second = b; names = l } ∷ [] ≡ gains_done_in a b l ds)
+          → x ∷ (ds ++ record { first = a; second = b; names = l } ∷ []) ≡ cond t (record x { names = join x.names l } ∷ ds) (x ∷ gains_done_in a b l ds)
       go true u ih = absurd (omega (arith, u))
-      go false u ih = ap (λ rest. record { first = x.first; second = x.second; names = x.names } ∷ rest) (ih (omega (arith, u)))
+      go false u ih = ap (λ rest. x ∷ rest) (ih (omega (arith, u)))
+
+  pub gains_found : (ds : List DonePair) (i : ℕ) (d : DonePair) → Some i ≡ position (is_kept_for a b) (plain_done ds) → d ≡ get_or ds i d → plain_done (slice_set ds i (record d { names = join d.names l })) ≡ gains_done_in a b l (plain_done ds)
+  gains_found ds i d is e =
+      let at = found_at (is_kept_for a b) (plain_done ds) i is in
+      gains_done-kept ds i d at.0 (omega (arith, at.1, plain_length ds)) e
+
+  pub gains_new : (ds : List Done) → None ≡ position (is_kept_for a b) ds → ds ++ record { first = a; second = b; names = l } ∷ [] ≡ gains_done_in a b l ds
+  gains_new ds none = gains_done-more ds (nowhere (is_kept_for a b) ds none)
+
+module _ (a b : RuleRef) where
+  done_kept : (ds : List DonePair) (i : ℕ) (d : DonePair) → i ≡ position_or_len (is_kept_for a b) (plain_done ds) → i < length ds → d ≡ get_or ds i d → done_in (plain_done ds) a b ≡ d.names
+  done_kept [] i d is h e = absurd (omega (arith, h))
+  done_kept (x ∷ ds) zero d is h e = go (is_for a b x) is
+    where
+      go : (t : Bool) → zero ≡ cond (not t) (1 + position_or_len (is_kept_for a b) (plain_done ds)) 0 → cond t x.names (done_in (plain_done ds) a b) ≡ d.names
+      go true u = ap (λ (y : DonePair). y.names) (sym e)
+      go false u = absurd (omega (arith, u))
+  done_kept (x ∷ ds) (suc i) d is h e = go (is_for a b x) is (λ u. done_kept ds i d u (omega (arith, h)) e)
+    where
+      go : (t : Bool) → suc i ≡ cond (not t) (1 + position_or_len (is_kept_for a b) (plain_done ds)) 0 → (i ≡ position_or_len (is_kept_for a b) (plain_done ds) → done_in (plain_done ds) a b ≡ d.names) → cond t x.names (done_in (plain_done ds) a b) ≡ d.names
+      go true u ih = absurd (omega (arith, u))
+      go false u ih = ih (omega (arith, u))
+
+  done_nowhere : (ds : List Done) → length ds ≤ position_or_len (is_kept_for a b) ds → done_in ds a b ≡ []
+  done_nowhere [] h = refl
+  done_nowhere (x ∷ ds) h = go (is_kept_for a b x) h (λ u. done_nowhere ds u)
+    where
+      go : (t : Bool) → suc (length ds) ≤ cond (not t) (1 + position_or_len (is_kept_for a b) ds) 0 → (length ds ≤ position_or_len (is_kept_for a b) ds → done_in ds a b ≡ []) → cond t x.names (done_in ds a b) ≡ []
+      go true u ih = absurd (omega (arith, u))
+      go false u ih = ih (omega (arith, u))
+
+  -- the names of the list that is found
+  pub names_found : (ds : List DonePair) (i : ℕ) (d : DonePair) → Some i ≡ position (is_kept_for a b) (plain_done ds) → d ≡ get_or ds i d → done_in (plain_done ds) a b ≡ d.names
+  names_found ds i d is e =
+      let at = found_at (is_kept_for a b) (plain_done ds) i is in
+      done_kept ds i d at.0 (omega (arith, at.1, plain_length ds)) e
+
+  -- nobody, where no list is found
+  pub names_none : (ds : List Done) → None ≡ position (is_kept_for a b) ds → done_in ds a b ≡ []
+  names_none ds none = done_nowhere ds (nowhere (is_kept_for a b) ds none)
 
 -- the names at a place are others
 pub names_put : (ds : List DonePair) (i : ℕ) (l : List Name) (d : DonePair) → i < length ds → d ≡ get_or ds i d → plain_done (slice_set ds i (record d { names = l })) ≡ with_names_at i l (plain_done ds)

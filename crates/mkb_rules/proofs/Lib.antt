@@ -2,6 +2,7 @@ pub mod PutBack
 pub mod Finding
 pub mod SamePairs
 pub mod DoneLists
+pub mod Keyed
 pub mod Moving
 pub mod Rows
 pub mod Sets

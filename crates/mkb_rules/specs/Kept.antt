@@ -2,7 +2,7 @@
 use Rattle.std.specs.Prelude.{ℕ, suc, List, [], ◌∷◌, map, if◌then◌else◌}
 use Rattle.kb_label.specs.Names.{Name, name_eq}
 use Rattle.mkb_model.specs.Plain.{Done, Certified as OrderOf}
-use Rattle.mkb_rules.specs.declared.state.DonePair.{DonePair}
+use Rattle.mkb_rules.specs.declared.overlapped.DonePair.{DonePair}
 use Rattle.mkb_rules.specs.declared.state.Certified.{Certified}
 
 -- the pairs of overlapped rules

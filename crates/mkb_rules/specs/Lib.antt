@@ -2,6 +2,7 @@ pub mod Parts
 pub mod Ranks
 pub mod Tabled
 pub mod Nodes
+pub mod Keyed
 pub mod Kept
 pub mod Over
 pub mod Forking

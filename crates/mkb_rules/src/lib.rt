@@ -9,6 +9,7 @@ mod labels;
 mod marks;
 mod nodes;
 mod opening;
+mod overlapped;
 mod ranks;
 mod role_row;
 mod roles;

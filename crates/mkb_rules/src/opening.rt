@@ -12,6 +12,7 @@ ghost use Rattle.mkb_rules.specs.Kept.{plain_certificates};
 use crate::facts::Facts;
 use crate::labels::only;
 use crate::nodes::Nodes;
+use crate::overlapped::OverlappedPairs;
 use crate::sleepers::Sleepers;
 use crate::state::{Certified, GivenUp, State};
 use kb_cert::{Family, search};
@@ -47,7 +48,7 @@ impl State {
                 settings,
                 log: parts.log,
                 nodes: parts.nodes,
-                done: Vec::new(alloc),
+                done: OverlappedPairs::new(alloc),
                 facts: Facts::new(alloc),
                 closed: ListLabels::new(alloc),
                 over: GivenUp::nobody(alloc),

@@ -1,21 +1,22 @@
 // The state: the board without flight and journal.
-ghost use Rattle.std.specs.Prelude.{◌≡◌, ◌<◌, ◌&&◌, [], ◌∷◌, length, map, not, Some, IfSome, IsSome, IsTrue, MatchOption};
+ghost use Rattle.std.specs.Prelude.{◌≡◌, ◌<◌, [], ◌∷◌, length, map, not, Some, IfSome, IsSome, IsTrue};
 ghost use Rattle.std.specs.List.{list_any};
 ghost use Rattle.kb_label.specs.Names.{add, has, is_empty, minus, name_eq};
 ghost use Rattle.kb_node.specs.declared.node.LabelKind.TheVariants.{X};
 ghost use Rattle.kb_node.specs.declared.node.NodeId.{NodeId as Numbered};
 ghost use Rattle.mkb_model.specs.Jobs.{ref_eq, ref_le};
-ghost use Rattle.mkb_model.specs.Plain.{GivenUp as OverFor, cost, equations_of, known, done_in, done_of, label, over_reason, certificate_of, rules_of};
+ghost use Rattle.mkb_model.specs.Plain.{GivenUp as OverFor, cost, equations_of, known, done_of, label, over_reason, certificate_of, rules_of};
 ghost use Rattle.mkb_model.specs.Sleeping.{no_members};
 ghost use Rattle.mkb_rules.specs.Parts.{plain_nodes};
 ghost use Rattle.mkb_rules.specs.Overlapped.{is_overlapped};
 ghost use Rattle.mkb_rules.specs.Roles.{AreRolesOf, held_by, held_of, rules_by};
 ghost use Rattle.mkb_rules.specs.Sizes.{is_dead_at, AreAlive};
 ghost use Rattle.mkb_rules.specs.Named.{Lives};
-ghost use Rattle.mkb_rules.specs.Kept.{plain_done, plain_certificates, place_in};
+ghost use Rattle.mkb_rules.specs.Kept.{plain_certificates, place_in};
 
 use crate::facts::Facts;
 use crate::nodes::Nodes;
+use crate::overlapped::OverlappedPairs;
 use crate::role_row::RoleRow;
 use crate::roles::Roles;
 use crate::sleepers::Sleepers;
@@ -26,14 +27,6 @@ use kb_term::{Found, Problem, RuleRef};
 use mkb_model::Settings;
 use std::alloc::Global;
 use std::marker::Model;
-
-/// The processes for which two rules have been overlapped.
-#[derive(Drop)]
-pub(crate) struct DonePair {
-    pub(crate) first: RuleRef,
-    pub(crate) second: RuleRef,
-    pub(crate) names: ListLabels,
-}
 
 /// For each reason the processes that gave up.
 #[derive(Drop)]
@@ -60,7 +53,7 @@ pub struct State {
     pub(crate) settings: Settings,
     pub(crate) log: NameLog,
     pub(crate) nodes: Nodes,
-    pub(crate) done: Vec<DonePair>,
+    pub(crate) done: OverlappedPairs,
     pub(crate) facts: Facts,
     pub(crate) closed: ListLabels,
     pub(crate) over: GivenUp,
@@ -75,7 +68,6 @@ impl Model for State {
     ghost use Rattle.kb_term.specs.Coding.{coded_pair, coded_problem, coded_tree};
     ghost use Rattle.mkb_model.specs.Plain.{Plain};
     ghost use Rattle.mkb_rules.specs.Parts.{board_of, given_up};
-    ghost use Rattle.mkb_rules.specs.declared.state.DonePair.{DonePair};
     ghost use Rattle.mkb_rules.specs.declared.state.Certified.{Certified};
 
     ghost Value = { Plain };
@@ -83,8 +75,7 @@ impl Model for State {
     ghost coded = { Prim.hlevel (codes, coded_pair, coded_problem, coded_tree) };
 
     ghost view = { λ s. board_of s.problem s.settings s.log s.nodes.now
-        (map (λ (d : DonePair). record { first = d.first; second = d.second; names = d.names }) s.done.items)
-        s.facts s.closed
+        s.done s.facts s.closed
         (given_up s.over.nodes s.over.processes s.over.size s.over.depth s.over.variables s.over.steps)
         s.asleep s.commits
         (map (λ (c : Certified). record { name = c.name; certificate = c.certificate }) s.certificates.items) };
@@ -148,7 +139,7 @@ impl State {
     fn is_done_in_order(&self, p: &Process, a: RuleRef, b: RuleRef) -> bool
         ensures { result ≡ has (done_of self.now a b) p.now }
     {
-        match done_names(&self.done, a, b) {
+        match self.done.names(a, b) {
             Some(names) => names.has(&self.log, p),
             None => false,
         }
@@ -367,10 +358,13 @@ impl GivenUp {
             || !self.steps.is_empty(log)
     }
 
-    /// The reason for which a process gave up, the first of the six.
+    /// The reason for which a process gave up, the first of the six. It takes constant time where nobody gave up.
     pub(crate) fn reason_of(&self, log: &NameLog, p: &Process) -> Option<Reason>
         ensures { result ≡ over_in (lists_of self.now) p.now }
     {
+        if !self.has_any(log) {
+            return None;
+        }
         if self.nodes.has(log, p) {
             return Some(Reason::Nodes);
         }
@@ -405,26 +399,6 @@ pub(crate) fn is_same(a: RuleRef, b: RuleRef) -> bool
     ensures { result ≡ ref_eq a b }
 {
     a.node == b.node && a.dir == b.dir
-}
-
-/// Whether the list is kept for these two rules.
-pub(crate) fn is_of(pair: &DonePair, a: RuleRef, b: RuleRef) -> bool
-    ensures { result ≡ (ref_eq pair.now.first a && ref_eq pair.now.second b) }
-{
-    is_same(pair.first, a) && is_same(pair.second, b)
-}
-
-/// The processes for which the two rules have been overlapped; none where no list of them is kept.
-pub(crate) fn done_names<'a>(done: &'a [DonePair], a: RuleRef, b: RuleRef) -> Option<&'a ListLabels>
-    ensures { MatchOption result (done_in (plain_done done.now) a b ≡ []) (λ names. done_in (plain_done done.now) a b ≡ names.now) }
-{
-    for i in 0..done.len() {
-        let pair = &done[i];
-        if is_of(pair, a, b) {
-            return Some(&pair.names);
-        }
-    }
-    None
 }
 
 // Whether the order is the process's.

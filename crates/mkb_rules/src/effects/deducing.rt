@@ -1,24 +1,20 @@
 // Pairs of overlaps that become equations.
-ghost use Rattle.std.specs.Prelude.{◌≡◌, ◌<◌, ◌≤◌, ◌∷◌, ◌&&◌, [], Err, IfOk, IsFalse, OnErr, OnOk, length, map};
-ghost use Rattle.std.specs.List.{position_or_len};
-ghost use Rattle.mkb_model.specs.Effects.{added, gains_done_in, is_present, most_nodes, with_nodes};
+ghost use Rattle.std.specs.Prelude.{◌≡◌, ◌<◌, ◌≤◌, ◌∷◌, [], Err, IfOk, IsFalse, OnErr, OnOk, length, map};
+ghost use Rattle.mkb_model.specs.Effects.{added, is_present, most_nodes, with_nodes};
 ghost use Rattle.mkb_model.specs.declared.proposed.Proposed.TheVariants.{Deduce, Unjoined};
 ghost use Rattle.kb_node.specs.declared.job.Deduced.{Deduced as Overlapped};
-ghost use Rattle.mkb_model.specs.Jobs.{ref_eq};
-ghost use Rattle.mkb_rules.specs.declared.state.DonePair.{DonePair as Listed};
 ghost use Rattle.mkb_rules.specs.Applying.{Commits, HasBudget};
-ghost use Rattle.mkb_rules.specs.Kept.{plain_done};
 ghost use Rattle.mkb_rules.specs.Named.{IsThere, Lives};
 
 use crate::applied::Applied;
 use crate::effects::label::counted_up;
 use crate::labels::only;
 use crate::nodes::Nodes;
-use crate::state::{DonePair, State, is_of};
+use crate::state::State;
 use kb_label::{Labels, ListLabels, NameLog, Process, Reason};
 use kb_node::{Deduced, NodeFault};
 use kb_term::{Memory, Origin, RuleRef};
-use std::alloc::{AllocError, Global};
+use std::alloc::Global;
 
 impl State {
     /// Two rules have been overlapped for the processes that have both and had not overlapped them: each pair has a node,
@@ -43,7 +39,7 @@ impl State {
         let names = self.overlap_names(alloc, a, b)?;
         match try_pairs(&mut self.nodes, &self.log, &names, pairs) {
             Ok(()) => {
-                if gain_done(&mut self.done, &self.log, a, b, names).is_err() {
+                if self.done.gain(&self.log, a, b, names).is_err() {
                     self.nodes.roll_back();
                     return Err(Memory);
                 }
@@ -145,40 +141,4 @@ fn add_pair(
     let n = nodes.find_or_add(deduced.pair.clone()?, origin)?;
     nodes.gains_equation(log, n, names)?;
     Ok(())
-}
-
-// The two rules have been overlapped for these processes too.
-fn gain_done(
-    done: &mut Vec<DonePair>,
-    log: &NameLog,
-    a: RuleRef,
-    b: RuleRef,
-    names: ListLabels,
-) -> Result<(), AllocError>
-    ensures ok { OnOk result (plain_done done.new.items ≡ gains_done_in a b names (plain_done done.old.items)) }
-    ensures err { OnErr result (done.new.items ≡ done.old.items) }
-{
-    let place = done_place(done.as_slice(), a, b);
-    if place < done.len() {
-        let pair = &mut done[place];
-        return pair.names.join(log, &names);
-    }
-    done.push(DonePair {
-        first: a,
-        second: b,
-        names,
-    })?;
-    Ok(())
-}
-
-// Where the list for the two rules is kept; how many lists there are where none is kept for them.
-fn done_place(done: &[DonePair], a: RuleRef, b: RuleRef) -> usize
-    ensures { result ≡ position_or_len (λ (d : Listed). ref_eq d.first a && ref_eq d.second b) done.now }
-{
-    for i in 0..done.len() {
-        if is_of(&done[i], a, b) {
-            return i;
-        }
-    }
-    done.len()
 }

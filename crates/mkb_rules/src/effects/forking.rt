@@ -18,8 +18,9 @@ use crate::effects::label::{counted_up, node_count, node_label};
 use crate::effects::orienting::{certify, orient_nodes};
 use crate::labels::only;
 use crate::nodes::Nodes;
+use crate::overlapped::{DonePair, OverlappedPairs};
 use crate::sleepers::Sleepers;
-use crate::state::{Certified, DonePair, GivenUp, State, certificate_place};
+use crate::state::{Certified, GivenUp, State, certificate_place};
 use kb_cert::Certificate;
 use kb_label::{Labels, ListLabels, Living, MAX_BITS, MAX_LIVING, NameLog, Process, Reason};
 use kb_node::{LabelKind, NodeId};
@@ -170,7 +171,7 @@ impl State {
         ensures closed { OnOk result (parts.new.closed ≡ relabel p.now self.now.closed) }
         ensures over { OnOk result (lists_of parts.new.over ≡ forked_over p.now self.now.over) }
     {
-        note_new_names(&self.log, &self.done, p, &mut parts.done)?;
+        note_new_names(&self.log, self.done.as_slice(), p, &mut parts.done)?;
         parts.closed = self.closed.relabelled(p)?;
         relabel_over(&self.over, p, &mut parts.over)?;
         Ok(())
@@ -233,8 +234,8 @@ fn note_new_names(
 }
 
 // Puts the new names into the lists of overlapped rules.
-fn put_new_names(done: &mut Vec<DonePair>, new: &mut Vec<NewNames>)
-    ensures { plain_done done.new.items ≡ with_new_names new.old.items (plain_done done.old.items) }
+fn put_new_names(done: &mut OverlappedPairs, new: &mut Vec<NewNames>)
+    ensures { done.new ≡ with_new_names new.old.items done.old }
 {
     for i in 0..new.len() {
         put_names(done, &mut new[i]);
@@ -242,12 +243,10 @@ fn put_new_names(done: &mut Vec<DonePair>, new: &mut Vec<NewNames>)
 }
 
 // Puts the new names into the list at their place.
-fn put_names(done: &mut Vec<DonePair>, new: &mut NewNames)
-    ensures { plain_done done.new.items ≡ with_names_at new.old.place new.old.names (plain_done done.old.items) }
+fn put_names(done: &mut OverlappedPairs, new: &mut NewNames)
+    ensures { done.new ≡ with_names_at new.old.place new.old.names done.old }
 {
-    if new.place < done.len() {
-        mem::swap(&mut done[new.place].names, &mut new.names);
-    }
+    done.swap_names(new.place, &mut new.names);
 }
 
 // The children of the process have its order, and then each its own.

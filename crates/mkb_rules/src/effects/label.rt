@@ -7,7 +7,7 @@ ghost use Rattle.mkb_rules.specs.Named.{HasNamed, tells_facts};
 
 use crate::labels::{copy_of, joined, met, only};
 use crate::nodes::Nodes;
-use crate::state::{State, done_names};
+use crate::state::State;
 use kb_label::{Labels, ListLabels, Process};
 use kb_node::{LabelKind, NodeId};
 use kb_term::{Found, Memory, RuleRef};
@@ -119,7 +119,7 @@ impl State {
         ensures { IfOk result (λ l. l ≡ overlap_label self.now a b) }
     {
         let mut names = met(alloc, &self.log, self.rule_label(a), self.rule_label(b))?;
-        match done_names(&self.done, a, b) {
+        match self.done.names(a, b) {
             Some(done) => {
                 names.minus(&self.log, done)?;
                 Ok(names)

@@ -1,8 +1,6 @@
-use Rattle.std.proofs.Common.{◌≡◌, [], List, ap, ap₂, sym, subst, ◌∙◌}
+use Rattle.std.proofs.Common.{◌≡◌, [], ap, ap₂, sym, subst, ◌∙◌}
 use Rattle.kb_label.specs.Names.{meet, minus}
-use Rattle.mkb_model.specs.Plain.{Plain, label, rule_kind, done_in, done_of}
-use Rattle.mkb_rules.specs.Kept.{plain_done}
-use Rattle.mkb_rules.specs.declared.state.DonePair.{DonePair}
+use Rattle.mkb_model.specs.Plain.{Plain, label, rule_kind, done_of}
 use Rattle.mkb_rules.proofs.Sets.{minus_none}
 use Rattle.mkb_rules.proofs.state.State.overlap_names.Goals as goal
 
@@ -11,7 +9,6 @@ returns-in-None c =
     let b = c.args.self.now in
     let first = c.args.a in
     let second = c.args.b in
-    let none = ap (λ (z : List DonePair). done_in (plain_done z) first second) (sym c.deref.ensures.value) ∙ c.in-None.ensures in
-    let nobody : done_of b first second ≡ [] = subst {A = Plain} (λ z. done_of z first second ≡ []) c.self.view_is none in
+    let nobody : done_of b first second ≡ [] = subst {A = Plain} (λ z. done_of z first second ≡ []) c.self.view_is c.in-None.ensures in
     let both = meet (label b first.node (rule_kind first.dir)) (label b second.node (rule_kind second.dir)) in
     c.in_ok-names.ensures ∙ ap₂ meet c.rule_label.ensures c.rule_label-2.ensures ∙ sym (minus_none both) ∙ ap (minus both) (sym nobody)

@@ -8,7 +8,7 @@ use Rattle.mkb_rules.specs.Applying.{Commits, applied_as}
 use Rattle.mkb_rules.specs.declared.applied.Applied.{Applied}
 use Rattle.mkb_rules.specs.declared.applied.Applied.TheVariants.{Over}
 use Rattle.mkb_rules.proofs.Answered.{ok_so}
-use Rattle.mkb_rules.specs.Kept.{plain_done, plain_certificates}
+use Rattle.mkb_rules.specs.Kept.{plain_certificates}
 use Rattle.mkb_rules.specs.Over.{lists_of}
 use Rattle.mkb_rules.specs.Parts.{board_of}
 use Rattle.mkb_rules.specs.Rewriting.{gained, lost}
@@ -28,7 +28,7 @@ returns-in-Ok-try_moving-clause-ok c =
     c.in_ok-sources.ensures.names c.in_ok-sources.ensures.strict c.in_ok-sources.ensures.equation c.in_ok-sources.ensures.right c.in_ok-sources.ensures.left in
     let done = rewrite-done b n w c.args.position.now c.args.rule c.args.kind c.args.outcome.now node.0 node.1 o s (c.in-Ok.ensures node.0 node.1) all
     (rw (← c.self.view_is) c.in-Ok-try_moving.ensures.room) in (
-      ap₂ (λ (xs : List PlainNode) (m : ℕ). board_of before.problem before.settings before.log xs (plain_done before.done.items) before.facts before.closed (lists_of before.over) before.asleep m (plain_certificates before.certificates.items)) c.in-Ok-try_moving.ensures.ok c.counted_up-self-inside.ensures
+      ap₂ (λ (xs : List PlainNode) (m : ℕ). board_of before.problem before.settings before.log xs before.done before.facts before.closed (lists_of before.over) before.asleep m (plain_certificates before.certificates.items)) c.in-Ok-try_moving.ensures.ok c.counted_up-self-inside.ensures
           ∙ ap (λ (z : Plain). counted (on_nodes (λ xs. gained o s (lost n.0 w s xs)) z)) c.self.view_is
           ∙ done.0,
       ap applied_as (sym done.1),
@@ -42,7 +42,7 @@ returns-in-Err-Full-clause-ok c =
     let s = c.in_ok-sources.sources in
     let o = c.in-Ok.target in
     let before = c.self.inside in
-    let with_nodes_now = λ (xs : List PlainNode). board_of before.problem before.settings before.log xs (plain_done before.done.items) before.facts before.closed (lists_of before.over) before.asleep before.commits (plain_certificates before.certificates.items) in
+    let with_nodes_now = λ (xs : List PlainNode). board_of before.problem before.settings before.log xs before.done before.facts before.closed (lists_of before.over) before.asleep before.commits (plain_certificates before.certificates.items) in
     let node = there_pair b.nodes n.0 c.requires.node in
     let all = sources-all b n w c.args.position.now c.args.rule c.args.kind c.args.outcome.now node.0 node.1 c.in_ok-names.names s c.in_ok-names.ensures
     c.in_ok-sources.ensures.names c.in_ok-sources.ensures.strict c.in_ok-sources.ensures.equation c.in_ok-sources.ensures.right c.in_ok-sources.ensures.left in

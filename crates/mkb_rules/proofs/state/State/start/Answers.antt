@@ -1,5 +1,4 @@
 use Rattle.std.proofs.Common.{[]}
-use Rattle.mkb_rules.specs.Kept.{plain_done}
 use Rattle.mkb_rules.proofs.state.State.start.Goals as goal
 
 pub returns-in-Ok : goal.returns-in-Ok
@@ -10,7 +9,7 @@ returns-in-Ok c =
       settings = c.args.settings;
       living = parts.log i;
       nodes = parts.nodes i;
-      done = plain_done (c.new.ensures.items i);
+      done = c.new.ensures i;
       facts = c.new-in-Ok.ensures i;
       closed = c.new-in-Ok-2.ensures [] i;
       over = c.nobody.ensures i;
