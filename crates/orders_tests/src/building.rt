@@ -7,6 +7,7 @@ ghost use Rattle.kb_linear.specs.Limits.{IsMeasurable};
 use kb_linear::Interp;
 use kb_term::{Memory, Signature, Symbol, Term, Terms};
 use std::alloc::Global;
+use std::process::Abort;
 
 /// The name of one letter.
 pub(crate) fn letter(alloc: Global, b: u8) -> Result<Vec<u8>, Memory>
@@ -39,7 +40,7 @@ fn row(alloc: Global, constant: u8, coefficient: u8) -> Result<(u8, Vec<u8>), Me
 }
 
 /// f(x) = c + a x and g(x) = d + b x.
-pub(crate) fn interpretation(alloc: Global, c: u8, a: u8, d: u8, b: u8) -> Result<Interp, Memory>
+pub(crate) fn interpretation(rt: &impl Abort, alloc: Global, c: u8, a: u8, d: u8, b: u8) -> Interp
     requires f_constant { c ≤ 15 }
     requires f_least { 1 ≤ a }
     requires f_most { a ≤ 3 }
@@ -47,34 +48,34 @@ pub(crate) fn interpretation(alloc: Global, c: u8, a: u8, d: u8, b: u8) -> Resul
     requires g_least { 1 ≤ b }
     requires g_most { b ≤ 3 }
 {
-    let f = row(alloc, c, a)?;
-    let g = row(alloc, d, b)?;
+    let f = row(alloc, c, a).expect(rt, "memory");
+    let g = row(alloc, d, b).expect(rt, "memory");
     let mut rows = Vec::new(alloc);
-    rows.push(f)?;
-    rows.push(g)?;
-    Ok(Interp::new(rows))
+    rows.push(f).expect(rt, "memory");
+    rows.push(g).expect(rt, "memory");
+    Interp::new(rows)
 }
 
 /// f or g applied to the term.
-pub(crate) fn unary(alloc: Global, f: u8, t: Term) -> Result<Term, Memory>
-    ensures { IfOk result (λ u. tree_of u ≡ apply f (more_trees (tree_of t) no_trees)) }
+pub(crate) fn unary(rt: &impl Abort, alloc: Global, f: u8, t: Term) -> Term
+    ensures { tree_of result ≡ apply f (more_trees (tree_of t) no_trees) }
 {
     let mut items = Vec::new(alloc);
-    items.push(t)?;
-    Ok(Term::App(Symbol(f), Terms::new(items)))
+    items.push(t).expect(rt, "memory");
+    Term::App(Symbol(f), Terms::new(items))
 }
 
 /// Two symbols applied in turn to a variable.
-pub(crate) fn two(alloc: Global, f: u8, g: u8) -> Result<Term, Memory>
-    ensures { IfOk result (λ t. IsMeasurable (tree_of t)) }
+pub(crate) fn two(rt: &impl Abort, alloc: Global, f: u8, g: u8) -> Term
+    ensures { IsMeasurable (tree_of result) }
 {
-    let inner = unary(alloc, g, Term::Var(0))?;
-    unary(alloc, f, inner)
+    let inner = unary(rt, alloc, g, Term::Var(0));
+    unary(rt, alloc, f, inner)
 }
 
 /// One symbol applied to a variable.
-pub(crate) fn one(alloc: Global, f: u8) -> Result<Term, Memory>
-    ensures { IfOk result (λ t. IsMeasurable (tree_of t)) }
+pub(crate) fn one(rt: &impl Abort, alloc: Global, f: u8) -> Term
+    ensures { IsMeasurable (tree_of result) }
 {
-    unary(alloc, f, Term::Var(0))
+    unary(rt, alloc, f, Term::Var(0))
 }

@@ -10,44 +10,46 @@ use kb_kbo::Kbo;
 use kb_lpo::Precedence;
 use kb_term::{Memory, Rule, Signature, Symbol, Term, Terms};
 use std::alloc::Global;
-use std::test::Fail;
+use std::mem::drop;
+use std::process::Abort;
 
-fn precedence(alloc: Global, first: u8, second: u8) -> Result<Certificate, Memory> {
+fn two_listed(rt: &impl Abort, alloc: Global, first: u8, second: u8) -> Precedence {
     let mut symbols = Vec::new(alloc);
-    symbols.push(Symbol(first))?;
-    symbols.push(Symbol(second))?;
-    Ok(Certificate::Lpo(Precedence::new(symbols)))
+    symbols.push(Symbol(first)).expect(rt, "memory");
+    symbols.push(Symbol(second)).expect(rt, "memory");
+    Precedence::new(symbols)
+}
+
+fn precedence(rt: &impl Abort, alloc: Global, first: u8, second: u8) -> Certificate {
+    Certificate::Lpo(two_listed(rt, alloc, first, second))
 }
 
 /// Weights of f and of g, with a precedence.
-fn weighted(alloc: Global, f: u8, g: u8, first: u8, second: u8) -> Result<Certificate, Memory>
+fn weighted(rt: &impl Abort, alloc: Global, f: u8, g: u8, first: u8, second: u8) -> Certificate
     requires f_least { 1 ≤ f }
     requires f_most { f ≤ 15 }
     requires g_least { 1 ≤ g }
     requires g_most { g ≤ 15 }
 {
     let mut weights = Vec::new(alloc);
-    weights.push(f)?;
-    weights.push(g)?;
-    let mut symbols = Vec::new(alloc);
-    symbols.push(Symbol(first))?;
-    symbols.push(Symbol(second))?;
-    Ok(Certificate::Kbo(Kbo::new(weights, Precedence::new(symbols))))
+    weights.push(f).expect(rt, "memory");
+    weights.push(g).expect(rt, "memory");
+    Certificate::Kbo(Kbo::new(weights, two_listed(rt, alloc, first, second)))
 }
 
 /// The members of the family in their order: two precedences, 64 interpretations and 18 Knuth-Bendix orders.
-fn member(alloc: Global, n: u8) -> Result<Certificate, Memory> {
+fn member(rt: &impl Abort, alloc: Global, n: u8) -> Certificate {
     match n {
-        0 => precedence(alloc, 0, 1),
-        1 => precedence(alloc, 1, 0),
+        0 => precedence(rt, alloc, 0, 1),
+        1 => precedence(rt, alloc, 1, 0),
         2..66 => {
             let m = (n - 2) % 64;
-            let rows = interpretation(alloc, m / 16, m / 8 % 2 + 1, m / 2 % 4, m % 2 + 1)?;
-            Ok(Certificate::Linear(rows))
+            let rows = interpretation(rt, alloc, m / 16, m / 8 % 2 + 1, m / 2 % 4, m % 2 + 1);
+            Certificate::Linear(rows)
         }
         _ => {
             let m = (n - 66) % 18;
-            weighted(alloc, m / 6 + 1, m / 2 % 3 + 1, m % 2, 1 - m % 2)
+            weighted(rt, alloc, m / 6 + 1, m / 2 % 3 + 1, m % 2, 1 - m % 2)
         }
     }
 }
@@ -93,16 +95,15 @@ fn word(alloc: Global, symbols: &[u8]) -> Result<Term, Memory>
 }
 
 /// Adds the rule from one word to another.
-fn push_rule(alloc: Global, rules: &mut Vec<Rule>, left: &[u8], right: &[u8]) -> Result<(), Memory>
+fn push_rule(rt: &impl Abort, alloc: Global, rules: &mut Vec<Rule>, left: &[u8], right: &[u8])
     requires left_short { length left.now ≤ 60 }
     requires right_short { length right.now ≤ 60 }
     requires old { AreMeasurable rules.old.items }
-    ensures { IfOk result (λ _. AreMeasurable rules.new.items) }
+    ensures { AreMeasurable rules.new.items }
 {
-    let left = word(alloc, left)?;
-    let right = word(alloc, right)?;
-    rules.push(Rule::new(left, right))?;
-    Ok(())
+    let left = word(alloc, left).expect(rt, "memory");
+    let right = word(alloc, right).expect(rt, "memory");
+    rules.push(Rule::new(left, right)).expect(rt, "memory");
 }
 
 /// Some words of f and g, the innermost symbol first.
@@ -120,39 +121,36 @@ fn some_word(n: u8) -> &'static [u8]
     }
 }
 
-fn two_rules(alloc: Global, a: u8, b: u8, c: u8, d: u8) -> Result<Vec<Rule>, Memory>
-    ensures { IfOk result (λ rules. AreMeasurable rules.items) }
+fn two_rules(rt: &impl Abort, alloc: Global, a: u8, b: u8, c: u8, d: u8) -> Vec<Rule>
+    ensures { AreMeasurable result.items }
 {
     let mut rules = Vec::new(alloc);
-    push_rule(alloc, &mut rules, some_word(a), some_word(b))?;
-    push_rule(alloc, &mut rules, some_word(c), some_word(d))?;
-    Ok(rules)
+    push_rule(rt, alloc, &mut rules, some_word(a), some_word(b));
+    push_rule(rt, alloc, &mut rules, some_word(c), some_word(d));
+    rules
 }
 
 /// x -> f(x).
-fn growing_rule(alloc: Global) -> Result<Vec<Rule>, Memory>
-    ensures { IfOk result (λ rules. AreMeasurable rules.items) }
+fn growing_rule(rt: &impl Abort, alloc: Global) -> Vec<Rule>
+    ensures { AreMeasurable result.items }
 {
     let mut rules = Vec::new(alloc);
-    push_rule(alloc, &mut rules, &[], &[0])?;
-    Ok(rules)
+    push_rule(rt, alloc, &mut rules, &[], &[0]);
+    rules
 }
 
-/// The text of the first of all members that orders the rules; none where none does.
-fn first_of_all(
-    alloc: Global,
-    sig: &Signature,
-    rules: &[Rule],
-) -> Result<Option<Certificate>, Memory>
+/// The first of all members that orders the rules; none where none does.
+fn first_of_all(rt: &impl Abort, alloc: Global, rules: &[Rule]) -> Option<Certificate>
     requires { AreMeasurable rules.now }
 {
     for n in 0..84 {
-        let c = member(alloc, n)?;
+        let c = member(rt, alloc, n);
         if orients(&c, rules) {
-            return Ok(Some(c));
+            return Some(c);
         }
+        drop(c);
     }
-    Ok(None)
+    None
 }
 
 fn is_same(a: &Option<Certificate>, b: &Option<Certificate>) -> bool {
@@ -182,14 +180,26 @@ fn found_again(
     }
 }
 
-/// The text of the first member; empty where there is none.
-fn first_text(alloc: Global, sig: &Signature, rules: &[Rule]) -> Result<Vec<u8>, Memory>
+/// Whether the text of the first member is this one; empty where there is none.
+fn is_first_text(
+    rt: &impl Abort,
+    alloc: Global,
+    sig: &Signature,
+    rules: &[Rule],
+    text: &[u8],
+) -> bool
     requires few { length sig.now ≤ 24 }
     requires measurable { AreMeasurable rules.now }
 {
-    match search(alloc, Family::Stated, sig, rules)? {
-        Some(c) => cert_text(alloc, &c, sig),
-        None => Ok(Vec::new(alloc)),
+    match search(alloc, Family::Stated, sig, rules).expect(rt, "memory") {
+        Some(c) => {
+            let written = cert_text(alloc, &c, sig).expect(rt, "memory");
+            drop(c);
+            let is_same = written.as_slice() == text;
+            drop(written);
+            is_same
+        }
+        None => text.is_empty(),
     }
 }
 
@@ -203,89 +213,123 @@ fn is_read(alloc: Global, sig: &Signature, line: &[u8]) -> Result<bool, Memory>
     }
 }
 
+/// Whether the search finds what is wanted.
+fn is_found(
+    rt: &impl Abort,
+    alloc: Global,
+    sig: &Signature,
+    rules: &[Rule],
+    wanted: &Option<Certificate>,
+) -> bool
+    requires few { length sig.now ≤ 24 }
+    requires measurable { AreMeasurable rules.now }
+{
+    let found = search(alloc, Family::Stated, sig, rules).expect(rt, "memory");
+    let is_wanted = is_same(&found, wanted);
+    drop(found);
+    is_wanted
+}
+
 /// How many of the rule sets are searched as trying all members does, and how many of them a member orders.
-fn agreements(alloc: Global) -> Result<(u32, u32), Memory> {
-    let sig = two_symbols(alloc)?;
+fn agreements(rt: &impl Abort, alloc: Global) -> (u32, u32) {
+    let sig = two_symbols(alloc).expect(rt, "memory");
     let mut agreed = 0;
     let mut ordered = 0;
     for n in 0..343u32 {
         let rules = two_rules(
+            rt,
             alloc,
             (n / 49) as u8,
             (n / 7 % 7) as u8,
             (n % 7) as u8,
             (n % 5) as u8,
-        )?;
-        let wanted = first_of_all(alloc, &sig, &rules)?;
-        if is_same(&search(alloc, Family::Stated, &sig, &rules)?, &wanted) {
+        );
+        let wanted = first_of_all(rt, alloc, &rules);
+        if is_found(rt, alloc, &sig, &rules, &wanted) {
             agreed += 1;
         }
         if wanted.is_some() {
             ordered += 1;
         }
+        drop(wanted);
+        drop(rules);
     }
-    Ok((agreed, ordered))
+    drop(sig);
+    (agreed, ordered)
 }
 
 #[test]
-fn a_precedence_comes_before_interpretations(rt: HostRuntime) -> Result<(), Fail> {
+fn a_precedence_comes_before_interpretations(rt: HostRuntime) {
     let alloc = rt.alloc();
-    let sig = two_symbols(alloc)?;
-    let rules = two_rules(alloc, 3, 4, 3, 4)?;
-    let found = search(alloc, Family::Stated, &sig, &rules)?;
-    assert!(rt; is_same(&found, &Some(precedence(alloc, 0, 1)?)));
-    assert!(rt; first_text(alloc, &sig, &rules)?.as_slice() == b"LPO f g".as_slice());
-    Ok(())
+    let sig = two_symbols(alloc).expect(&rt, "memory");
+    let rules = two_rules(&rt, alloc, 3, 4, 3, 4);
+    let wanted = Some(precedence(&rt, alloc, 0, 1));
+    assert!(rt; is_found(&rt, alloc, &sig, &rules, &wanted));
+    drop(wanted);
+    assert!(rt; is_first_text(&rt, alloc, &sig, &rules, b"LPO f g"));
+    drop(rules);
+    drop(sig);
 }
 
 #[test]
-fn an_interpretation_is_found_where_no_precedence_orders(rt: HostRuntime) -> Result<(), Fail> {
+fn an_interpretation_is_found_where_no_precedence_orders(rt: HostRuntime) {
     let alloc = rt.alloc();
-    let sig = two_symbols(alloc)?;
-    let rules = two_rules(alloc, 2, 1, 4, 3)?;
-    let found = search(alloc, Family::Stated, &sig, &rules)?;
-    let wanted = Some(Certificate::Linear(interpretation(alloc, 1, 2, 0, 2)?));
+    let sig = two_symbols(alloc).expect(&rt, "memory");
+    let rules = two_rules(&rt, alloc, 2, 1, 4, 3);
+    let found = search(alloc, Family::Stated, &sig, &rules).expect(&rt, "memory");
+    let wanted = Some(Certificate::Linear(interpretation(&rt, alloc, 1, 2, 0, 2)));
     assert!(rt; is_same(&found, &wanted));
-    assert!(rt; is_same(&wanted.clone()?, &found));
-    assert!(rt; is_same(&found_again(alloc, &sig, &rules)?, &wanted));
-    assert!(rt; first_text(alloc, &sig, &rules)?.as_slice() == b"LINEAR 1,2 0,2".as_slice());
-    Ok(())
+    let copied: Result<_, _> = wanted.clone();
+    let copy = copied.expect(&rt, "memory");
+    assert!(rt; is_same(&copy, &found));
+    drop(copy);
+    drop(found);
+    let again = found_again(alloc, &sig, &rules).expect(&rt, "memory");
+    assert!(rt; is_same(&again, &wanted));
+    drop(again);
+    drop(wanted);
+    assert!(rt; is_first_text(&rt, alloc, &sig, &rules, b"LINEAR 1,2 0,2"));
+    drop(rules);
+    drop(sig);
 }
 
 #[test]
-fn weights_come_where_nothing_else_orders(rt: HostRuntime) -> Result<(), Fail> {
+fn weights_come_where_nothing_else_orders(rt: HostRuntime) {
     let alloc = rt.alloc();
-    let sig = four_symbols(alloc)?;
-    let rules = two_rules(alloc, 3, 4, 5, 0)?;
-    assert!(rt; first_text(alloc, &sig, &rules)?.as_slice() == b"KBO 1,1,1,1 f g h m".as_slice());
-    Ok(())
+    let sig = four_symbols(alloc).expect(&rt, "memory");
+    let rules = two_rules(&rt, alloc, 3, 4, 5, 0);
+    assert!(rt; is_first_text(&rt, alloc, &sig, &rules, b"KBO 1,1,1,1 f g h m"));
+    drop(rules);
+    drop(sig);
 }
 
 #[test]
-fn no_member_orders_a_growing_rule(rt: HostRuntime) -> Result<(), Fail> {
+fn no_member_orders_a_growing_rule(rt: HostRuntime) {
     let alloc = rt.alloc();
-    let sig = two_symbols(alloc)?;
-    let rules = growing_rule(alloc)?;
-    assert!(rt; search(alloc, Family::Stated, &sig, &rules)?.is_none());
-    Ok(())
+    let sig = two_symbols(alloc).expect(&rt, "memory");
+    let rules = growing_rule(&rt, alloc);
+    let found = search(alloc, Family::Stated, &sig, &rules).expect(&rt, "memory");
+    assert!(rt; found.is_none());
+    drop(found);
+    drop(rules);
+    drop(sig);
 }
 
 #[test]
-fn the_search_agrees_with_trying_all_members(rt: HostRuntime) -> Result<(), Fail> {
-    let (agreed, ordered) = agreements(rt.alloc())?;
+fn the_search_agrees_with_trying_all_members(rt: HostRuntime) {
+    let (agreed, ordered) = agreements(&rt, rt.alloc());
     assert!(rt; agreed == 343);
     assert!(rt; 50 < ordered);
     assert!(rt; ordered < 300);
-    Ok(())
 }
 
 #[test]
-fn certificates_are_read_from_their_texts_alone(rt: HostRuntime) -> Result<(), Fail> {
+fn certificates_are_read_from_their_texts_alone(rt: HostRuntime) {
     let alloc = rt.alloc();
-    let sig = two_symbols(alloc)?;
-    assert!(rt; is_read(alloc, &sig, b"LPO g f")?);
-    assert!(rt; is_read(alloc, &sig, b"LINEAR 15,3 0,1")?);
-    assert!(rt; is_read(alloc, &sig, b"KBO 15,1 g f")?);
+    let sig = two_symbols(alloc).expect(&rt, "memory");
+    assert!(rt; is_read(alloc, &sig, b"LPO g f").expect(&rt, "memory"));
+    assert!(rt; is_read(alloc, &sig, b"LINEAR 15,3 0,1").expect(&rt, "memory"));
+    assert!(rt; is_read(alloc, &sig, b"KBO 15,1 g f").expect(&rt, "memory"));
     for line in [
         b"LPO g".as_slice(),
         b"LPO g g",
@@ -306,7 +350,7 @@ fn certificates_are_read_from_their_texts_alone(rt: HostRuntime) -> Result<(), F
         b"KBO",
         b"",
     ] {
-        assert!(rt; !is_read(alloc, &sig, line)?);
+        assert!(rt; !is_read(alloc, &sig, line).expect(&rt, "memory"));
     }
-    Ok(())
+    drop(sig);
 }

@@ -4,7 +4,8 @@ ghost use Rattle.std.specs.Prelude.{◌≡◌, ◌<◌, ◌≤◌, IfOk, length}
 use kb_lpo::{Precedence, lpo_greater, search_lpo, search_lpo_from};
 use kb_term::{Memory, Rule, Signature, Symbol, Term, Terms};
 use std::alloc::Global;
-use std::test::Fail;
+use std::mem::drop;
+use std::process::Abort;
 
 /// The symbols a, b, c, .. with these arities.
 fn signature(alloc: Global, arities: &[u8]) -> Result<Signature, Memory>
@@ -27,12 +28,12 @@ fn three_symbols(alloc: Global) -> Result<Signature, Memory>
     signature(alloc, &[1, 1, 2])
 }
 
-fn precedence(alloc: Global, symbols: &[u8]) -> Result<Precedence, Memory> {
+fn precedence(rt: &impl Abort, alloc: Global, symbols: &[u8]) -> Precedence {
     let mut listed = Vec::new(alloc);
     for f in symbols {
-        listed.push(Symbol(*f))?;
+        listed.push(Symbol(*f)).expect(rt, "memory");
     }
-    Ok(Precedence::new(listed))
+    Precedence::new(listed)
 }
 
 fn unary(alloc: Global, f: u8, t: Term) -> Result<Term, Memory> {
@@ -49,12 +50,18 @@ fn binary(alloc: Global, f: u8, s: Term, t: Term) -> Result<Term, Memory> {
 }
 
 /// The symbols f and g applied in turn to a variable, as 0 and 1 say, the outermost first.
-fn word(alloc: Global, symbols: &[u8]) -> Result<Term, Memory> {
+fn word(rt: &impl Abort, alloc: Global, symbols: &[u8]) -> Term {
     let mut t = Term::Var(0);
     for f in symbols.iter().rev() {
-        t = unary(alloc, *f, t)?;
+        t = unary(alloc, *f, t).expect(rt, "memory");
     }
-    Ok(t)
+    t
+}
+
+/// Adds the rule from the one word to the other.
+fn push_words(rt: &impl Abort, alloc: Global, rules: &mut Vec<Rule>, left: &[u8], right: &[u8]) {
+    let rule = Rule::new(word(rt, alloc, left), word(rt, alloc, right));
+    rules.push(rule).expect(rt, "memory");
 }
 
 fn next(seed: &mut u32, bound: u32) -> u32
@@ -82,18 +89,25 @@ fn some_term(alloc: Global, seed: &mut u32, depth: u8) -> Result<Term, Memory> {
     }
 }
 
-fn some_rules(alloc: Global, seed: &mut u32, count: u32) -> Result<Vec<Rule>, Memory> {
+fn some_rules(rt: &impl Abort, alloc: Global, seed: &mut u32, count: u32) -> Vec<Rule> {
     let mut rules = Vec::new(alloc);
     for _ in 0..count {
-        let left = some_term(alloc, seed, 3)?;
-        let right = some_term(alloc, seed, 1)?;
-        rules.push(Rule::new(left, right))?;
+        let left = some_term(alloc, seed, 3).expect(rt, "memory");
+        let right = some_term(alloc, seed, 1).expect(rt, "memory");
+        rules.push(Rule::new(left, right)).expect(rt, "memory");
     }
-    Ok(rules)
+    rules
+}
+
+/// Whether the precedence orients all rules.
+fn orients(prec: &Precedence, rules: &[Rule]) -> bool {
+    rules
+        .iter()
+        .all(|rule| lpo_greater(prec, rule.left(), rule.right()))
 }
 
 /// The first of the six precedences that orients all rules.
-fn first_of_all(alloc: Global, rules: &[Rule]) -> Result<Option<Precedence>, Memory> {
+fn first_of_all(rt: &impl Abort, alloc: Global, rules: &[Rule]) -> Option<Precedence> {
     for symbols in [
         [0, 1, 2],
         [0, 2, 1],
@@ -102,15 +116,13 @@ fn first_of_all(alloc: Global, rules: &[Rule]) -> Result<Option<Precedence>, Mem
         [2, 0, 1],
         [2, 1, 0],
     ] {
-        let prec = precedence(alloc, &symbols)?;
-        if rules
-            .iter()
-            .all(|rule| lpo_greater(&prec, rule.left(), rule.right()))
-        {
-            return Ok(Some(prec));
+        let prec = precedence(rt, alloc, &symbols);
+        if orients(&prec, rules) {
+            return Some(prec);
         }
+        drop(prec);
     }
-    Ok(None)
+    None
 }
 
 /// The first precedence, found from the first one for the rules before a place on.
@@ -137,114 +149,160 @@ fn is_same_answer(a: &Option<Precedence>, b: &Option<Precedence>) -> bool {
     }
 }
 
+/// Whether the search from nothing and the one in two steps both find what is wanted.
+fn are_found(
+    rt: &impl Abort,
+    alloc: Global,
+    sig: &Signature,
+    rules: &[Rule],
+    wanted: &Option<Precedence>,
+) -> bool
+    requires { length sig.now ≤ 24 }
+{
+    let whole = search_lpo(alloc, sig, rules).expect(rt, "memory");
+    let steps = first_in_two_steps(alloc, sig, rules, rules.len() / 2).expect(rt, "memory");
+    let are_same = is_same_answer(&whole, wanted) && is_same_answer(&steps, wanted);
+    drop(whole);
+    drop(steps);
+    are_same
+}
+
 /// Whether each search finds what trying all precedences does, on so many sets of rules; and how many have an answer.
-fn agreements(alloc: Global, sets: u32) -> Result<(bool, u32), Memory> {
-    let sig = three_symbols(alloc)?;
+fn agreements(rt: &impl Abort, alloc: Global, sets: u32) -> (bool, u32) {
+    let sig = three_symbols(alloc).expect(rt, "memory");
     let mut seed = 7;
     let mut found = 0;
+    let mut agree = true;
     for n in 0..sets {
-        let rules = some_rules(alloc, &mut seed, 1 + n % 3)?;
-        let wanted = first_of_all(alloc, &rules)?;
-        if !is_same_answer(&search_lpo(alloc, &sig, &rules)?, &wanted) {
-            return Ok((false, found));
-        }
-        if !is_same_answer(
-            &first_in_two_steps(alloc, &sig, &rules, rules.len() / 2)?,
-            &wanted,
-        ) {
-            return Ok((false, found));
+        let rules = some_rules(rt, alloc, &mut seed, 1 + n % 3);
+        let wanted = first_of_all(rt, alloc, &rules);
+        if !are_found(rt, alloc, &sig, &rules, &wanted) {
+            agree = false;
         }
         if wanted.is_some() {
             found += 1;
         }
+        drop(wanted);
+        drop(rules);
     }
-    Ok((true, found))
+    drop(sig);
+    (agree, found)
+}
+
+/// Whether the precedence of these symbols is the answer.
+fn is_precedence(answer: &Option<Precedence>, symbols: &[Symbol]) -> bool {
+    match answer {
+        Some(prec) => prec.symbols() == symbols,
+        None => false,
+    }
 }
 
 #[test]
-fn a_greater_symbol_makes_the_term_greater(rt: HostRuntime) -> Result<(), Fail> {
+fn a_greater_symbol_makes_the_term_greater(rt: HostRuntime) {
     let alloc = rt.alloc();
-    let prec = precedence(alloc, &[0, 1])?;
-    let fg = word(alloc, &[0, 1])?;
-    let gf = word(alloc, &[1, 0])?;
+    let prec = precedence(&rt, alloc, &[0, 1]);
+    let fg = word(&rt, alloc, &[0, 1]);
+    let gf = word(&rt, alloc, &[1, 0]);
     assert!(rt; lpo_greater(&prec, &fg, &gf));
     assert!(rt; !lpo_greater(&prec, &gf, &fg));
-    Ok(())
+    drop(prec);
+    drop(fg);
+    drop(gf);
 }
 
 #[test]
-fn the_first_precedence_is_found(rt: HostRuntime) -> Result<(), Fail> {
+fn the_first_precedence_is_found(rt: HostRuntime) {
     let alloc = rt.alloc();
-    let sig = three_symbols(alloc)?;
+    let sig = three_symbols(alloc).expect(&rt, "memory");
     let mut rules = Vec::new(alloc);
-    rules.push(Rule::new(
-        binary(alloc, 2, Term::Var(0), Term::Var(1))?,
-        word(alloc, &[1])?,
-    ))?;
-    let found = search_lpo(alloc, &sig, &rules)?;
-    assert!(rt; is_same_answer(&found, &Some(precedence(alloc, &[0, 2, 1])?)));
-    rules.push(Rule::new(word(alloc, &[1])?, word(alloc, &[0])?))?;
-    let later = first_in_two_steps(alloc, &sig, &rules, 1)?;
-    assert!(rt; is_same_answer(&later, &Some(precedence(alloc, &[2, 1, 0])?)));
-    assert!(rt; is_same_answer(&later.clone()?, &later));
-    Ok(())
+    let left = binary(alloc, 2, Term::Var(0), Term::Var(1)).expect(&rt, "memory");
+    let right = word(&rt, alloc, &[1]);
+    rules.push(Rule::new(left, right)).expect(&rt, "memory");
+    let found = search_lpo(alloc, &sig, &rules).expect(&rt, "memory");
+    assert!(rt; is_precedence(&found, &[Symbol(0), Symbol(2), Symbol(1)]));
+    drop(found);
+    let last = Rule::new(word(&rt, alloc, &[1]), word(&rt, alloc, &[0]));
+    rules.push(last).expect(&rt, "memory");
+    let later = first_in_two_steps(alloc, &sig, &rules, 1).expect(&rt, "memory");
+    assert!(rt; is_precedence(&later, &[Symbol(2), Symbol(1), Symbol(0)]));
+    let copied: Result<_, _> = later.clone();
+    let copy = copied.expect(&rt, "memory");
+    assert!(rt; is_same_answer(&copy, &later));
+    drop(copy);
+    drop(later);
+    drop(rules);
+    drop(sig);
 }
 
 #[test]
-fn rules_that_need_f_above_g_and_g_above_f_have_none(rt: HostRuntime) -> Result<(), Fail> {
+fn rules_that_need_f_above_g_and_g_above_f_have_none(rt: HostRuntime) {
     let alloc = rt.alloc();
-    let sig = three_symbols(alloc)?;
+    let sig = three_symbols(alloc).expect(&rt, "memory");
     let mut rules = Vec::new(alloc);
-    rules.push(Rule::new(word(alloc, &[0, 0])?, word(alloc, &[1])?))?;
-    rules.push(Rule::new(word(alloc, &[1, 0])?, word(alloc, &[0, 1])?))?;
-    assert!(rt; search_lpo(alloc, &sig, &rules)?.is_none());
-    Ok(())
+    push_words(&rt, alloc, &mut rules, &[0, 0], &[1]);
+    push_words(&rt, alloc, &mut rules, &[1, 0], &[0, 1]);
+    let found = search_lpo(alloc, &sig, &rules).expect(&rt, "memory");
+    assert!(rt; found.is_none());
+    drop(found);
+    drop(rules);
+    drop(sig);
 }
 
 /// The rules by which eleven symbols select from pairs of their own, of which no precedence asks anything.
-fn selectors(alloc: Global) -> Result<Vec<Rule>, Memory> {
+fn selectors(rt: &impl Abort, alloc: Global) -> Vec<Rule> {
     let mut rules = Vec::new(alloc);
     for f in 2..13u8 {
-        let pair = binary(alloc, f + 11, Term::Var(0), Term::Var(1))?;
-        rules.push(Rule::new(unary(alloc, f, pair)?, Term::Var(0)))?;
+        let pair = binary(alloc, f + 11, Term::Var(0), Term::Var(1)).expect(rt, "memory");
+        let left = unary(alloc, f, pair).expect(rt, "memory");
+        rules
+            .push(Rule::new(left, Term::Var(0)))
+            .expect(rt, "memory");
     }
-    Ok(rules)
+    rules
 }
 
 #[test]
-fn symbols_that_no_choice_concerns_do_not_hide_a_conflict(rt: HostRuntime) -> Result<(), Fail> {
+fn symbols_that_no_choice_concerns_do_not_hide_a_conflict(rt: HostRuntime) {
     let alloc = rt.alloc();
-    let sig = signature(alloc, &[1; 24])?;
-    let mut rules = selectors(alloc)?;
-    rules.push(Rule::new(word(alloc, &[1, 1])?, word(alloc, &[0, 0])?))?;
-    let found = search_lpo(alloc, &sig, &rules)?;
-    let wanted = precedence(
+    let sig = signature(alloc, &[1; 24]).expect(&rt, "memory");
+    let mut rules = selectors(&rt, alloc);
+    push_words(&rt, alloc, &mut rules, &[1, 1], &[0, 0]);
+    let found = search_lpo(alloc, &sig, &rules).expect(&rt, "memory");
+    let wanted = Some(precedence(
+        &rt,
         alloc,
         &[
             1, 0, 2, 3, 4, 5, 6, 7, 8, 9, 10, 11, 12, 13, 14, 15, 16, 17, 18, 19, 20, 21, 22, 23,
         ],
-    )?;
-    assert!(rt; is_same_answer(&found, &Some(wanted)));
-    rules.push(Rule::new(word(alloc, &[0, 0, 1])?, word(alloc, &[1, 0, 0])?))?;
-    assert!(rt; search_lpo(alloc, &sig, &rules)?.is_none());
-    Ok(())
+    ));
+    assert!(rt; is_same_answer(&found, &wanted));
+    drop(found);
+    drop(wanted);
+    push_words(&rt, alloc, &mut rules, &[0, 0, 1], &[1, 0, 0]);
+    let none = search_lpo(alloc, &sig, &rules).expect(&rt, "memory");
+    assert!(rt; none.is_none());
+    drop(none);
+    drop(rules);
+    drop(sig);
 }
 
 #[test]
-fn a_variable_is_above_nothing(rt: HostRuntime) -> Result<(), Fail> {
+fn a_variable_is_above_nothing(rt: HostRuntime) {
     let alloc = rt.alloc();
-    let sig = three_symbols(alloc)?;
+    let sig = three_symbols(alloc).expect(&rt, "memory");
     let mut rules = Vec::new(alloc);
-    rules.push(Rule::new(Term::Var(0), word(alloc, &[0])?))?;
-    assert!(rt; search_lpo(alloc, &sig, &rules)?.is_none());
-    Ok(())
+    push_words(&rt, alloc, &mut rules, &[], &[0]);
+    let found = search_lpo(alloc, &sig, &rules).expect(&rt, "memory");
+    assert!(rt; found.is_none());
+    drop(found);
+    drop(rules);
+    drop(sig);
 }
 
 #[test]
-fn the_searches_agree_with_trying_all_precedences(rt: HostRuntime) -> Result<(), Fail> {
-    let (agree, found) = agreements(rt.alloc(), 400)?;
+fn the_searches_agree_with_trying_all_precedences(rt: HostRuntime) {
+    let (agree, found) = agreements(&rt, rt.alloc(), 400);
     assert!(rt; agree);
     assert!(rt; 100 < found);
     assert!(rt; found < 300);
-    Ok(())
 }

@@ -1,6 +1,7 @@
 // Terms of one symbol and its arguments.
-use kb_term::{Memory, Symbol, Term, Terms};
+use kb_term::{Symbol, Term, Terms};
 use std::alloc::Global;
+use std::process::Abort;
 
 /// The symbol applied to nothing.
 pub(crate) fn constant(alloc: Global, f: u8) -> Term {
@@ -8,16 +9,16 @@ pub(crate) fn constant(alloc: Global, f: u8) -> Term {
 }
 
 /// The symbol applied to the term.
-pub(crate) fn unary(alloc: Global, f: u8, t: Term) -> Result<Term, Memory> {
+pub(crate) fn unary(rt: &impl Abort, alloc: Global, f: u8, t: Term) -> Term {
     let mut items = Vec::new(alloc);
-    items.push(t)?;
-    Ok(Term::App(Symbol(f), Terms::new(items)))
+    items.push(t).expect(rt, "memory");
+    Term::App(Symbol(f), Terms::new(items))
 }
 
 /// The symbol applied to two terms.
-pub(crate) fn binary(alloc: Global, f: u8, a: Term, b: Term) -> Result<Term, Memory> {
+pub(crate) fn binary(rt: &impl Abort, alloc: Global, f: u8, a: Term, b: Term) -> Term {
     let mut items = Vec::new(alloc);
-    items.push(a)?;
-    items.push(b)?;
-    Ok(Term::App(Symbol(f), Terms::new(items)))
+    items.push(a).expect(rt, "memory");
+    items.push(b).expect(rt, "memory");
+    Term::App(Symbol(f), Terms::new(items))
 }

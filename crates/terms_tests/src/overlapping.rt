@@ -8,14 +8,16 @@ use kb_overlap::{Overlap, overlaps};
 use kb_term::{Limit, Memory, Rule, Term, compare, has_few_arguments, has_variables_below};
 use std::alloc::Global;
 use std::cmp::Ordering;
+use std::mem::drop;
+use std::process::Abort;
 
 /// The rule f(..f(x1)) -> a with f applied so many times.
-fn nested(alloc: Global, times: u32) -> Result<Rule, Memory> {
+fn nested(rt: &impl Abort, alloc: Global, times: u32) -> Rule {
     let mut left = Term::Var(0);
     for k in 0..times {
-        left = unary(alloc, 0, left)?;
+        left = unary(rt, alloc, 0, left);
     }
-    Ok(Rule::new(left, constant(alloc, 1)))
+    Rule::new(left, constant(alloc, 1))
 }
 
 fn is_ready(rule: &Rule) -> bool
@@ -39,39 +41,48 @@ fn listed(alloc: Global, outer: &Rule, inner: &Rule, same: bool) -> Result<Vec<O
     Err(Memory)
 }
 
+/// Whether the overlap's sides are these terms.
+fn has_sides(overlap: &Overlap, first: &Term, second: &Term) -> bool {
+    match &overlap.sides {
+        Ok((a, b)) => {
+            compare(a, first) == Ordering::Equal && compare(b, second) == Ordering::Equal
+        }
+        Err(_) => false,
+    }
+}
+
 #[test]
 fn a_rule_overlaps_itself_below_the_root(rt: HostRuntime) {
     let alloc = rt.alloc();
-    let rule = nested(alloc, 2).expect(&rt, "memory");
-    let second = unary(alloc, 0, constant(alloc, 1)).expect(&rt, "memory");
+    let rule = nested(&rt, alloc, 2);
+    let second = unary(&rt, alloc, 0, constant(alloc, 1));
     let found = listed(alloc, &rule, &rule, true).expect(&rt, "memory");
     assert_eq!(rt; found.len(), 1);
     for overlap in &found {
-        assert_eq!(rt; overlap.position.steps().len(), 1);
-        for step in overlap.position.steps() {
-            assert_eq!(rt; *step, 1);
-        }
-        assert!(rt; matches!(&overlap.sides, Ok(_)));
-        if let Ok((a, b)) = &overlap.sides {
-            assert!(rt; compare(a, rule.right()) == Ordering::Equal);
-            assert!(rt; compare(b, &second) == Ordering::Equal);
-        }
+        assert!(rt; overlap.position.steps() == [1].as_slice());
+        assert!(rt; has_sides(overlap, rule.right(), &second));
     }
+    drop(found);
+    drop(second);
+    drop(rule);
 }
 
 #[test]
 fn two_rules_overlap_at_the_root_too(rt: HostRuntime) {
     let alloc = rt.alloc();
-    let outer = nested(alloc, 2).expect(&rt, "memory");
-    let inner = nested(alloc, 1).expect(&rt, "memory");
+    let outer = nested(&rt, alloc, 2);
+    let inner = nested(&rt, alloc, 1);
     let found = listed(alloc, &outer, &inner, false).expect(&rt, "memory");
     assert_eq!(rt; found.len(), 2);
+    drop(found);
+    drop(outer);
+    drop(inner);
 }
 
 #[test]
 fn a_peak_of_depth_65_is_too_deep(rt: HostRuntime) {
     let alloc = rt.alloc();
-    let rule = nested(alloc, 40).expect(&rt, "memory");
+    let rule = nested(&rt, alloc, 40);
     let found = listed(alloc, &rule, &rule, true).expect(&rt, "memory");
     assert_eq!(rt; found.len(), 39);
     for overlap in &found {
@@ -81,4 +92,6 @@ fn a_peak_of_depth_65_is_too_deep(rt: HostRuntime) {
             assert!(rt; matches!(&overlap.sides, Err(Limit::Depth)));
         }
     }
+    drop(found);
+    drop(rule);
 }

@@ -9,6 +9,7 @@ use kb_term::{
 use kb_text::TextFault;
 use kb_trace::{Step, Trace, TraceFault, read_trace, replay_trace, trace_of, trace_text};
 use std::alloc::Global;
+use std::mem::drop;
 use std::process::Abort;
 
 fn applied(alloc: Global, f: u8, t: Term) -> Result<Term, Memory> {
@@ -127,6 +128,7 @@ fn a_right_trace_gives_its_pairs(rt: HostRuntime) {
     let t = trace(alloc, 1, 1).expect(&rt, "memory");
     let found = replayed(alloc, &t).expect(&rt, "right");
     assert!(rt; found == 2);
+    drop(t);
 }
 
 #[test]
@@ -134,8 +136,10 @@ fn a_step_that_cites_itself_and_one_at_no_position_are_bad(rt: HostRuntime) {
     let alloc = rt.alloc();
     let own = trace(alloc, 2, 1).expect(&rt, "memory");
     assert!(rt; matches!(&replayed(alloc, &own), Err(TraceFault::BadStep(2))));
+    drop(own);
     let nowhere = trace(alloc, 1, 2).expect(&rt, "memory");
     assert!(rt; matches!(&replayed(alloc, &nowhere), Err(TraceFault::BadStep(2))));
+    drop(nowhere);
 }
 
 #[test]
@@ -143,8 +147,10 @@ fn a_direction_above_1_is_bad(rt: HostRuntime) {
     let alloc = rt.alloc();
     let right = rewritten(alloc, 0, 1).expect(&rt, "memory");
     assert!(rt; matches!(&replayed(alloc, &right), Ok(3)));
+    drop(right);
     let above = rewritten(alloc, 0, 2).expect(&rt, "memory");
     assert!(rt; matches!(&replayed(alloc, &above), Err(TraceFault::BadStep(3))));
+    drop(above);
 }
 
 #[test]
@@ -156,8 +162,12 @@ fn a_step_has_a_line(rt: HostRuntime) {
         .push(Step::new(Origin::Input(1), pair))
         .expect(&rt, "memory");
     let signature = Signature::new(Vec::new(alloc));
-    let text = trace_text(alloc, &signature, &Trace::new(steps)).expect(&rt, "memory");
+    let t = Trace::new(steps);
+    let text = trace_text(alloc, &signature, &t).expect(&rt, "memory");
+    drop(t);
+    drop(signature);
     assert!(rt; text.as_slice() == b"1 input 1 : x1 = x2\n".as_slice());
+    drop(text);
 }
 
 #[test]
@@ -195,7 +205,10 @@ fn a_trace_is_read_back(rt: HostRuntime) {
         b"1 input 256 : x1 = x2\n2 rewrite 1 side 0 at 1.8 by 1 dir 1 : x1 = x2\n3 overlap 4096 dir 0 with 1 dir 1 at e : x1 = x2\n";
     let t = read_trace(alloc, &signature, lines.as_slice()).expect(&rt, "read");
     let text = trace_text(alloc, &signature, &t).expect(&rt, "memory");
+    drop(t);
+    drop(signature);
     assert!(rt; text.as_slice() == lines.as_slice());
+    drop(text);
 }
 
 #[test]
