@@ -3,6 +3,7 @@ pub mod Finding
 pub mod SamePairs
 pub mod DoneLists
 pub mod Keyed
+pub mod Crossing
 pub mod Moving
 pub mod Rows
 pub mod Sets

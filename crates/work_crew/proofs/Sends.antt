@@ -26,7 +26,7 @@ use Rattle.mkb_model.proofs.settings.Settings.TheSendSync as settings
 use Rattle.mkb_model.proofs.proposed.FactList.TheSendSync as facts
 use Rattle.mkb_rules.proofs.facts.Facts.TheSendSync as known
 use Rattle.mkb_rules.proofs.state.Certified.TheSendSync as certified
-use Rattle.mkb_rules.proofs.state.DonePair.TheSendSync as done
+use Rattle.mkb_rules.proofs.Crossing.{overlapped_send}
 use Rattle.mkb_rules.proofs.state.GivenUp.TheSendSync as over
 use Rattle.mkb_rules.proofs.sleepers.Sleepers.TheSendSync as sleepers
 use Rattle.mkb_rules.proofs.account.Account.TheSendSync as account
@@ -138,7 +138,7 @@ state_send = view_send StateInside.the_row _ _ _ _ (recorded_send (StateInside.t
     settings.the_field_send,
     (
       log.the_send,
-      (nodes_send, (search (sendable, crosses, done.the_send), (known.the_send, (labels.the_send, (over.the_field_send, (sleepers.the_send, (plain_send _ _ _ _ _, (search (sendable, crosses, certified.the_send), tt)))))))),
+      (nodes_send, (overlapped_send, (known.the_send, (labels.the_send, (over.the_field_send, (sleepers.the_send, (plain_send _ _ _ _ _, (search (sendable, crosses, certified.the_send), tt)))))))),
     ),
   ),
 )))
