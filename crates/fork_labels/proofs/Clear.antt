@@ -7,7 +7,8 @@ use Rattle.std.proofs.lemmas.Bool.{cases_eq}
 use Rattle.std.proofs.lemmas.Nat.Bits.{bit_at-zero, bit_at-trailing_zeros}
 use Rattle.fork_labels.specs.declared.place_set.Operation.{Operation}
 use Rattle.fork_labels.specs.declared.place_set.Operation.TheVariants.{Join, Meet, Minus}
-use Rattle.fork_labels.specs.Sets.{has_place, set_in, in_result, none_in, digit, IsClearFrom}
+use Rattle.kb_label.specs.Packed.{digit}
+use Rattle.fork_labels.specs.Sets.{has_place, set_in, in_result, none_in, IsClearFrom}
 use Rattle.fork_labels.proofs.SetIn.{length-set_in, get_or-set_in, take-set_in, same_sets, changed-same, changed-other}
 
 -- ---- each call keeps them clear

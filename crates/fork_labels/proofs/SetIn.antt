@@ -6,7 +6,8 @@ use Rattle.std.proofs.lemmas.Nat.Bits.{bit_at-lt}
 use Rattle.std.proofs.lemmas.List.{get_or-set_same, get_or-set_other}
 use Rattle.std.proofs.lemmas.List.FromFn.{fill_by_all, length-map-range_with_len, get_or-map-range_with_len, take-map-range_with_len, map-range_with_len_more}
 use Rattle.fork_labels.specs.declared.place_set.Operation.{Operation}
-use Rattle.fork_labels.specs.Sets.{has_place, set_in, in_result, result_of, digit}
+use Rattle.kb_label.specs.Packed.{digit}
+use Rattle.fork_labels.specs.Sets.{has_place, set_in, in_result, result_of}
 
 pub length-set_in : (ws : List ℕ) (n : ℕ) → length (set_in ws n) ≡ n
 unfolding set_in

@@ -29,11 +29,6 @@ result_of op [] cs = []
 result_of op (b ∷ bs) [] = []
 result_of op (b ∷ bs) (c ∷ cs) = in_result op b c ∷ result_of op bs cs
 
--- 1 for a place that is there, else 0
-abbrev pub digit : Bool → ℕ
-digit true = 1
-digit false = 0
-
 -- whether no place is in the set
 abbrev pub none_in : List Bool → Bool
 none_in [] = true

@@ -1,7 +1,8 @@
 // Sets of places.
 ghost use Rattle.std.specs.Prelude.{◌≡◌, ◌≢◌, ◌+◌, ◌-◌, ◌<◌, ◌≤◌, ◌==◌, ℕ, length, take, false, true, Bool, ◌∷◌, [], ◌++◌, slice_index, slice_index_or, slice_set, IsTrue};
 ghost use Rattle.std.specs.Int.{bit_at};
-ghost use Rattle.fork_labels.specs.Sets.{digit, in_result, none_in, result_of};
+ghost use Rattle.kb_label.specs.Packed.{digit};
+ghost use Rattle.fork_labels.specs.Sets.{in_result, none_in, result_of};
 
 use std::marker::Model;
 

@@ -1,30 +1,22 @@
 // The text of a certificate.
-ghost use Rattle.std.specs.Prelude.{◌≡◌, ◌++◌, ℕ, OnOk, IfOk, IsTrue, length, map, decimal, All, ◌<◌};
+ghost use Rattle.std.specs.Prelude.{◌≡◌, ◌++◌, ℕ, OnOk, IfOk, IsTrue, length, map, All, ◌<◌};
 ghost use Rattle.kb_term.specs.Signature.{SymbolEntry};
 ghost use Rattle.kb_term.specs.declared.term.Symbol.{Symbol};
 ghost use Rattle.kb_linear.specs.Limits.{interpretation_of};
 ghost use Rattle.kb_cert.specs.CertificateText.{cert_text as text_of, is_certificate, each_behind, name_at, interp_text, weight_fields};
 
 use crate::certificate::Certificate;
-use kb_term::{Memory, Signature, Symbol};
+use kb_term::{Memory, Signature, Symbol, push_number};
 use std::alloc::Global;
-
-fn push_number(alloc: Global, out: &mut Vec<u8>, n: u8) -> Result<(), Memory>
-    ensures { OnOk result (out.new.items ≡ out.old.items ++ decimal n) }
-{
-    let text = format!(in alloc; "{n}")?;
-    out.extend_from_slice(text.as_bytes())?;
-    Ok(())
-}
 
 /// Adds the numbers, parted by commas.
 fn push_numbers(alloc: Global, out: &mut Vec<u8>, first: u8, others: &[u8]) -> Result<(), Memory>
     ensures { OnOk result (out.new.items ≡ out.old.items ++ interp_text (first, others.now)) }
 {
-    push_number(alloc, out, first)?;
+    push_number(alloc, out, first as u64)?;
     for n in others {
         out.push(b',')?;
-        push_number(alloc, out, *n)?;
+        push_number(alloc, out, *n as u64)?;
     }
     Ok(())
 }

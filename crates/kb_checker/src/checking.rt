@@ -127,15 +127,8 @@ fn is_traced(alloc: Global, trace: &[Step], rule: &Rule, cited: u32) -> Result<b
     let second = pair.second();
     match canonical(alloc, rule.left(), rule.right())? {
         None => Ok(false),
-        Some(found) => Ok(has_sides(&found, first, second)),
+        Some(found) => Ok(found.has_sides(first, second)),
     }
-}
-
-/// Whether these are the sides of the pair.
-pub fn has_sides(pair: &Pair, first: &Term, second: &Term) -> bool
-    ensures { IsTrue result ↔ (pair.now ≡ pair_of first.now second.now) }
-{
-    *pair.first() == *first && *pair.second() == *second
 }
 
 /// The number, from 1, of the first rule or constraint that the certificate doesn't order.

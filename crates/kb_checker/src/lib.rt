@@ -12,6 +12,6 @@ mod pairing;
 mod verdict;
 
 pub use answer::Answer;
-pub use checking::{check, has_sides, rules_alone};
+pub use checking::{check, rules_alone};
 pub use laws::verdicts_are_one;
 pub use verdict::{Checked, Reject};

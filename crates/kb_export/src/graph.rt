@@ -5,8 +5,8 @@ ghost use Rattle.kb_text.specs.Terms.{names_of, term_text as text_of};
 ghost use Rattle.kb_export.specs.Graphs.{arrow_line, equation_lines, escaped, escaped_byte, graph_text, label_text, node_line, node_text, origin_lines, rule_line, step_lines, step_text};
 
 use kb_checker::Answer;
-use kb_term::{Memory, Origin, Rule, Signature, Term};
-use kb_text::{push_number, term_text};
+use kb_term::{Memory, Origin, Rule, Signature, Term, push_number};
+use kb_text::term_text;
 use kb_trace::Step;
 use std::alloc::Global;
 

@@ -4,7 +4,6 @@ ghost use Rattle.kb_term.specs.View.{tree_of};
 ghost use Rattle.mkb_model.specs.Proposals.{reason_of as reason_of_limit};
 ghost use Rattle.kb_jobs.specs.Groups.{IsOverlappable, IsGroupOf, AddsPair, AreFew};
 
-use crate::rules::is_same;
 use kb_label::Reason;
 use kb_node::Deduced;
 use kb_overlap::{Overlap, overlaps};
@@ -42,7 +41,7 @@ pub(crate) fn group_of(
     requires inner { IsOverlappable inner_rule.now }
     ensures { IfOk result (IsGroupOf outer outer_rule.now inner inner_rule.now) }
 {
-    let overlaps = overlaps(alloc, outer_rule, inner_rule, is_same(outer, inner))?;
+    let overlaps = overlaps(alloc, outer_rule, inner_rule, outer == inner)?;
     Ok(Group {
         outer,
         inner,

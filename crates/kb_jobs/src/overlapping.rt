@@ -5,7 +5,6 @@ ghost use Rattle.kb_jobs.specs.Groups.{IsGroup, AreGroupsOf, DeducesGroup, overl
 ghost use Rattle.kb_jobs.specs.Overlapping.{first_of, second_of, IsOverlapping, ProposesOverlap};
 
 use crate::groups::{Group, group_of, push_pair, reason_of};
-use crate::rules::is_same;
 use kb_label::{Process, Reason};
 use kb_node::{Deduced, Job, LimitCause};
 use kb_term::{Memory, Rule, RuleRef};
@@ -55,7 +54,7 @@ fn both_ways(alloc: Global, s: &OverlapSnapshot) -> Result<Vec<Group>, Memory>
 {
     let mut groups = Vec::new(alloc);
     groups.push(group_of(alloc, s.first, &s.first_rule, s.second, &s.second_rule)?)?;
-    if is_same(s.first, s.second) {
+    if s.first == s.second {
         return Ok(groups);
     }
     groups.push(group_of(alloc, s.second, &s.second_rule, s.first, &s.first_rule)?)?;

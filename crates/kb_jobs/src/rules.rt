@@ -1,6 +1,5 @@
 // Rules with their names.
 ghost use Rattle.std.specs.Prelude.{◌≡◌, IfOk};
-ghost use Rattle.mkb_model.specs.Jobs.{ref_eq};
 
 use kb_term::{Rule, RuleRef};
 use std::alloc::{AllocError, Global};
@@ -63,11 +62,4 @@ impl Clone for SharedRules {
 pub struct NamedRules {
     pub names: Vec<RuleRef>,
     pub rules: SharedRules,
-}
-
-/// Whether both name one rule.
-pub(crate) fn is_same(a: RuleRef, c: RuleRef) -> bool
-    ensures { result ≡ ref_eq a c }
-{
-    a.node == c.node && a.dir == c.dir
 }

@@ -8,8 +8,8 @@ ghost use Rattle.kb_journal.specs.JournalSections.{entry_body};
 use crate::entry_line::EntryLine;
 use kb_label::Process;
 use kb_report::{process_text, reason_word};
-use kb_term::{Memory, RuleRef};
-use kb_text::{Fields, push_number};
+use kb_term::{Memory, RuleRef, push_number};
+use kb_text::Fields;
 use std::alloc::Global;
 
 fn rule_text(alloc: Global, rule: RuleRef) -> Result<Vec<u8>, Memory>

@@ -8,7 +8,8 @@ use Rattle.std.specs.declared.cmp.Ordering.TheVariants.{Less, Equal, Greater}
 use Rattle.std.specs.Cmp.{tied_itself}
 use Rattle.kb_lemmas.proofs.Booleans.{or_swap}
 use Rattle.kb_label.specs.Names.{Name, bits_cmp, name_cmp, name_eq, has, by_order, add, join, meet, minus}
-use Rattle.kb_label.specs.NameOrder.{bits_cmp-total, bits_cmp-equal, name_cmp-equal, is_eq-equal}
+use Rattle.kb_lemmas.proofs.Booleans.{is_equal}
+use Rattle.kb_label.specs.NameOrder.{bits_cmp-total, bits_cmp-equal, name_cmp-equal}
 
 -- ---- names
 
@@ -16,7 +17,7 @@ pub name_eq-refl : (p : Name) → name_eq p p ≡ true
 name_eq-refl p = ap is_eq (tied_itself bits_cmp-total p)
 
 pub name_eq-eq : (p q : Name) → name_eq p q ≡ true → p ≡ q
-name_eq-eq p q h = bits_cmp-equal p q (is_eq-equal (bits_cmp p q) h)
+name_eq-eq p q h = bits_cmp-equal p q (is_equal (bits_cmp p q) h)
 
 -- ---- labels
 

@@ -6,6 +6,7 @@ use Rattle.std.specs.declared.cmp.Ordering.TheVariants.{Less, Equal, Greater}
 use Rattle.std.specs.Ordering.{ordering_then, is_eq, nat_cmp}
 use Rattle.std.specs.Cmp.{IsTotalOrder, on_total, then_total, nat_cmp_total, bool_cmp_total, tied_itself}
 use Rattle.std.specs.Cmp.Lexicographic.{lists_total}
+use Rattle.kb_lemmas.proofs.Booleans.{then_equal, is_equal}
 use Rattle.kb_label.specs.Names.{Name, bit_cmp, bits_cmp, name_cmp, name_eq}
 
 pub bits_cmp-total : IsTotalOrder bits_cmp
@@ -13,11 +14,6 @@ bits_cmp-total = lists_total bool_cmp_total
 
 pub name_cmp-total : IsTotalOrder name_cmp
 name_cmp-total = then_total (on_total length nat_cmp_total) bits_cmp-total
-
-then_equal : (a b : Ordering) → ordering_then a b ≡ Equal → (a ≡ Equal) × (b ≡ Equal)
-then_equal Less b e = absurd (cc)
-then_equal Equal b e = (refl, e)
-then_equal Greater b e = absurd (cc)
 
 bit_cmp-equal : (x y : Bool) → bit_cmp x y ≡ Equal → x ≡ y
 bit_cmp-equal true true e = refl
@@ -44,14 +40,9 @@ same_test true c f g = sym (f refl)
 same_test false true f g = g refl
 same_test false false f g = refl
 
-pub is_eq-equal : (o : Ordering) → is_eq o ≡ true → o ≡ Equal
-is_eq-equal Less e = absurd (cc)
-is_eq-equal Equal e = refl
-is_eq-equal Greater e = absurd (cc)
-
 -- two names are the same where neither comes before the other
 pub name_eq-by_cmp : (p q : Name) → name_eq p q ≡ is_eq (name_cmp p q)
 name_eq-by_cmp p q =
     same_test (name_eq p q) (is_eq (name_cmp p q))
-    (λ e. let h = bits_cmp-equal p q (is_eq-equal (bits_cmp p q) e) in rw (← h) (ap is_eq (name_cmp-same p)))
-    (λ e. ap is_eq (then_equal (nat_cmp (length p) (length q)) (bits_cmp p q) (is_eq-equal (name_cmp p q) e)).1)
+    (λ e. let h = bits_cmp-equal p q (is_equal (bits_cmp p q) e) in rw (← h) (ap is_eq (name_cmp-same p)))
+    (λ e. ap is_eq (then_equal (nat_cmp (length p) (length q)) (bits_cmp p q) (is_equal (name_cmp p q) e)).1)

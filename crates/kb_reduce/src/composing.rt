@@ -11,7 +11,7 @@ ghost use Rattle.kb_reduce.specs.Telling.{IsLimitWhy};
 ghost use Rattle.kb_reduce.specs.Running.{IsBehind, IsComposing};
 
 use crate::reduction::Why;
-use kb_checker::{Answer, has_sides};
+use kb_checker::Answer;
 use kb_rewrite::{MAX_STEPS, first_redex, step};
 use kb_term::{Limit, Memory, Origin, Pair, Position, Rule, RuleRef, Term, TermFault, canonical};
 use kb_trace::Step;
@@ -105,7 +105,7 @@ fn direction(steps: &[Step], rule: &(Rule, u32)) -> u8
     ensures bit { result ≤ 1 }
 {
     let pair = steps[rule.1 as usize - 1].pair();
-    if has_sides(pair, rule.0.left(), rule.0.right()) {
+    if pair.has_sides(rule.0.left(), rule.0.right()) {
         0
     } else {
         1

@@ -11,8 +11,8 @@ ghost use Rattle.kb_report.specs.Answers.{entry_text, symbols_line, equation_lin
 
 use kb_cert::{Certificate, cert_text};
 use kb_checker::Answer;
-use kb_term::{Memory, Problem, Rule, Signature, Term};
-use kb_text::{Fields, push_number, term_text};
+use kb_term::{Memory, Problem, Rule, Signature, Term, push_number};
+use kb_text::{Fields, term_text};
 use kb_trace::{Trace, trace_text};
 use std::alloc::Global;
 

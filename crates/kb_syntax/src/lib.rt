@@ -16,8 +16,7 @@ mod written;
 pub use fault::SyntaxFault;
 pub use generator::generate;
 pub use kb_text::{
-    Bound, Fields, Kind, Refusal, prefix_of, problem_text, push_number, push_term, read_term,
-    term_text,
+    Bound, Fields, Kind, Refusal, prefix_of, problem_text, push_term, read_term, term_text,
 };
 pub use laws::{
     bytes_are_refused_in_one_way, bytes_spell_one_problem, refused_bytes_spell_no_problem,

@@ -6,6 +6,7 @@ use Rattle.std.specs.declared.cmp.Ordering.{Ordering}
 use Rattle.std.specs.declared.cmp.Ordering.TheVariants.{Less, Equal, Greater}
 use Rattle.std.specs.Ordering.{nat_cmp, ordering_then, ordering_reverse, is_eq}
 use Rattle.std.specs.Cmp.{IsTotalOrder}
+use Rattle.kb_lemmas.proofs.Booleans.{then_equal}
 use Rattle.kb_term.specs.Tree.{Tree, Trees, variable, apply, no_trees, more_trees, tree_cmp, trees_cmp}
 use Rattle.kb_term.specs.Pair.{Pair, pair_cmp}
 use Rattle.kb_term.specs.View.{tree_of}
@@ -27,11 +28,6 @@ then_flip : (a b : Ordering) → ordering_then (ordering_reverse a) (ordering_re
 then_flip Less b = refl
 then_flip Equal b = refl
 then_flip Greater b = refl
-
-then_equal : (a b : Ordering) → ordering_then a b ≡ Equal → (a ≡ Equal) × (b ≡ Equal)
-then_equal Less b e = absurd (cc)
-then_equal Equal b e = (refl, e)
-then_equal Greater b e = absurd (cc)
 
 -- the first decides, or it is equal and the second does
 then_less : (a b : Ordering) → ordering_then a b ≡ Less → (a ≡ Less) ⊎ ((a ≡ Equal) × (b ≡ Less))

@@ -2,6 +2,7 @@
 #![tactic(auto)]
 
 mod arities;
+mod digits;
 mod fault;
 mod laws;
 mod limit;
@@ -22,6 +23,7 @@ mod variables;
 mod variant;
 
 pub use arities::has_few_arguments;
+pub use digits::push_number;
 pub use fault::TermFault;
 pub use laws::{canonical_pairs_tell_equations, numberings_tell_variants};
 pub use limit::Limit;

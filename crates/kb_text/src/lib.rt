@@ -26,5 +26,5 @@ pub use number::{line_length, read_number};
 pub use printer::problem_text;
 pub use read::read_term;
 pub use sign::Sign;
-pub use text::{prefix_of, push_number, push_term, term_text};
+pub use text::{prefix_of, push_term, term_text};
 pub use uses::{Use, Uses};

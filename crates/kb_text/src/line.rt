@@ -4,8 +4,7 @@ ghost use Rattle.std.specs.List.{join_with_byte, slice_split};
 ghost use Rattle.kb_text.specs.Fields.{behind};
 ghost use Rattle.kb_text.specs.Lines.{line, parted};
 
-use crate::text::push_number;
-use kb_term::Memory;
+use kb_term::{Memory, push_number};
 use std::alloc::Global;
 use std::marker::Model;
 use std::mem::replace;

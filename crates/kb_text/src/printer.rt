@@ -6,8 +6,8 @@ ghost use Rattle.kb_term.specs.Tree.{variables_of};
 ghost use Rattle.kb_term.specs.View.{equations_of_list, tree_of};
 ghost use Rattle.kb_text.specs.Terms.{problem_line, most_variables as most_in, names_of, prefix_length, problem_text as text_of, variable_count as count_in, variable_text};
 
-use crate::text::{prefix_of, push_letters, push_number, push_term};
-use kb_term::{Memory, Problem, Signature, Term};
+use crate::text::{prefix_of, push_letters, push_term};
+use kb_term::{Memory, Problem, Signature, Term, push_number};
 use std::alloc::Global;
 
 fn has(seen: &[u16], n: u16) -> bool

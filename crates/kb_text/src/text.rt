@@ -1,22 +1,12 @@
 // What is written of terms.
-ghost use Rattle.std.specs.Prelude.{◌≡◌, ◌+◌, ◌<◌, ◌≤◌, ◌++◌, ◌∷◌, [], ◌^◌, OnOk, OnErr, IfOk, ℕ, decimal, nat_eq, length, replicate, take};
+ghost use Rattle.std.specs.Prelude.{◌≡◌, ◌+◌, ◌<◌, ◌≤◌, ◌++◌, ◌∷◌, [], ◌^◌, OnOk, OnErr, IfOk, ℕ, nat_eq, length, replicate, take};
 ghost use Rattle.std.specs.List.{list_any, list_all};
 ghost use Rattle.kb_term.specs.Signature.{symbols_of_list};
 ghost use Rattle.kb_term.specs.View.{tree_of};
 ghost use Rattle.kb_text.specs.Terms.{is_digit, names_of, term_text as text_of, prefix_length, is_x_number as is_x_number_in, symbol_text, separator};
 
-use kb_term::{Memory, Signature, Symbol, Term};
+use kb_term::{Memory, Signature, Symbol, Term, push_number};
 use std::alloc::Global;
-
-/// Adds a number in decimal digits. After want of memory the text is as before.
-pub fn push_number(alloc: Global, out: &mut Vec<u8>, n: u64) -> Result<(), Memory>
-    ensures ok { OnOk result (out.new.items ≡ out.old.items ++ decimal n) }
-    ensures err { OnErr result (out.new.items ≡ out.old.items) }
-{
-    let text = format!(in alloc; "{n}")?;
-    out.extend_from_slice(text.as_bytes())?;
-    Ok(())
-}
 
 // Adds so many letters x; some may stay after an error.
 pub(crate) fn push_letters(out: &mut Vec<u8>, n: usize) -> Result<(), Memory>

@@ -215,19 +215,13 @@ fn own_pair(alloc: Global, first: &Term, second: &Term) -> Result<Option<Pair>, 
     match canonical(alloc, first, second)? {
         None => Ok(None),
         Some(pair) => {
-            if is_pair_of(&pair, first, second) {
+            if pair.has_sides(first, second) {
                 Ok(Some(pair))
             } else {
                 Ok(None)
             }
         }
     }
-}
-
-fn is_pair_of(pair: &Pair, first: &Term, second: &Term) -> bool
-    ensures { IsTrue result ↔ (pair.now ≡ record { first = tree_of first.now; second = tree_of second.now }) }
-{
-    *pair.first() == *first && *pair.second() == *second
 }
 
 /// The place of the last four fields.

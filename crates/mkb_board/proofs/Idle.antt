@@ -9,7 +9,7 @@ use Rattle.kb_term.specs.declared.origin.RuleRef.{RuleRef}
 use Rattle.kb_label.specs.Names.{Name, has}
 use Rattle.kb_node.specs.declared.job.Job.{Job}
 use Rattle.kb_node.specs.declared.job.Job.TheVariants.{Reduce, Orient, Overlap, Close}
-use Rattle.mkb_model.specs.Plain.{Plain, GivenUp, equations_of, node_numbers, rules_of, is_over, over_in, over_reason}
+use Rattle.mkb_model.specs.Plain.{Plain, GivenUp, equations_of, node_numbers, rules_of, is_over}
 use Rattle.mkb_model.specs.DueJobs.{is_due, is_working, is_work_due, is_close_due, work_of, due_jobs_of}
 use Rattle.mkb_model.specs.Sleeping.{is_failed, no_members}
 use Rattle.mkb_model.proofs.Lists.{clash, false_unless, none_any}
@@ -113,17 +113,3 @@ failed_closed b p rest lives = go (is_over b p) refl
         ap (λ z. not z && (some && no_members (due_jobs_of b p))) going
         ∙ ap (λ z. some && z) (sym (idle_closed b p rest lives going))
         ∙ swap some (has b.closed p)
-
--- ---- giving up
-
-over_some : (gs : List GivenUp) (p : Name) → is_some (over_in gs p) ≡ list_any (λ (g : GivenUp). has g.names p) gs
-over_some [] p = refl
-over_some (g ∷ gs) p = go (has g.names p) (over_some gs p)
-  where
-    go : (b : Bool) → is_some (over_in gs p) ≡ list_any (λ (g : GivenUp). has g.names p) gs → is_some (cond b (Some g.reason) (over_in gs p)) ≡ (b || list_any (λ (g : GivenUp). has g.names p) gs)
-    go true h = refl
-    go false h = h
-
--- a process gave up where there is a reason
-pub over_reasoned : (b : Plain) (p : Name) → is_some (over_reason b p) ≡ is_over b p
-over_reasoned b p = over_some b.over p

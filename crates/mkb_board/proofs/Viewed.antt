@@ -25,7 +25,7 @@ use Rattle.kb_jobs.proofs.Preorder.{nat_less, nat_same}
 use Rattle.kb_jobs.specs.Reducing.{no_name}
 use Rattle.mkb_rules.specs.Named.{IsRuleThere}
 use Rattle.mkb_board.specs.Snapshots.{AreWithin, with_names, unknown_on}
-pub use Rattle.mkb_rules.proofs.Viewed.{rules_viewed, constraints_viewed, equations_viewed, in_directions, passing_there, rules_there, constraints_there, others_there, equations_there, rules_behind, rules_next}
+pub use Rattle.mkb_rules.proofs.Viewed.{in_directions, passing_there, rules_there, constraints_there, others_there, equations_there, rules_behind, rules_next}
 
 -- ---- how many
 

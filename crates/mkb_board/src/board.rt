@@ -18,7 +18,6 @@ use crate::cost::{cost, place_of};
 use crate::finishing::process_of;
 use crate::normal::{Normal, nothing_noted};
 use crate::shelf::Shelf;
-use crate::snapshots::named::view_of;
 use kb_cert::Certificate;
 use kb_label::{Labels, ListLabels, Living, NameLog, Process, Verdict};
 use kb_node::{Job, NodeTable, View};
@@ -131,7 +130,7 @@ impl Board {
         ensures rules { IfOk result (λ view. view.rules ≡ rules_of self.now.plain p.now) }
         ensures constraints { IfOk result (λ view. view.constraints ≡ constraints_of self.now.plain p.now) }
     {
-        view_of(&self.state, p)
+        self.state.view_of(p)
     }
 
     /// The order by which a living process orients: the first of the run's family that orders the constraints of the process.

@@ -4,12 +4,12 @@ ghost use Rattle.std.specs.List.{find, list_all, list_any};
 ghost use Rattle.std.specs.Prelude.{option_and_then};
 ghost use Rattle.kb_label.specs.Names.{Name, has};
 ghost use Rattle.kb_node.specs.declared.node.LabelKind.TheVariants.{E};
-ghost use Rattle.mkb_model.specs.Plain.{is_equation, is_rule, is_over, over_reason, equations_of, rule_kind, label};
+ghost use Rattle.mkb_model.specs.Plain.{is_equation, is_rule, is_over, over_reason, equations_of, rule_kind};
 ghost use Rattle.mkb_model.specs.Verdicts.{verdict, is_complete, first_over};
 ghost use Rattle.mkb_model.specs.Sleeping.{is_active, is_failed, no_members};
 ghost use Rattle.mkb_board.specs.Choosing.{ClosedRest};
 
-use kb_label::{Labels, ListLabels, Process, Reason, Spent, Verdict};
+use kb_label::{Process, Reason, Spent, Verdict};
 use kb_node::{LabelKind, NodeId};
 use kb_term::RuleRef;
 use mkb_rules::State;
@@ -97,7 +97,7 @@ fn have_all_stopped(state: &State) -> bool
     let living = state.log().processes();
     let mut closed = 0;
     for i in 0..living.len() {
-        if !is_failed(state, i, &living[i], &mut closed) && !is_over(state, &living[i]) {
+        if !is_failed(state, i, &living[i], &mut closed) && !state.is_over(&living[i]) {
             return false;
         }
     }
@@ -110,18 +110,11 @@ fn first_reason(state: &State) -> Option<Reason>
 {
     let living = state.log().processes();
     for i in 0..living.len() {
-        if is_over(state, &living[i]) {
+        if state.is_over(&living[i]) {
             return state.over(&living[i]);
         }
     }
     None
-}
-
-// Whether the process gave up.
-pub(crate) fn is_over(state: &State, p: &Process) -> bool
-    ensures { result ≡ is_over state.now p.now }
-{
-    state.over(p).is_some()
 }
 
 // Whether the process at this place among the living has no equation and is closed. Who is closed is searched for from a place on.
@@ -159,7 +152,7 @@ pub(crate) fn is_equation(state: &State, p: &Process, n: NodeId) -> bool
     requires { n.0 < length state.now.nodes }
     ensures { result ≡ is_equation state.now p.now n.0 }
 {
-    has_label(state, p, n, LabelKind::E)
+    state.has_label(p, n, LabelKind::E)
 }
 
 // Whether the process has the rule.
@@ -172,15 +165,7 @@ pub(crate) fn is_rule(state: &State, p: &Process, rule: RuleRef) -> bool
     } else {
         LabelKind::R1
     };
-    has_label(state, p, NodeId(rule.node), kind)
-}
-
-/// Whether the label of this kind has the process.
-pub(crate) fn has_label(state: &State, p: &Process, n: NodeId, kind: LabelKind) -> bool
-    requires { n.0 < length state.now.nodes }
-    ensures { result ≡ has (label state.now n.0 kind) p.now }
-{
-    state.nodes().label(n, kind).has(state.log(), p)
+    state.has_label(p, NodeId(rule.node), kind)
 }
 
 /// Whether the process at this place among the living has neither failed nor given up. Who is closed is searched for from a place on,
@@ -190,7 +175,7 @@ pub(crate) fn is_active(state: &State, place: usize, p: &Process, closed: &mut u
     requires lives { IsTrue (has state.now.living p.now) }
     ensures { result ≡ is_active state.now p.now }
 {
-    !is_failed(state, place, p, closed) && !is_over(state, p)
+    !is_failed(state, place, p, closed) && !state.is_over(p)
 }
 
 // Whether the process has not given up, has an equation and nothing is due for it: where it is closed with an equation.

@@ -4,7 +4,7 @@ ghost use Rattle.mkb_model.specs.Limits.{AreLimited};
 ghost use Rattle.mkb_model.specs.Plain.{node_size, cost};
 ghost use Rattle.mkb_board.specs.Choosing.{one_if, role_count, rule_count};
 
-use crate::choosing::{has_label, node_count};
+use crate::choosing::node_count;
 use kb_label::Process;
 use kb_node::{LabelKind, NodeId};
 use mkb_model::Selection;
@@ -66,9 +66,9 @@ fn role_count(state: &State, p: &Process, n: NodeId) -> u32
     requires { n.0 < length state.now.nodes }
     ensures { result ≡ role_count state.now p.now n.0 }
 {
-    count(has_label(state, p, n, LabelKind::E))
-        + count(has_label(state, p, n, LabelKind::C0))
-        + count(has_label(state, p, n, LabelKind::C1))
+    count(state.has_label(p, n, LabelKind::E))
+        + count(state.has_label(p, n, LabelKind::C0))
+        + count(state.has_label(p, n, LabelKind::C1))
         + rule_count(state, p, n)
 }
 
@@ -80,8 +80,8 @@ fn rule_count(state: &State, p: &Process, n: NodeId) -> u32
     match state.settings().selection {
         Selection::Stated => 0,
         Selection::Size => {
-            count(has_label(state, p, n, LabelKind::R0))
-                + count(has_label(state, p, n, LabelKind::R1))
+            count(state.has_label(p, n, LabelKind::R0))
+                + count(state.has_label(p, n, LabelKind::R1))
         }
     }
 }

@@ -4,7 +4,7 @@ ghost use Rattle.std.specs.List.{find, flat_map};
 ghost use Rattle.kb_label.specs.Names.{has};
 ghost use Rattle.kb_term.specs.declared.origin.RuleRef.{RuleRef as Reference};
 ghost use Rattle.kb_node.specs.declared.job.Job.TheVariants as jobs;
-ghost use Rattle.mkb_model.specs.Jobs.{clashes, is_free, process_of, ref_eq, ref_le};
+ghost use Rattle.mkb_model.specs.Jobs.{clashes, is_free, process_of, ref_le};
 ghost use Rattle.mkb_model.specs.Plain.{is_rule, node_numbers, rules_of};
 ghost use Rattle.mkb_model.specs.DueJobs.{is_work_due, work_of};
 ghost use Rattle.mkb_board.specs.Choosing.{jobs_of, is_choice, HasNodes};
@@ -215,14 +215,7 @@ fn clashes(a: &Job, b: &Job) -> bool
         (Job::Orient(p, _), Job::Close(q)) => *p == *q,
         (Job::Close(p), Job::Orient(q, _)) => *p == *q,
         (Job::Close(p), Job::Close(q)) => *p == *q,
-        (Job::Overlap(_, c, d), Job::Overlap(_, e, f)) => is_same(*c, *e) && is_same(*d, *f),
+        (Job::Overlap(_, c, d), Job::Overlap(_, e, f)) => *c == *e && *d == *f,
         _ => false,
     }
-}
-
-/// Whether both name one rule.
-pub(crate) fn is_same(a: RuleRef, b: RuleRef) -> bool
-    ensures { result ≡ ref_eq a b }
-{
-    a.node == b.node && a.dir == b.dir
 }

@@ -11,7 +11,6 @@ ghost use Rattle.mkb_board.specs.Choosing.{jobs_of, first_choice, least_choice, 
 ghost use Rattle.mkb_board.specs.Normal.{AreAllNormal, AreNormal, Serves};
 ghost use Rattle.mkb_board.specs.declared.first.Choice.{Choice};
 
-use crate::choosing::is_over;
 use crate::cost::{cost, place_of};
 use crate::due::{first_work, is_free};
 use crate::holding::{held_nodes, rules_among};
@@ -152,7 +151,7 @@ fn first_choice(
     ensures first { IfOk result (λ o. o ≡ first_choice state.now (jobs_of flight.now) p.now) }
     ensures normal { AreNormal state.now normal.new }
 {
-    if state.is_closed(p) || is_over(state, p) {
+    if state.is_closed(p) || state.is_over(p) {
         return Ok(None);
     }
     let held = held_nodes(normal.allocator(), state, p)?;

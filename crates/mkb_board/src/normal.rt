@@ -10,7 +10,6 @@ ghost use Rattle.mkb_rules.specs.Roles.{AreRolesOf, has_rule, held_of, roles_of}
 ghost use Rattle.mkb_board.specs.Normal.{AreAllNormal, AreNormal, IsPast, Serves, is_among, is_open_in, is_open_to, recounted};
 
 use crate::choosing::{is_equation, is_rule, node_count};
-use crate::due::is_same;
 use kb_label::Process;
 use kb_node::NodeId;
 use kb_term::{Found, Memory, RuleRef};
@@ -80,7 +79,7 @@ fn is_among(rules: &[RuleRef], rule: RuleRef) -> bool
     ensures { result ≡ is_among rules.now rule }
 {
     for i in 0..rules.len() {
-        if is_same(rules[i], rule) {
+        if rules[i] == rule {
             return true;
         }
     }
@@ -95,7 +94,7 @@ pub(crate) fn are_same(some: &[RuleRef], others: &[RuleRef]) -> bool
         return false;
     }
     for i in 0..some.len() {
-        if !is_same(some[i], others[i]) {
+        if some[i] != others[i] {
             return false;
         }
     }

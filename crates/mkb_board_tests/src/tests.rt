@@ -10,7 +10,7 @@ ghost use Rattle.mkb_board.specs.Held.{IsHeld};
 
 use kb_cert::Certificate;
 use kb_jobs::{Snapshot, work};
-use kb_label::{Labels, Living, Process};
+use kb_label::{Living, Process};
 use kb_node::{Job, LabelKind, NodeId};
 use kb_term::{Problem, RuleRef, Signature, Symbol, Term, Terms};
 use mkb_board::{Board, Finished, Taken, held_tickets_stay};
@@ -300,13 +300,7 @@ fn has_path_order(rt: &impl Abort, board: &Board, p: &Process) -> bool {
 
 // Whether the process has the node as an equation.
 fn has_equation(board: &Board, n: u16, p: &Process) -> bool {
-    let nodes = board.nodes();
-    if u32::from(n) < nodes.len() {
-        return nodes
-            .label(NodeId(n), LabelKind::E)
-            .has(board.state().log(), p);
-    }
-    false
+    u32::from(n) < board.nodes().len() && board.state().has_label(p, NodeId(n), LabelKind::E)
 }
 
 // Whether the node is this pair.

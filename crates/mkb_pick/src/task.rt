@@ -1,6 +1,6 @@
 // Tasks: jobs without their processes.
 ghost use Rattle.std.specs.Prelude.{◌≡◌, ◌∷◌, []};
-ghost use Rattle.mkb_model.specs.Jobs.{clashes, is_free, process_of, ref_eq};
+ghost use Rattle.mkb_model.specs.Jobs.{clashes, is_free, process_of};
 ghost use Rattle.mkb_pick.specs.Tasks.{job_of, work_of, work_key, work_kind};
 
 use crate::tree::Placed;
@@ -116,13 +116,6 @@ pub(crate) fn process_of(job: &Job) -> Process
     }
 }
 
-// Whether two references name the same rule.
-fn is_same_rule(a: RuleRef, b: RuleRef) -> bool
-    ensures { result ≡ ref_eq a b }
-{
-    a.node == b.node && a.dir == b.dir
-}
-
 // Whether two jobs may not be in flight together.
 fn is_clash(job: &Job, other: &Job) -> bool
     ensures { result ≡ clashes job.now other.now }
@@ -133,9 +126,7 @@ fn is_clash(job: &Job, other: &Job) -> bool
         (Job::Orient(p, _), Job::Close(q)) => *p == *q,
         (Job::Close(p), Job::Orient(q, _)) => *p == *q,
         (Job::Close(p), Job::Close(q)) => *p == *q,
-        (Job::Overlap(_, a, b), Job::Overlap(_, c, d)) => {
-            is_same_rule(*a, *c) && is_same_rule(*b, *d)
-        }
+        (Job::Overlap(_, a, b), Job::Overlap(_, c, d)) => { *a == *c && *b == *d }
         _ => false,
     }
 }

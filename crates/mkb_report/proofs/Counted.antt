@@ -63,16 +63,6 @@ module _ (xs : List (Node (List Name))) (i : ℕ) where
   pub dead_few : length (filter is_dead (plain_nodes (take i xs))) ≤ i
   dead_few = omega (arith, few_passing is_dead (plain_nodes (take i xs)), length-map (take i xs) plain_node, length-take i xs)
 
--- ---- processes that gave up
-
-pub over_is : (gs : List GivenUp) (p : Name) → is_some (over_in gs p) ≡ list_any (λ (g : GivenUp). has g.names p) gs
-over_is [] p = refl
-over_is (g ∷ gs) p = go (has g.names p) (over_is gs p)
-  where
-    go : (b : Bool) → is_some (over_in gs p) ≡ list_any (λ (g : GivenUp). has g.names p) gs → is_some (cond b (Some g.reason) (over_in gs p)) ≡ (b || list_any (λ (g : GivenUp). has g.names p) gs)
-    go true h = refl
-    go false h = h
-
 -- ---- rules
 
 numbers_next : (n k : ℕ) → numbers_from n (suc k) ≡ numbers_from n k ++ (n + k) ∷ []

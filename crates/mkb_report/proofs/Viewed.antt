@@ -14,7 +14,6 @@ use Rattle.kb_overlap.specs.Trace.{TraceStep}
 use Rattle.kb_node.specs.Labelled.{Node, HasPair}
 use Rattle.mkb_model.specs.Plain.{Plain, PlainNode, pair_at, rule_at}
 use Rattle.mkb_rules.specs.Parts.{plain_node, plain_nodes}
-pub use Rattle.mkb_rules.proofs.Viewed.{rules_viewed, constraints_viewed}
 use Rattle.mkb_report.specs.Cited.{cited_by, number_with}
 
 -- the pair of a node of the table is that of the board's node

@@ -13,7 +13,7 @@ ghost use Rattle.mkb_report.specs.Cited.{cited_by, number_with as number_of_pair
 
 use kb_checker::Answer;
 use kb_label::{ListLabels, Living, Process, Spent, Verdict};
-use kb_node::{NodeId, NodeTable, View};
+use kb_node::{NodeId, NodeTable};
 use kb_report::Report;
 use kb_term::{Memory, Origin, Pair, Problem, Rule, RuleRef, rule_of};
 use kb_trace::{Step, trace_of};
@@ -60,7 +60,7 @@ fn answer_of(alloc: Global, state: &State, p: &Process) -> Result<Answer, Memory
     let problem = problem_of(state)?;
     let cert = state.certificate(p).clone()?;
     let nodes = node_list(alloc, state.nodes())?;
-    let view = view_of(state, p)?;
+    let view = state.view_of(p)?;
     let rule_names = view.rules.items();
     let constraint_names = view.constraints.items();
     let wanted = nodes_of(alloc, rule_names, constraint_names)?;
@@ -94,15 +94,6 @@ fn node_list(alloc: Global, table: &NodeTable<ListLabels>) -> Result<Vec<(Pair, 
         nodes.push((pair, origin))?;
     }
     Ok(nodes)
-}
-
-// What the process sees of the nodes.
-#[tactic(auto, using(crate::proofs::Viewed::rules_viewed, crate::proofs::Viewed::constraints_viewed))]
-fn view_of(state: &State, p: &Process) -> Result<View, Memory>
-    ensures rules { IfOk result (λ view. view.rules ≡ rules_of state.now p.now) }
-    ensures constraints { IfOk result (λ view. view.constraints ≡ constraints_of state.now p.now) }
-{
-    state.nodes().view_of(state.log(), p)
 }
 
 // The nodes of the rules, and those of the constraints behind them.

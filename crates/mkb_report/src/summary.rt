@@ -1,12 +1,11 @@
 // The summary of a board.
 ghost use Rattle.std.specs.Prelude.{◌≡◌, ◌<◌, ◌≤◌, length, filter};
-ghost use Rattle.kb_label.specs.Names.{has};
-ghost use Rattle.mkb_model.specs.Plain.{label, rules_of, is_over};
+ghost use Rattle.mkb_model.specs.Plain.{rules_of, is_over};
 ghost use Rattle.mkb_model.specs.Verdicts.{verdict as verdict_on};
 ghost use Rattle.mkb_rules.specs.Parts.{plain_nodes};
 ghost use Rattle.mkb_report.specs.Summaries.{is_dead, rule_count as rule_count_at, summary_of as summary_at};
 
-use kb_label::{Labels, ListLabels, Living, NameLog, Process, Verdict};
+use kb_label::{ListLabels, Living, NameLog, Process, Verdict};
 use kb_node::{LabelKind, NodeId, NodeTable};
 use kb_report::Summary;
 use mkb_rules::State;
@@ -50,18 +49,11 @@ fn over_count(state: &State) -> u64
     let processes = state.log().processes();
     let mut count = 0;
     for i in 0..processes.len() {
-        if is_over(state, &processes[i]) {
+        if state.is_over(&processes[i]) {
             count += 1;
         }
     }
     count
-}
-
-#[tactic(auto, using(crate::proofs::Counted::over_is))]
-fn is_over(state: &State, p: &Process) -> bool
-    ensures { result ≡ is_over state.now p.now }
-{
-    state.over(p).is_some()
 }
 
 // How many rules the complete process has, else 0.
@@ -80,20 +72,12 @@ fn rules_of_process(state: &State, p: &Process) -> u64
     let mut count = 0;
     for i in 0..state.nodes().len() {
         let n = NodeId(i as u16);
-        if has_label(state, n, LabelKind::R0, p) {
+        if state.has_label(p, n, LabelKind::R0) {
             count += 1;
         }
-        if has_label(state, n, LabelKind::R1, p) {
+        if state.has_label(p, n, LabelKind::R1) {
             count += 1;
         }
     }
     count
-}
-
-// Whether a label of the node has the process.
-fn has_label(state: &State, n: NodeId, kind: LabelKind, p: &Process) -> bool
-    requires { n.0 < length state.now.nodes }
-    ensures { result ≡ has (label state.now n.0 kind) p.now }
-{
-    state.nodes().label(n, kind).has(state.log(), p)
 }

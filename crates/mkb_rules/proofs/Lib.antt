@@ -15,6 +15,7 @@ pub mod Committed
 pub mod FirstOrder
 pub mod Tabled
 pub mod Viewed
+pub mod Reasons
 pub mod Paying
 pub mod Listing
 pub mod Costs

@@ -7,7 +7,6 @@ ghost use Rattle.mkb_model.specs.Jobs.{ref_eq};
 
 use crate::ranks::Ranks;
 use crate::row::Row;
-use crate::state::is_same;
 use kb_node::{Fact, NodeId};
 use kb_term::{Found, RuleRef};
 use std::alloc::{AllocError, Global};
@@ -106,7 +105,7 @@ fn is_plain(fact: &Fact) -> bool
 fn is_about(fact: &Fact, n: NodeId, side: u8, rule: RuleRef) -> bool
     ensures { result ≡ ((fact.now.node.0 == n.0) && ((fact.now.side == side) && ref_eq fact.now.rule rule)) }
 {
-    fact.node.0 == n.0 && (fact.side == side && is_same(fact.rule, rule))
+    fact.node.0 == n.0 && (fact.side == side && fact.rule == rule)
 }
 
 // What the first of the facts of the side and the rule says.

@@ -1,11 +1,11 @@
 // The state: the board without flight and journal.
-ghost use Rattle.std.specs.Prelude.{◌≡◌, ◌<◌, [], ◌∷◌, length, map, not, Some, IfSome, IsSome, IsTrue};
+ghost use Rattle.std.specs.Prelude.{◌≡◌, ◌<◌, [], ◌∷◌, length, map, not, IfOk, Some, IfSome, IsSome, IsTrue};
 ghost use Rattle.std.specs.List.{list_any};
 ghost use Rattle.kb_label.specs.Names.{add, has, is_empty, minus, name_eq};
 ghost use Rattle.kb_node.specs.declared.node.LabelKind.TheVariants.{X};
 ghost use Rattle.kb_node.specs.declared.node.NodeId.{NodeId as Numbered};
-ghost use Rattle.mkb_model.specs.Jobs.{ref_eq, ref_le};
-ghost use Rattle.mkb_model.specs.Plain.{GivenUp as OverFor, cost, equations_of, known, done_of, label, over_reason, certificate_of, rules_of};
+ghost use Rattle.mkb_model.specs.Jobs.{ref_le};
+ghost use Rattle.mkb_model.specs.Plain.{GivenUp as OverFor, cost, equations_of, known, done_of, label, over_reason, is_over, certificate_of, constraints_of, rules_of};
 ghost use Rattle.mkb_model.specs.Sleeping.{no_members};
 ghost use Rattle.mkb_rules.specs.Parts.{plain_nodes};
 ghost use Rattle.mkb_rules.specs.Overlapped.{is_overlapped};
@@ -22,8 +22,8 @@ use crate::roles::Roles;
 use crate::sleepers::Sleepers;
 use kb_cert::Certificate;
 use kb_label::{Labels, ListLabels, MAX_LIVING, NameLog, Process, Reason};
-use kb_node::{LabelKind, NodeId, NodeTable};
-use kb_term::{Found, Problem, RuleRef};
+use kb_node::{LabelKind, NodeId, NodeTable, View};
+use kb_term::{Found, Memory, Problem, RuleRef};
 use mkb_model::Settings;
 use std::alloc::Global;
 use std::marker::Model;
@@ -279,6 +279,35 @@ impl State {
         self.over.reason_of(&self.log, p)
     }
 
+    /// Whether a process gave up. It takes no memory.
+    pub fn is_over(&self, p: &Process) -> bool
+        ensures { result ≡ is_over self.now p.now }
+    {
+        self.over(p).is_some()
+    }
+
+    /// Whether the label of this kind of a node names the process. It takes no memory.
+    pub fn has_label(&self, p: &Process, n: NodeId, kind: LabelKind) -> bool
+        requires { n.0 < length self.now.nodes }
+        ensures { result ≡ has (label self.now n.0 kind) p.now }
+    {
+        self.nodes().label(n, kind).has(&self.log, p)
+    }
+
+    /// What a process sees of the nodes.
+    ///
+    /// # Errors
+    ///
+    /// Want of memory.
+    #[tactic(auto, using(crate::proofs::Viewed::rules_viewed, crate::proofs::Viewed::constraints_viewed, crate::proofs::Viewed::equations_viewed))]
+    pub fn view_of(&self, p: &Process) -> Result<View, Memory>
+        ensures equations { IfOk result (λ view. map (λ (n : Numbered). n.0) view.equations ≡ equations_of self.now p.now) }
+        ensures rules { IfOk result (λ view. view.rules ≡ rules_of self.now p.now) }
+        ensures constraints { IfOk result (λ view. view.constraints ≡ constraints_of self.now p.now) }
+    {
+        self.nodes().view_of(&self.log, p)
+    }
+
     /// Whether a process is asleep.
     pub fn is_asleep(&self, p: &Process) -> bool
         ensures { result ≡ has self.now.asleep p.now }
@@ -392,13 +421,6 @@ pub fn is_ordered(a: RuleRef, b: RuleRef) -> bool
     ensures { result ≡ ref_le a b }
 {
     a.node < b.node || (a.node == b.node && a.dir <= b.dir)
-}
-
-/// Whether both name one rule.
-pub(crate) fn is_same(a: RuleRef, b: RuleRef) -> bool
-    ensures { result ≡ ref_eq a b }
-{
-    a.node == b.node && a.dir == b.dir
 }
 
 // Whether the order is the process's.

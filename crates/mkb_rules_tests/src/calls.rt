@@ -6,7 +6,7 @@ ghost use Rattle.mkb_rules.specs.Applying.{HasBudget};
 ghost use Rattle.mkb_rules.specs.Named.{IsThere, Lives};
 
 use crate::terms::above;
-use kb_label::{Labels, Living, Process};
+use kb_label::{Living, Process};
 use kb_node::{Deduced, LabelKind, NodeId};
 use kb_syntax::{parse_problem, spelled_problems_are_within_limits};
 use kb_term::{Pair, Problem, RuleRef};
@@ -161,8 +161,7 @@ pub(crate) fn is_dropped(
 
 /// Whether the process has the node so.
 pub(crate) fn has(state: &State, p: &Process, n: u16, kind: LabelKind) -> bool {
-    let table = state.nodes();
-    u32::from(n) < table.len() && table.label(NodeId(n), kind).has(state.log(), p)
+    u32::from(n) < state.nodes().len() && state.has_label(p, NodeId(n), kind)
 }
 
 /// Whether the node has the pair.

@@ -3,7 +3,7 @@
 use crate::calls::{acts_on, apply, fork, has, is_dropped, is_pair, opened, orient, unjoined};
 use crate::terms::{applied_and_bare, first, forth, left, overlap, right};
 use kb_label::Living;
-use kb_node::{Deduced, LabelKind};
+use kb_node::{Deduced, LabelKind, NodeId};
 use mkb_model::Settings;
 use mkb_rules::{Applied, State};
 use std::alloc::Global;
@@ -26,6 +26,7 @@ fn has_equations(rt: &impl Abort, state: &State) {
     assert!(rt; has(state, &first(), 1, LabelKind::E));
     assert!(rt; !state.is_closed(&first()));
     assert!(rt; state.over(&first()).is_none());
+    assert!(rt; !state.is_over(&first()));
 }
 
 #[test]
@@ -73,6 +74,14 @@ fn lends_its_lists(rt: &impl Abort, state: &State) {
     assert!(rt; rules.len() == 1 && rules[0].node == 0 && rules[0].dir == 0);
 }
 
+// The first process sees node 1 as an equation and node 0 as a rule, which is its one constraint.
+fn sees_both(rt: &impl Abort, state: &State) {
+    let view = state.view_of(&first()).expect(rt, "memory");
+    assert!(rt; view.equations.items() == [NodeId(1)].as_slice());
+    assert!(rt; view.rules.items() == [forth(0)].as_slice());
+    assert!(rt; view.constraints.items() == [forth(0)].as_slice());
+}
+
 #[test]
 fn an_overlap_that_does_not_join_becomes_an_equation(rt: HostRuntime) {
     let alloc = rt.alloc();
@@ -80,6 +89,7 @@ fn an_overlap_that_does_not_join_becomes_an_equation(rt: HostRuntime) {
     orient_first(&rt, alloc, &mut state, 0);
     leave_unjoined(&rt, alloc, &mut state);
     lends_its_lists(&rt, &state);
+    sees_both(&rt, &state);
     drop(state);
 }
 

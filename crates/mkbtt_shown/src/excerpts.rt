@@ -3,8 +3,7 @@ ghost use Rattle.std.specs.Prelude.{◌≡◌, ◌++◌, ◌∷◌, [], IfOk, On
 ghost use Rattle.std.specs.List.{after_last, before_first, count_by};
 ghost use Rattle.mkbtt_shown.specs.Excerpts.{back_shown, caret_line, excerpt_of, front_shown, is_feed, line_start as start_of_line, numbered_line, shown, shown_byte as shown_for};
 
-use kb_term::Memory;
-use kb_text::push_number;
+use kb_term::{Memory, push_number};
 use std::alloc::Global;
 
 /// The most bytes of a line that are shown before the place.

@@ -4,8 +4,7 @@ ghost use Rattle.mkbtt_shown.specs.Progress.{cleared_by, cost_text, counted, pro
 
 use crate::manner::Progress;
 use kb_io::Moment;
-use kb_term::Memory;
-use kb_text::push_number;
+use kb_term::{Memory, push_number};
 use std::alloc::Global;
 
 /// What brings a terminal back to the beginning of its line, and clears the line.

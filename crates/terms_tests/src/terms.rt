@@ -2,8 +2,8 @@
 use crate::building::{binary, constant, unary};
 use kb_term::{
     Limit, Memory, Pair, Position, Rule, Subst, Symbol, Term, TermFault, Terms, apart, apply,
-    canonical, depth, is_rule_below, is_variant, pair_limit, replace, rule_from, rule_of, size,
-    subterm, term_limit,
+    canonical, depth, is_rule_below, is_variant, pair_limit, push_number, replace, rule_from,
+    rule_of, size, subterm, term_limit,
 };
 use std::alloc::Global;
 use std::mem::drop;
@@ -195,4 +195,29 @@ fn a_position_grows(rt: HostRuntime) {
     position.push(1).expect(&rt, "memory");
     assert_eq!(rt; position.steps(), [1].as_slice());
     drop(position);
+}
+
+#[test]
+fn a_pair_has_its_sides_in_their_order(rt: HostRuntime) {
+    let alloc = rt.alloc();
+    let a = constant(alloc, 0);
+    let b = constant(alloc, 1);
+    let pair = pair_of(&rt, alloc, &b, &a);
+    assert!(rt; pair.has_sides(&a, &b));
+    assert!(rt; !pair.has_sides(&b, &a));
+    assert!(rt; !pair.has_sides(&a, &a));
+    drop(a);
+    drop(b);
+    drop(pair);
+}
+
+#[test]
+fn a_number_is_added_in_decimal_digits(rt: HostRuntime) {
+    let alloc = rt.alloc();
+    let mut text = Vec::new(alloc);
+    text.push(b' ').expect(&rt, "memory");
+    push_number(alloc, &mut text, 18_446_744_073_709_551_615).expect(&rt, "memory");
+    push_number(alloc, &mut text, 0).expect(&rt, "memory");
+    assert!(rt; text.as_slice() == b" 184467440737095516150".as_slice());
+    drop(text);
 }

@@ -7,7 +7,7 @@ ghost use Rattle.kb_jobs.specs.Closing.{equations_of};
 ghost use Rattle.kb_jobs.specs.Taken.{IsTakenClose};
 ghost use Rattle.mkb_board.specs.Shelf.{HoldsRules};
 
-use super::named::{named_rules, pair_at, view_of};
+use super::named::{named_rules, pair_at};
 use crate::shelf::Shelf;
 use kb_jobs::CloseSnapshot;
 use kb_label::Process;
@@ -30,7 +30,7 @@ pub(crate) fn close_snapshot(
     ensures taken { IfOk result (IsTakenClose state.now) }
     ensures as_many { IfOk result (λ s. length s.rules.names.items ≡ length s.rules.rules) }
 {
-    let view = view_of(state, &process)?;
+    let view = state.view_of(&process)?;
     let names = copied_names(alloc, view.rules.items())?;
     let rules = named_rules(alloc, state, shelf, names)?;
     let equations = equations_at(alloc, state, view.equations.items())?;

@@ -1,7 +1,6 @@
 // Copies of the rules that a process has on the board.
 ghost use Rattle.std.specs.Prelude.{◌≡◌, ◌<◌, Some, All, IfOk, length, map};
-ghost use Rattle.kb_node.specs.declared.node.NodeId.{NodeId as Numbered};
-ghost use Rattle.mkb_model.specs.Plain.{pair_at, rules_at, rules_of, constraints_of, equations_of};
+ghost use Rattle.mkb_model.specs.Plain.{pair_at, rules_at, rules_of};
 ghost use Rattle.mkb_model.specs.Proposals.{named_rules};
 ghost use Rattle.kb_jobs.specs.Rules.{listed};
 ghost use Rattle.mkb_board.specs.Shelf.{HoldsRules};
@@ -11,7 +10,7 @@ use crate::holding::{held_nodes, rules_among};
 use crate::shelf::Shelf;
 use kb_jobs::{NamedRules, SharedRules};
 use kb_label::Process;
-use kb_node::{NodeId, View};
+use kb_node::NodeId;
 use kb_term::{Memory, Pair, Rule, RuleRef};
 use mkb_rules::State;
 use std::alloc::{AllocError, Global};
@@ -66,16 +65,6 @@ pub(crate) fn named_rules(
     let rules = SharedRules::new(alloc, rules)?;
     shelf.keep_last(names.as_slice(), &rules).ok();
     Ok(NamedRules { names, rules })
-}
-
-/// What the process sees of the nodes.
-#[tactic(auto, using(crate::proofs::Viewed::rules_viewed, crate::proofs::Viewed::constraints_viewed, crate::proofs::Viewed::equations_viewed))]
-pub(crate) fn view_of(state: &State, p: &Process) -> Result<View, Memory>
-    ensures equations { IfOk result (λ view. map (λ (n : Numbered). n.0) view.equations ≡ equations_of state.now p.now) }
-    ensures rules { IfOk result (λ view. view.rules ≡ rules_of state.now p.now) }
-    ensures constraints { IfOk result (λ view. view.constraints ≡ constraints_of state.now p.now) }
-{
-    state.nodes().view_of(state.log(), p)
 }
 
 /// The rules of the process, by node, then direction.

@@ -5,7 +5,7 @@ ghost use Rattle.kb_jobs.specs.Taken.{IsTakenOrient};
 ghost use Rattle.mkb_rules.specs.Named.{IsRuleThere, Lives};
 ghost use Rattle.mkb_board.specs.Shelf.{HoldsRules};
 
-use super::named::{rules_at, view_of};
+use super::named::rules_at;
 use crate::shelf::Shelf;
 use kb_jobs::OrientSnapshot;
 use kb_label::Process;
@@ -32,7 +32,7 @@ pub(crate) fn orient_snapshot(
     ensures node { IfOk result (λ s. s.node ≡ node) }
     ensures taken { IfOk result (IsTakenOrient state.now) }
 {
-    let view = view_of(state, &process)?;
+    let view = state.view_of(&process)?;
     let constraints = view.constraints.items();
     let family = state.settings().family;
     let in_force = state.certificate(&process).clone()?;

@@ -1,7 +1,7 @@
 use Rattle.std.proofs.Common.{ap, sym, ◌∙◌}
 use mir.Syntax.{w64}
 use Rattle.std.proofs.lemmas.Nat.Bits.{bit_at_set_same, bit_at_set_other, bit_at_clear_same, bit_at_clear_other}
-use Rattle.fork_labels.specs.Sets.{digit}
+use Rattle.kb_label.specs.Packed.{digit}
 use Rattle.fork_labels.proofs.place_set.with_bit.Goals as goal
 
 pub returns-then-bit-clause-same : goal.returns-then-bit-clause-same

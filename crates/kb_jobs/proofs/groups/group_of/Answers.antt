@@ -12,4 +12,4 @@ named_twice a c (o ∷ os) = ap (λ zs. record { outer = a; inner = c; overlap =
 
 pub returns : goal.returns
 returns c =
-    (map overlap_of c.in_ok-overlaps.overlaps.items, subst {A = Bool} (λ b. IsOverlapList c.args.outer_rule.now c.args.inner_rule.now b (map overlap_of c.in_ok-overlaps.overlaps.items)) c.is_same.ensures c.in_ok-overlaps.ensures, named_twice c.args.outer c.args.inner c.in_ok-overlaps.overlaps.items)
+    (map overlap_of c.in_ok-overlaps.overlaps.items, subst {A = Bool} (λ b. IsOverlapList c.args.outer_rule.now c.args.inner_rule.now b (map overlap_of c.in_ok-overlaps.overlaps.items)) c.eq.ensures c.in_ok-overlaps.ensures, named_twice c.args.outer c.args.inner c.in_ok-overlaps.overlaps.items)
