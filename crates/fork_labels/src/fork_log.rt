@@ -186,7 +186,7 @@ fn learn_short(log: &ForkLog, process: &Process)
     requires room { length (living_of log.now) < MAX_LIVING }
     ensures { length process.now < MAX_BITS }
 {
-    let _few = log.living();
+    log.are_forked();
 }
 
 // The forks with one more.

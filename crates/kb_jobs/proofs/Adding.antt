@@ -16,7 +16,7 @@ use Rattle.kb_node.specs.declared.job.Deduced.{Deduced}
 use Rattle.kb_overlap.specs.Overlap.{pair_or_limit}
 use Rattle.mkb_model.specs.Jobs.{ref_eq}
 use Rattle.mkb_model.specs.Proposals.{NamedRule, NamedOverlap, OverlapsOf, OverlapsOfAll, both_ways, own_limit, FirstThat, deduced_pair, AreDeduced}
-use Rattle.mkb_model.proofs.Deductions.{named_overlap as one_overlap}
+use Rattle.mkb_model.proofs.commits.Deductions.{named_overlap as one_overlap}
 use Rattle.kb_jobs.specs.Groups.{AreFew, AddsPairs, AreGroupsOf, IsGroup, overlaps_in, origin_of}
 use Rattle.kb_jobs.specs.declared.groups.Group.{Group}
 

@@ -5,7 +5,7 @@ use Rattle.std.specs.List.{list_any}
 use Rattle.std.proofs.lemmas.List.{append-nil, map-append}
 use Rattle.std.proofs.lemmas.List.Concat.{flat_map-append}
 use Rattle.std.proofs.lemmas.List.Elements.{Contains-append_cases, Contains-append_left, Contains-append_right}
-use Rattle.mkb_model.proofs.Rewriting.{trivial_none}
+use Rattle.mkb_model.proofs.commits.RewritingRuns.{trivial_none}
 use Rattle.kb_lemmas.proofs.Options.{none_some, some_is}
 use Rattle.kb_lemmas.proofs.Membership.{contains_mapped, contains_map}
 use Rattle.kb_term.specs.Tree.{Tree, variable, apply, no_trees, variables_of}
@@ -15,7 +15,7 @@ use Rattle.kb_term.specs.Substitution.{instance}
 use Rattle.kb_term.specs.TermOrder.{pair_eq}
 use Rattle.kb_term.specs.Tree.{tree_eq}
 use Rattle.kb_term.specs.declared.origin.RuleRef.{RuleRef}
-use Rattle.mkb_model.proofs.Variables.{put, number_there, few_less}
+use Rattle.mkb_model.proofs.nodes.Variables.{put, number_there, few_less}
 use Rattle.kb_term.proofs.Steps.{occurs_from, occurs_to, Occurs}
 use Rattle.kb_term.proofs.Instances.{instance-variable, instance-agree, agree_at}
 use Rattle.kb_term.proofs.OwnPair.{tree_eq-true, tree_eq-same}
@@ -27,7 +27,7 @@ use Rattle.kb_jobs.specs.declared.rules.NamedRules.{NamedRules}
 use Rattle.mkb_model.specs.Plain.{sides}
 use Rattle.mkb_model.specs.Proposals.{NamedRule, as_rules, NamedOverlap, OverlapsOf, deduced_pair, Picks, HasForm, IsJoinedBy, IsFormed, IsJoined, IsUnjoined}
 use Rattle.mkb_model.proofs.Lists.{any_in, in_any, clash}
-use Rattle.mkb_model.proofs.Alike.{joined_formed, joined_not_unjoined}
+use Rattle.mkb_model.proofs.journals.AlikeOverlaps.{joined_formed, joined_not_unjoined}
 use Rattle.kb_laws.proofs.Renamings.{Back, normalises_instance}
 use Rattle.kb_jobs.specs.Rules.{named, listed}
 use Rattle.kb_jobs.specs.Groups.{AreFew, origin_of, overlaps_in, IsGroupOf, AreGroupsOf}

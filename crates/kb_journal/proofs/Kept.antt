@@ -4,7 +4,7 @@ use Rattle.std.specs.Prelude.{option_and_then, option_map}
 use Rattle.std.specs.Option.{option_map_or}
 use Rattle.std.proofs.lemmas.List.Elements.{All-cons, All-nil, All-push, All-head, All-tail}
 use Rattle.std.proofs.lemmas.Bool.{or_left, or_right}
-use Rattle.mkb_model.proofs.Views.{there_pair}
+use Rattle.mkb_model.proofs.commits.Views.{there_pair}
 use Rattle.kb_lemmas.proofs.Options.{none_some}
 use Rattle.kb_term.specs.Tree.{Tree}
 use Rattle.kb_term.specs.View.{tree_of}
@@ -29,10 +29,10 @@ use Rattle.mkb_model.specs.declared.entry.Effect.TheVariants.{Over, Made}
 use Rattle.mkb_model.specs.declared.entry.Entry.{Entry}
 use Rattle.mkb_model.specs.declared.entry.Entry.TheVariants.{Take, Commit, Drop, Abandon, Halt}
 use Rattle.mkb_model.specs.declared.settings.Settings.{Settings}
-use Rattle.mkb_model.proofs.Pairs.{pair_eq-refl, found_node, node-with_node, pairs-gains_equation, pairs-gains_rule}
-use Rattle.mkb_model.proofs.Changes.{Fits}
-use Rattle.mkb_model.proofs.Fitting.{fits_run, pairs_follow}
-use Rattle.mkb_model.proofs.Selections.{legal-possible}
+use Rattle.mkb_model.proofs.nodes.Pairs.{pair_eq-refl, found_node, node-with_node, pairs-gains_equation, pairs-gains_rule}
+use Rattle.mkb_model.proofs.commits.RoleChanges.{Fits}
+use Rattle.mkb_model.proofs.nodes.DistinctPairs.{fits_run, pairs_follow}
+use Rattle.mkb_model.proofs.runs.Selections.{legal-possible}
 use Rattle.mkb_rules.specs.Applicable.{IsApplicable}
 use Rattle.mkb_board.specs.Boards.{Seen, IsLegalBoard}
 use Rattle.mkb_board.proofs.There.{applicable}

@@ -14,11 +14,11 @@ use Rattle.mkb_model.specs.declared.entry.Effect.TheVariants as effects
 use Rattle.mkb_model.specs.declared.entry.Entry.{Entry}
 use Rattle.mkb_model.specs.declared.entry.Entry.TheVariants as entries
 use Rattle.mkb_model.specs.declared.settings.Settings.{Settings}
-use Rattle.mkb_model.proofs.Changes.{Fits}
-use Rattle.mkb_model.proofs.Fitting.{fits_run, pairs_follow}
-use Rattle.mkb_model.proofs.OneJournal.{moves_decide}
-use Rattle.mkb_model.proofs.Selections.{legal-possible}
-use Rattle.mkb_model.proofs.Unique.{after_once}
+use Rattle.mkb_model.proofs.commits.RoleChanges.{Fits}
+use Rattle.mkb_model.proofs.nodes.DistinctPairs.{fits_run, pairs_follow}
+use Rattle.mkb_model.proofs.journals.MovesDecide.{moves_decide}
+use Rattle.mkb_model.proofs.runs.Selections.{legal-possible}
+use Rattle.mkb_model.proofs.journals.OneRun.{after_once}
 use Rattle.kb_journal.specs.declared.entry_line.EntryLine.{EntryLine}
 use Rattle.kb_journal.specs.declared.entry_line.EntryLine.TheVariants.{TakeReduce, TakeOrient, TakeOverlap, TakeClose, Facts, Rewrite, Oriented, Fork, Refused, Deduced, Unjoined, Closed, Over, Drop, Abandon, Halt}
 use Rattle.kb_journal.specs.EntryLines.{line_of, IsEntryOn}

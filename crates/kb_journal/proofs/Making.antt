@@ -28,9 +28,9 @@ use Rattle.mkb_model.specs.declared.entry.Entry.{Entry}
 use Rattle.mkb_model.specs.declared.entry.Entry.TheVariants as entries
 use Rattle.mkb_model.specs.declared.settings.Settings.{Settings}
 use Rattle.mkb_model.proofs.Lists.{filter_in, in_filter}
-use Rattle.mkb_model.proofs.Flights.{effect_flight}
-use Rattle.mkb_model.proofs.Living.{effect_setting}
-use Rattle.mkb_model.proofs.Unique.{after_once}
+use Rattle.mkb_model.proofs.tickets.NoClash.{effect_flight}
+use Rattle.mkb_model.proofs.labels.LivingNames.{effect_setting}
+use Rattle.mkb_model.proofs.journals.OneRun.{after_once}
 use Rattle.mkb_board.specs.Boards.{Seen, IsLegalBoard, has_halt, takes_in}
 use Rattle.mkb_board.specs.Takes.{TakesJob, IsTakenBy, IsFinishedBy, take_entry}
 use Rattle.mkb_board.specs.Held.{IsHeld}

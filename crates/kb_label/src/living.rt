@@ -41,6 +41,15 @@ pub trait Living: Drop {
         ensures most { result ≤ MAX_LIVING }
         ensures forked { IsForked (living_names self.now) };
 
+    /// The names that live are what forks make of the first, and at most 1,024. It does nothing: its contract says what each log
+    /// keeps.
+    fn are_forked(&self)
+        ensures most { length (living_names self.now) ≤ MAX_LIVING }
+        ensures forked { IsForked (living_names self.now) }
+    {
+        self.living();
+    }
+
     /// The names that live, in their order.
     fn names(&self) -> Result<Vec<Process>, AllocError>
         ensures { IfOk result (λ names. names.items ≡ living_names self.now) };

@@ -11,8 +11,8 @@ use Rattle.mkb_model.specs.declared.entry.Entry.{Entry}
 use Rattle.mkb_model.specs.declared.entry.Ticket.{Ticket}
 use Rattle.mkb_model.specs.declared.settings.Settings.{Settings}
 use Rattle.mkb_model.proofs.Lists.{clash}
-use Rattle.mkb_model.proofs.Restful.{closed_rests}
-use Rattle.mkb_model.proofs.Selections.{legal-possible}
+use Rattle.mkb_model.proofs.closing.RestInRuns.{closed_rests}
+use Rattle.mkb_model.proofs.runs.Selections.{legal-possible}
 use Rattle.mkb_board.specs.Boards.{seen, IsLegalBoard}
 use Rattle.mkb_board.specs.Choosing.{ClosedRest}
 use Rattle.mkb_board.proofs.Sleepers.{DiffersInSleepers}

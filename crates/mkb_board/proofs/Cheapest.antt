@@ -15,9 +15,9 @@ use Rattle.mkb_model.specs.Jobs.{is_free, job_cmp, least, lesser}
 use Rattle.mkb_model.specs.Plain.{Plain, cost, equations_of, is_over, weight}
 use Rattle.mkb_model.specs.Sleeping.{is_active, is_failed, no_members, process_cmp, working}
 use Rattle.mkb_model.specs.declared.entry.Ticket.{Ticket}
-use Rattle.mkb_model.proofs.Endings.{has_in, no_members_is}
+use Rattle.mkb_model.proofs.runs.Endings.{has_in, no_members_is}
 use Rattle.mkb_model.proofs.Lists.{clash, filter_in, in_filter, not_false}
-use Rattle.mkb_model.proofs.Selections.{least-in}
+use Rattle.mkb_model.proofs.runs.Selections.{least-in}
 use Rattle.mkb_board.specs.Choosing.{first_choice, jobs_of, merged}
 use Rattle.mkb_board.proofs.Better.{by_kind}
 use Rattle.mkb_board.proofs.Choices.{choice_over, choice_process}

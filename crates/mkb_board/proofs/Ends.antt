@@ -21,7 +21,7 @@ use Rattle.mkb_model.specs.declared.entry.Ticket.{Ticket}
 use Rattle.mkb_model.specs.declared.entry.Effect.TheVariants.{Over, Made}
 use Rattle.mkb_model.specs.declared.entry.Entry.{Entry}
 use Rattle.mkb_model.specs.declared.entry.Entry.TheVariants.{Commit, Drop}
-use Rattle.mkb_model.proofs.Unique.{after_once}
+use Rattle.mkb_model.proofs.journals.OneRun.{after_once}
 use Rattle.mkb_board.specs.Boards.{Seen, seen, IsBoard, has_halt}
 use Rattle.mkb_board.specs.Takes.{IsTakenOn, IsProposalOf, take_entry}
 use Rattle.mkb_board.proofs.Growing.{grown, board_grown}

@@ -12,7 +12,7 @@ use Rattle.mkb_model.specs.Plain.{Plain, GivenUp, equations_of, is_over}
 use Rattle.mkb_model.specs.Invariants.{IsLabel}
 use Rattle.mkb_model.specs.Sleeping.{is_active, is_failed, no_members, working}
 use Rattle.mkb_model.specs.Verdicts.{is_complete}
-use Rattle.mkb_model.proofs.Endings.{has_in}
+use Rattle.mkb_model.proofs.runs.Endings.{has_in}
 use Rattle.mkb_model.proofs.Lists.{any_none, clash, filter_in, none_any}
 use Rattle.mkb_board.specs.Choosing.{ClosedRest}
 use Rattle.mkb_board.proofs.Idle.{failed_closed}

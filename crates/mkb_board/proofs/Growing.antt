@@ -7,7 +7,7 @@ use Rattle.kb_term.specs.Signature.{Problem, IsWithinLimits}
 use Rattle.mkb_model.specs.Plain.{Plain}
 use Rattle.mkb_model.specs.Journals.{Moment, Follows, IsRun, IsFirstJob, After, journal_of, tickets, is_take, is_halt, is_halted}
 use Rattle.mkb_model.specs.declared.entry.Entry.{Entry}
-use Rattle.mkb_model.proofs.Living.{within_budget}
+use Rattle.mkb_model.proofs.labels.LivingNames.{within_budget}
 use Rattle.mkb_model.specs.Journals.{landed, in_flight}
 use Rattle.mkb_model.specs.DueJobs.{first_job}
 use Rattle.mkb_model.specs.Verdicts.{verdict}

@@ -17,8 +17,8 @@ use Rattle.mkb_model.specs.declared.entry.Ticket.{Ticket}
 use Rattle.mkb_model.specs.declared.entry.Entry.{Entry}
 use Rattle.mkb_model.specs.declared.entry.Entry.TheVariants.{Commit, Drop}
 use Rattle.mkb_model.proofs.Lists.{in_filter}
-use Rattle.mkb_model.proofs.Flights.{effect_flight}
-use Rattle.mkb_model.proofs.Living.{effect_setting, flight_numbered}
+use Rattle.mkb_model.proofs.tickets.NoClash.{effect_flight}
+use Rattle.mkb_model.proofs.labels.LivingNames.{effect_setting, flight_numbered}
 use Rattle.mkb_board.specs.Boards.{Seen, IsLegalBoard, takes_in}
 use Rattle.mkb_board.specs.Takes.{TakesJob, IsTakenBy, IsFinishedBy, IsProposalOf, take_entry}
 use Rattle.mkb_board.specs.Held.{IsHeld}

@@ -25,7 +25,7 @@ use Rattle.kb_lemmas.proofs.Booleans.{and_gives_left, and_gives_right}
 use Rattle.mkb_model.specs.declared.proposed.Proposed.{Proposed}
 use Rattle.mkb_model.specs.declared.proposed.Proposed.TheVariants.{Facts, Rewrite, One, Both, Refuse, Deduce, Unjoined, Closed, Limit}
 use Rattle.mkb_model.proofs.Lists.{any_in, in_any, filter_in, in_filter, same_test, not_of_false, decide, clash}
-use Rattle.mkb_model.proofs.Completed.{ref_self}
+use Rattle.mkb_model.proofs.closing.Completed.{ref_self}
 use Rattle.mkb_rules.specs.Roles.{roles_of}
 use Rattle.mkb_board.specs.Normal.{AreAllNormal, AreNormal, IsPast, Serves, is_among, is_open_in, is_open_to, recounted}
 use Rattle.mkb_board.specs.declared.normal.Noted.{Noted}

@@ -17,7 +17,7 @@ use Rattle.mkb_model.specs.Proposals.{NamedRule, named_rules}
 use Rattle.mkb_model.specs.Ready.{KeepsPairs}
 use Rattle.mkb_model.specs.Effects.{applied, effect, effect_label, give_up, limit_of}
 use Rattle.mkb_model.specs.declared.proposed.Proposed.{Proposed}
-use Rattle.mkb_model.proofs.Commits.{pairs-applied}
+use Rattle.mkb_model.proofs.commits.Commits.{pairs-applied}
 use Rattle.mkb_rules.specs.Named.{IsRuleThere}
 use Rattle.mkb_board.specs.Shelf.{AreRulesAt, HoldsRules, place_of}
 use Rattle.mkb_board.specs.declared.shelf.Shelf.{Shelf}

@@ -17,7 +17,7 @@ use Rattle.kb_node.specs.declared.job.Job.{Job}
 use Rattle.mkb_model.specs.Jobs.{process_of, kind_number, job_numbers, numbers_cmp, job_cmp, lesser, least}
 use Rattle.mkb_board.specs.Choosing.{merged}
 use Rattle.mkb_model.proofs.Lists.{clash, false_unless, filter_in}
-use Rattle.mkb_model.proofs.Selections.{least-none}
+use Rattle.mkb_model.proofs.runs.Selections.{least-none}
 
 -- ---- the order of jobs
 

@@ -20,7 +20,7 @@ use Rattle.mkb_model.specs.Plain.{Plain, is_equation, is_rule, known, pair_at, r
 use Rattle.mkb_model.specs.DueJobs.{is_usable, reducers}
 use Rattle.mkb_model.specs.Proposals.{NamedRule, named_rules, unknown}
 use Rattle.mkb_model.proofs.Lists.{clash, filter_in, filter_map_in, in_filter, in_filter_map}
-use Rattle.mkb_model.proofs.Resting.{known_holds}
+use Rattle.mkb_model.proofs.closing.LeftAlone.{known_holds}
 use Rattle.kb_jobs.specs.Reducing.{unknown_of}
 use Rattle.kb_jobs.specs.Rules.{listed}
 use Rattle.kb_jobs.specs.Taken.{IsTakenReduce}

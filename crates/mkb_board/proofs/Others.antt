@@ -14,9 +14,9 @@ use Rattle.mkb_model.specs.declared.entry.Ticket.{Ticket}
 use Rattle.mkb_model.specs.declared.entry.Entry.{Entry}
 use Rattle.mkb_model.specs.declared.entry.Entry.TheVariants.{Take, Commit, Drop, Abandon, Halt}
 use Rattle.mkb_model.proofs.Lists.{in_filter}
-use Rattle.mkb_model.proofs.Flights.{effect_flight}
-use Rattle.mkb_model.proofs.Living.{flight_numbered}
-use Rattle.mkb_model.proofs.Unique.{after_once, ticket_once}
+use Rattle.mkb_model.proofs.tickets.NoClash.{effect_flight}
+use Rattle.mkb_model.proofs.labels.LivingNames.{flight_numbered}
+use Rattle.mkb_model.proofs.journals.OneRun.{after_once, ticket_once}
 use Rattle.mkb_board.specs.Boards.{Seen, IsLegalBoard}
 use Rattle.mkb_board.specs.Held.{IsHeld}
 use Rattle.mkb_board.proofs.Ends.{last_of, not_nil}

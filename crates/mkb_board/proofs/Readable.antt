@@ -1,12 +1,12 @@
 -- What a job reads of a legal board it may read, and what the first job names is there.
 use Rattle.mkb_model.specs.Effects.{most_living}
-use Rattle.mkb_model.proofs.LivingLabels.{labels_live}
-use Rattle.mkb_model.proofs.Worked.{sleepers_run}
+use Rattle.mkb_model.proofs.labels.LivingLabels.{labels_live}
+use Rattle.mkb_model.proofs.labels.AtMostSixtyFour.{sleepers_run}
 use Rattle.std.proofs.Common.{ℕ, zero, suc, ◌≤◌, ◌<◌, ◌≡◌, true, refl, sym, ap, ◌∙◌, subst, arith, List, [], ◌∷◌, ◌++◌, map, flat_map, length, Contains, All, Option, Some, None, ⊎_elim}
 use Rattle.std.specs.Prelude.{option_map, IsTrue, IsSome}
 use Rattle.std.specs.List.{cons_option}
 use Rattle.std.proofs.lemmas.List.Elements.{Contains-append_cases}
-use Rattle.mkb_model.proofs.Views.{there_pair}
+use Rattle.mkb_model.proofs.commits.Views.{there_pair}
 use Rattle.kb_lemmas.proofs.Membership.{contains_cases, contains_flat_map_back, contains_mapped, none_in}
 use Rattle.kb_lemmas.proofs.Options.{some_is, none_some}
 use Rattle.kb_term.proofs.FewArguments.{few_from_arities}
@@ -31,16 +31,16 @@ use Rattle.mkb_model.specs.Jobs.{is_free, process_of}
 use Rattle.mkb_model.specs.Limits.{AreLimited, IsLimitedPair}
 use Rattle.mkb_model.specs.Proposals.{as_rules, named_rules}
 use Rattle.mkb_model.specs.Journals.{Moment, IsPossibleRun, IsFirstJob, IsFreeJob}
-use Rattle.mkb_model.proofs.KnownFacts.{facts_hold}
+use Rattle.mkb_model.proofs.runs.KnownFacts.{facts_hold}
 use Rattle.mkb_model.specs.declared.entry.Ticket.{Ticket}
 use Rattle.mkb_model.specs.declared.entry.Entry.{Entry}
 use Rattle.mkb_model.proofs.Lists.{filter_in, filter_map_in, numbers_in}
-use Rattle.mkb_model.proofs.Living.{within_budget, living_forked}
-use Rattle.mkb_model.proofs.Selections.{legal-possible, first-free}
-use Rattle.mkb_model.proofs.Sizes.{limited_run, numbered_within, turned}
-use Rattle.mkb_model.proofs.AllFine.{states_ordered, commits_fine}
-use Rattle.mkb_model.proofs.Flyers.{free_lives}
-use Rattle.mkb_model.proofs.Certificates.{certified_run}
+use Rattle.mkb_model.proofs.labels.LivingNames.{within_budget, living_forked}
+use Rattle.mkb_model.proofs.runs.Selections.{legal-possible, first-free}
+use Rattle.mkb_model.proofs.nodes.Sizes.{limited_run, numbered_within, turned}
+use Rattle.mkb_model.proofs.runs.AllFine.{states_ordered, commits_fine}
+use Rattle.mkb_model.proofs.tickets.InFlight.{free_lives}
+use Rattle.mkb_model.proofs.runs.Certificates.{certified_run}
 use Rattle.mkb_model.specs.Invariants.{FactsHold, IsCertified, SleepersWait, IsLabel}
 use Rattle.kb_jobs.specs.Groups.{IsOverlappable}
 use Rattle.kb_cert.specs.Family.{IsFirstOrder}

@@ -4,8 +4,8 @@ use Rattle.mkb_board.specs.Choosing.{ClosedRest}
 use Rattle.mkb_board.proofs.Readable.{limited_on}
 use Rattle.mkb_model.specs.Sleeping.{settled}
 use Rattle.mkb_model.specs.declared.entry.Entry.TheVariants.{Commit}
-use Rattle.mkb_model.proofs.Worked.{acted_labelled}
-use Rattle.mkb_model.proofs.LivingLabels.{IsLabelled}
+use Rattle.mkb_model.proofs.labels.AtMostSixtyFour.{acted_labelled}
+use Rattle.mkb_model.proofs.labels.LivingLabels.{IsLabelled}
 use Rattle.mkb_model.specs.Limits.{AreLimited}
 use Rattle.std.proofs.Common.{◌≡◌, List, Contains, None, subst, refl, filter, not, ◌==◌, ◌++◌, ◌∷◌, []}
 use Rattle.std.specs.Prelude.{IsFalse}
@@ -17,7 +17,7 @@ use Rattle.mkb_model.specs.declared.proposed.Proposed.{Proposed}
 use Rattle.mkb_model.specs.declared.proposed.Proposed.TheVariants.{Facts, Rewrite, One, Both, Refuse, Deduce, Unjoined, Closed, Limit}
 use Rattle.mkb_model.specs.declared.entry.Ticket.{Ticket}
 use Rattle.mkb_model.specs.declared.entry.Entry.{Entry}
-use Rattle.mkb_model.proofs.Selections.{legal-possible}
+use Rattle.mkb_model.proofs.runs.Selections.{legal-possible}
 use Rattle.mkb_rules.specs.Named.{HasNamed}
 use Rattle.mkb_rules.specs.Applying.{HasBudget}
 use Rattle.mkb_rules.specs.Applicable.{HasFewVariablesAfter, IsApplicable}

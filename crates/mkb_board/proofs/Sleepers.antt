@@ -21,8 +21,8 @@ use Rattle.mkb_model.specs.Plain.{Plain, cost}
 use Rattle.mkb_model.specs.Invariants.{IsLabel, SleepersWait}
 use Rattle.mkb_model.specs.Sleeping.{is_active, most_awake, process_cmp, rested, settle, waiting, with_one_asleep, with_one_awake, working}
 use Rattle.mkb_model.proofs.Lists.{clash, not_true}
-use Rattle.mkb_model.proofs.Labels.{label-add}
-use Rattle.mkb_model.proofs.Sleepers.{in_working, label_asleep, label_awake, label_rested, settled_same, working_few}
+use Rattle.mkb_model.proofs.labels.NameLists.{label-add}
+use Rattle.mkb_model.proofs.labels.Sleepers.{in_working, label_asleep, label_awake, label_rested, settled_same, working_few}
 use Rattle.mkb_board.specs.Choosing.{costed_cmp, merged}
 use Rattle.mkb_board.specs.declared.settling.Costed.{Costed}
 use Rattle.mkb_board.proofs.Asleep.{asleep_at, awake_at}

@@ -33,18 +33,18 @@ use Rattle.mkb_model.specs.Journals.{Moment, IsPossibleRun, IsFreeJob, IsFinishi
 use Rattle.mkb_model.specs.declared.proposed.Proposed.{Proposed}
 use Rattle.mkb_model.specs.declared.proposed.Proposed.TheVariants.{Facts, Rewrite, One, Both, Refuse, Deduce, Unjoined, Closed, Limit}
 use Rattle.mkb_model.specs.declared.entry.Entry.TheVariants.{Take}
-use Rattle.mkb_model.proofs.Roles.{on_there}
-use Rattle.mkb_model.proofs.Views.{rule_listed, there_pair}
-use Rattle.mkb_model.proofs.Rewriting.{source_of}
-use Rattle.mkb_model.proofs.Endings.{nones}
-use Rattle.mkb_model.proofs.Flyers.{is_own, owners_live, taken_free}
-use Rattle.mkb_model.proofs.Fitting.{pairs_stay}
-use Rattle.mkb_model.proofs.Readiness.{rewrite_ready, named_rule}
-use Rattle.mkb_model.proofs.AllFine.{due_equation, states_ordered, commits_fine}
-use Rattle.mkb_model.proofs.Living.{within_budget}
-use Rattle.mkb_model.proofs.Origins.{some_named}
-use Rattle.mkb_model.proofs.Sizes.{limited_run, turned}
-use Rattle.mkb_model.proofs.Variables.{step_few}
+use Rattle.mkb_model.proofs.commits.Roles.{on_there}
+use Rattle.mkb_model.proofs.commits.Views.{rule_listed, there_pair}
+use Rattle.mkb_model.proofs.commits.RewritingRuns.{source_of}
+use Rattle.mkb_model.proofs.runs.Endings.{nones}
+use Rattle.mkb_model.proofs.tickets.InFlight.{is_own, owners_live, taken_free}
+use Rattle.mkb_model.proofs.nodes.DistinctPairs.{pairs_stay}
+use Rattle.mkb_model.proofs.runs.Readiness.{rewrite_ready, named_rule}
+use Rattle.mkb_model.proofs.runs.AllFine.{due_equation, states_ordered, commits_fine}
+use Rattle.mkb_model.proofs.labels.LivingNames.{within_budget}
+use Rattle.mkb_model.proofs.nodes.Origins.{some_named}
+use Rattle.mkb_model.proofs.nodes.Sizes.{limited_run, turned}
+use Rattle.mkb_model.proofs.nodes.Variables.{step_few}
 use Rattle.mkb_rules.specs.Named.{IsThere, Lives, HasNamed, HasNamedJob, HasRedexRule}
 use Rattle.mkb_rules.specs.Applicable.{HasFewVariablesAfter, IsApplicable}
 use Rattle.mkb_model.specs.declared.settings.Settings.{Settings}

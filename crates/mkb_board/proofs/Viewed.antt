@@ -7,7 +7,7 @@ use Rattle.std.specs.Ordering.{ordering_then}
 use Rattle.std.specs.declared.cmp.Ordering.{Ordering}
 use Rattle.std.proofs.lemmas.List.{map-append, take_more, append-nil}
 use Rattle.std.proofs.lemmas.List.Elements.{filter-append, filter_map-append, All-contains, Contains-append_cases}
-use Rattle.mkb_model.proofs.Views.{there_pair}
+use Rattle.mkb_model.proofs.commits.Views.{there_pair}
 use Rattle.kb_lemmas.proofs.Membership.{all_rest, contains_first, contains_cases, contains_flat_map_back, none_in}
 use Rattle.kb_lemmas.proofs.Lists.{filter_less}
 use Rattle.kb_lemmas.proofs.Options.{none_some}

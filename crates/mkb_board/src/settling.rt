@@ -73,7 +73,7 @@ fn rest_one(state: &mut State)
     requires sleepers { IsLabel state.old state.old.asleep }
     ensures { state.new ≡ record state.old { asleep = with_one_asleep state.old state.old.asleep } }
 {
-    let _few = state.log().living();
+    state.log().are_forked();
     if let Some(process) = greatest_working(state) {
         state.put_to_sleep(&process);
     }

@@ -13,10 +13,10 @@ use Rattle.mkb_model.specs.Limits.{AreLimited}
 use Rattle.mkb_model.specs.Journals.{Moment, IsRun, IsFirstJob}
 use Rattle.mkb_model.specs.declared.settings.Selection.TheVariants.{Size}
 use Rattle.mkb_model.specs.declared.settings.Settings.{Settings}
-use Rattle.mkb_model.proofs.Changes.{Fits}
-use Rattle.mkb_model.proofs.Fitting.{fits_run}
-use Rattle.mkb_model.proofs.Selections.{first-free, legal-possible}
-use Rattle.mkb_model.proofs.Sizes.{limited_run}
+use Rattle.mkb_model.proofs.commits.RoleChanges.{Fits}
+use Rattle.mkb_model.proofs.nodes.DistinctPairs.{fits_run}
+use Rattle.mkb_model.proofs.runs.Selections.{first-free, legal-possible}
+use Rattle.mkb_model.proofs.nodes.Sizes.{limited_run}
 use Rattle.mkb_fairness.specs.Fairness.{AreDifferent, Waits, IsPairOver, HasPairsUpTo, overlaps_taken}
 use Rattle.mkb_fairness.proofs.Directions.{one_direction}
 use Rattle.mkb_fairness.proofs.Lighter.{IsTakenOverlap, rule_pair, overlap_weighs, taken_overlap, taken_lighter, keeps}

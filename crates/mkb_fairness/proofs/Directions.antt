@@ -30,21 +30,21 @@ use Rattle.mkb_model.specs.declared.proposed.Proposed.TheVariants.{Facts, Rewrit
 use Rattle.mkb_model.specs.declared.settings.Settings.{Settings}
 use Rattle.mkb_model.specs.declared.entry.Entry.{Entry}
 use Rattle.mkb_model.specs.declared.entry.Entry.TheVariants.{Take, Commit, Drop, Abandon, Halt}
-use Rattle.mkb_model.proofs.AllFine.{commits_fine, constraints_in, in_constraints, states_ordered}
-use Rattle.mkb_model.proofs.Commits.{orients}
-use Rattle.mkb_model.proofs.Fitting.{pairs_stay}
-use Rattle.mkb_model.proofs.KnownFacts.{rule_stays}
+use Rattle.mkb_model.proofs.runs.AllFine.{commits_fine, constraints_in, in_constraints, states_ordered}
+use Rattle.mkb_model.proofs.commits.Commits.{orients}
+use Rattle.mkb_model.proofs.nodes.DistinctPairs.{pairs_stay}
+use Rattle.mkb_model.proofs.runs.KnownFacts.{rule_stays}
 use Rattle.mkb_model.proofs.Lists.{clash, decide, filter_map_in, in_filter_map}
-use Rattle.mkb_model.proofs.OneRoles.{reversed_rule}
-use Rattle.mkb_model.proofs.Orienting.{orient-roles}
-use Rattle.mkb_model.proofs.Proper.{IsOrdered, composed_differs}
-use Rattle.mkb_model.proofs.Restful.{Stands, stands_run}
-use Rattle.mkb_model.proofs.Resting.{IsBit, rules_in}
-use Rattle.mkb_model.proofs.Roles.{kind_number, kinds_decide, on_there}
-use Rattle.mkb_model.proofs.Selections.{legal-possible}
-use Rattle.mkb_model.proofs.Staying.{constraints_applied}
-use Rattle.mkb_model.proofs.Unmoved.{apart_forked}
-use Rattle.mkb_model.proofs.Views.{rule_listed}
+use Rattle.mkb_model.proofs.commits.OneRole.{reversed_rule}
+use Rattle.mkb_model.proofs.commits.Orienting.{orient-roles}
+use Rattle.mkb_model.proofs.commits.Proper.{IsOrdered, composed_differs}
+use Rattle.mkb_model.proofs.closing.RestInRuns.{Stands, stands_run}
+use Rattle.mkb_model.proofs.closing.LeftAlone.{IsBit, rules_in}
+use Rattle.mkb_model.proofs.commits.Roles.{kind_number, kinds_decide, on_there}
+use Rattle.mkb_model.proofs.runs.Selections.{legal-possible}
+use Rattle.mkb_model.proofs.closing.Staying.{constraints_applied}
+use Rattle.mkb_model.proofs.commits.Bystanders.{apart_forked}
+use Rattle.mkb_model.proofs.commits.Views.{rule_listed}
 use Rattle.mkb_fairness.specs.Fairness.{StaysDue}
 use Rattle.mkb_fairness.proofs.Noted.{forked_leaves}
 use Rattle.mkb_fairness.proofs.Overlaps.{due_overlap, due_lives}

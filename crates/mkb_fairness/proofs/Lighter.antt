@@ -15,12 +15,12 @@ use Rattle.mkb_model.specs.Ready.{KeepsPairs}
 use Rattle.mkb_model.specs.declared.settings.Selection.{Selection}
 use Rattle.mkb_model.specs.declared.settings.Selection.TheVariants.{Size}
 use Rattle.mkb_model.specs.declared.settings.Settings.{Settings}
-use Rattle.mkb_model.proofs.Fitting.{pairs_stay}
-use Rattle.mkb_model.proofs.Living.{within_budget}
-use Rattle.mkb_model.proofs.Resting.{rules_in}
-use Rattle.mkb_model.proofs.Roles.{on_there}
-use Rattle.mkb_model.proofs.Selections.{first-free}
-use Rattle.mkb_model.proofs.Views.{there_pair}
+use Rattle.mkb_model.proofs.nodes.DistinctPairs.{pairs_stay}
+use Rattle.mkb_model.proofs.labels.LivingNames.{within_budget}
+use Rattle.mkb_model.proofs.closing.LeftAlone.{rules_in}
+use Rattle.mkb_model.proofs.commits.Roles.{on_there}
+use Rattle.mkb_model.proofs.runs.Selections.{first-free}
+use Rattle.mkb_model.proofs.commits.Views.{there_pair}
 use Rattle.mkb_fairness.specs.Fairness.{Waits, overlaps_taken}
 use Rattle.mkb_fairness.proofs.Lightest.{first_weighs}
 use Rattle.mkb_fairness.proofs.Turns.{IsTakenOn, turns, taken_on}

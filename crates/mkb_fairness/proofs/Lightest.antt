@@ -17,7 +17,7 @@ use Rattle.mkb_model.specs.Plain.{Plain, cost, weight}
 use Rattle.mkb_model.specs.DueJobs.{free_jobs}
 use Rattle.mkb_model.specs.Journals.{IsFirstJob, IsFreeJob}
 use Rattle.mkb_model.proofs.Lists.{clash}
-use Rattle.mkb_model.proofs.Selections.{least-none}
+use Rattle.mkb_model.proofs.runs.Selections.{least-none}
 
 -- ---- jobs compared without the numbers in them
 

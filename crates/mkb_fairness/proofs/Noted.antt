@@ -24,11 +24,11 @@ use Rattle.mkb_model.specs.declared.settings.Settings.{Settings}
 use Rattle.mkb_model.specs.declared.entry.Entry.{Entry}
 use Rattle.mkb_model.specs.declared.entry.Entry.TheVariants.{Take, Commit, Drop, Abandon, Halt}
 use Rattle.mkb_model.proofs.Lists.{clash, not_of_false}
-use Rattle.mkb_model.proofs.Completed.{ref_self}
-use Rattle.mkb_model.proofs.Flyers.{taken_free}
-use Rattle.mkb_model.proofs.Labels.{other_lives}
-use Rattle.mkb_model.proofs.OverReasons.{given_over}
-use Rattle.mkb_model.proofs.Selections.{legal-possible}
+use Rattle.mkb_model.proofs.closing.Completed.{ref_self}
+use Rattle.mkb_model.proofs.tickets.InFlight.{taken_free}
+use Rattle.mkb_model.proofs.labels.NameLists.{other_lives}
+use Rattle.mkb_model.proofs.runs.OverReasons.{given_over}
+use Rattle.mkb_model.proofs.runs.Selections.{legal-possible}
 use Rattle.mkb_fairness.specs.Fairness.{taken_by}
 use Rattle.mkb_fairness.proofs.Turns.{IsTurn}
 use Rattle.mkb_fairness.proofs.Overlaps.{due_rules, due_not_over, due_not_done}

@@ -15,7 +15,7 @@ use Rattle.mkb_model.specs.DueJobs.{is_due}
 use Rattle.mkb_model.specs.Journals.{Moment, IsRun, IsFirstJob}
 use Rattle.mkb_model.specs.declared.settings.Settings.{Settings}
 use Rattle.mkb_model.proofs.Lists.{clash}
-use Rattle.mkb_model.proofs.Selections.{first-free}
+use Rattle.mkb_model.proofs.runs.Selections.{first-free}
 use Rattle.mkb_fairness.specs.Fairness.{StaysDue, AreDifferent, Waits, taken_by, is_overlap_of, overlaps_taken}
 use Rattle.mkb_fairness.proofs.Turns.{AreTurns, turns, ended, newest_ended, taken_on}
 use Rattle.mkb_fairness.proofs.Overlaps.{due_overlap, free_overlap, due_lives, due_not_over, due_not_done, overlap_of, taken_at}

@@ -13,7 +13,7 @@ use Rattle.mkb_model.specs.declared.entry.Ticket.{Ticket}
 use Rattle.mkb_model.specs.declared.entry.Entry.{Entry}
 use Rattle.mkb_model.specs.declared.entry.Entry.TheVariants.{Take, Commit, Drop, Abandon, Halt}
 use Rattle.mkb_model.proofs.Lists.{clash}
-use Rattle.mkb_model.proofs.Flights.{effect_flight}
+use Rattle.mkb_model.proofs.tickets.NoClash.{effect_flight}
 use Rattle.mkb_fairness.specs.Fairness.{taken_by}
 
 -- ---- turns

@@ -1,69 +1,33 @@
-pub mod MemberSteps
+-- Which lemma files show which law; what they stand on themselves is in their imports.
+--   boards_are_sound                  runs.AllInvariants
+--   certificates_order                runs.Certificates
+--   closed_processes_rest             closing.RestInRuns, closing.StillClosed
+--   commits_change_the_board          commits.Progress
+--   commits_stay_within_the_budget    labels.LivingNames
+--   complete_is_good                  closing.Completed
+--   facts_hold                        runs.KnownFacts
+--   flight_is_in_order                tickets.NoClash, labels.LivingNames
+--   journals_decide_runs              journals.OneRun
+--   labels_name_the_living            labels.LivingLabels
+--   legal_runs_are_possible           runs.Selections
+--   living_names_come_of_forks        labels.LivingNames
+--   moves_decide_runs                 journals.MovesDecide
+--   one_worker_has_one_journal        journals.OneWorker
+--   opening_is_reached                runs.Openings
+--   origins_are_of_form               nodes.OriginForms
+--   pairs_are_within_limits           nodes.Sizes
+--   pairs_stay                        nodes.DistinctPairs, runs.LawsStated
+--   runs_complete                     runs.AllFine, and commits.* below it: what each commit is for each process
+--   sixty_four_are_worked_on          labels.AtMostSixtyFour
+--   tickets_are_dropped_after_commits tickets.Drops
+--   verdicts_stay                     runs.Endings, runs.Meanings
+--   work_goes_on                      runs.Endings, runs.LawsStated, labels.AtMostSixtyFour
 pub mod Lists
-pub mod Roles
-pub mod Endings
-pub mod Meanings
-pub mod Selections
-pub mod Pairs
-pub mod Views
-pub mod Moves
-pub mod Changes
-pub mod Orienting
-pub mod Adding
-pub mod Rewriting
-pub mod Rewritten
-pub mod Rewritings
-pub mod Commits
-pub mod Fitting
-pub mod Ancestors
-pub mod Proper
-pub mod Flights
-pub mod Living
-pub mod Labels
-pub mod Flyers
-pub mod Sleepers
-pub mod LivingLabels
-pub mod Worked
-pub mod Unmoved
-pub mod Resting
-pub mod Restful
-pub mod Staying
-pub mod PairLists
-pub mod Endless
-pub mod OverReasons
-pub mod Findings
-pub mod Moved
-pub mod Normal
-pub mod Interreduced
-pub mod Unjoining
-pub mod Changing
-pub mod Deductions
-pub mod AllFine
-pub mod StillClosed
-pub mod Certificates
-pub mod Completed
-pub mod Origins
-pub mod OriginForms
-pub mod Sound
-pub mod Drops
-pub mod Unique
-pub mod Readiness
-pub mod Simulation
-pub mod OneRoles
-pub mod Openings
-pub mod KnownFacts
-pub mod Stated
-mod Rows
-mod MoreRows
-mod SleepRows
-mod Runs
-mod EmptyRun
-mod ForkRun
-mod ForkViews
-mod Replays
-pub mod Alike
-pub mod OneProposal
-pub mod OneJournal
-pub mod OneWorker
-pub mod Variables
-pub mod Sizes
+pub mod runs
+pub mod journals
+pub mod tickets
+pub mod nodes
+pub mod commits
+pub mod closing
+pub mod labels
+pub mod rows

@@ -18,12 +18,12 @@ use Rattle.mkb_model.specs.Ready.{IsOn}
 use Rattle.mkb_model.specs.declared.entry.Effect.TheVariants.{Made}
 use Rattle.mkb_model.specs.declared.proposed.Proposed.TheVariants.{Deduce, Unjoined}
 use Rattle.mkb_model.specs.declared.settings.Settings.{Settings}
-use Rattle.mkb_model.proofs.Roles.{keeps-with_node, equation-no_rule, equation-no_constraint}
-use Rattle.mkb_model.proofs.Pairs.{pairs-added, pairs-gains_equation, node-with_node}
-use Rattle.mkb_model.proofs.Changes.{Fits}
-use Rattle.mkb_model.proofs.Completed.{ref_self}
-use Rattle.mkb_model.proofs.Orienting.{self}
-use Rattle.mkb_model.proofs.Adding.{add_one, with_pair, place, add-place, add-equations, add-others}
+use Rattle.mkb_model.proofs.commits.Roles.{keeps-with_node, equation-no_rule, equation-no_constraint}
+use Rattle.mkb_model.proofs.nodes.Pairs.{pairs-added, pairs-gains_equation, node-with_node}
+use Rattle.mkb_model.proofs.commits.RoleChanges.{Fits}
+use Rattle.mkb_model.proofs.closing.Completed.{ref_self}
+use Rattle.mkb_model.proofs.commits.Orienting.{self}
+use Rattle.mkb_model.proofs.commits.Adding.{add_one, with_pair, place, add-place, add-equations, add-others}
 use Rattle.mkb_moves.specs.Moves.{Deduces}
 use Rattle.mkb_moves.proofs.Sight.{equations_are, no_rule_are, same_rules, same_constraints, kept_test}
 use Rattle.mkb_moves.proofs.Makes.{IsMaking, making, commit_fits}

@@ -20,8 +20,8 @@ use Rattle.mkb_model.specs.Plain.{Plain, cost, weight, node_numbers, rules_of}
 use Rattle.mkb_model.specs.DueJobs.{work_of, is_due, due_jobs, due_jobs_of, flying_jobs, awake, free_jobs, first_job}
 use Rattle.mkb_model.specs.declared.entry.Ticket.{Ticket}
 use Rattle.mkb_model.proofs.Lists.{not_true, filter_in, any_none}
-use Rattle.mkb_model.proofs.Selections.{least-in, least-none}
-use Rattle.mkb_model.proofs.Flyers.{free_lives}
+use Rattle.mkb_model.proofs.runs.Selections.{least-in, least-none}
+use Rattle.mkb_model.proofs.tickets.InFlight.{free_lives}
 use Rattle.mkb_moves.specs.Order.{IsNameBefore, IsLessOr, IsNameBeforeOr, IsBefore, MayBeTaken}
 
 -- ---- what comparing answers

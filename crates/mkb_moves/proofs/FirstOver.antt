@@ -19,8 +19,8 @@ use Rattle.mkb_model.specs.Sleeping.{is_failed}
 use Rattle.mkb_model.specs.Journals.{Moment, IsPossibleRun}
 use Rattle.mkb_model.specs.declared.settings.Settings.{Settings}
 use Rattle.mkb_model.proofs.Lists.{clash, find_in}
-use Rattle.mkb_model.proofs.Endings.{has_in}
-use Rattle.mkb_model.proofs.LivingLabels.{labelled_run}
+use Rattle.mkb_model.proofs.runs.Endings.{has_in}
+use Rattle.mkb_model.proofs.labels.LivingLabels.{labelled_run}
 use Rattle.mkb_moves.specs.Order.{IsNameBefore, IsFirstOver}
 
 -- the last part of a verdict gives its reason

@@ -15,8 +15,8 @@ use Rattle.mkb_model.specs.declared.entry.Effect.TheVariants.{Over, Made}
 use Rattle.mkb_model.specs.declared.entry.Entry.TheVariants.{Take, Commit}
 use Rattle.mkb_model.specs.declared.proposed.Proposed.{Proposed}
 use Rattle.mkb_model.specs.declared.settings.Settings.{Settings}
-use Rattle.mkb_model.proofs.Changes.{Fits}
-use Rattle.mkb_model.proofs.Fitting.{fits_run, pairs_stay}
+use Rattle.mkb_model.proofs.commits.RoleChanges.{Fits}
+use Rattle.mkb_model.proofs.nodes.DistinctPairs.{fits_run, pairs_stay}
 
 -- the proposal has its effect on the board
 pub record IsMaking (past : List Moment) (b : Plain) (w t : ℕ) (x : Proposed) (c : Plain) : Type 0 where

@@ -13,11 +13,11 @@ use Rattle.mkb_model.specs.declared.proposed.Proposed.{Proposed}
 use Rattle.mkb_model.specs.declared.proposed.Proposed.TheVariants.{Facts, Rewrite, One, Both, Refuse, Deduce, Unjoined, Closed, Limit}
 use Rattle.mkb_model.specs.declared.settings.Settings.{Settings}
 use Rattle.mkb_model.proofs.Lists.{clash}
-use Rattle.mkb_model.proofs.Roles.{has-one}
-use Rattle.mkb_model.proofs.Commits.{orients}
-use Rattle.mkb_model.proofs.Flyers.{IsUnforked, effect_lives}
-use Rattle.mkb_model.proofs.Restful.{Stands, stands_run}
-use Rattle.mkb_model.proofs.Unmoved.{IsUnmoved, unmoved_effect, role_tests}
+use Rattle.mkb_model.proofs.commits.Roles.{has-one}
+use Rattle.mkb_model.proofs.commits.Commits.{orients}
+use Rattle.mkb_model.proofs.tickets.InFlight.{IsUnforked, effect_lives}
+use Rattle.mkb_model.proofs.closing.RestInRuns.{Stands, stands_run}
+use Rattle.mkb_model.proofs.commits.Bystanders.{IsUnmoved, unmoved_effect, role_tests}
 use Rattle.mkb_moves.specs.Moves.{IsLeftAlone}
 use Rattle.mkb_moves.proofs.Sight.{kept_view}
 

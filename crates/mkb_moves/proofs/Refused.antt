@@ -37,14 +37,14 @@ use Rattle.mkb_model.specs.declared.proposed.Proposed.{Proposed}
 use Rattle.mkb_model.specs.declared.proposed.Proposed.TheVariants.{Facts, Rewrite, One, Both, Refuse, Deduce, Unjoined, Closed, Limit}
 use Rattle.mkb_model.specs.declared.settings.Settings.{Settings}
 use Rattle.mkb_model.proofs.Lists.{clash, filter_map_in, in_filter_map}
-use Rattle.mkb_model.proofs.Roles.{put_other, label-with_node, label-fork, keeps-fork, on-fork, on-gains, on-loses, equation-no_constraint, refused-no_rule, refused-no_constraint, kind_number}
-use Rattle.mkb_model.proofs.Commits.{orients, is_p, pairs-applied}
-use Rattle.mkb_model.proofs.Simulation.{forked_names, apart_from}
-use Rattle.mkb_model.proofs.Living.{within_budget}
-use Rattle.mkb_model.proofs.KnownFacts.{rule_stays}
-use Rattle.mkb_model.proofs.Restful.{Stands, stands_run}
-use Rattle.mkb_model.proofs.Staying.{constraints_applied, orienters_stay}
-use Rattle.mkb_model.proofs.AllFine.{earlier_run, constraints_in, in_constraints, children_new, inputs_only}
+use Rattle.mkb_model.proofs.commits.Roles.{put_other, label-with_node, label-fork, keeps-fork, on-fork, on-gains, on-loses, equation-no_constraint, refused-no_rule, refused-no_constraint, kind_number}
+use Rattle.mkb_model.proofs.commits.Commits.{orients, is_p, pairs-applied}
+use Rattle.mkb_model.proofs.runs.Simulation.{forked_names, apart_from}
+use Rattle.mkb_model.proofs.labels.LivingNames.{within_budget}
+use Rattle.mkb_model.proofs.runs.KnownFacts.{rule_stays}
+use Rattle.mkb_model.proofs.closing.RestInRuns.{Stands, stands_run}
+use Rattle.mkb_model.proofs.closing.Staying.{constraints_applied, orienters_stay}
+use Rattle.mkb_model.proofs.runs.AllFine.{earlier_run, constraints_in, in_constraints, children_new, inputs_only}
 use Rattle.mkb_moves.specs.Stuck.{IsUnorientable}
 use Rattle.mkb_moves.proofs.Makes.{taken_keeps}
 

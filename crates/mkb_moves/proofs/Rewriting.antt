@@ -26,12 +26,12 @@ use Rattle.mkb_model.specs.declared.entry.Effect.TheVariants.{Made}
 use Rattle.mkb_model.specs.declared.proposed.Proposed.TheVariants.{Rewrite}
 use Rattle.mkb_model.specs.declared.settings.Settings.{Settings}
 use Rattle.mkb_model.proofs.Lists.{filter_in}
-use Rattle.mkb_model.proofs.Changes.{Fits}
-use Rattle.mkb_model.proofs.Rewriting.{IsSource, source_of}
-use Rattle.mkb_model.proofs.Readiness.{named_rule, rewrite_ready}
-use Rattle.mkb_model.proofs.Resting.{IsBit, rules_in}
-use Rattle.mkb_model.proofs.Staying.{KeepsConstraints, constraints_applied}
-use Rattle.mkb_model.proofs.AllFine.{goes}
+use Rattle.mkb_model.proofs.commits.RoleChanges.{Fits}
+use Rattle.mkb_model.proofs.commits.RewritingRuns.{IsSource, source_of}
+use Rattle.mkb_model.proofs.runs.Readiness.{named_rule, rewrite_ready}
+use Rattle.mkb_model.proofs.closing.LeftAlone.{IsBit, rules_in}
+use Rattle.mkb_model.proofs.closing.Staying.{KeepsConstraints, constraints_applied}
+use Rattle.mkb_model.proofs.runs.AllFine.{goes}
 use Rattle.mkb_moves.specs.Moves.{Simplifies, Composes, Collapses, Rewrites}
 use Rattle.mkb_moves.proofs.Sight.{equations_are, rules_are, rule_ref, same_direction, no_rule_are, same_rules, kept_test, kept_constraints}
 use Rattle.mkb_moves.proofs.Makes.{IsMaking, making, taken_keeps, commit_fits}

@@ -9,10 +9,10 @@ use Rattle.kb_node.specs.declared.node.LabelKind.TheVariants.{R0, R1, E, C0, C1}
 use Rattle.mkb_model.specs.Plain.{Plain, PlainNode, label_at, rule_kind, constraint_kind, numbers_from, node_numbers, directions, is_equation, is_rule, is_constraint, equations_of, rules_of, constraints_of, view}
 use Rattle.mkb_model.specs.Ready.{IsOn}
 use Rattle.mkb_model.proofs.Lists.{filter_in, in_filter, in_numbers, numbers_in, same_test}
-use Rattle.mkb_model.proofs.Roles.{label_beyond, on_there, kind_number, KeepsRoles}
-use Rattle.mkb_model.proofs.Resting.{IsBit, in_rules, rules_in}
-use Rattle.mkb_model.proofs.AllFine.{constraints_in, in_constraints}
-use Rattle.mkb_model.proofs.Staying.{KeepsConstraints}
+use Rattle.mkb_model.proofs.commits.Roles.{label_beyond, on_there, kind_number, KeepsRoles}
+use Rattle.mkb_model.proofs.closing.LeftAlone.{IsBit, in_rules, rules_in}
+use Rattle.mkb_model.proofs.runs.AllFine.{constraints_in, in_constraints}
+use Rattle.mkb_model.proofs.closing.Staying.{KeepsConstraints}
 use Rattle.mkb_moves.specs.Moves.{HasNoRule}
 
 -- ---- rows of numbers

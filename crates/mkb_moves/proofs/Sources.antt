@@ -15,13 +15,13 @@ use Rattle.mkb_model.specs.Plain.{PlainNode, label_at, rule_kind, other, pair_in
 use Rattle.mkb_model.specs.Effects.{with_node, node_of, loses, gains_rule, gains_equation, direction, is_strict, if_strict}
 use Rattle.mkb_model.specs.Ready.{IsOn, OneRole}
 use Rattle.mkb_model.proofs.Lists.{clash, false_unless}
-use Rattle.mkb_model.proofs.Roles.{kind_number, on-gains_rule, keeps-with_node, keeps-gains_rule, keeps-gains_equation, equation-no_rule, KeepsRoles, keeps_trans, length-put}
-use Rattle.mkb_model.proofs.Pairs.{pairs-gains_equation, pairs-gains_rule, node-with_node}
-use Rattle.mkb_model.proofs.Changes.{Fits}
-use Rattle.mkb_model.proofs.Adding.{rule_role}
-use Rattle.mkb_model.proofs.Rewriting.{strict_is, IsSource, on-lost, gains_from, gains_own, has-if_strict, if_strict-has}
-use Rattle.mkb_model.proofs.Rewritten.{eq_gain, others_gain}
-use Rattle.mkb_model.proofs.Rewritings.{lost_nodes, moved_nodes}
+use Rattle.mkb_model.proofs.commits.Roles.{kind_number, on-gains_rule, keeps-with_node, keeps-gains_rule, keeps-gains_equation, equation-no_rule, KeepsRoles, keeps_trans, length-put}
+use Rattle.mkb_model.proofs.nodes.Pairs.{pairs-gains_equation, pairs-gains_rule, node-with_node}
+use Rattle.mkb_model.proofs.commits.RoleChanges.{Fits}
+use Rattle.mkb_model.proofs.commits.Adding.{rule_role}
+use Rattle.mkb_model.proofs.commits.RewritingRuns.{strict_is, IsSource, on-lost, gains_from, gains_own, has-if_strict, if_strict-has}
+use Rattle.mkb_model.proofs.commits.RewritingCases.{eq_gain, others_gain}
+use Rattle.mkb_model.proofs.commits.RewritingSteps.{lost_nodes, moved_nodes}
 
 -- the node has the pair, if there is one
 abbrev pub IsAt : Option Pair → List PlainNode → ℕ → Type 0

@@ -16,7 +16,7 @@ use Rattle.mkb_model.specs.declared.entry.Effect.TheVariants.{Over, Made}
 use Rattle.mkb_model.specs.declared.proposed.Proposed.TheVariants.{Facts, Closed}
 use Rattle.mkb_model.specs.declared.settings.Settings.{Settings}
 use Rattle.mkb_model.proofs.Lists.{clash, decide, not_of_false}
-use Rattle.mkb_model.proofs.OverReasons.{given_over}
+use Rattle.mkb_model.proofs.runs.OverReasons.{given_over}
 use Rattle.mkb_moves.specs.Moves.{GivesUp}
 use Rattle.mkb_moves.proofs.Makes.{making, stopping}
 

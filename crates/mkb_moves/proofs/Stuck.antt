@@ -16,14 +16,14 @@ use Rattle.mkb_model.specs.Journals.{Moment, IsPossibleRun, IsFreeJob}
 use Rattle.mkb_model.specs.Ready.{IsOn}
 use Rattle.mkb_model.specs.declared.settings.Settings.{Settings}
 use Rattle.mkb_model.proofs.Lists.{clash}
-use Rattle.mkb_model.proofs.Roles.{equation-no_rule}
-use Rattle.mkb_model.proofs.Adding.{rule_role}
-use Rattle.mkb_model.proofs.Meanings.{has_failed, verdict_means}
-use Rattle.mkb_model.proofs.Resting.{Rests, rules_in, known_holds}
-use Rattle.mkb_model.proofs.Restful.{resting_run}
-use Rattle.mkb_model.proofs.KnownFacts.{facts_hold}
-use Rattle.mkb_model.proofs.Normal.{rewrites_encompassed}
-use Rattle.mkb_model.proofs.AllFine.{goes}
+use Rattle.mkb_model.proofs.commits.Roles.{equation-no_rule}
+use Rattle.mkb_model.proofs.commits.Adding.{rule_role}
+use Rattle.mkb_model.proofs.runs.Meanings.{has_failed, verdict_means}
+use Rattle.mkb_model.proofs.closing.LeftAlone.{Rests, rules_in, known_holds}
+use Rattle.mkb_model.proofs.closing.RestInRuns.{resting_run}
+use Rattle.mkb_model.proofs.runs.KnownFacts.{facts_hold}
+use Rattle.mkb_model.proofs.closing.NormalTerms.{rewrites_encompassed}
+use Rattle.mkb_model.proofs.runs.AllFine.{goes}
 use Rattle.mkb_moves.specs.Stuck.{IsNormalNode, IsStuck}
 use Rattle.mkb_moves.proofs.Sight.{equations_are}
 use Rattle.mkb_moves.proofs.Refused.{refused_unorientable}

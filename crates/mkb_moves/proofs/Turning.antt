@@ -20,13 +20,13 @@ use Rattle.mkb_model.specs.declared.entry.Effect.TheVariants.{Made}
 use Rattle.mkb_model.specs.declared.proposed.Proposed.TheVariants.{One, Both, Refuse}
 use Rattle.mkb_model.specs.declared.settings.Settings.{Settings}
 use Rattle.mkb_model.proofs.Lists.{clash, false_unless}
-use Rattle.mkb_model.proofs.Roles.{on_there, on-gains, put_other, kind_number, refused-no_rule, refused-no_constraint}
-use Rattle.mkb_model.proofs.Orienting.{OrientRoles, orient-roles, self}
-use Rattle.mkb_model.proofs.Commits.{orients, bit_number, fork_roles}
-use Rattle.mkb_model.proofs.Labels.{child_lives}
-use Rattle.mkb_model.proofs.Resting.{IsBit}
-use Rattle.mkb_model.proofs.Restful.{stands_run}
-use Rattle.mkb_model.proofs.AllFine.{children_new}
+use Rattle.mkb_model.proofs.commits.Roles.{on_there, on-gains, put_other, kind_number, refused-no_rule, refused-no_constraint}
+use Rattle.mkb_model.proofs.commits.Orienting.{OrientRoles, orient-roles, self}
+use Rattle.mkb_model.proofs.commits.Commits.{orients, bit_number, fork_roles}
+use Rattle.mkb_model.proofs.labels.NameLists.{child_lives}
+use Rattle.mkb_model.proofs.closing.LeftAlone.{IsBit}
+use Rattle.mkb_model.proofs.closing.RestInRuns.{stands_run}
+use Rattle.mkb_model.proofs.runs.AllFine.{children_new}
 use Rattle.mkb_moves.specs.Moves.{Orients, Forks}
 use Rattle.mkb_moves.proofs.Sight.{equations_are, rules_are, constraints_are, rule_ref, same_direction, same_constraint_direction, same_view as same_seen}
 use Rattle.mkb_moves.proofs.Makes.{IsMaking, making}

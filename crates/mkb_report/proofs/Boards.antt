@@ -23,15 +23,15 @@ use Rattle.mkb_model.specs.Journals.{IsPossibleRun, IsFreeJob, tickets}
 use Rattle.mkb_model.specs.Invariants.{IsSound, PairsFollow}
 use Rattle.mkb_model.specs.Limits.{AreLimited}
 use Rattle.mkb_model.specs.GoodAnswers.{IsGoodAnswer}
-use Rattle.mkb_model.proofs.Changes.{Fits}
-use Rattle.mkb_model.proofs.Fitting.{fits_run}
+use Rattle.mkb_model.proofs.commits.RoleChanges.{Fits}
+use Rattle.mkb_model.proofs.nodes.DistinctPairs.{fits_run}
 use Rattle.mkb_model.proofs.Lists.{clash}
-use Rattle.mkb_model.proofs.Meanings.{verdict_means}
-use Rattle.mkb_model.proofs.Selections.{legal-possible}
-use Rattle.mkb_model.proofs.OriginForms.{origins_of_form}
-use Rattle.mkb_model.proofs.Sound.{boards_sound}
-use Rattle.mkb_model.proofs.Sizes.{limited_run}
-use Rattle.mkb_model.proofs.Completed.{good_answer}
+use Rattle.mkb_model.proofs.runs.Meanings.{verdict_means}
+use Rattle.mkb_model.proofs.runs.Selections.{legal-possible}
+use Rattle.mkb_model.proofs.nodes.OriginForms.{origins_of_form}
+use Rattle.mkb_model.proofs.runs.AllInvariants.{boards_sound}
+use Rattle.mkb_model.proofs.nodes.Sizes.{limited_run}
+use Rattle.mkb_model.proofs.closing.Completed.{good_answer}
 use Rattle.mkb_report.specs.Reports.{IsReached, pairs_of}
 use Rattle.mkb_report.proofs.OneWay.{one_way}
 use Rattle.mkb_report.proofs.Traces.{OriginsAreRight, node_pair, follows_alike}

@@ -28,7 +28,7 @@ use Rattle.kb_laws.proofs.Cleaning.{length-instances}
 use Rattle.kb_laws.proofs.LoneRule.{rule_same}
 use Rattle.kb_checker.specs.Answers.{IsRuleForm}
 use Rattle.mkb_model.specs.Limits.{IsLimitedPair}
-use Rattle.mkb_model.proofs.Sizes.{numbered_within, turned}
+use Rattle.mkb_model.proofs.nodes.Sizes.{numbered_within, turned}
 
 -- ---- positions
 

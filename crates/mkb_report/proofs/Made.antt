@@ -41,10 +41,10 @@ use Rattle.mkb_model.specs.Limits.{IsLimitedPair}
 use Rattle.mkb_model.specs.Verdicts.{verdict}
 use Rattle.mkb_model.proofs.Lists.{same_test}
 use mathlib.Core.Bool.{true≢false}
-use Rattle.mkb_model.proofs.Views.{there_pair}
+use Rattle.mkb_model.proofs.commits.Views.{there_pair}
 use Rattle.kb_lemmas.proofs.Membership.{contains_cases, contains_first, contains_behind, contains_map, contains_mapped, none_in}
 use Rattle.kb_lemmas.proofs.Options.{some_is, some_of_map}
-use Rattle.mkb_model.proofs.Pairs.{pair_eq-eq, pair_eq-refl}
+use Rattle.mkb_model.proofs.nodes.Pairs.{pair_eq-eq, pair_eq-refl}
 use Rattle.mkb_rules.specs.Named.{IsRuleThere}
 use Rattle.mkb_rules.proofs.Viewed.{rule_there, constraints_there}
 use Rattle.mkb_report.specs.Cited.{cited_by, number_with}

@@ -3,7 +3,7 @@ use Rattle.std.proofs.Common.{ℕ, ◌+◌, ◌<◌, ◌≡◌, refl, ap, subst,
 use Rattle.std.specs.Prelude.{option_map}
 use Rattle.std.proofs.lemmas.List.Elements.{All-head, All-tail}
 use Rattle.std.proofs.lemmas.Option.{slice_get_within}
-use Rattle.mkb_model.proofs.Views.{numbered_variant}
+use Rattle.mkb_model.proofs.commits.Views.{numbered_variant}
 use Rattle.kb_lemmas.proofs.Membership.{contains_cases, contains_first, contains_behind, contains_flat_map, none_in}
 use Rattle.kb_term.specs.Tree.{Tree}
 use Rattle.kb_term.specs.Pair.{Pair}

@@ -12,8 +12,8 @@ use Rattle.mkb_model.specs.Journals.{Moment, Move, takes, ends, gives_back, halt
 use Rattle.mkb_model.specs.declared.entry.Entry.{Entry}
 use Rattle.mkb_model.specs.declared.entry.Entry.TheVariants.{Take, Commit, Drop, Abandon, Halt}
 use Rattle.mkb_model.specs.declared.settings.Settings.{Settings}
-use Rattle.mkb_model.proofs.Selections.{legal-possible}
-use Rattle.mkb_model.proofs.OneJournal.{moves_decide}
+use Rattle.mkb_model.proofs.runs.Selections.{legal-possible}
+use Rattle.mkb_model.proofs.journals.MovesDecide.{moves_decide}
 use Rattle.mkb_rounds.specs.Rounds.{GoByRounds, IsRounds, first_number, next_job, round_move}
 
 -- where a round goes on no verdict stands

@@ -23,8 +23,8 @@ use Rattle.mkb_model.specs.declared.proposed.Proposed.{Proposed}
 use Rattle.mkb_model.specs.declared.entry.Ticket.{Ticket}
 use Rattle.mkb_model.specs.declared.entry.Entry.{Entry}
 use Rattle.mkb_model.specs.declared.entry.Entry.TheVariants.{Take, Commit, Drop, Abandon}
-use Rattle.mkb_model.proofs.Flights.{effect_flight}
-use Rattle.mkb_model.proofs.Living.{effect_setting, flight_numbered}
+use Rattle.mkb_model.proofs.tickets.NoClash.{effect_flight}
+use Rattle.mkb_model.proofs.labels.LivingNames.{effect_setting, flight_numbered}
 use Rattle.mkb_board.specs.Boards.{Seen, IsLegalBoard, has_halt, takes_in}
 use Rattle.mkb_board.specs.Held.{IsHeld}
 use Rattle.mkb_board.specs.Takes.{TakesJob, IsTakenBy, IsFinishedBy, take_entry}

@@ -9,7 +9,7 @@ use Rattle.kb_node.specs.declared.node.LabelKind.{LabelKind}
 use Rattle.kb_node.specs.declared.node.LabelKind.TheVariants.{R0, R1, E, C0, C1}
 use Rattle.mkb_model.specs.Plain.{PlainNode, label_at}
 use Rattle.mkb_model.specs.Effects.{forked_node}
-use Rattle.mkb_model.proofs.Roles.{relabel-other}
+use Rattle.mkb_model.proofs.commits.Roles.{relabel-other}
 use Rattle.mkb_rules.specs.Accounts.{renamed, Inherits, InheritNodes, IsAccountOf, IsApart, is_apart}
 use Rattle.mkb_rules.specs.Roles.{roles_in, roles_at}
 use Rattle.mkb_rules.specs.Sizes.{open_share, rule_share, open_sizes, rule_sizes}

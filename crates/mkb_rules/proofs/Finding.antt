@@ -15,7 +15,7 @@ use Rattle.kb_node.proofs.Adding.{has-lacks}
 use Rattle.mkb_model.specs.Plain.{PlainNode, pair_in}
 use Rattle.mkb_model.specs.Effects.{pair_eq, node_of, is_present, new_node, with_node, most_nodes}
 use Rattle.mkb_model.proofs.Lists.{clash, decide, false_unless}
-use Rattle.mkb_model.proofs.Pairs.{pair_eq-refl, found_node}
+use Rattle.mkb_model.proofs.nodes.Pairs.{pair_eq-refl, found_node}
 use Rattle.mkb_rules.specs.Parts.{plain_node, plain_nodes}
 
 pub pair-plain : (xs : List (Node (List Name))) (n : ℕ) → option_map (λ (x : Node (List Name)). x.pair) (slice_get xs n) ≡ pair_in (plain_nodes xs) n

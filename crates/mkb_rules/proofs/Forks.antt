@@ -6,7 +6,7 @@ use Rattle.kb_node.specs.declared.node.LabelKind.{LabelKind}
 use Rattle.kb_node.specs.declared.node.LabelKind.TheVariants.{R0, R1, E, C0, C1, X}
 use Rattle.mkb_model.specs.Plain.{PlainNode, label_in, label_at}
 use Rattle.mkb_model.specs.Effects.{forked_node, with_label, with_label_in}
-use Rattle.mkb_model.proofs.Roles.{below, label_beyond}
+use Rattle.mkb_model.proofs.commits.Roles.{below, label_beyond}
 use Rattle.mkb_rules.specs.Accounts.{Inherits, InheritNodes}
 use Rattle.mkb_rules.specs.Forking.{fork_at}
 

@@ -19,11 +19,11 @@ use Rattle.kb_node.specs.declared.node.LabelKind.TheVariants.{E}
 use Rattle.mkb_model.specs.Plain.{Plain, PlainNode, label, label_at, pair_at, rule_kind, other}
 use Rattle.mkb_model.specs.Effects.{acted, applied, counted, effect_label, first_some, some_if, gains_rule, give_up, if_strict, limit_of, loses, most_nodes, moved_to, on_nodes, rewrite_label, rewritten, wanted, with_label, with_nodes}
 use Rattle.mkb_model.specs.declared.proposed.Proposed.TheVariants.{Rewrite}
-use Rattle.mkb_model.proofs.Roles.{length-put}
+use Rattle.mkb_model.proofs.commits.Roles.{length-put}
 use Rattle.mkb_rules.specs.Rewriting.{target_of, wanted_by, lost, gained}
 use Rattle.mkb_rules.specs.declared.effects.rewriting.Sources.{Sources}
 use Rattle.mkb_rules.specs.declared.effects.rewriting.Target.{Target}
-use Rattle.mkb_model.proofs.PairLists.{plain_pairs, pairs-put, with_nodes-same, length-same}
+use Rattle.mkb_model.proofs.nodes.NewPairs.{plain_pairs, pairs-put, with_nodes-same, length-same}
 use Rattle.mkb_rules.proofs.SamePairs.{limit-room, limit-full}
 
 -- a node is still there when labels were put anew

@@ -10,7 +10,7 @@ use Rattle.mkb_model.specs.Plain.{PlainNode, label_at, rule_kind, constraint_kin
 use Rattle.mkb_model.specs.Effects.{forked_node, gains, gains_equation, is_present, loses, new_node, with_label, with_node}
 use Rattle.kb_node.specs.declared.node.LabelKind.TheVariants.{R0, R1, E}
 use Rattle.mkb_rules.specs.Parts.{oriented_by}
-use Rattle.mkb_model.proofs.Roles.{length-put}
+use Rattle.mkb_model.proofs.commits.Roles.{length-put}
 
 -- there are as many nodes
 pub length_with : (n : ℕ) (kind : LabelKind) (l : List Name) (xs : List PlainNode) → length (with_label n kind l xs) ≡ length xs

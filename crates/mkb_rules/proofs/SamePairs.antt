@@ -11,9 +11,9 @@ use Rattle.kb_term.specs.declared.origin.Origin.TheVariants.{Input}
 use Rattle.kb_node.specs.declared.node.LabelKind.TheVariants.{R0, R1, E}
 use Rattle.mkb_model.specs.Plain.{PlainNode, label_at}
 use Rattle.mkb_model.proofs.Lists.{equal_or_more}
-use Rattle.mkb_model.proofs.PairLists.{length-with_nodes}
-use Rattle.mkb_model.proofs.Pairs.{node-with_node}
-use Rattle.mkb_model.proofs.Roles.{length-put}
+use Rattle.mkb_model.proofs.nodes.NewPairs.{length-with_nodes}
+use Rattle.mkb_model.proofs.nodes.Pairs.{node-with_node}
+use Rattle.mkb_model.proofs.commits.Roles.{length-put}
 use Rattle.mkb_model.specs.Effects.{node_of, is_present, new_node, with_node, with_nodes, gains_equation, most_nodes, first_some, some_if}
 
 -- a new pair of a full table finds no room

@@ -7,8 +7,8 @@ use Rattle.mkb_model.specs.Headline.{TakesAreBy}
 use Rattle.mkb_model.specs.Verdicts.{verdict}
 use Rattle.mkb_model.specs.declared.entry.Entry.{Entry}
 use Rattle.mkb_model.specs.declared.settings.Settings.{Settings}
-use Rattle.mkb_model.proofs.AllFine.{runs_complete}
-use Rattle.mkb_model.proofs.Selections.{legal-possible}
+use Rattle.mkb_model.proofs.runs.AllFine.{runs_complete}
+use Rattle.mkb_model.proofs.runs.Selections.{legal-possible}
 use Rattle.mkb_rounds.specs.Ends.{EndsByRounds}
 use Rattle.mkb_rounds.proofs.Takers.{takes_of_rounds}
 use Rattle.work_crew.specs.declared.alone.Crew.{Crew}

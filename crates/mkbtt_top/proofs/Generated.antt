@@ -12,7 +12,7 @@ use Rattle.kb_term.specs.Pair.{distinct, place_in}
 use Rattle.kb_term.specs.Signature.{Signature, SymbolEntry, HasArity, IsEquationWithinLimits, IsWithinLimits}
 use Rattle.kb_term.proofs.Variants.{in_distinct}
 use Rattle.kb_syntax.specs.Generator.{outer_of, inner_of, right_of, letters_in, letters_of, letter_entry, generated_equation, generated}
-use Rattle.mkb_model.proofs.Variables.{few_less}
+use Rattle.mkb_model.proofs.nodes.Variables.{few_less}
 
 -- ---- the numbers of equations
 

@@ -16,8 +16,8 @@ use Rattle.mkb_model.specs.Plain.{Plain}
 use Rattle.mkb_model.specs.Verdicts.{verdict}
 use Rattle.mkb_model.specs.declared.entry.Entry.{Entry}
 use Rattle.mkb_model.specs.declared.entry.Entry.TheVariants.{Take, Commit, Drop, Abandon, Halt}
-use Rattle.mkb_model.proofs.AllFine.{runs_complete}
-use Rattle.mkb_model.proofs.Selections.{legal-possible}
+use Rattle.mkb_model.proofs.runs.AllFine.{runs_complete}
+use Rattle.mkb_model.proofs.runs.Selections.{legal-possible}
 use Rattle.mkb_board.specs.Boards.{Seen, has_halt, IsLegalBoard}
 use Rattle.work_crew.specs.Alone.{EndsAlone, IsBrokenOff, IsBrokenOffAlone}
 use Rattle.work_crew.specs.Together.{EndsTogether}

@@ -11,7 +11,7 @@ use Rattle.mkb_model.specs.declared.proposed.Proposed.{Proposed}
 use Rattle.mkb_model.specs.declared.entry.Ticket.{Ticket}
 use Rattle.mkb_model.specs.declared.entry.Entry.{Entry}
 use Rattle.mkb_model.specs.declared.entry.Entry.TheVariants.{Commit, Drop, Abandon, Halt}
-use Rattle.mkb_model.proofs.Living.{effect_setting}
+use Rattle.mkb_model.proofs.labels.LivingNames.{effect_setting}
 use Rattle.mkb_board.specs.Boards.{Seen, has_halt}
 use Rattle.mkb_board.specs.Takes.{IsTakenBy, IsFinishedBy, take_entry}
 use Rattle.mkb_board.specs.declared.answers.Taken.{Taken}

@@ -8,7 +8,7 @@ use Rattle.mkb_model.specs.declared.proposed.Proposed.{Proposed}
 use Rattle.mkb_model.specs.declared.entry.Ticket.{Ticket}
 use Rattle.mkb_model.specs.declared.entry.Entry.{Entry}
 use Rattle.mkb_model.specs.declared.entry.Entry.TheVariants.{Commit, Drop, Abandon, Halt}
-use Rattle.mkb_model.proofs.Flights.{effect_flight}
+use Rattle.mkb_model.proofs.tickets.NoClash.{effect_flight}
 use Rattle.mkb_board.specs.Boards.{Seen, IsLegalBoard, has_halt, owed}
 use Rattle.mkb_board.specs.Takes.{IsTakenBy, IsFinishedBy, take_entry}
 use Rattle.mkb_board.specs.declared.answers.Taken.{Taken}

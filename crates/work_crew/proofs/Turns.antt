@@ -22,12 +22,12 @@ use Rattle.mkb_model.specs.declared.proposed.Proposed.{Proposed}
 use Rattle.mkb_model.specs.declared.entry.Ticket.{Ticket}
 use Rattle.mkb_model.specs.declared.entry.Entry.{Entry}
 use Rattle.mkb_model.specs.declared.entry.Entry.TheVariants.{Take, Commit, Drop, Abandon, Halt}
-use Rattle.mkb_model.proofs.Flights.{effect_flight}
-use Rattle.mkb_model.proofs.Living.{effect_setting, within_budget}
-use Rattle.mkb_model.proofs.Meanings.{budget_left}
-use Rattle.mkb_model.proofs.Selections.{legal-possible}
-use Rattle.mkb_model.proofs.Flyers.{taken_free}
-use Rattle.mkb_model.proofs.Drops.{drops_follow_commits}
+use Rattle.mkb_model.proofs.tickets.NoClash.{effect_flight}
+use Rattle.mkb_model.proofs.labels.LivingNames.{effect_setting, within_budget}
+use Rattle.mkb_model.proofs.runs.Meanings.{budget_left}
+use Rattle.mkb_model.proofs.runs.Selections.{legal-possible}
+use Rattle.mkb_model.proofs.tickets.InFlight.{taken_free}
+use Rattle.mkb_model.proofs.tickets.Drops.{drops_follow_commits}
 use Rattle.mkb_board.specs.Boards.{Seen, has_halt, takes_in, IsLegalBoard}
 use Rattle.mkb_board.specs.Takes.{IsProposalOf, IsFinishedBy, take_entry}
 use Rattle.mkb_board.specs.declared.answers.Finished.{Finished}

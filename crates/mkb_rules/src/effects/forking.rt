@@ -184,7 +184,7 @@ fn learn_short(log: &NameLog, p: &Process)
     requires room { length log.now < MAX_LIVING }
     ensures { length p.now < MAX_BITS }
 {
-    let _few = log.living();
+    log.are_forked();
 }
 
 // The log after a fork.

@@ -4,7 +4,7 @@ use Rattle.std.proofs.lemmas.List.Elements.{Contains-get_or}
 use Rattle.std.proofs.lemmas.List.Folds.{list_all_at}
 use Rattle.kb_label.specs.Names.{Name}
 use Rattle.mkb_model.specs.Sleeping.{is_failed}
-use Rattle.mkb_model.proofs.Endings.{has_in}
+use Rattle.mkb_model.proofs.runs.Endings.{has_in}
 use Rattle.mkb_model.proofs.Lists.{not_true}
 use Rattle.mkb_board.proofs.choosing.goes_last_on.Goals as goal
 

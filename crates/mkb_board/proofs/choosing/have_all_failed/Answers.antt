@@ -1,7 +1,7 @@
 use Rattle.std.proofs.Common.{List, Contains, subst, sym, ◌∙◌}
 use Rattle.std.proofs.lemmas.List.Elements.{Contains-get_or}
 use Rattle.kb_label.specs.Names.{Name}
-use Rattle.mkb_model.proofs.Endings.{has_in}
+use Rattle.mkb_model.proofs.runs.Endings.{has_in}
 use Rattle.mkb_board.proofs.choosing.have_all_failed.Goals as goal
 
 pub is_failed-requires-clause-lives : goal.is_failed-requires-clause-lives

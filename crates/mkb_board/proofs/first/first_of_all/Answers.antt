@@ -5,7 +5,7 @@ use Rattle.kb_lemmas.proofs.Membership.{contains_first, contains_behind}
 use Rattle.kb_label.specs.Names.{Name, has, minus, IsInNameOrder}
 use Rattle.mkb_model.specs.Jobs.{job_cmp}
 use Rattle.mkb_model.specs.Plain.{cost, weight}
-use Rattle.mkb_model.proofs.Endings.{has_in}
+use Rattle.mkb_model.proofs.runs.Endings.{has_in}
 use Rattle.mkb_model.specs.Plain.{Plain}
 use Rattle.mkb_model.specs.DueJobs.{awake}
 use Rattle.kb_node.specs.declared.job.Job.{Job}

@@ -1,7 +1,7 @@
 use Rattle.std.proofs.Common.{List, Contains, ap, subst, sym, ◌∙◌, length, arith}
 use Rattle.std.proofs.lemmas.List.Elements.{Contains-get_or}
 use Rattle.kb_label.specs.Names.{Name}
-use Rattle.mkb_model.proofs.Endings.{has_in}
+use Rattle.mkb_model.proofs.runs.Endings.{has_in}
 use Rattle.mkb_board.proofs.Sleepers.{working_as}
 use Rattle.mkb_board.proofs.settling.count_working.Goals as goal
 

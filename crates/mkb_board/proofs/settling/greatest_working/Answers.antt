@@ -2,7 +2,7 @@ use Rattle.std.proofs.Common.{◌<◌, List, Contains, get_or, length, ap, subst
 use Rattle.std.proofs.lemmas.List.Elements.{Contains-get_or}
 use Rattle.kb_label.specs.Names.{Name}
 use Rattle.mkb_model.specs.Jobs.{least}
-use Rattle.mkb_model.proofs.Endings.{has_in}
+use Rattle.mkb_model.proofs.runs.Endings.{has_in}
 use Rattle.mkb_board.proofs.Sleepers.{greater_taken, passed, turned_cmp, working_as, works, IsStep}
 use Rattle.mkb_board.proofs.settling.greatest_working.Goals as goal
 use Rattle.mkb_board.proofs.settling.greatest_working.Goals.{then-is_working, else-is_working}

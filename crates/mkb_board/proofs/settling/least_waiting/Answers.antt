@@ -2,7 +2,7 @@ use Rattle.std.proofs.Common.{◌<◌, List, Contains, get_or, length, ap, subst
 use Rattle.std.proofs.lemmas.List.Elements.{Contains-get_or}
 use Rattle.kb_label.specs.Names.{Name}
 use Rattle.mkb_model.specs.Sleeping.{is_active, process_cmp}
-use Rattle.mkb_model.proofs.Endings.{has_in}
+use Rattle.mkb_model.proofs.runs.Endings.{has_in}
 use Rattle.mkb_board.proofs.Sleepers.{lesser_taken, passed, IsStep}
 use Rattle.mkb_board.proofs.settling.least_waiting.Goals as goal
 use Rattle.mkb_board.proofs.settling.least_waiting.Goals.{then-is_active, else-is_active}

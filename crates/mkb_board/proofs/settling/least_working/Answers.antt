@@ -3,7 +3,7 @@ use Rattle.std.proofs.lemmas.List.Elements.{Contains-get_or}
 use Rattle.kb_label.specs.Names.{Name}
 use Rattle.mkb_model.specs.Jobs.{least}
 use Rattle.mkb_model.specs.Sleeping.{process_cmp}
-use Rattle.mkb_model.proofs.Endings.{has_in}
+use Rattle.mkb_model.proofs.runs.Endings.{has_in}
 use Rattle.mkb_board.proofs.Sleepers.{dearer_passed, lesser_taken, passed, working_as, works, IsStep}
 use Rattle.mkb_board.proofs.settling.least_working.Goals as goal
 use Rattle.mkb_board.proofs.settling.least_working.Goals.{then-is_dearer-via-then-is_dearer, then-is_dearer-via-else-is_dearer+then-not-is_working}

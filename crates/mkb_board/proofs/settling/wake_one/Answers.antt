@@ -1,6 +1,6 @@
 use Rattle.std.proofs.Common.{sym, ◌∙◌}
 use Rattle.mkb_model.specs.Sleeping.{process_cmp, waiting}
-use Rattle.mkb_model.proofs.Selections.{least-none}
+use Rattle.mkb_model.proofs.runs.Selections.{least-none}
 use Rattle.mkb_board.proofs.settling.wake_one.Goals as goal
 
 pub returns-in-None-clause-none : goal.returns-in-None-clause-none

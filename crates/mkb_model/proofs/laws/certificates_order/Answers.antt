@@ -1,4 +1,4 @@
-use Rattle.mkb_model.proofs.Certificates.{certified_run, rules_follow}
+use Rattle.mkb_model.proofs.runs.Certificates.{certified_run, rules_follow}
 use Rattle.mkb_model.proofs.laws.certificates_order.Goals as goal
 
 pub returns-clause-certified : goal.returns-clause-certified

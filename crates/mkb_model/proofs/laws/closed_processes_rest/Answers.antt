@@ -1,5 +1,5 @@
-use Rattle.mkb_model.proofs.Restful.{closed_rests}
-use Rattle.mkb_model.proofs.StillClosed.{closed_run}
+use Rattle.mkb_model.proofs.closing.RestInRuns.{closed_rests}
+use Rattle.mkb_model.proofs.closing.StillClosed.{closed_run}
 use Rattle.mkb_model.proofs.laws.closed_processes_rest.Goals as goal
 
 pub returns-clause-rest : goal.returns-clause-rest

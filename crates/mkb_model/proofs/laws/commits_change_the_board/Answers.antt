@@ -1,4 +1,4 @@
-use Rattle.mkb_model.proofs.Changing.{commits_change, idle_commits}
+use Rattle.mkb_model.proofs.commits.Progress.{commits_change, idle_commits}
 use Rattle.mkb_model.proofs.laws.commits_change_the_board.Goals as goal
 
 pub returns-clause-changes : goal.returns-clause-changes

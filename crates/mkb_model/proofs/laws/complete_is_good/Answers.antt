@@ -1,4 +1,4 @@
-use Rattle.mkb_model.proofs.Completed.{good_answer}
+use Rattle.mkb_model.proofs.closing.Completed.{good_answer}
 use Rattle.mkb_model.proofs.laws.complete_is_good.Goals as goal
 
 pub returns : goal.returns

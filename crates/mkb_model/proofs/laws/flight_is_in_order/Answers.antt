@@ -1,6 +1,6 @@
 use Rattle.mkb_model.specs.Journals.{IsFreeJob}
-use Rattle.mkb_model.proofs.Flights.{flight_clear}
-use Rattle.mkb_model.proofs.Living.{flight_numbered}
+use Rattle.mkb_model.proofs.tickets.NoClash.{flight_clear}
+use Rattle.mkb_model.proofs.labels.LivingNames.{flight_numbered}
 use Rattle.mkb_model.proofs.laws.flight_is_in_order.Goals as goal
 
 pub returns-clause-clear : goal.returns-clause-clear

@@ -1,4 +1,4 @@
-use Rattle.mkb_model.proofs.Unique.{runs_once, after_once}
+use Rattle.mkb_model.proofs.journals.OneRun.{runs_once, after_once}
 use Rattle.mkb_model.proofs.laws.journals_decide_runs.Goals as goal
 
 pub returns-clause-runs : goal.returns-clause-runs

@@ -1,4 +1,4 @@
-use Rattle.mkb_model.proofs.OneJournal.{taken_one, moves_decide}
+use Rattle.mkb_model.proofs.journals.MovesDecide.{taken_one, moves_decide}
 use Rattle.mkb_model.proofs.laws.moves_decide_runs.Goals as goal
 
 pub returns-clause-proposals : goal.returns-clause-proposals

@@ -1,4 +1,4 @@
-use Rattle.mkb_model.proofs.OneWorker.{alone_once}
+use Rattle.mkb_model.proofs.journals.OneWorker.{alone_once}
 use Rattle.mkb_model.proofs.laws.one_worker_has_one_journal.Goals as goal
 
 pub returns : goal.returns

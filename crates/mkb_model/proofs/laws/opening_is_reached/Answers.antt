@@ -1,4 +1,4 @@
-use Rattle.mkb_model.proofs.Openings.{opening_reached}
+use Rattle.mkb_model.proofs.runs.Openings.{opening_reached}
 use Rattle.mkb_model.proofs.laws.opening_is_reached.Goals as goal
 
 pub returns : goal.returns

@@ -1,6 +1,6 @@
 use Rattle.mkb_model.specs.Journals.{IsFreeJob}
-use Rattle.mkb_model.proofs.Fitting.{pairs_stay}
-use Rattle.mkb_model.proofs.Stated.{run_pairs_differ}
+use Rattle.mkb_model.proofs.nodes.DistinctPairs.{pairs_stay}
+use Rattle.mkb_model.proofs.runs.LawsStated.{run_pairs_differ}
 use Rattle.mkb_model.proofs.laws.pairs_stay.Goals as goal
 
 pub returns-clause-differ : goal.returns-clause-differ

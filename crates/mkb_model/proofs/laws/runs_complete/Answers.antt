@@ -1,4 +1,4 @@
-use Rattle.mkb_model.proofs.AllFine.{commits_fine, runs_complete, runs_one_role}
+use Rattle.mkb_model.proofs.runs.AllFine.{commits_fine, runs_complete, runs_one_role}
 use Rattle.mkb_model.proofs.laws.runs_complete.Goals as goal
 
 pub returns-clause-fine : goal.returns-clause-fine

@@ -1,4 +1,4 @@
-use Rattle.mkb_model.proofs.Worked.{sleepers_run}
+use Rattle.mkb_model.proofs.labels.AtMostSixtyFour.{sleepers_run}
 use Rattle.mkb_model.proofs.laws.sixty_four_are_worked_on.Goals as goal
 
 pub returns-clause-few : goal.returns-clause-few

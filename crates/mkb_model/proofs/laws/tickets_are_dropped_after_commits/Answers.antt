@@ -1,4 +1,4 @@
-use Rattle.mkb_model.proofs.Drops.{drops_follow_commits, closings_commit}
+use Rattle.mkb_model.proofs.tickets.Drops.{drops_follow_commits, closings_commit}
 use Rattle.mkb_model.proofs.laws.tickets_are_dropped_after_commits.Goals as goal
 
 pub returns-clause-since : goal.returns-clause-since

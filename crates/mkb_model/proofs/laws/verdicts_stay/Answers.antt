@@ -1,6 +1,6 @@
 use Rattle.mkb_model.specs.Journals.{IsFreeJob}
-use Rattle.mkb_model.proofs.Meanings.{verdict_means}
-use Rattle.mkb_model.proofs.Endings.{verdict-stays}
+use Rattle.mkb_model.proofs.runs.Meanings.{verdict_means}
+use Rattle.mkb_model.proofs.runs.Endings.{verdict-stays}
 use Rattle.mkb_model.proofs.laws.verdicts_stay.Goals as goal
 
 pub returns-clause-means : goal.returns-clause-means

@@ -1,6 +1,6 @@
-use Rattle.mkb_model.proofs.Endings.{some_flies}
-use Rattle.mkb_model.proofs.Stated.{none_first}
-use Rattle.mkb_model.proofs.Worked.{sleepers_run}
+use Rattle.mkb_model.proofs.runs.Endings.{some_flies}
+use Rattle.mkb_model.proofs.runs.LawsStated.{none_first}
+use Rattle.mkb_model.proofs.labels.AtMostSixtyFour.{sleepers_run}
 use Rattle.mkb_model.proofs.laws.work_goes_on.Goals as goal
 
 pub returns-clause-free : goal.returns-clause-free

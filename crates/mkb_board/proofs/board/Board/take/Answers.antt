@@ -3,7 +3,7 @@ use Rattle.std.specs.Prelude.{IsFalse, IsTrue, OnErr, Result, Ok, Err}
 use Rattle.mkb_model.specs.DueJobs.{first_job}
 use Rattle.mkb_model.specs.Verdicts.{verdict}
 use Rattle.mkb_model.specs.declared.entry.Ticket.{Ticket}
-use Rattle.mkb_model.proofs.Stated.{none_first}
+use Rattle.mkb_model.proofs.runs.LawsStated.{none_first}
 use Rattle.mkb_board.specs.Boards.{Seen, has_halt}
 use Rattle.mkb_board.proofs.AtRest.{legal_rest}
 use Rattle.mkb_board.proofs.Readable.{limited_on, ordered_on, waits_on}

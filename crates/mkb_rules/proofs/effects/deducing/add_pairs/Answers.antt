@@ -3,7 +3,7 @@ use Rattle.std.proofs.lemmas.Result.{err_from_is_err_and}
 use Rattle.kb_node.specs.declared.job.Deduced.{Deduced}
 use Rattle.mkb_model.specs.Effects.{added, most_nodes, with_nodes}
 use Rattle.mkb_rules.proofs.Rows.{drop_at}
-use Rattle.mkb_model.proofs.PairLists.{wanted-add_one}
+use Rattle.mkb_model.proofs.nodes.NewPairs.{wanted-add_one}
 use Rattle.mkb_rules.proofs.SamePairs.{overfull}
 use Rattle.mkb_rules.proofs.effects.deducing.add_pairs.Goals as goal
 

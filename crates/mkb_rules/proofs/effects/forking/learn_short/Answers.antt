@@ -4,5 +4,5 @@ use Rattle.mkb_rules.proofs.effects.forking.learn_short.Goals as goal
 
 pub returns : goal.returns
 returns c =
-    let short : length c.args.p.now < length c.args.log.now = (leaves-forked c.args.log.now c.living-few.ensures.forked).short c.args.p.now c.requires.lives in
+    let short : length c.args.p.now < length c.args.log.now = (leaves-forked c.args.log.now c.are_forked.ensures.forked).short c.args.p.now c.requires.lives in
     omega (arith, short, c.requires.room)

@@ -2,7 +2,7 @@ use Rattle.std.proofs.Common.{length, ap, arith}
 use Rattle.kb_label.specs.Names.{minus}
 use Rattle.kb_node.specs.declared.node.LabelKind.TheVariants.{E}
 use Rattle.mkb_model.specs.Plain.{label_at}
-use Rattle.mkb_model.proofs.Roles.{length-put}
+use Rattle.mkb_model.proofs.commits.Roles.{length-put}
 use Rattle.mkb_rules.proofs.nodes.Nodes.gains_rule.Goals as goal
 
 pub gains-requires : goal.gains-requires

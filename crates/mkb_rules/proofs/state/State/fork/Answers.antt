@@ -3,7 +3,7 @@ use Rattle.kb_label.specs.Names.{Name, child, has}
 use Rattle.mkb_model.specs.Plain.{Plain}
 use Rattle.mkb_model.specs.Effects.{counted}
 use Rattle.mkb_model.specs.declared.proposed.Proposed.TheVariants.{Both}
-use Rattle.mkb_model.proofs.Labels.{child_lives}
+use Rattle.mkb_model.proofs.labels.NameLists.{child_lives}
 use Rattle.mkb_rules.specs.Forking.{with_parts}
 use Rattle.mkb_rules.specs.Kept.{plain_certificates}
 use Rattle.mkb_rules.proofs.Answered.{at_ok}

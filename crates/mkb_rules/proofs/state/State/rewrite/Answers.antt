@@ -1,5 +1,5 @@
 use Rattle.std.proofs.Common.{ℕ, ◌≡◌, ◌∙◌, List, Err, ap, ap₂, sym}
-use Rattle.mkb_model.proofs.Views.{there_pair}
+use Rattle.mkb_model.proofs.commits.Views.{there_pair}
 use Rattle.kb_label.specs.declared.verdict.Reason.TheVariants.{Nodes}
 use Rattle.mkb_model.specs.Plain.{Plain, PlainNode}
 use Rattle.mkb_model.specs.Effects.{counted, give_up, on_nodes}

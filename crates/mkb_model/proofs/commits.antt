@@ -1,0 +1,19 @@
+-- What a commit does to the processes that it acts on, and to the others.
+pub mod MemberSteps
+pub mod Roles
+pub mod Views
+pub mod Steps
+pub mod RoleChanges
+pub mod Orienting
+pub mod Adding
+pub mod RewritingRuns
+pub mod RewritingCases
+pub mod RewritingSteps
+pub mod Commits
+pub mod Proper
+pub mod Bystanders
+pub mod Endless
+pub mod RewritingActs
+pub mod Progress
+pub mod Deductions
+pub mod OneRole
