@@ -27,7 +27,10 @@ pub use digits::push_number;
 pub use fault::TermFault;
 pub use laws::{canonical_pairs_tell_equations, numberings_tell_variants};
 pub use limit::Limit;
-pub use limits::{MAX_DEPTH, MAX_SIZE, pair_limit, term_limit};
+pub use limits::{
+    MAX_ANSWER_BYTES, MAX_ARITY, MAX_DEPTH, MAX_EQUATIONS, MAX_NAME_BYTES, MAX_NODES,
+    MAX_PROBLEM_BYTES, MAX_SIZE, MAX_SYMBOLS, MAX_VARIABLES, pair_limit, term_limit,
+};
 pub use memory::Memory;
 pub use origin::{Found, Origin, RuleRef};
 pub use pair::{Pair, canonical};

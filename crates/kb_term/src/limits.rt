@@ -8,11 +8,35 @@ use crate::limit::Limit;
 use crate::names::Names;
 use crate::term::Term;
 
+/// The most bytes of a name.
+pub const MAX_NAME_BYTES: usize = 64;
+
+/// The most function symbols of a problem.
+pub const MAX_SYMBOLS: usize = 24;
+
+/// The most arguments of a symbol of a problem.
+pub const MAX_ARITY: usize = 8;
+
+/// The most equations of a problem.
+pub const MAX_EQUATIONS: usize = 256;
+
+/// The most variables of a pair; each is below this number, and renamed apart it is this number more.
+pub const MAX_VARIABLES: usize = 64;
+
 /// The greatest size of a term.
 pub const MAX_SIZE: u32 = 512;
 
 /// The greatest depth of a term.
 pub const MAX_DEPTH: u32 = 64;
+
+/// The most nodes of a board; so the most steps of a trace, and the most rules and constraints of an answer.
+pub const MAX_NODES: usize = 4_096;
+
+/// The most bytes of a problem that is read.
+pub const MAX_PROBLEM_BYTES: usize = 1_048_576;
+
+/// The most bytes of an answer or a journal that is read.
+pub const MAX_ANSWER_BYTES: usize = 67_108_864;
 
 /// The limit that a term passes: a size above 512, else a depth above 64.
 pub fn term_limit(t: &Term) -> Option<Limit>
