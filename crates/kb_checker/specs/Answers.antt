@@ -11,6 +11,7 @@ use Rattle.kb_overlap.specs.Found.{AreVariablesBelow}
 use Rattle.kb_overlap.specs.Trace.{TraceStep, IsRightTrace, IsTracedBy}
 use Rattle.kb_laws.specs.Complete.{IsCompleteSystem}
 use Rattle.kb_trace.specs.TraceText.{is_up_to, IsTraceForm}
+use Rattle.kb_term.specs.declared.limits.TheConstants.{MAX_NODES, MAX_SIZE, MAX_VARIABLES}
 
 -- rules for a problem and the constraints on its order, each with the trace step that it cites, an order, and a trace
 pub record Answer : Type 0 where
@@ -27,22 +28,22 @@ rules_of rules = map (λ (r : Rule × ℕ). r.0) rules
 -- a rule's sides are within the limits and numbered by first occurrence; the step that it cites is a number of one
 pub record IsRuleForm (sig : Signature) (r : Rule × ℕ) : Type 0 where
   pub sides : IsEquationWithinLimits sig (r.0.left, r.0.right)
-  pub cited : IsTrue (is_up_to 4096 r.1)
+  pub cited : IsTrue (is_up_to MAX_NODES r.1)
 
 -- what each answer is, good or not: its parts have the forms that its text may have
 pub record IsAnswer (a : Answer) : Type 0 where
   pub problem : IsWithinLimits a.problem
-  pub count : length a.rules ≤ 4096
+  pub count : length a.rules ≤ MAX_NODES
   pub rules : All (IsRuleForm a.problem.signature) a.rules
-  pub constraint_count : length a.constraints ≤ 4096
+  pub constraint_count : length a.constraints ≤ MAX_NODES
   pub constraints : All (IsRuleForm a.problem.signature) a.constraints
   pub cert : IsTrue (is_certificate a.problem.signature a.cert)
   pub trace : IsTraceForm a.problem.signature a.trace
 
 -- variables below 64, a left side of at most size 512, and numbers of arguments that a byte holds
 pub record IsReady (rule : Rule) : Type 0 where
-  pub variables : AreVariablesBelow 64 rule
-  pub size : tree_size rule.left ≤ 512
+  pub variables : AreVariablesBelow MAX_VARIABLES rule
+  pub size : tree_size rule.left ≤ MAX_SIZE
   pub arguments : HasFewArguments rule.left
 
 -- the rule has the canonical pair of the step that it cites

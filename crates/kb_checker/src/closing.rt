@@ -10,7 +10,7 @@ use crate::joining::{Failure, join_failure};
 use crate::pairing::{left_sides, partners};
 use kb_overlap::{Overlap, overlaps};
 use kb_rewrite::System;
-use kb_term::Memory;
+use kb_term::{MAX_NODES, Memory};
 use rule_index::RuleIndex;
 use std::alloc::Global;
 
@@ -28,7 +28,7 @@ pub(crate) fn first_unclosed(
     system: &System<'_>,
 ) -> Result<Option<(Failure, u64)>, Memory>
     requires ready { All IsReady system.now }
-    requires few { length system.now ≤ 4096 }
+    requires few { length system.now ≤ MAX_NODES }
     ensures { IfOk result (λ o. MatchOption o (OverlapsClose system.now) (λ f. FirstUnclosed system.now f.0 f.1)) }
 {
     let index = left_sides(alloc, system.rules())?;
@@ -53,7 +53,7 @@ fn close_row(
 ) -> Result<Row, Memory>
     requires index { HoldsLeftSides (length system.now) system.now index.now }
     requires ready { All IsReady system.now }
-    requires few { length system.now ≤ 4096 }
+    requires few { length system.now ≤ MAX_NODES }
     requires there { i < length system.now }
     requires room { start ≤ 2097152 * i }
     ensures { IfOk result (IsRowAnswer system.now i start) }

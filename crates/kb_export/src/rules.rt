@@ -7,7 +7,7 @@ ghost use Rattle.kb_export.specs.ReadBack.{SpellsSame};
 ghost use Rattle.kb_export.specs.RuleTexts.{arrow_line, bound_of, rules_problem, rules_text, sides_of, variable_bound_of};
 
 use kb_checker::Answer;
-use kb_term::{Memory, Rule, Signature, Term, variable_bound};
+use kb_term::{MAX_EQUATIONS, MAX_PROBLEM_BYTES, Memory, Rule, Signature, Term, variable_bound};
 use kb_text::{prefix_of, push_term};
 use std::alloc::Global;
 
@@ -102,7 +102,7 @@ fn rule_lines(alloc: Global, answer: &Answer) -> Result<Vec<u8>, Memory>
 /// time is linear in the rules.
 pub fn trs_text(alloc: Global, answer: &Answer) -> Result<Vec<u8>, Memory>
     ensures text { IfOk result (λ text. text.items ≡ rules_text (rules_problem answer.now)) }
-    ensures read { IfOk result (λ text. length answer.now.rules ≤ 256 → length text.items ≤ 1048576 → SpellsSame text.items (rules_problem answer.now)) }
+    ensures read { IfOk result (λ text. length answer.now.rules ≤ MAX_EQUATIONS → length text.items ≤ MAX_PROBLEM_BYTES → SpellsSame text.items (rules_problem answer.now)) }
 {
     answer.problem().signature().names_are_identifiers();
     rule_lines(alloc, answer)

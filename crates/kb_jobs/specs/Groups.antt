@@ -13,10 +13,11 @@ use Rattle.kb_node.specs.declared.job.Deduced.{Deduced}
 use Rattle.mkb_model.specs.Proposals.{NamedRule, NamedOverlap, OverlapsOf, deduced_pair, own_limit, FirstThat}
 use Rattle.kb_label.specs.declared.verdict.Reason.{Reason}
 use Rattle.kb_jobs.specs.declared.groups.Group.{Group}
+use Rattle.kb_term.specs.declared.limits.TheConstants.{MAX_VARIABLES}
 
 -- a rule of fewer than 64 variables, with at most 255 arguments of each symbol on its left side
 pub record IsOverlappable (rule : Rule) : Type 0 where
-  pub variables : AreVariablesBelow 64 rule
+  pub variables : AreVariablesBelow MAX_VARIABLES rule
   pub arguments : HasFewArguments rule.left
 
 -- an overlap of the group with the names of its rules
@@ -33,7 +34,7 @@ IsGroupOf a x c y g = OverlapsOf (record { ref = a; rule = x }) (record { ref = 
 
 -- both terms have at most 64 variables together
 abbrev pub AreFew : Tree → Tree → Type 0
-AreFew s t = length (variables_of_pair s t) ≤ 64
+AreFew s t = length (variables_of_pair s t) ≤ MAX_VARIABLES
 
 -- a pair with its origin
 abbrev pub origin_of : Deduced → RuleRef × RuleRef × List ℕ × Pair

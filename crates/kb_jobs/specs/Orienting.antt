@@ -10,6 +10,7 @@ use Rattle.mkb_model.specs.declared.proposed.Proposed.TheVariants.{One, Both, Re
 use Rattle.kb_jobs.specs.declared.orienting.OrientSnapshot.{OrientSnapshot}
 use Rattle.kb_jobs.specs.declared.orienting.Start.{Start}
 use Rattle.kb_jobs.specs.declared.orienting.Start.TheVariants.{Answer, Bound}
+use Rattle.kb_term.specs.declared.limits.TheConstants.{MAX_SYMBOLS}
 
 -- the constraints with the rule of the direction
 abbrev pub rules_towards : OrientSnapshot → ℕ → List Rule
@@ -26,7 +27,7 @@ AreOneMore s rules = (some : List Rule) × (rule : Rule) × (rules ≡ some ++ r
 
 -- what an Orient may read: at most 24 symbols, terms within the limits, and the first order for all rules but the last
 pub record IsOrientable (s : OrientSnapshot) : Type 0 where
-  pub few : length s.signature ≤ 24
+  pub few : length s.signature ≤ MAX_SYMBOLS
   pub forth : AreMeasurable s.forth.items
   pub back : AreMeasurable s.back.items
   pub forth_more : AreOneMore s s.forth.items

@@ -20,6 +20,7 @@ use Rattle.kb_report.specs.Reports.{reason_word}
 use Rattle.kb_report.specs.Summaries.{process_text}
 use Rattle.kb_journal.specs.declared.entry_line.EntryLine.{EntryLine}
 use Rattle.kb_journal.specs.declared.entry_line.EntryLine.TheVariants.{TakeReduce, TakeOrient, TakeOverlap, TakeClose, Facts, Rewrite, Oriented, Fork, Refused, Deduced, Unjoined, Closed, Over, Drop, Abandon, Halt}
+use Rattle.kb_term.specs.declared.limits.TheConstants.{MAX_NODES, MAX_VARIABLES}
 
 -- ---- how a line is written
 
@@ -119,7 +120,7 @@ abbrev pub IsTicketNumber : ℕ → Type 0
 IsTicketNumber t = (1 ≤ t) × (t < 2 ^ 64)
 
 abbrev pub IsNode : ℕ → Type 0
-IsNode n = n < 4096
+IsNode n = n < MAX_NODES
 
 abbrev pub IsProcess : Name → Type 0
 IsProcess p = length p ≤ 1023
@@ -162,7 +163,7 @@ pub record IsOnlyNode (xs : List PlainNode) (q : Pair) (n : ℕ) : Type 0 where
 pub record IsKept (xs : List PlainNode) (n w : ℕ) (t : Tree) : Type 0 where
   pub pair : Pair
   pub there : pair_in xs n ≡ Some pair
-  pub few : length (variables_of_pair t (other_side pair w)) ≤ 64
+  pub few : length (variables_of_pair t (other_side pair w)) ≤ MAX_VARIABLES
   pub target : (q : Pair) → canonical_pair t (other_side pair w) ≡ Some q → IsOnlyNode xs q (node_of xs q)
 
 -- so for a proposal that had its effect

@@ -4,13 +4,13 @@ ghost use Rattle.kb_journal.specs.EntryLines.{IsEntryLine, IsNode, IsProcess, Is
 
 use crate::entry_line::EntryLine;
 use kb_label::{MAX_BITS, Process};
-use kb_term::RuleRef;
+use kb_term::{MAX_NODES, RuleRef};
 
 /// The greatest number of a worker.
 const WORKERS: u8 = 16;
 
 /// The most nodes.
-const NODES: u16 = 4096;
+const NODES: u16 = MAX_NODES as u16;
 
 fn is_worker(worker: u8) -> bool
     ensures { IsTrue result ↔ IsWorker worker }

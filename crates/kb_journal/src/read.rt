@@ -7,7 +7,7 @@ use crate::journal::JournalText;
 use crate::sections::{read_amount, read_chosen, read_entries};
 use kb_cert::Family;
 use kb_report::{read_count, read_equations, read_word};
-use kb_term::Problem;
+use kb_term::{MAX_EQUATIONS, Problem};
 use kb_text::TextFault;
 use mkb_model::Settings;
 use std::alloc::Global;
@@ -16,7 +16,7 @@ use std::alloc::Global;
 const BUDGET: u64 = 100_000;
 
 /// The most equations.
-const EQUATIONS: u32 = 256;
+const EQUATIONS: u32 = MAX_EQUATIONS as u32;
 
 /// Reads the text of a journal as `journal_text` writes it: accepts exactly these texts.
 ///

@@ -10,9 +10,9 @@ use crate::entry_line::EntryLine;
 use crate::entry_text::line_text;
 use crate::line_reading::{line_of_fields, whole_of};
 use crate::ranges::is_within;
-use kb_report::{first_line, is_word, read_symbols};
+use kb_report::{first_line, read_symbols};
 use kb_term::{Memory, Signature};
-use kb_text::{Fields, TextFault};
+use kb_text::{Fields, TextFault, is_word};
 use mkb_model::Selection;
 use std::alloc::Global;
 

@@ -10,7 +10,7 @@ ghost use Rattle.kb_kbo.specs.declared.level.Tie.{Tie};
 
 use crate::order::holds_variables;
 use kb_lpo::agreement;
-use kb_term::{Memory, Symbol, Term};
+use kb_term::{MAX_SIZE, Memory, Symbol, Term};
 
 /// How many symbols a signature may have for orders to be tried.
 pub(crate) const MAX_SYMBOLS: usize = 8;
@@ -35,7 +35,7 @@ impl Tally {
 
     /// Adds an occurrence of the symbol.
     fn add_symbol(&mut self, f: Symbol)
-        requires { value_of self.old (λ _. 1) < 512 }
+        requires { value_of self.old (λ _. 1) < MAX_SIZE }
         ensures { (order : KboOrder) → length order.weights ≤ 8 → value_of self.new (symbol_weight order) ≡ value_of self.old (symbol_weight order) + symbol_weight order f.0 }
     {
         if f.0 < 8 {
@@ -47,7 +47,7 @@ impl Tally {
 
     /// Adds what occurs in the term.
     fn add(&mut self, t: &Term)
-        requires { value_of self.old (λ _. 1) + tree_size (tree_of t.now) ≤ 512 }
+        requires { value_of self.old (λ _. 1) + tree_size (tree_of t.now) ≤ MAX_SIZE }
         ensures { (order : KboOrder) → length order.weights ≤ 8 → value_of self.new (symbol_weight order) ≡ value_of self.old (symbol_weight order) + weight order (tree_of t.now) }
     {
         match t {
@@ -99,8 +99,8 @@ pub(crate) struct Level {
 impl Level {
     /// The comparison of two terms.
     fn new(s: &Term, t: &Term, tie: Tie) -> Level
-        requires left { tree_size (tree_of s.now) ≤ 512 }
-        requires right { tree_size (tree_of t.now) ≤ 512 }
+        requires left { tree_size (tree_of s.now) ≤ MAX_SIZE }
+        requires right { tree_size (tree_of t.now) ≤ MAX_SIZE }
         ensures weights { (order : KboOrder) → length order.weights ≤ 8 → value_of result.left (symbol_weight order) + weight order (tree_of t.now) ≡ value_of result.right (symbol_weight order) + weight order (tree_of s.now) }
         ensures tie { result.tie ≡ tie }
     {

@@ -9,7 +9,7 @@ ghost use Rattle.kb_kbo.specs.Measures.{IsWeight, order_of};
 
 use crate::kbo::Kbo;
 use kb_lpo::{agreement, is_above};
-use kb_term::{Symbol, Term};
+use kb_term::{MAX_SIZE, Symbol, Term};
 
 /// The weight of the symbol; one without a weight of its own weighs 1.
 fn weight_at(weights: &[u8], f: Symbol) -> u32
@@ -27,7 +27,7 @@ fn weight_at(weights: &[u8], f: Symbol) -> u32
 /// The weight of the term.
 pub(crate) fn weight_of(weights: &[u8], t: &Term) -> u32
     requires weights { All IsWeight weights.now }
-    requires size { tree_size (tree_of t.now) ≤ 512 }
+    requires size { tree_size (tree_of t.now) ≤ MAX_SIZE }
     ensures weight { (p : List ℕ) → result ≡ weight (order_of weights.now p) (tree_of t.now) }
     ensures most { result ≤ 15 * tree_size (tree_of t.now) }
 {
@@ -54,7 +54,7 @@ fn no_counts() -> [u16; 64]
 /// Adds how often each variable occurs in the term.
 fn count_variables(counts: &mut [u16; 64], t: &Term)
     requires variables { All (λ n. n < 64) (variables_of (tree_of t.now)) }
-    requires room { (n : ℕ) → slice_index counts.old n + tree_size (tree_of t.now) ≤ 512 }
+    requires room { (n : ℕ) → slice_index counts.old n + tree_size (tree_of t.now) ≤ MAX_SIZE }
     ensures { (n : ℕ) → slice_index counts.new n ≡ slice_index counts.old n + occurrences n (variables_of (tree_of t.now)) }
 {
     match t {

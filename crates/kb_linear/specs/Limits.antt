@@ -4,6 +4,7 @@ use Rattle.std.specs.declared.alloc.Global.{Global}
 use Rattle.kb_term.specs.Tree.{Tree, tree_size, tree_depth, variables_of}
 use Rattle.kb_term.specs.Rule.{Rule}
 use Rattle.kb_linear.specs.LinearOrder.{Interpretation}
+use Rattle.kb_term.specs.declared.limits.TheConstants.{MAX_DEPTH, MAX_SIZE, MAX_VARIABLES}
 
 -- a constant of at most 15, and coefficients from 1 to 3
 pub record IsSmallRow (row : ℕ × List ℕ) : Type 0 where
@@ -16,9 +17,9 @@ IsSmall i = All IsSmallRow i
 
 -- variables below 64, and a term of at most size 512 and depth 64
 pub record IsMeasurable (t : Tree) : Type 0 where
-  pub variables : All (λ n. n < 64) (variables_of t)
-  pub size : tree_size t ≤ 512
-  pub depth : tree_depth t ≤ 64
+  pub variables : All (λ n. n < MAX_VARIABLES) (variables_of t)
+  pub size : tree_size t ≤ MAX_SIZE
+  pub depth : tree_depth t ≤ MAX_DEPTH
 
 -- the interpretation that rows of the program are
 abbrev pub interpretation_of : List (ℕ × Vec ℕ Global) → Interpretation

@@ -8,10 +8,11 @@ use Rattle.std.specs.Int.{bit_at}
 use Rattle.kb_term.specs.Pair.{place_in}
 use Rattle.kb_lpo.specs.Precedences.{arrangements, LpoOrients}
 use Rattle.kb_term.specs.First.{IsFirst}
+use Rattle.kb_term.specs.declared.limits.TheConstants.{MAX_SYMBOLS}
 
 -- wherever bit g of row f is 1, f doesn't stand behind g in the precedence
 abbrev pub FitsRows : List ℕ → List ℕ → Type 0
-FitsRows rows prec = (f g : ℕ) → f < 24 → bit_at (slice_index rows f) g ≡ 1 → place_in prec f ≤ place_in prec g
+FitsRows rows prec = (f g : ℕ) → f < MAX_SYMBOLS → bit_at (slice_index rows f) g ≡ 1 → place_in prec f ≤ place_in prec g
 
 -- the precedence fulfils what is known
 abbrev pub Fits : Known → List ℕ → Type 0

@@ -4,10 +4,10 @@ ghost use Rattle.kb_term.specs.Pair.{place_in};
 ghost use Rattle.kb_lpo.specs.PathOrder.{IsAbove};
 ghost use Rattle.kb_lpo.specs.Search.{Fits};
 
-use kb_term::Symbol;
+use kb_term::{MAX_SYMBOLS, Symbol};
 
 /// How many symbols a signature may have, and of how many a search knows anything.
-const SYMBOLS: usize = 24;
+const SYMBOLS: usize = MAX_SYMBOLS;
 
 /// For each of 24 symbols a row of bits: bit g of row f says that f is known not to stand behind g. The rows are closed
 /// under transitivity, and each symbol stands in its own.

@@ -4,6 +4,7 @@ use Rattle.kb_term.specs.Tree.{Tree}
 use Rattle.kb_term.specs.Pair.{Pair, IsWithin}
 use Rattle.term_bank.specs.Terms.{HasTerm, LacksTerm, subterms, with_missing}
 use Rattle.kb_node.specs.declared.sides.Sides.{Sides}
+use Rattle.kb_term.specs.declared.limits.TheConstants.{MAX_NODES}
 
 -- whether the cells of both sides are the same
 abbrev pub sides_eq : Sides → Sides → Bool
@@ -37,7 +38,7 @@ first_cells pairs n = with_pairs [] (take n pairs)
 
 -- the bank has the terms of the pairs alone; sides tell their cells, and starts how many cells there were before each pair
 pub record IsBanked (terms : List Tree) (sides : List Sides) (starts : List ℕ) (pairs : List Pair) : Type 0 where
-  pub few : length pairs ≤ 4096
+  pub few : length pairs ≤ MAX_NODES
   pub within : (i : ℕ) (e : Pair) → slice_get pairs i ≡ Some e → IsPairWithin e
   pub cells : terms ≡ with_pairs [] pairs
   pub side_count : length sides ≡ length pairs

@@ -11,5 +11,5 @@ mod view;
 pub use fault::NodeFault;
 pub use job::{Deduced, Fact, Job, LimitCause};
 pub use node::{LabelKind, NodeId, Role};
-pub use table::{MAX_NODES, NodeTable};
+pub use table::NodeTable;
 pub use view::{NodeIds, RuleRefs, View};

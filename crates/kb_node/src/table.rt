@@ -13,13 +13,10 @@ use crate::sides::{Sides, intern, is_within, sides_in};
 use crate::view::{NodeIds, RuleRefs, View};
 use indexmap::IndexSet;
 use kb_label::{Labels, Process};
-use kb_term::{MAX_SIZE, Memory, Origin, Pair, RuleRef};
+use kb_term::{MAX_NODES, MAX_SIZE, Memory, Origin, Pair, RuleRef};
 use std::alloc::{AllocError, Global};
 use std::marker::Model;
 use term_bank::Bank;
-
-/// The most nodes that a table may have.
-pub const MAX_NODES: usize = 4096;
 
 /// The nodes, one for each pair, in the order in which they were added. Contracts see it as the list of its nodes.
 ///

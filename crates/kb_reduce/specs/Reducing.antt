@@ -9,6 +9,7 @@ use Rattle.kb_term.specs.declared.origin.Origin.TheVariants.{Rewrite}
 use Rattle.kb_rewrite.specs.NormalForm.{IsFirstRedex, HasRedex, IsNormal, NormalisesTo, form}
 use Rattle.kb_overlap.specs.Trace.{TraceStep}
 use Rattle.kb_checker.specs.Answers.{Answer, rules_of}
+use Rattle.kb_term.specs.declared.limits.TheConstants.{MAX_NODES}
 
 -- ---- right sides
 
@@ -73,7 +74,7 @@ pub record IsReduced (a b : Answer) : Type 0 where
   pub steps : List TraceStep
   pub composed : List (Rule × ℕ)
   pub are_composed : AreComposed a.rules (length a.trace) a.rules steps composed
-  pub room : length a.trace + length steps ≤ 4096
+  pub room : length a.trace + length steps ≤ MAX_NODES
   pub thinned : IsThinned [] composed b.rules
   pub trace : b.trace ≡ a.trace ++ steps
   pub problem : b.problem ≡ a.problem

@@ -12,6 +12,7 @@ use Rattle.kb_reduce.specs.declared.reduction.Why.{Why}
 use Rattle.kb_reduce.specs.declared.reduction.Why.TheVariants.{Steps, Size, Depth, Trace}
 use Rattle.kb_reduce.specs.declared.reduction.Reduction.{Reduction}
 use Rattle.kb_reduce.specs.declared.reduction.Reduction.TheVariants.{Reduced, Rejected, Unreduced}
+use Rattle.kb_term.specs.declared.limits.TheConstants.{MAX_NODES}
 
 -- the limit is one of size or depth, and this names it
 abbrev pub IsLimitWhy : Limit → Why → Type 0
@@ -21,7 +22,7 @@ IsLimitWhy limits.Variables why = ⊥
 
 -- why a right side that normalises so isn't reduced behind n steps of a trace: normalising passes a limit, or else its steps are too many for the trace
 abbrev pub IsWhy : ℕ → Normalised → Why → Type 0
-IsWhy n (form t m) why = (4096 < n + m) × (why ≡ Trace)
+IsWhy n (form t m) why = (MAX_NODES < n + m) × (why ≡ Trace)
 IsWhy n (long m) why = why ≡ Steps
 IsWhy n (large limit) why = IsLimitWhy limit why
 
@@ -35,7 +36,7 @@ pub record IsUnreduced (a : Answer) (why : Why) (n : ℕ) : Type 0 where
   pub steps : List TraceStep
   pub composed : List (Rule × ℕ)
   pub are_composed : AreComposed a.rules (length a.trace) before steps composed
-  pub room : length a.trace + length steps ≤ 4096
+  pub room : length a.trace + length steps ≤ MAX_NODES
   pub answer : Normalised
   pub normalises : NormalisesTo (rules_of a.rules) rule.0.right answer
   pub reason : IsWhy (length a.trace + length steps) answer why

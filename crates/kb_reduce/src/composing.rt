@@ -13,7 +13,9 @@ ghost use Rattle.kb_reduce.specs.Running.{IsBehind, IsComposing};
 use crate::reduction::Why;
 use kb_checker::Answer;
 use kb_rewrite::{MAX_STEPS, first_redex, step};
-use kb_term::{Limit, Memory, Origin, Pair, Position, Rule, RuleRef, Term, TermFault, canonical};
+use kb_term::{
+    Limit, MAX_NODES, Memory, Origin, Pair, Position, Rule, RuleRef, Term, TermFault, canonical,
+};
 use kb_trace::Step;
 use std::alloc::Global;
 
@@ -40,7 +42,7 @@ pub(crate) fn compose(
     requires alone { alone.now ≡ rules_of a.now.rules }
     requires there { k < length a.now.rules }
     requires behind { IsBehind a.now.trace steps.old.items }
-    requires room { length steps.old.items ≤ 4096 }
+    requires room { length steps.old.items ≤ MAX_NODES }
     ensures { IfOk result (λ c. (r : Rule_ × ℕ) → slice_get a.now.rules k ≡ Some r → IsComposing a.now.rules r steps.old.items steps.new.items c) }
 {
     let given = &a.rules()[k];

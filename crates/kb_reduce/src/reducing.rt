@@ -10,12 +10,12 @@ use crate::composing::{Composed, compose};
 use crate::reduction::{Reduction, Why};
 use crate::thinning::thin;
 use kb_checker::{Answer, Checked, check, rules_alone};
-use kb_term::{Memory, Rule};
+use kb_term::{MAX_NODES, Memory, Rule};
 use kb_trace::Trace;
 use std::alloc::Global;
 
 /// The most steps of a trace.
-const MAX_TRACE: usize = 4096;
+const MAX_TRACE: usize = MAX_NODES;
 
 /// The answer with a reduced system: first each right side is normalised by all rules, in order, and each rewriting adds a step to
 /// the trace; then, in order, each rule is left out whose left side another rule that is still there rewrites. Problem, constraints,

@@ -15,6 +15,7 @@ use Rattle.kb_report.specs.Answers.{entry_text}
 use Rattle.kb_report.specs.declared.version.Version.{Version}
 use Rattle.kb_report.specs.declared.version.Version.TheVariants.{First, Second}
 use Rattle.kb_report.specs.Sections.{Section, OneLine, Items, Count, Both, IsLineOf}
+use Rattle.kb_term.specs.declared.limits.TheConstants.{MAX_ARITY, MAX_EQUATIONS, MAX_NODES, MAX_SYMBOLS}
 
 -- ---- lines without their line feeds
 
@@ -45,8 +46,8 @@ Head = OneLine (λ v. ⊤) head_body
 -- at most 24 symbols of at most 8 arguments, whose names are different identifiers
 pub record AreSymbols (sig : Signature) : Type 0 where
   pub names : IsSignature sig
-  pub few : length sig ≤ 24
-  pub arities : All (λ (f : SymbolEntry). f.arity ≤ 8) sig
+  pub few : length sig ≤ MAX_SYMBOLS
+  pub arities : All (λ (f : SymbolEntry). f.arity ≤ MAX_ARITY) sig
 
 abbrev pub Symbols : Section Signature
 Symbols = OneLine AreSymbols symbols_body
@@ -60,7 +61,7 @@ Rules sig = Items (IsRuleForm sig) (λ k. rule_body (names_of sig))
 -- how many constraints there are: version 1 has none, and no line for it
 abbrev pub ConstraintCount : Version → Section ℕ
 ConstraintCount First n lines = (n ≡ 0) × (lines ≡ [])
-ConstraintCount Second n lines = Count (codes "CONSTRAINTS ") 4096 n lines
+ConstraintCount Second n lines = Count (codes "CONSTRAINTS ") MAX_NODES n lines
 
 abbrev pub Order : Signature → Section Certificate
 Order sig = OneLine (λ c. IsTrue (is_certificate sig c)) (order_body (names_of sig))
@@ -70,16 +71,16 @@ Steps sig = Items (IsStepForm sig) (step_body (names_of sig))
 
 -- how many there are, and then the items
 abbrev pub CountedEquations : Signature → Section (ℕ × List (Tree × Tree))
-CountedEquations sig = Both (Count (codes "EQUATIONS ") 256) (Equations sig)
+CountedEquations sig = Both (Count (codes "EQUATIONS ") MAX_EQUATIONS) (Equations sig)
 
 abbrev pub CountedRules : Signature → Section (ℕ × List (Rule × ℕ))
-CountedRules sig = Both (Count (codes "RULES ") 4096) (Rules sig)
+CountedRules sig = Both (Count (codes "RULES ") MAX_NODES) (Rules sig)
 
 abbrev pub CountedConstraints : Version → Signature → Section (ℕ × List (Rule × ℕ))
 CountedConstraints version sig = Both (ConstraintCount version) (Rules sig)
 
 abbrev pub CountedSteps : Signature → Section (ℕ × List TraceStep)
-CountedSteps sig = Both (Count (codes "TRACE ") 4096) (Steps sig)
+CountedSteps sig = Both (Count (codes "TRACE ") MAX_NODES) (Steps sig)
 
 -- the symbols and the equations
 abbrev pub ProblemPart : Section (Signature × (ℕ × List (Tree × Tree)))

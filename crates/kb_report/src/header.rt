@@ -3,17 +3,11 @@ ghost use Rattle.std.specs.Prelude.{◌≡◌, ◌≤◌, ◌<◌, ◌↔◌, �
 ghost use Rattle.kb_text.specs.Fields.{IsWithout};
 ghost use Rattle.kb_report.specs.Sections.{Word, Count, counted_line, BeginsWith, IsSectionFault, IsFirstLine, IsLineOf};
 
-use kb_text::{TextFault, line_length, read_number};
+use kb_term::MAX_NODES;
+use kb_text::{TextFault, is_word, line_length, read_number};
 
 /// The most rules, the most constraints, and the most steps of a trace.
-pub(crate) const LINES: u32 = 4096;
-
-/// Whether the bytes are the word.
-pub fn is_word(bytes: &[u8], word: &[u8]) -> bool
-    ensures { IsTrue result ↔ (bytes.now ≡ word.now) }
-{
-    bytes == word
-}
+pub(crate) const LINES: u32 = MAX_NODES as u32;
 
 /// The line that the text begins with, without its line feed, and how many bytes it takes with it.
 pub fn first_line(text: &[u8]) -> Option<(&[u8], usize)>

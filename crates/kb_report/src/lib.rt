@@ -15,7 +15,7 @@ mod symbols;
 mod version;
 
 pub use answer::{push_counted, push_equations, push_symbols};
-pub use header::{first_line, is_word, read_count, read_word};
+pub use header::{first_line, read_count, read_word};
 pub use laws::{bad_lines_are_one, texts_are_one, written_systems_are_read_back};
 pub use read::read_answer;
 pub use report::{Report, answer_text, reason_word};

@@ -14,13 +14,13 @@ use crate::symbols::read_symbols;
 use crate::version::{Version, read_constraint_count};
 use kb_cert::Certificate;
 use kb_checker::Answer;
-use kb_term::{Problem, Rule, Signature, Term};
+use kb_term::{MAX_EQUATIONS, Problem, Rule, Signature, Term};
 use kb_text::TextFault;
 use kb_trace::Trace;
 use std::alloc::Global;
 
 /// The most equations.
-const EQUATIONS: u32 = 256;
+const EQUATIONS: u32 = MAX_EQUATIONS as u32;
 
 /// What stands behind the problem.
 #[derive(Drop)]

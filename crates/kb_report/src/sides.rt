@@ -9,13 +9,13 @@ ghost use Rattle.kb_checker.specs.Answers.{IsRuleForm};
 ghost use Rattle.kb_report.specs.Sections.{BeginsWith, BeginsWithLine, IsSectionFault};
 ghost use Rattle.kb_report.specs.SystemSections.{Equations, Rules, equation_body, rule_body, AreSidesIn, IsEquationLine, IsRuleLine};
 
-use crate::header::{first_line, is_word};
-use kb_term::{Memory, Rule, Signature, Term, numbered_rule, pair_limit};
-use kb_text::{Fields, TextFault, read_number, read_term};
+use crate::header::first_line;
+use kb_term::{MAX_NODES, Memory, Rule, Signature, Term, numbered_rule, pair_limit};
+use kb_text::{Fields, TextFault, is_word, read_number, read_term};
 use std::alloc::Global;
 
 /// The greatest number of a step.
-const STEPS: u32 = 4096;
+const STEPS: u32 = MAX_NODES as u32;
 
 fn has_sides(rule: &Rule, left: &Term, right: &Term) -> bool
     ensures { IsTrue result ↔ (rule.now ≡ rule_between (tree_of left.now) (tree_of right.now)) }
@@ -85,7 +85,7 @@ fn equation_of(alloc: Global, sig: &Signature, line: &[u8]) -> Result<Option<(Te
 
 /// The number of a step, from 1, that the field is.
 fn step_number(field: &[u8]) -> Option<u32>
-    ensures { MatchOption result ((n : ℕ) → 1 ≤ n → n ≤ 4096 → ¬ (decimal n ≡ field.now)) (λ n. (1 ≤ n) × (n ≤ 4096) × (decimal n ≡ field.now)) }
+    ensures { MatchOption result ((n : ℕ) → 1 ≤ n → n ≤ MAX_NODES → ¬ (decimal n ≡ field.now)) (λ n. (1 ≤ n) × (n ≤ MAX_NODES) × (decimal n ≡ field.now)) }
 {
     let Some(number) = read_number(field) else {
         return None;
@@ -172,7 +172,7 @@ pub fn read_equations(
     first: u64,
 ) -> Result<(Vec<(Term, Term)>, usize), TextFault>
     requires names { IsSignature sig.now }
-    requires count { count ≤ 4096 }
+    requires count { count ≤ MAX_NODES }
     requires first { first ≤ 2 ^ 63 }
     ensures read { IfOk result (λ p. BeginsWith (Equations sig.now count) text.now (equations_of_list p.0.items) count (drop p.1 text.now)) }
     ensures size { IfOk result (λ p. p.1 ≤ length text.now) }
@@ -200,7 +200,7 @@ pub(crate) fn read_rules(
     first: u64,
 ) -> Result<(Vec<(Rule, u32)>, usize), TextFault>
     requires names { IsSignature sig.now }
-    requires count { count ≤ 4096 }
+    requires count { count ≤ MAX_NODES }
     requires first { first ≤ 10000 }
     ensures read { IfOk result (λ p. BeginsWith (Rules sig.now count) text.now p.0.items count (drop p.1 text.now)) }
     ensures size { IfOk result (λ p. p.1 ≤ length text.now) }

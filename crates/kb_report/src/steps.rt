@@ -4,14 +4,14 @@ ghost use Rattle.kb_term.specs.Signature.{IsSignature};
 ghost use Rattle.kb_report.specs.Sections.{BeginsWith, IsSectionFault, AreFirstLines};
 ghost use Rattle.kb_report.specs.SystemSections.{Steps};
 
-use kb_term::Signature;
+use kb_term::{MAX_NODES, Signature};
 use kb_text::{TextFault, line_length};
 use kb_trace::{Trace, read_trace};
 use std::alloc::Global;
 
 /// How many lines the text begins with, so many at most, and how many bytes they take.
 fn front_of(text: &[u8], most: usize) -> (usize, usize)
-    requires { most ≤ 4096 }
+    requires { most ≤ MAX_NODES }
     ensures { AreFirstLines text.now most result.0 result.1 }
 {
     let mut at = 0;
@@ -34,7 +34,7 @@ pub(crate) fn read_steps(
     first: u64,
 ) -> Result<(Trace, usize), TextFault>
     requires names { IsSignature sig.now }
-    requires count { count ≤ 4096 }
+    requires count { count ≤ MAX_NODES }
     requires first { first ≤ 10000 }
     ensures read { IfOk result (λ p. BeginsWith (Steps sig.now count) text.now p.0 count (drop p.1 text.now)) }
     ensures size { IfOk result (λ p. p.1 ≤ length text.now) }

@@ -6,13 +6,13 @@ ghost use Rattle.kb_report.specs.Answers.{entry_text};
 ghost use Rattle.kb_report.specs.Sections.{BeginsWith, IsSectionFault};
 ghost use Rattle.kb_report.specs.SystemSections.{Symbols, IsSymbolsLine};
 
-use crate::header::{first_line, is_word};
-use kb_term::{Memory, Signature};
-use kb_text::{Fields, NAME_BYTES, TextFault};
+use crate::header::first_line;
+use kb_term::{MAX_NAME_BYTES, MAX_SYMBOLS, Memory, Signature};
+use kb_text::{Fields, TextFault, is_word};
 use std::alloc::Global;
 
 /// The most symbols, and the word before them.
-const FIELDS: usize = 25;
+const FIELDS: usize = MAX_SYMBOLS + 1;
 
 fn is_white(b: u8) -> bool
     ensures { result ≡ is_white_space b }
@@ -52,7 +52,7 @@ fn is_unbroken(bytes: &[u8]) -> bool
 fn is_name(bytes: &[u8]) -> bool
     ensures { IsTrue result ↔ (IsIdentifier bytes.now × (length bytes.now ≤ 64)) }
 {
-    if bytes.is_empty() || bytes.len() > NAME_BYTES {
+    if bytes.is_empty() || bytes.len() > MAX_NAME_BYTES {
         return false;
     }
     if !is_unbroken(bytes) {

@@ -4,8 +4,9 @@ ghost use Rattle.kb_report.specs.Sections.{BeginsWith, IsSectionFault};
 ghost use Rattle.kb_report.specs.SystemSections.{Head, ConstraintCount, IsHeadLine};
 ghost use Rattle.kb_report.specs.declared.version.Version.{Version};
 
-use crate::header::{LINES, first_line, is_word, read_count};
-use kb_text::TextFault;
+use crate::header::{LINES, first_line, read_count};
+use kb_term::MAX_NODES;
+use kb_text::{TextFault, is_word};
 
 /// A version of the answer text.
 #[derive(Clone, Copy, Debug, PartialEq, Eq)]
@@ -52,7 +53,7 @@ pub(crate) fn read_constraint_count(
     first: u64,
 ) -> Result<(usize, usize, usize), TextFault>
     ensures read { IfOk result (λ p. BeginsWith (ConstraintCount version) text.now p.0 p.1 (drop p.2 text.now)) }
-    ensures few { IfOk result (λ p. (p.0 ≤ 4096) × (p.1 ≤ 1)) }
+    ensures few { IfOk result (λ p. (p.0 ≤ MAX_NODES) × (p.1 ≤ 1)) }
     ensures size { IfOk result (λ p. p.2 ≤ length text.now) }
     ensures fault { IfErr result (IsSectionFault (ConstraintCount version) text.now first) }
 {

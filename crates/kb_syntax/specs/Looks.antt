@@ -12,6 +12,7 @@ use Rattle.kb_syntax.specs.Sides.{equation_side}
 use Rattle.kb_text.specs.declared.kind.Kind.{Kind}
 use Rattle.kb_text.specs.declared.kind.Kind.TheVariants.{Unclosed, BadSection, Theory, Strategy, Relative, Conditional, VariableApplied, ArityClash, Limit}
 use Rattle.kb_text.specs.declared.kind.Bound.TheVariants.{Arity}
+use Rattle.kb_term.specs.declared.limits.TheConstants.{MAX_ARITY}
 
 -- where a front ends: its open section, without the lists of what stands in it; of a skipped one, how many parentheses are open beside its own
 pub data Look : Type 0 where
@@ -132,7 +133,7 @@ rules_row t = None
 
 abbrev pub arity_row : Option TermFront → Option Kind
 arity_row None = None
-arity_row (Some u) = cond (nat_eq (arguments_so_far u) 8) (Some (Limit Arity)) None
+arity_row (Some u) = cond (nat_eq (arguments_so_far u) MAX_ARITY) (Some (Limit Arity)) None
 
 abbrev pub mark_row : Look → Token → Option Kind
 mark_row at_word t = Some BadSection

@@ -19,6 +19,7 @@ use Rattle.kb_syntax.specs.declared.reader.Reader.{Reader}
 use Rattle.kb_text.specs.declared.kind.Kind.{Kind}
 use Rattle.kb_text.specs.declared.kind.Kind.TheVariants.{DoubleVariable, Limit}
 use Rattle.kb_text.specs.declared.kind.Bound.TheVariants.{Name as NameLimit, Equations, Size, Depth, Symbols, Variables as VariablesLimit}
+use Rattle.kb_term.specs.declared.limits.TheConstants.{MAX_ARITY, MAX_DEPTH, MAX_EQUATIONS, MAX_NAME_BYTES, MAX_SIZE, MAX_SYMBOLS, MAX_VARIABLES}
 
 abbrev pub place_look : Place → Look
 place_look Outside = outside
@@ -36,12 +37,12 @@ count_at n look = length n.equations.items
 -- what a name of a term shows at its own place
 abbrev pub spot_row : Notes → ℕ → Spot → Name → Option Kind
 spot_row n count s x =
-    cond (s.0 && nat_eq count 256) (Some (Limit Equations))
-    (cond (nat_eq (cond s.0 0 n.size) 512) (Some (Limit Size))
-    (cond (nat_eq s.1 64) (Some (Limit Depth))
+    cond (s.0 && nat_eq count MAX_EQUATIONS) (Some (Limit Equations))
+    (cond (nat_eq (cond s.0 0 n.size) MAX_SIZE) (Some (Limit Size))
+    (cond (nat_eq s.1 MAX_DEPTH) (Some (Limit Depth))
     (cond (is_among n.variables.declared x)
-    (cond (is_one_more (cond s.0 [] n.variables.found) 64 x) (Some (Limit VariablesLimit)) None)
-    (cond (is_one_more n.symbols 24 x) (Some (Limit Symbols)) None))))
+    (cond (is_one_more (cond s.0 [] n.variables.found) MAX_VARIABLES x) (Some (Limit VariablesLimit)) None)
+    (cond (is_one_more n.symbols MAX_SYMBOLS x) (Some (Limit Symbols)) None))))
 
 abbrev pub at_a_spot : Notes → ℕ → Option Spot → Name → Option Kind
 at_a_spot n count None x = None
@@ -58,7 +59,7 @@ own_name_row n (at_skipped k) x = None
 
 abbrev pub name_row : Notes → Look → Name → Option Kind
 name_row n (at_skipped k) x = None
-name_row n look x = cond (nat_lt 64 (length x)) (Some (Limit NameLimit)) (own_name_row n look x)
+name_row n look x = cond (nat_lt MAX_NAME_BYTES (length x)) (Some (Limit NameLimit)) (own_name_row n look x)
 
 -- ---- clashes
 
@@ -194,6 +195,6 @@ problem_from n = record {
 -- its symbols make a signature, and it is within the limits that the program's types have
 pub record IsProblemNoted (n : Notes) : Type 0 where
   pub signature : IsSignature (map (entry_of n.arities) n.symbols)
-  pub arities : All (λ x. unwrap_or (arity_in n.arities x) 0 ≤ 8) n.symbols
-  pub symbols : length n.symbols ≤ 24
-  pub variables : list_all (λ e. nat_le (length (equation_variables n.variables.declared e)) 64) (map equation_of n.equations.items) ≡ true
+  pub arities : All (λ x. unwrap_or (arity_in n.arities x) 0 ≤ MAX_ARITY) n.symbols
+  pub symbols : length n.symbols ≤ MAX_SYMBOLS
+  pub variables : list_all (λ e. nat_le (length (equation_variables n.variables.declared e)) MAX_VARIABLES) (map equation_of n.equations.items) ≡ true

@@ -12,19 +12,9 @@ ghost use Rattle.kb_syntax.specs.Variables.{variable_number};
 use crate::side::Side;
 use crate::variables::Variables;
 use crate::written::WrittenEquation;
-use kb_term::Memory;
+use kb_term::{MAX_DEPTH, MAX_EQUATIONS, MAX_SIZE, MAX_SYMBOLS, MAX_VARIABLES, Memory};
 use kb_text::{Bound, Form, Kind, Mark, Names, Uses};
 use std::alloc::Global;
-
-const EQUATIONS: usize = 256;
-
-const SIZE: usize = 512;
-
-const DEPTH: usize = 64;
-
-const SYMBOLS: usize = 24;
-
-const VARIABLES: usize = 64;
 
 /// What is known of the text that was read.
 #[derive(Drop)]
@@ -113,26 +103,26 @@ impl<'a> Notes<'a> {
         requires { number ≡ variable_number self.now.variables.declared name.now }
         ensures { result ≡ spot_row self.now count (spot.begins, spot.parens) name.now }
     {
-        if spot.begins && count == EQUATIONS {
+        if spot.begins && count == MAX_EQUATIONS {
             return Some(Kind::Limit(Bound::Equations));
         }
         let size = if spot.begins { 0 } else { self.size };
-        if size == SIZE {
+        if size == MAX_SIZE as usize {
             return Some(Kind::Limit(Bound::Size));
         }
-        if spot.parens == DEPTH {
+        if spot.parens == MAX_DEPTH as usize {
             return Some(Kind::Limit(Bound::Depth));
         }
         match number {
             Some(number) => {
-                if !spot.begins && self.variables.is_one_more(VARIABLES, number) {
+                if !spot.begins && self.variables.is_one_more(MAX_VARIABLES, number) {
                     Some(Kind::Limit(Bound::Variables))
                 } else {
                     None
                 }
             }
             None => {
-                if is_one_more(&self.symbols, SYMBOLS, name) {
+                if is_one_more(&self.symbols, MAX_SYMBOLS, name) {
                     Some(Kind::Limit(Bound::Symbols))
                 } else {
                     None

@@ -9,12 +9,9 @@ ghost use Rattle.kb_text.specs.Tokens.{placed_tokens};
 
 use crate::fault::SyntaxFault;
 use crate::reader::Reader;
-use kb_term::Problem;
+use kb_term::{MAX_PROBLEM_BYTES, Problem};
 use kb_text::{Bound, Form, Kind, Refusal, next_token};
 use std::alloc::Global;
-
-/// The most bytes that a text has.
-const INPUT_BYTES: usize = 1_048_576;
 
 // Where the token with this number, from 0, stands; 0 where there are fewer tokens.
 fn token_place(bytes: &[u8], number: usize) -> usize
@@ -51,7 +48,7 @@ fn read_tokens<'a>(
     text: &'a [u8],
     reader: &mut Reader<'a>,
 ) -> Result<Problem, SyntaxFault>
-    requires short { length text.now ≤ 1048576 }
+    requires short { length text.now ≤ MAX_PROBLEM_BYTES }
     requires utf8 { IsUtf8 text.now }
     requires notes { AreEmpty reader.old.notes }
     requires place { place_look reader.old.place ≡ outside }
@@ -84,7 +81,7 @@ fn read_tokens<'a>(
 
 // The problem of a text of so many bytes that is UTF-8.
 fn parse_text(alloc: Global, text: &[u8]) -> Result<Problem, SyntaxFault>
-    requires short { length text.now ≤ 1048576 }
+    requires short { length text.now ≤ MAX_PROBLEM_BYTES }
     requires utf8 { IsUtf8 text.now }
     ensures spelled { IfOk result (λ p. Spells text.now p) }
     ensures refused { IfErr result (λ e. IsFault text.now e) }
@@ -103,10 +100,10 @@ pub fn parse_problem(alloc: Global, bytes: &[u8]) -> Result<Problem, SyntaxFault
     ensures spelled { IfOk result (λ p. Spells bytes.now p) }
     ensures refused { IfErr result (λ e. IsFault bytes.now e) }
 {
-    if bytes.len() > INPUT_BYTES {
+    if bytes.len() > MAX_PROBLEM_BYTES {
         return Err(SyntaxFault::Refused(Refusal {
             kind: Kind::Limit(Bound::Input),
-            at: INPUT_BYTES as u64,
+            at: MAX_PROBLEM_BYTES as u64,
         }));
     }
     match std::str::from_utf8(bytes) {

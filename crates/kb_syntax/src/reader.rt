@@ -12,11 +12,9 @@ ghost use Rattle.kb_syntax.specs.Written.{equation_of};
 use crate::equation::OpenEquation;
 use crate::notes::{Notes, Spot, is_word, shown_by_variable};
 use crate::side::Side;
-use kb_term::Memory;
-use kb_text::{Bound, Form, Kind, Mark, NAME_BYTES};
+use kb_term::{MAX_ARITY, MAX_NAME_BYTES, Memory};
+use kb_text::{Bound, Form, Kind, Mark};
 use std::alloc::Global;
-
-const ARITY: usize = 8;
 
 /// Where a text ends, as far as it was read.
 #[derive(Drop)]
@@ -94,7 +92,7 @@ fn shown_in_equation(equation: &OpenEquation<'_>, mark: Mark) -> Option<Kind>
         return shown_in_rules(mark);
     }
     let side = equation.side()?;
-    if side.arguments_so_far() == ARITY {
+    if side.arguments_so_far() == MAX_ARITY {
         Some(Kind::Limit(Bound::Arity))
     } else {
         None
@@ -501,7 +499,7 @@ impl<'a> Reader<'a> {
         if let Place::Skipped(_) = &self.place {
             return None;
         }
-        if name.len() > NAME_BYTES {
+        if name.len() > MAX_NAME_BYTES {
             return Some(Kind::Limit(Bound::Name));
         }
         self.shown_by_short_name(name, number)

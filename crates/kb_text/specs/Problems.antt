@@ -6,6 +6,7 @@ use Rattle.kb_term.specs.Signature.{SymbolEntry, Problem}
 use Rattle.kb_text.specs.Names.{Name, is_among, firsts, number_of, are_distinct}
 use Rattle.kb_text.specs.Tokens.{tokens}
 use Rattle.kb_text.specs.Grammar.{Written, alone, applied, Arguments, no_arguments, argument, WrittenEquation, Section, variables, rules, skipped, IsSection, text_tokens}
+use Rattle.kb_term.specs.declared.limits.TheConstants.{MAX_ARITY, MAX_DEPTH, MAX_EQUATIONS, MAX_NAME_BYTES, MAX_PROBLEM_BYTES, MAX_SIZE, MAX_SYMBOLS, MAX_VARIABLES}
 
 -- ---- what stands in a text
 
@@ -160,17 +161,17 @@ pub record MeetsConditions (ss : List Section) : Type 0 where
 
 -- the limits
 pub record MeetsLimits (ss : List Section) : Type 0 where
-  pub names : IsTrue (list_all (λ (x : Name). nat_le (length x) 64) (flat_map names_of_section ss))
-  pub equations : IsTrue (nat_le (length (equations_of ss)) 256)
-  pub size : IsTrue (list_all (λ t. nat_le (length (names_in t)) 512) (sides_of (equations_of ss)))
-  pub depth : IsTrue (list_all (λ t. nat_le (depth_in t) 64) (sides_of (equations_of ss)))
-  pub symbols : IsTrue (nat_le (length (symbol_names ss)) 24)
-  pub arity : IsTrue (list_all (λ (u : Name × ℕ). nat_le u.1 8) (all_uses (equations_of ss)))
-  pub variables_each : IsTrue (list_all (λ e. nat_le (length (equation_variables (variables_of ss) e)) 64) (equations_of ss))
+  pub names : IsTrue (list_all (λ (x : Name). nat_le (length x) MAX_NAME_BYTES) (flat_map names_of_section ss))
+  pub equations : IsTrue (nat_le (length (equations_of ss)) MAX_EQUATIONS)
+  pub size : IsTrue (list_all (λ t. nat_le (length (names_in t)) MAX_SIZE) (sides_of (equations_of ss)))
+  pub depth : IsTrue (list_all (λ t. nat_le (depth_in t) MAX_DEPTH) (sides_of (equations_of ss)))
+  pub symbols : IsTrue (nat_le (length (symbol_names ss)) MAX_SYMBOLS)
+  pub arity : IsTrue (list_all (λ (u : Name × ℕ). nat_le u.1 MAX_ARITY) (all_uses (equations_of ss)))
+  pub variables_each : IsTrue (list_all (λ e. nat_le (length (equation_variables (variables_of ss) e)) MAX_VARIABLES) (equations_of ss))
 
 -- The bytes spell the problem: their tokens are those of sections that meet the conditions and the limits, and stand for it.
 pub record Spells (bytes : List ℕ) (problem : Problem) : Type 0 where
-  pub short : length bytes ≤ 1048576
+  pub short : length bytes ≤ MAX_PROBLEM_BYTES
   pub utf8 : IsUtf8 bytes
   pub sections : List Section
   pub are_sections : AllByRecursion IsSection sections

@@ -10,6 +10,7 @@ use Rattle.kb_text.specs.Problems.{variables_of, equations_of, names_in, names_i
 use Rattle.kb_text.specs.declared.kind.Kind.{Kind}
 use Rattle.kb_text.specs.declared.kind.Kind.TheVariants.{NotUtf8, Unclosed, BadSection, Theory, Strategy, DoubleVariable, Relative, Conditional, VariableApplied, ArityClash, BadToken, Limit}
 use Rattle.kb_text.specs.declared.kind.Bound.TheVariants.{Name as NameLimit, Equations, Size, Depth, Symbols, Variables, Arity, Input}
+use Rattle.kb_term.specs.declared.limits.TheConstants.{MAX_ARITY, MAX_DEPTH, MAX_EQUATIONS, MAX_NAME_BYTES, MAX_PROBLEM_BYTES, MAX_SIZE, MAX_SYMBOLS, MAX_VARIABLES}
 
 -- ---- what stands in a front
 
@@ -267,7 +268,7 @@ abbrev pub shown : Kind → Front → Token → Option ℕ
 shown NotUtf8 f t = None
 shown (Limit Input) f t = None
 -- an identifier of more than 64 bytes
-shown (Limit NameLimit) f t = here (is_some_and (name_in t) (λ x. nat_lt 64 (length x)) && not (is_in_skipped f.open_section))
+shown (Limit NameLimit) f t = here (is_some_and (name_in t) (λ x. nat_lt MAX_NAME_BYTES (length x)) && not (is_in_skipped f.open_section))
 -- the end of the input in a section or behind its parenthesis
 shown Unclosed f t = here (is_token t end_of_input && is_open f.open_section)
 -- no identifier behind the parenthesis of a section; VAR there, behind a section of rules; the end of the input without one
@@ -283,17 +284,17 @@ shown VariableApplied f t = back (is_token t left_paren && is_some_and (option_a
 -- the end of a use whose symbol has another arity already; the place is the symbol
 shown ArityClash f t = or_else (cond (is_token t right_paren) (closing_clash f (side_of f.open_section)) None) (cond (is_token t left_paren) None (alone_clash f (side_of f.open_section)))
 -- the first identifier of the 257th equation
-shown (Limit Equations) f t = here (is_some_and (name_in t) (λ x. is_some_and (spot_of f.open_section) (λ s. s.begins && nat_eq (front_count f) 256)))
+shown (Limit Equations) f t = here (is_some_and (name_in t) (λ x. is_some_and (spot_of f.open_section) (λ s. s.begins && nat_eq (front_count f) MAX_EQUATIONS)))
 -- the 513th identifier of a side
-shown (Limit Size) f t = here (is_some_and (name_in t) (λ x. is_some_and (spot_of f.open_section) (λ s. nat_eq (length s.side) 512)))
+shown (Limit Size) f t = here (is_some_and (name_in t) (λ x. is_some_and (spot_of f.open_section) (λ s. nat_eq (length s.side) MAX_SIZE)))
 -- an identifier at depth 65
-shown (Limit Depth) f t = here (is_some_and (name_in t) (λ x. is_some_and (spot_of f.open_section) (λ s. nat_eq s.parens 64)))
+shown (Limit Depth) f t = here (is_some_and (name_in t) (λ x. is_some_and (spot_of f.open_section) (λ s. nat_eq s.parens MAX_DEPTH)))
 -- the first occurrence of a 25th symbol
-shown (Limit Symbols) f t = here (is_some_and (name_in t) (λ x. is_some (spot_of f.open_section) && is_new x (symbols_among (front_variables f) (front_names f)) 24 && not (is_among (front_variables f) x)))
+shown (Limit Symbols) f t = here (is_some_and (name_in t) (λ x. is_some (spot_of f.open_section) && is_new x (symbols_among (front_variables f) (front_names f)) MAX_SYMBOLS && not (is_among (front_variables f) x)))
 -- the first occurrence of a 65th variable in one equation
-shown (Limit Variables) f t = here (is_some_and (name_in t) (λ x. is_some_and (spot_of f.open_section) (λ s. is_new x (variables_among (front_variables f) s.equation) 64 && is_among (front_variables f) x)))
+shown (Limit Variables) f t = here (is_some_and (name_in t) (λ x. is_some_and (spot_of f.open_section) (λ s. is_new x (variables_among (front_variables f) s.equation) MAX_VARIABLES && is_among (front_variables f) x)))
 -- the comma before a ninth argument
-shown (Limit Arity) f t = here (is_token t comma && is_some_and (side_of f.open_section) (λ u. nat_eq (arguments_so_far u) 8))
+shown (Limit Arity) f t = here (is_token t comma && is_some_and (side_of f.open_section) (λ u. nat_eq (arguments_so_far u) MAX_ARITY))
 shown BadToken f t = None
 
 -- A token t that stands behind these tokens, of the front f, shows a refusal of this kind, whose place is k tokens before it.
@@ -358,6 +359,6 @@ place_of bytes number = get_or (map (λ (t : Placed). t.at) (placed_tokens bytes
 
 -- The bytes are refused: there are too many of them; else they aren't UTF-8; else by their tokens.
 pub data IsRefused : List ℕ → Kind → ℕ → Type 0 where
-  too_long : {bytes : List ℕ} → 1048576 < length bytes → IsRefused bytes (Limit Input) 1048576
-  not_utf8 : {bytes : List ℕ} {at : ℕ} → length bytes ≤ 1048576 → IsValidUpTo bytes at → IsRefused bytes NotUtf8 at
-  by_tokens : {bytes : List ℕ} {kind : Kind} → length bytes ≤ 1048576 → IsUtf8 bytes → (number : ℕ) → IsFirstShown (tokens bytes) kind number → IsRefused bytes kind (place_of bytes number)
+  too_long : {bytes : List ℕ} → MAX_PROBLEM_BYTES < length bytes → IsRefused bytes (Limit Input) MAX_PROBLEM_BYTES
+  not_utf8 : {bytes : List ℕ} {at : ℕ} → length bytes ≤ MAX_PROBLEM_BYTES → IsValidUpTo bytes at → IsRefused bytes NotUtf8 at
+  by_tokens : {bytes : List ℕ} {kind : Kind} → length bytes ≤ MAX_PROBLEM_BYTES → IsUtf8 bytes → (number : ℕ) → IsFirstShown (tokens bytes) kind number → IsRefused bytes kind (place_of bytes number)

@@ -3,6 +3,7 @@ use Rattle.std.specs.Prelude.{◌≡◌, ℕ, zero, suc, ◌-◌, ◌<◌, ◌�
 use Rattle.kb_term.specs.Tree.{Tree, variable, apply, Trees, no_trees, more_trees, list_of, trees_of}
 use Rattle.kb_term.specs.Signature.{Signature, HasArity}
 use Rattle.kb_text.specs.Terms.{names_of, term_text, arguments_text}
+use Rattle.kb_term.specs.declared.limits.TheConstants.{MAX_VARIABLES}
 
 -- parentheses and the comma end a name in the text of a term
 abbrev pub ends_name : ℕ → Bool
@@ -21,7 +22,7 @@ IsNameEnd (b ∷ bytes) = ends_name b ≡ true
 -- terms over the signature of at most this depth, with variables below 64
 abbrev mutual
   pub IsBounded : Signature → ℕ → Tree → Type 0
-  IsBounded signature depth (variable n) = (1 ≤ depth) × (n < 64)
+  IsBounded signature depth (variable n) = (1 ≤ depth) × (n < MAX_VARIABLES)
   IsBounded signature depth (apply f ts) = (1 ≤ depth) × HasArity signature f (length (list_of ts)) × AreBounded signature (depth - 1) ts
 
   pub AreBounded : Signature → ℕ → Trees → Type 0

@@ -6,6 +6,7 @@ use Rattle.kb_text.specs.Names.{Name}
 use Rattle.kb_text.specs.Lines.{line}
 use Rattle.kb_term.specs.Signature.{SymbolEntry, Signature, Problem, IsTermWithinLimits}
 use Rattle.kb_term.specs.Pair.{Pair, canonical_pair, variables_of_pair}
+use Rattle.kb_term.specs.declared.limits.TheConstants.{MAX_VARIABLES}
 
 abbrev pub names_of : Signature → List Name
 names_of sig = map (λ (e : SymbolEntry). e.name) sig
@@ -54,14 +55,14 @@ separator (suc n) = 44
 -- The bytes are the text of a term over the signature, within size and depth and with variables below 64.
 pub record TermSpelled (sig : Signature) (bytes : List ℕ) (t : Tree) : Type 0 where
   pub within : IsTermWithinLimits sig t
-  pub variables : All (λ n. n < 64) (variables_of t)
+  pub variables : All (λ n. n < MAX_VARIABLES) (variables_of t)
   pub spelling : bytes ≡ term_text (names_of sig) t
 
 -- a pair that isn't trivial and canonical, of terms within the limits, with at most 64 variables
 pub record IsPairForm (sig : Signature) (p : Pair) : Type 0 where
   pub first : IsTermWithinLimits sig p.first
   pub second : IsTermWithinLimits sig p.second
-  pub variables : length (variables_of_pair p.first p.second) ≤ 64
+  pub variables : length (variables_of_pair p.first p.second) ≤ MAX_VARIABLES
   pub canonical : canonical_pair p.first p.second ≡ Some p
 
 -- ---- problems

@@ -2,7 +2,6 @@
 #![tactic(auto)]
 
 mod fault;
-mod identifier;
 mod kind;
 mod laws;
 mod lexer;
@@ -16,11 +15,10 @@ mod text;
 mod uses;
 
 pub use fault::TextFault;
-pub use identifier::NAME_BYTES;
 pub use kind::{Bound, Kind, Refusal};
 pub use laws::{bytes_spell_one_term, tokens_spell_their_text, written_problems_are_spelled};
 pub use lexer::{Form, Found, Mark, next_token};
-pub use line::Fields;
+pub use line::{Fields, is_word};
 pub use names::Names;
 pub use number::{line_length, read_number};
 pub use printer::problem_text;

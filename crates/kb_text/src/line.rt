@@ -1,5 +1,5 @@
 // Lines of fields.
-ghost use Rattle.std.specs.Prelude.{◌≡◌, ◌<◌, ◌==◌, ◌++◌, ◌∷◌, [], ℕ, List, OnOk, OnErr, IfOk, decimal, get_or, map, length, take};
+ghost use Rattle.std.specs.Prelude.{◌≡◌, ◌<◌, ◌==◌, ◌++◌, ◌∷◌, ◌↔◌, [], ℕ, List, OnOk, OnErr, IfOk, IsTrue, decimal, get_or, map, length, take};
 ghost use Rattle.std.specs.List.{join_with_byte, slice_split};
 ghost use Rattle.kb_text.specs.Fields.{behind};
 ghost use Rattle.kb_text.specs.Lines.{line, parted};
@@ -8,6 +8,13 @@ use kb_term::{Memory, push_number};
 use std::alloc::Global;
 use std::marker::Model;
 use std::mem::replace;
+
+/// Whether the bytes are the word. It takes no memory.
+pub fn is_word(bytes: &[u8], word: &[u8]) -> bool
+    ensures { IsTrue result ↔ (bytes.now ≡ word.now) }
+{
+    bytes == word
+}
 
 // Adds the fields, parted by the separator; a part may stay after an error.
 fn push_joined(out: &mut Vec<u8>, fields: &[Vec<u8>], separator: u8) -> Result<(), Memory>

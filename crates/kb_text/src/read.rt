@@ -7,14 +7,14 @@ ghost use Rattle.kb_text.specs.Terms.{TermSpelled, names_of, prefix_length, symb
 ghost use Rattle.kb_text.specs.TermReading.{BeginsWithArguments, BeginsWithNoArguments, BeginsWithNone, BeginsWithTerm, IsInName, IsClosed, IsNameEnd, closing_text, ends_name};
 
 use crate::text::{are_letters, first_free, separator_before};
-use kb_term::{Memory, Signature, Symbol, Term, Terms, term_limit};
+use kb_term::{MAX_VARIABLES, Memory, Signature, Symbol, Term, Terms, term_limit};
 use std::alloc::Global;
 
 /// The greatest depth of a term.
 const DEPTH: usize = 64;
 
 /// The greatest number of a variable, from 1.
-const VARIABLES: u16 = 64;
+const VARIABLES: u16 = MAX_VARIABLES as u16;
 
 fn is_name_end(b: u8) -> bool
     ensures { result ≡ ends_name b }

@@ -8,6 +8,7 @@ use Rattle.kb_term.specs.declared.origin.Origin.{Origin}
 use Rattle.kb_overlap.specs.Trace.{TraceStep}
 use Rattle.kb_text.specs.Terms.{names_of, term_text, IsPairForm}
 use Rattle.kb_trace.specs.TraceText.{position_text, origin_fields, is_position, is_origin, step_fields, step_line, IsStepForm}
+use Rattle.kb_term.specs.declared.limits.TheConstants.{MAX_NODES}
 
 -- the bytes are a number from the least to the greatest
 pub record IsNumberText (bytes : List ℕ) (least greatest n : ℕ) : Type 0 where
@@ -62,6 +63,6 @@ pub record IsStepText (signature : Signature) (number : ℕ) (bytes : List ℕ) 
 
 -- the text is the line of the step with the number, at most the last that a trace may have, and what is behind it
 pub record BeginsWithStep (signature : Signature) (number : ℕ) (text : List ℕ) (s : TraceStep) (rest : List ℕ) : Type 0 where
-  pub count : number ≤ 4096
+  pub count : number ≤ MAX_NODES
   pub form : IsStepForm signature s
   pub spelling : text ≡ step_line (names_of signature) number s ++ rest

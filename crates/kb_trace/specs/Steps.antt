@@ -9,6 +9,7 @@ use Rattle.kb_term.specs.declared.term.Term.{Term}
 use Rattle.kb_term.specs.declared.limit.Limit.{Limit}
 use Rattle.kb_overlap.specs.Overlap.{IsOverlapOrLimit}
 use Rattle.kb_overlap.specs.Trace.{TraceStep, item, IsRightOrigin, IsRightTrace}
+use Rattle.kb_term.specs.declared.limits.TheConstants.{MAX_VARIABLES}
 
 -- the pairs of the steps
 abbrev pub pairs_of : List TraceStep → List Pair
@@ -48,4 +49,4 @@ abbrev pub IsCitedRule : Option Pair → ℕ → Option Rule → Type 0
 IsCitedRule None d None = Unit {0}
 IsCitedRule None d (Some rule) = ⊥
 IsCitedRule (Some e) d None = ⊥
-IsCitedRule (Some e) d (Some rule) = (rule ≡ rule_of e d) × IsRuleBelow 64 rule
+IsCitedRule (Some e) d (Some rule) = (rule ≡ rule_of e d) × IsRuleBelow MAX_VARIABLES rule

@@ -9,6 +9,7 @@ use Rattle.kb_overlap.specs.Trace.{TraceStep}
 use Rattle.kb_text.specs.Names.{Name}
 use Rattle.kb_text.specs.Lines.{line}
 use Rattle.kb_text.specs.Terms.{names_of, infix_text, IsPairForm}
+use Rattle.kb_term.specs.declared.limits.TheConstants.{MAX_ARITY, MAX_EQUATIONS, MAX_NODES}
 
 -- e for the root, else argument numbers joined by dots
 abbrev pub position_text : List ℕ → List ℕ
@@ -46,14 +47,14 @@ is_up_to highest n = nat_le 1 n && nat_le n highest
 
 -- at most 63 argument numbers from 1 to 8
 abbrev pub is_position : List ℕ → Bool
-is_position p = nat_le (length p) 63 && list_all (is_up_to 8) p
+is_position p = nat_le (length p) 63 && list_all (is_up_to MAX_ARITY) p
 
 abbrev pub is_cited : RuleRef → Bool
-is_cited r = is_up_to 4096 r.node && nat_le r.dir 1
+is_cited r = is_up_to MAX_NODES r.node && nat_le r.dir 1
 
 abbrev pub is_origin : Origin → Bool
-is_origin (Input i) = is_up_to 256 i
-is_origin (Rewrite a w p r) = is_up_to 4096 a && nat_le w 1 && is_position p && is_cited r
+is_origin (Input i) = is_up_to MAX_EQUATIONS i
+is_origin (Rewrite a w p r) = is_up_to MAX_NODES a && nat_le w 1 && is_position p && is_cited r
 is_origin (Overlap a b p) = is_cited a && is_cited b && is_position p
 
 -- a step whose numbers a line may have, and whose pair is canonical and within the limits
@@ -63,7 +64,7 @@ pub record IsStepForm (sig : Signature) (s : TraceStep) : Type 0 where
 
 -- at most 4,096 such steps
 pub record IsTraceForm (sig : Signature) (t : List TraceStep) : Type 0 where
-  pub count : length t ≤ 4096
+  pub count : length t ≤ MAX_NODES
   pub steps : All (IsStepForm sig) t
 
 -- the bytes are the text of such a trace

@@ -11,28 +11,24 @@ ghost use Rattle.kb_trace.specs.TraceText.{is_position};
 ghost use Rattle.kb_trace.specs.Reading.{IsNumberText, IsLabelled, IsPositionText, IsPositionIn, IsOriginIn, IsOwnPair, IsPairIn, IsStepIn};
 
 use crate::trace::Step;
-use kb_term::{Memory, Origin, Pair, Position, RuleRef, Signature, Term, canonical, pair_limit};
-use kb_text::{Fields, read_number, read_term};
+use kb_term::{
+    MAX_EQUATIONS, MAX_NODES, Memory, Origin, Pair, Position, RuleRef, Signature, Term, canonical,
+    pair_limit,
+};
+use kb_text::{Fields, is_word, read_number, read_term};
 use std::alloc::Global;
 
 /// The greatest number of an equation.
-const EQUATIONS: u16 = 256;
+const EQUATIONS: u16 = MAX_EQUATIONS as u16;
 
 /// The greatest number of a step.
-pub(crate) const STEPS: u16 = 4096;
+pub(crate) const STEPS: u16 = MAX_NODES as u16;
 
 /// The longest position.
 const LONGEST: usize = 63;
 
 /// The greatest number of an argument.
 const ARGUMENTS: u16 = 8;
-
-/// Whether the field is the word.
-fn is_word(field: &[u8], word: &[u8]) -> bool
-    ensures { IsTrue result ↔ (field.now ≡ word.now) }
-{
-    field == word
-}
 
 /// The number, from the least to the greatest, that the field is.
 fn number_between(field: &[u8], least: u16, greatest: u16) -> Option<u16>

@@ -11,7 +11,7 @@ ghost use Rattle.mkb_board.specs.Choosing.{ClosedRest};
 
 use kb_label::{Process, Reason, Spent, Verdict};
 use kb_node::{LabelKind, NodeId};
-use kb_term::RuleRef;
+use kb_term::{MAX_NODES, RuleRef};
 use mkb_rules::State;
 
 /// The verdict, if one stands. It takes no memory.
@@ -190,7 +190,7 @@ fn is_failed(state: &State, place: usize, p: &Process, closed: &mut usize) -> bo
 /// How many nodes there are.
 pub(crate) fn node_count(state: &State) -> u32
     ensures count { result ≡ length state.now.nodes }
-    ensures most { result ≤ 4096 }
+    ensures most { result ≤ MAX_NODES }
 {
     state.nodes().len()
 }

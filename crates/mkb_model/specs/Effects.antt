@@ -31,12 +31,13 @@ use Rattle.mkb_model.specs.declared.proposed.Proposed.{Proposed}
 use Rattle.mkb_model.specs.declared.proposed.Proposed.TheVariants.{Facts, Rewrite, One, Both, Refuse, Deduce, Unjoined, Closed, Limit}
 use Rattle.mkb_model.specs.declared.entry.Effect.{Effect}
 use Rattle.mkb_model.specs.declared.entry.Effect.TheVariants.{Over, Made}
+use Rattle.kb_term.specs.declared.limits.TheConstants.{MAX_NODES}
 
 -- ---- limits
 
 -- as many nodes as there may be
 abbrev pub most_nodes : ℕ
-most_nodes = 4096
+most_nodes = MAX_NODES
 
 -- as many processes as may live
 abbrev pub most_living : ℕ

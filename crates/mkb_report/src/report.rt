@@ -15,7 +15,7 @@ use kb_checker::Answer;
 use kb_label::{ListLabels, Living, Process, Spent, Verdict};
 use kb_node::{NodeId, NodeTable};
 use kb_report::Report;
-use kb_term::{Memory, Origin, Pair, Problem, Rule, RuleRef, rule_of};
+use kb_term::{MAX_NODES, Memory, Origin, Pair, Problem, Rule, RuleRef, rule_of};
 use kb_trace::{Step, trace_of};
 use mkb_rules::State;
 use std::alloc::Global;
@@ -84,7 +84,7 @@ fn problem_of(state: &State) -> Result<Problem, Memory>
 // The pair and the origin of each node.
 fn node_list(alloc: Global, table: &NodeTable<ListLabels>) -> Result<Vec<(Pair, Origin)>, Memory>
     ensures nodes { IfOk result (λ nodes. nodes.items ≡ map (λ (x : PlainNode). (x.pair, x.origin)) (plain_nodes table.now)) }
-    ensures few { length table.now ≤ 4096 }
+    ensures few { length table.now ≤ MAX_NODES }
 {
     let mut nodes = Vec::new(alloc);
     for i in 0..table.len() {
@@ -115,7 +115,7 @@ fn cited_rules(
     steps: &[Step],
 ) -> Result<Vec<(Rule, u32)>, Memory>
     requires there { All (IsRuleThere state.now) names.now }
-    requires few { length steps.now ≤ 4096 }
+    requires few { length steps.now ≤ MAX_NODES }
     ensures rules { IfOk result (λ rules. map (λ (r : RuleValue × ℕ). r.0) rules.items ≡ rules_at state.now names.now) }
     ensures cites { IfOk result (λ rules. map (λ (r : RuleValue × ℕ). r.1) rules.items ≡ map (cited_by state.now steps.now) names.now) }
 {
@@ -131,7 +131,7 @@ fn cited_rules(
 
 // The number, from 1, of the first step with the pair; one more than there are steps where none has it.
 fn number_with(steps: &[Step], pair: &Pair) -> u32
-    requires { length steps.now ≤ 4096 }
+    requires { length steps.now ≤ MAX_NODES }
     ensures { result ≡ number_of_pair steps.now pair.now }
 {
     for i in 0..steps.len() {

@@ -9,10 +9,11 @@ use Rattle.mkb_model.specs.Plain.{Plain, PlainNode, pair_at, rule_kind, other}
 use Rattle.mkb_model.specs.Effects.{direction, gains_equation, gains_rule, loses, node_of, with_node}
 use Rattle.mkb_rules.specs.declared.effects.rewriting.Sources.{Sources}
 use Rattle.mkb_rules.specs.declared.effects.rewriting.Target.{Target}
+use Rattle.kb_term.specs.declared.limits.TheConstants.{MAX_VARIABLES}
 
 -- the term and the other side of the node have at most 64 variables together
 abbrev pub HasFewVariables : Plain → ℕ → ℕ → Tree → Type 0
-HasFewVariables b n w t = (q : Pair) → pair_at b n ≡ Some q → length (variables_of_pair t (other_side q w)) ≤ 64
+HasFewVariables b n w t = (q : Pair) → pair_at b n ≡ Some q → length (variables_of_pair t (other_side q w)) ≤ MAX_VARIABLES
 
 -- the pair of a rewriting of the other side's term to the result, if there is one
 abbrev pub target_of : Option Pair → Origin → Tree → Tree → Option Target

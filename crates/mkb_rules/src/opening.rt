@@ -18,7 +18,7 @@ use crate::state::{Certified, GivenUp, State};
 use kb_cert::{Family, search};
 use kb_label::{Labels, ListLabels, Living, NameLog, Process};
 use kb_node::NodeFault;
-use kb_term::{Memory, Origin, Problem, Signature, Term, canonical};
+use kb_term::{MAX_NODES, Memory, Origin, Problem, Signature, Term, canonical};
 use mkb_model::Settings;
 use std::alloc::Global;
 
@@ -157,7 +157,7 @@ fn add_input(
     equation: &(Term, Term),
 ) -> Result<(), Memory>
     requires names { names.now ≡ root ∷ [] }
-    requires room { length nodes.old.now < 4096 }
+    requires room { length nodes.old.now < MAX_NODES }
     requires variables { length (variables_of_pair (tree_of equation.now.0) (tree_of equation.now.1)) ≤ 64 }
     ensures ok { OnOk result (nodes.new.now ≡ with_input (canonical_pair (tree_of equation.now.0) (tree_of equation.now.1)) number nodes.old.now) }
     ensures few { OnOk result (length nodes.new.now ≤ length nodes.old.now + 1) }

@@ -13,6 +13,7 @@ use Rattle.kb_goals.specs.Simplifying.{IsTermsTextOf}
 use Rattle.mkbtt_top.specs.Replies.{Fails}
 use Rattle.mkbtt_top.specs.declared.reply.Stop.{Stop}
 use Rattle.mkbtt_top.specs.declared.reply.Stop.TheVariants as stops
+use Rattle.kb_term.specs.declared.limits.TheConstants.{MAX_ANSWER_BYTES}
 
 -- ---- what is read
 
@@ -44,7 +45,7 @@ pub record HasBadLine (IsOfForm : List ℕ → Type 0) (left_old left_new : Opti
 
 -- the refusal of an answer that has too many bytes
 abbrev pub IsAnswerLong : Option (List ℕ) → Kind → ℕ → Type 0
-IsAnswerLong left_old kind at = (kind ≡ Limit Input) × (at ≡ 67108864) × HasMoreThan 67108864 left_old
+IsAnswerLong left_old kind at = (kind ≡ Limit Input) × (at ≡ MAX_ANSWER_BYTES) × HasMoreThan MAX_ANSWER_BYTES left_old
 
 -- why no bytes were read
 abbrev pub IsUnreadBy : Option (List ℕ) → Bool → ℕ → ℕ → Stop → Type 0

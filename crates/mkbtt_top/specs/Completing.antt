@@ -33,6 +33,7 @@ use Rattle.mkbtt_top.specs.declared.status.Status.TheVariants.{Done, AllFailed, 
 use Rattle.mkbtt_top.specs.declared.workers.Workers.{Workers}
 use Rattle.mkbtt_top.specs.declared.workers.Workers.TheVariants.{Free}
 use Rattle.mkb_model.specs.declared.settings.Settings.{Settings}
+use Rattle.kb_term.specs.declared.limits.TheConstants.{MAX_PROBLEM_BYTES}
 
 -- how a run ends that writes the report of the verdict
 abbrev pub status_of : Verdict → Status
@@ -132,7 +133,7 @@ IsRefusal settings workers bytes stop = ⊥
 -- the refusal of what was read: the bytes up to the end are refused so, or there are too many of them
 pub data IsProblemRefused (left_old left_new : Option (List ℕ)) : Kind → ℕ → Type 0 where
   by_text : {kind : Kind} {at : ℕ} (bytes : List ℕ) → TakesAll left_old bytes left_new → IsRefused bytes kind at → IsProblemRefused left_old left_new kind at
-  too_long : HasMoreThan 1048576 left_old → IsProblemRefused left_old left_new (Limit Input) 1048576
+  too_long : HasMoreThan MAX_PROBLEM_BYTES left_old → IsProblemRefused left_old left_new (Limit Input) MAX_PROBLEM_BYTES
 
 -- why no completion of what is read was told
 abbrev pub IsUnfinishedBy : Settings → Workers → Option (List ℕ) → Option (List ℕ) → Bool → ℕ → ℕ → Stop → Type 0

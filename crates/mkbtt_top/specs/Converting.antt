@@ -11,11 +11,12 @@ use Rattle.mkbtt_words.specs.declared.format.Format.TheVariants.{Answer, Trs, Do
 use Rattle.mkbtt_top.specs.Answering.{IsReadFrom}
 use Rattle.mkbtt_top.specs.declared.status.Status.{Status}
 use Rattle.mkbtt_top.specs.declared.status.Status.TheVariants.{Done}
+use Rattle.kb_term.specs.declared.limits.TheConstants.{MAX_EQUATIONS, MAX_PROBLEM_BYTES}
 
 -- the text lists the rules of the answer; where there are at most 256 of them and 1,048,576 bytes it is read as a problem with the same equations
 pub record ListsRules (text : List ℕ) (answer : AnswerOf) : Type 0 where
   pub text_is : text ≡ rules_text (rules_problem answer)
-  pub read : length answer.rules ≤ 256 → length text ≤ 1048576 → SpellsSame text (rules_problem answer)
+  pub read : length answer.rules ≤ MAX_EQUATIONS → length text ≤ MAX_PROBLEM_BYTES → SpellsSame text (rules_problem answer)
 
 -- the text is the answer's in this format: its newest text, its rules, or its trace as a graph
 abbrev pub IsWrittenAs : Format → List ℕ → AnswerOf → Type 0

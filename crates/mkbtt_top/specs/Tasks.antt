@@ -19,6 +19,7 @@ use Rattle.kb_report.specs.Answers.{IsSystemText}
 use Rattle.kb_goals.specs.Asking.{IsGoalsText}
 use Rattle.kb_goals.specs.Simplifying.{IsTermsText}
 use Rattle.kb_journal.specs.Journals.{IsJournalText}
+use Rattle.kb_term.specs.declared.limits.TheConstants.{MAX_ANSWER_BYTES, MAX_PROBLEM_BYTES}
 
 -- the selection of a run that the words name
 abbrev pub selection_by : Named → Selection
@@ -100,9 +101,9 @@ HasNumber (Generate number) = (1 ≤ number) × (number ≤ 64)
 
 -- the most bytes that the task may read
 abbrev pub limit_of : Task → ℕ
-limit_of (Complete settings workers) = 1048576
-limit_of (Journal settings workers) = 1048576
-limit_of task = 67108864
+limit_of (Complete settings workers) = MAX_PROBLEM_BYTES
+limit_of (Journal settings workers) = MAX_PROBLEM_BYTES
+limit_of task = MAX_ANSWER_BYTES
 
 -- at most one byte more is taken than the task may read, and none for a task that reads nothing
 abbrev pub TakesFew : Task → Option (List ℕ) → Option (List ℕ) → Type 0

@@ -16,12 +16,9 @@ use kb_io::{ReadAllFault, Source, read_all};
 use kb_journal::{JournalText, read_journal};
 use kb_report::read_answer;
 use kb_syntax::{Bound, Kind};
-use kb_term::Term;
+use kb_term::{MAX_ANSWER_BYTES, Term};
 use kb_text::TextFault;
 use std::alloc::Global;
-
-/// The most bytes of an answer and what stands behind it, and of a journal.
-const ANSWER_BYTES: usize = 67_108_864;
 
 // Reads the source to its end.
 fn bytes_from<S: Source>(alloc: Global, source: &mut S) -> Result<Vec<u8>, Stop>
@@ -30,10 +27,13 @@ fn bytes_from<S: Source>(alloc: Global, source: &mut S) -> Result<Vec<u8>, Stop>
     ensures few { TakesAtMost (S.left source.old) 67108865 (S.left source.new) }
     ensures count { S.faults source.old ≤ S.faults source.new }
 {
-    match read_all(alloc, source, ANSWER_BYTES) {
+    match read_all(alloc, source, MAX_ANSWER_BYTES) {
         Ok(bytes) => Ok(bytes),
         Err(ReadAllFault::ReadFault) => Err(Stop::ReadFault),
-        Err(ReadAllFault::TooLong) => Err(Stop::Refused(Kind::Limit(Bound::Input), 67_108_864)),
+        Err(ReadAllFault::TooLong) => Err(Stop::Refused(
+            Kind::Limit(Bound::Input),
+            MAX_ANSWER_BYTES as u64,
+        )),
         Err(ReadAllFault::Memory) => Err(Stop::Memory(None)),
     }
 }

@@ -15,7 +15,7 @@ use kb_journal::journal_text;
 use kb_label::Verdict;
 use kb_report::answer_text;
 use kb_syntax::{Bound, Kind, SyntaxFault, parse_problem, spelled_problems_are_within_limits};
-use kb_term::{Memory, Problem};
+use kb_term::{MAX_PROBLEM_BYTES, Memory, Problem};
 use mkb_board::Board;
 use mkb_model::Settings;
 use mkb_report::{report_of, reports_are_good};
@@ -23,9 +23,6 @@ use std::alloc::Global;
 use std::sync::Wait;
 use std::thread::Threads;
 use std::time::Clock;
-
-/// The most bytes of a problem.
-const PROBLEM_BYTES: usize = 1_048_576;
 
 fn status_of(verdict: &Verdict) -> Status
     ensures { result ≡ status_by verdict.now }
@@ -155,11 +152,11 @@ pub(crate) fn complete_source<R: Threads + Wait + Clock + Sync, S: Source, G: Ga
     ensures few { TakesAtMost (S.left source.old) 1048577 (S.left source.new) }
     ensures count { S.faults source.old ≤ S.faults source.new }
 {
-    let bytes = match read_all(host.alloc, source, PROBLEM_BYTES) {
+    let bytes = match read_all(host.alloc, source, MAX_PROBLEM_BYTES) {
         Ok(bytes) => bytes,
         Err(ReadAllFault::ReadFault) => return Err(Stop::ReadFault),
         Err(ReadAllFault::TooLong) => {
-            return Err(Stop::Refused(Kind::Limit(Bound::Input), 1_048_576));
+            return Err(Stop::Refused(Kind::Limit(Bound::Input), MAX_PROBLEM_BYTES as u64));
         }
         Err(ReadAllFault::Memory) => return Err(Stop::Memory(None)),
     };

@@ -15,7 +15,7 @@ use crate::shelf::Shelf;
 use kb_jobs::ReduceSnapshot;
 use kb_label::Process;
 use kb_node::NodeId;
-use kb_term::{Memory, RuleRef};
+use kb_term::{MAX_NODES, Memory, RuleRef};
 use mkb_rules::{Roles, State};
 use std::alloc::{AllocError, Global};
 
@@ -81,7 +81,7 @@ fn open_rules(alloc: Global, state: &State, p: &Process, n: NodeId) -> Result<Ve
     let names = listed_open(alloc, state, p, n)?;
     // Each node gives at most two rules.
     let count = state.nodes().len();
-    prove!(count <= 4096);
+    prove!(count <= MAX_NODES as u32);
     Ok(names)
 }
 
