@@ -41,12 +41,6 @@ pub map_names : (names : List (List ℕ)) (symbols : List Symbol) → map (λ (f
 map_names names [] = refl
 map_names names (f ∷ symbols) = ap (name_at names f.0 ∷◌) (map_names names symbols)
 
--- the name that is read is the one at that place
-pub name_read : (sig : Signature) (f : ℕ) (name : List ℕ) → HasName sig f name → name ≡ name_at (map (λ (e : SymbolEntry). e.name) sig) f
-name_read [] f name h = absurd (cc)
-name_read (e ∷ sig) zero name h = cc
-name_read (e ∷ sig) (suc f) name h = name_read sig f name h
-
 -- each symbol of a precedence is one of the signature
 pub symbols_within : (sig : Signature) (symbols : List Symbol) → IsTrue (is_precedence sig (map (λ (f : Symbol). f.0) symbols)) → All (λ (f : Symbol). f.0 < length sig) symbols
 symbols_within sig symbols h =

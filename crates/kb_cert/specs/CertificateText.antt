@@ -2,17 +2,10 @@
 use Rattle.std.specs.Prelude.{◌≡◌, ℕ, List, [], ◌∷◌, ◌++◌, map, flat_map, length, get_or, Bool, true, false, ◌&&◌, nat_eq, nat_le, nat_lt, codes, decimal, IsTrue}
 use Rattle.std.specs.List.{list_all, join_with_byte}
 use Rattle.kb_term.specs.Signature.{SymbolEntry, Signature}
+pub use Rattle.kb_term.specs.Signature.{names_of, name_at}
 use Rattle.kb_term.specs.Pair.{distinct}
 use Rattle.kb_cert.specs.declared.certificate.Certificate.{Certificate}
 use Rattle.kb_cert.specs.declared.certificate.Certificate.TheVariants.{Lpo, Linear, Kbo}
-
--- the names of the symbols
-abbrev pub names_of : Signature → List (List ℕ)
-names_of signature = map (λ (f : SymbolEntry). f.name) signature
-
--- the name of a symbol by number, of names by number
-abbrev pub name_at : List (List ℕ) → ℕ → List ℕ
-name_at names f = get_or names f []
 
 -- the constant and the coefficients of a symbol
 abbrev pub interp_text : ℕ × List ℕ → List ℕ

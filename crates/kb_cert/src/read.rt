@@ -77,18 +77,6 @@ fn read_number(text: &[u8]) -> Option<u8>
     None
 }
 
-/// The symbol with the name.
-fn symbol_named(sig: &Signature, name: &[u8]) -> Option<Symbol>
-    ensures { MatchOption result ((f : ℕ) → f < length sig.now → ¬ (name_at (names_of sig.now) f ≡ name.now)) (λ f. (f.0 < length sig.now) × (name_at (names_of sig.now) f.0 ≡ name.now)) }
-{
-    for f in 0..sig.count() {
-        if sig.name(Symbol(f as u8)) == name {
-            return Some(Symbol(f as u8));
-        }
-    }
-    None
-}
-
 /// Adds the symbols whose names the text is, so many, each behind a space; false where it is none.
 fn read_symbols(
     sig: &Signature,
@@ -105,7 +93,7 @@ fn read_symbols(
     let Some((field, rest)) = split_field(text, b' ') else {
         return Ok(false);
     };
-    match symbol_named(sig, field) {
+    match sig.symbol_named(field) {
         Some(f) => {
             symbols.push(f)?;
             let found = read_symbols(sig, rest, count - 1, symbols)?;

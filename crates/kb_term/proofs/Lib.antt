@@ -28,3 +28,4 @@ pub mod Subtrees
 pub mod FewArguments
 pub mod Crossing
 pub mod LesserPairs
+pub mod SymbolNames

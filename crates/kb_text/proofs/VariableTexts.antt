@@ -133,9 +133,3 @@ pub in_name_more : (bytes : List ℕ) (i : ℕ) → i < length bytes → ends_na
 in_name_more [] i h e k = absurd (omega arith)
 in_name_more (b ∷ bytes) zero h e k = (e, tt)
 in_name_more (b ∷ bytes) (suc i) h e k = let f : suc i + 1 ≡ suc (i + 1) = omega arith in rw f (k.0, in_name_more bytes i (omega arith) e k.1)
-
--- the name that is read is the one at that place
-pub name_read : (signature : Signature) (f : ℕ) (name : List ℕ) → HasName signature f name → name ≡ symbol_text (names_of signature) f
-name_read [] f name h = absurd (cc)
-name_read (e ∷ signature) zero name h = cc
-name_read (e ∷ signature) (suc f) name h = name_read signature f name h

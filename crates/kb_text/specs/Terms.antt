@@ -4,12 +4,10 @@ use Rattle.std.specs.List.{starts_with, list_all, list_any, range_with_len}
 use Rattle.kb_term.specs.Tree.{Tree, variable, apply, Trees, no_trees, more_trees, variables_of}
 use Rattle.kb_text.specs.Names.{Name}
 use Rattle.kb_text.specs.Lines.{line}
-use Rattle.kb_term.specs.Signature.{SymbolEntry, Signature, Problem, IsTermWithinLimits}
+use Rattle.kb_term.specs.Signature.{SymbolEntry, Signature, Problem, IsTermWithinLimits, name_at}
+pub use Rattle.kb_term.specs.Signature.{names_of}
 use Rattle.kb_term.specs.Pair.{Pair, canonical_pair, variables_of_pair}
 use Rattle.kb_term.specs.declared.limits.TheConstants.{MAX_VARIABLES}
-
-abbrev pub names_of : Signature → List Name
-names_of sig = map (λ (e : SymbolEntry). e.name) sig
 
 -- ---- the prefix of variables
 
@@ -30,7 +28,7 @@ variable_text names n = replicate (prefix_length names) 120 ++ decimal (n + 1)
 -- ---- terms
 
 abbrev pub symbol_text : List Name → ℕ → List ℕ
-symbol_text names f = get_or names f []
+symbol_text names f = name_at names f
 
 -- without blanks; a symbol of arity 0 without parentheses
 abbrev mutual

@@ -76,18 +76,6 @@ fn variable_named(prefix: usize, name: &[u8]) -> Option<u16>
     variable_of_digits(digits)
 }
 
-// The symbol with the name.
-fn symbol_named(signature: &Signature, name: &[u8]) -> Option<Symbol>
-    ensures { MatchOption result ((f : ℕ) → f < length signature.now → ¬ (symbol_text (names_of signature.now) f ≡ name.now)) (λ f. (f.0 < length signature.now) × (symbol_text (names_of signature.now) f.0 ≡ name.now)) }
-{
-    for f in 0..signature.count() {
-        if signature.name(Symbol(f as u8)) == name {
-            return Some(Symbol(f as u8));
-        }
-    }
-    None
-}
-
 fn begins_with(text: &[u8], b: u8) -> bool
     ensures { IsTrue result ↔ (text.now ≡ b ∷ drop 1 text.now) }
 {
@@ -174,7 +162,7 @@ fn read_from(
     if let Some(n) = variable_named(prefix, name) {
         return Ok(Some((Term::Var(n), name.len())));
     }
-    let Some(symbol) = symbol_named(signature, name) else {
+    let Some(symbol) = signature.symbol_named(name) else {
         return Ok(None);
     };
     let arity = signature.arity(symbol) as usize;

@@ -1,7 +1,8 @@
 use Rattle.std.proofs.Common.{arith, sym, ap, ◌∙◌, ◌++◌, ◌∷◌, [], append_assoc, map, take, get_or}
 use Rattle.kb_term.specs.declared.term.Symbol.{Symbol}
 use Rattle.kb_cert.specs.CertificateText.{each_behind}
-use Rattle.kb_cert.proofs.Texts.{each_behind_more, symbol_name, name_read, get_same}
+use Rattle.kb_term.proofs.SymbolNames.{name_read}
+use Rattle.kb_cert.proofs.Texts.{each_behind_more, symbol_name, get_same}
 use Rattle.kb_cert.proofs.text.push_names.Goals as goal
 
 pub loop-f-preserved : goal.loop-f-preserved
