@@ -5,7 +5,7 @@ ghost use Rattle.kb_term.specs.declared.term.Symbol.{Symbol};
 ghost use Rattle.kb_linear.specs.Limits.{interpretation_of};
 ghost use Rattle.kb_kbo.specs.KnuthBendix.{KboOrder};
 ghost use Rattle.kb_cert.specs.declared.certificate.Certificate.{Certificate};
-ghost use Rattle.kb_cert.specs.CertificateText.{CertSpelled, names_of, name_at};
+ghost use Rattle.kb_cert.specs.CertificateText.{CertSpelled};
 ghost use Rattle.kb_cert.specs.Reading.{IsFieldEnd, SpellsNames, SpellsNumbers, IsRowText, SpellsRows, AreDifferent, IsPrecedenceText, AreRows, IsWeightsText, IsOrderText};
 
 use crate::certificate::Certificate;

@@ -3,11 +3,11 @@ ghost use Rattle.std.specs.Prelude.{◌≡◌, ◌≤◌, ◌<◌, ◌+◌, ◌+
 ghost use Rattle.kb_term.specs.Signature.{IsSignature};
 ghost use Rattle.kb_term.specs.Tree.{Tree};
 ghost use Rattle.kb_term.specs.View.{tree_of};
-ghost use Rattle.kb_text.specs.Terms.{TermSpelled, names_of, prefix_length, symbol_text};
+ghost use Rattle.kb_text.specs.Terms.{TermSpelled, names_of, prefix_length};
 ghost use Rattle.kb_text.specs.TermReading.{BeginsWithArguments, BeginsWithNoArguments, BeginsWithNone, BeginsWithTerm, IsInName, IsClosed, IsNameEnd, closing_text, ends_name};
 
 use crate::text::{are_letters, first_free, separator_before};
-use kb_term::{MAX_VARIABLES, Memory, Signature, Symbol, Term, Terms, term_limit};
+use kb_term::{MAX_VARIABLES, Memory, Signature, Term, Terms, term_limit};
 use std::alloc::Global;
 
 /// The greatest depth of a term.
