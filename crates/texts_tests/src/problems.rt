@@ -1,6 +1,8 @@
 use kb_syntax::{Bound, Kind, SyntaxFault, parse_problem, term_text};
-use kb_term::Memory;
+use kb_term::{Memory, Symbol};
+use kb_text::is_word;
 use std::alloc::{AllocError, Global};
+use std::mem::drop;
 use std::test::Fail;
 
 fn side_text(alloc: Global, text: &str) -> Result<Option<Vec<u8>>, Memory> {
@@ -44,6 +46,23 @@ fn a_problem_gives_its_parts_back(rt: HostRuntime) {
         symbols.len() == 2 && symbols[0].0.as_slice() == b"f".as_slice() && symbols[0].1 == 1
     );
     assert!(rt; equations.len() == 1);
+}
+
+#[test]
+fn a_symbol_is_found_by_its_name(rt: HostRuntime) {
+    let Ok(problem) = parse_problem(rt.alloc(), b"(RULES f(a) == a)") else {
+        panic!(&rt; "not read");
+    };
+    let signature = problem.signature();
+    assert_eq!(rt; signature.symbol_named(b"a"), Some(Symbol(1)));
+    assert_eq!(rt; signature.symbol_named(b"g"), None);
+    drop(problem);
+}
+
+#[test]
+fn bytes_are_a_word_or_not(rt: HostRuntime) {
+    assert!(rt; is_word(b"END", b"END"));
+    assert!(rt; !is_word(b"ENDS", b"END"));
 }
 
 // What is read: how many symbols and equations, or the refusal.
