@@ -6,7 +6,7 @@ ghost use Rattle.kb_term.specs.View.{tree_of};
 ghost use Rattle.kb_text.specs.Fields.{IsTextFault};
 ghost use Rattle.kb_text.specs.Terms.{names_of, term_text};
 ghost use Rattle.kb_checker.specs.Answers.{Answer};
-ghost use Rattle.kb_report.specs.Sections.{BeginsWith, BeginsWithLine, IsSectionFault, Items};
+ghost use Rattle.kb_report.specs.Sections.{BeginsWith, IsSectionFault, Items, ReadsLine};
 ghost use Rattle.kb_goals.specs.Simplifying.{IsNumberedTerm, IsTermLine, IsTermsTextOf, IsTermsText};
 
 use crate::front::read_front;
@@ -34,7 +34,7 @@ fn term_of_line(alloc: Global, sig: &Signature, line: &[u8]) -> Result<Option<Te
 // The term on the line that the text begins with, and how many bytes it takes.
 fn next_term(alloc: Global, sig: &Signature, text: &[u8]) -> Result<Option<(Term, usize)>, Memory>
     requires names { IsSignature sig.now }
-    ensures read { IfOk result (λ read. MatchOption read ((t : Tree) (back : List ℕ) → ¬ BeginsWithLine (IsNumberedTerm sig.now) (term_text (names_of sig.now)) text.now t back) (λ p. BeginsWithLine (IsNumberedTerm sig.now) (term_text (names_of sig.now)) text.now (tree_of p.0) (drop p.1 text.now))) }
+    ensures read { IfOk result (ReadsLine tree_of (IsNumberedTerm sig.now) (term_text (names_of sig.now)) text.now) }
     ensures size { IfOk result (λ read. MatchOption read ⊤ (λ p. p.1 ≤ length text.now)) }
 {
     let Some((line, size)) = first_line(text) else {

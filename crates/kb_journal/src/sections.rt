@@ -1,7 +1,7 @@
 // Reading the lines of a journal's text.
 ghost use Rattle.std.specs.Prelude.{◌≡◌, ◌≤◌, ◌<◌, ◌++◌, ◌∷◌, ℕ, IfOk, IfErr, MatchOption, List, drop, length, ⊤};
 ghost use Rattle.kb_text.specs.Fields.{IsWithout};
-ghost use Rattle.kb_report.specs.Sections.{BeginsWith, BeginsWithLine, IsSectionFault};
+ghost use Rattle.kb_report.specs.Sections.{BeginsWith, IsSectionFault, ReadsLine};
 ghost use Rattle.kb_journal.specs.declared.entry_line.EntryLine.{EntryLine as Read};
 ghost use Rattle.kb_journal.specs.EntryLines.{IsEntryLine};
 ghost use Rattle.kb_journal.specs.JournalSections.{Amount, Entries, IsAmountLine, IsEntryText, Selected, entry_body, selection_word};
@@ -128,7 +128,7 @@ fn entry_of(alloc: Global, line: &[u8]) -> Result<Option<EntryLine>, Memory>
 
 // The entry on the line that the text begins with, and how many bytes it takes.
 fn next_entry(alloc: Global, text: &[u8]) -> Result<Option<(EntryLine, usize)>, Memory>
-    ensures read { IfOk result (λ read. MatchOption read ((l : Read) (back : List ℕ) → ¬ BeginsWithLine IsEntryLine entry_body text.now l back) (λ p. BeginsWithLine IsEntryLine entry_body text.now p.0 (drop p.1 text.now))) }
+    ensures read { IfOk result (ReadsLine (λ line. line) IsEntryLine entry_body text.now) }
     ensures size { IfOk result (λ read. MatchOption read ⊤ (λ p. (0 < p.1) × (p.1 ≤ length text.now))) }
 {
     let Some((line, size)) = first_line(text) else {

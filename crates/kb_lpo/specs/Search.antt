@@ -26,6 +26,10 @@ numbers = map (λ (f : Symbol). f.0)
 abbrev pub outside : ℕ → List ℕ → List ℕ
 outside count prefix = filter (λ y. not (list_any (λ z. z == y) prefix)) (range_with_len 0 count)
 
+-- each precedence that goes on with the symbol behind the prefix, which doesn't have it, fits what is known and orients the rules is so
+abbrev pub EachThatGoesOn : Known → List Rule → List ℕ → ℕ → (List ℕ → Type 0) → Type 0
+EachThatGoesOn known rules prefix f P = (rest : List ℕ) → ¬ Contains prefix f → Fits known (prefix ++ f ∷ rest) → LpoOrients (prefix ++ f ∷ rest) rules → P (prefix ++ f ∷ rest)
+
 -- found: the prefix now ends in the first arrangement of the symbols outside that orients the rules; not found: it is as before, and no arrangement does
 abbrev pub IsSearched : List Rule → ℕ → ℕ → List ℕ → List ℕ → Bool → Type 0
 IsSearched rules count left before now true = (rest : List ℕ) × (now ≡ before ++ rest) × IsFirst (λ rest. LpoOrients (before ++ rest) rules) (arrangements left (outside count before)) (Some rest)

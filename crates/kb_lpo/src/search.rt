@@ -5,7 +5,7 @@ ghost use Rattle.kb_lpo.specs.PathOrder.{LpoGreater, IsAbove};
 ghost use Rattle.kb_lpo.specs.Precedences.{precedences};
 ghost use Rattle.kb_term.specs.First.{IsFirst};
 ghost use Rattle.kb_term.specs.declared.term.Symbol.{Symbol};
-ghost use Rattle.kb_lpo.specs.Search.{Fits, IsFloor, IsSearched, IsTried, floor_behind, lowest_of, numbers};
+ghost use Rattle.kb_lpo.specs.Search.{EachThatGoesOn, Fits, IsFloor, IsSearched, IsTried, floor_behind, lowest_of, numbers};
 ghost use Rattle.kb_lpo.specs.Precedences.{IsLowerBound, LpoOrients};
 
 use crate::known::Known;
@@ -171,7 +171,7 @@ fn put_next(known: &mut Known, symbols: &[Symbol], f: Symbol, count: u8) -> bool
 /// Puts `f` behind the listed symbols: false where it is listed, or what the rules need refuses it.
 fn place_next(known: &mut Known, rules: &[Rule], symbols: &[Symbol], f: Symbol, count: u8) -> bool
     ensures unlisted { result ≡ true → ¬ Contains (numbers symbols.now) f.0 }
-    ensures sound { (rest : List ℕ) → ¬ Contains (numbers symbols.now) f.0 → Fits known.old (numbers symbols.now ++ f.0 ∷ rest) → LpoOrients (numbers symbols.now ++ f.0 ∷ rest) rules.now → IsTrue result × Fits known.new (numbers symbols.now ++ f.0 ∷ rest) }
+    ensures sound { EachThatGoesOn known.old rules.now (numbers symbols.now) f.0 (λ prec. IsTrue result × Fits known.new prec) }
 {
     if is_listed(symbols, f) {
         return false;
@@ -209,7 +209,7 @@ fn place_possible(
     count: u8,
 ) -> bool
     ensures unlisted { result ≡ true → ¬ Contains (numbers symbols.now) f.0 }
-    ensures sound { (rest : List ℕ) → ¬ Contains (numbers symbols.now) f.0 → Fits known.old (numbers symbols.now ++ f.0 ∷ rest) → LpoOrients (numbers symbols.now ++ f.0 ∷ rest) rules.now → IsTrue result × Fits known.new (numbers symbols.now ++ f.0 ∷ rest) }
+    ensures sound { EachThatGoesOn known.old rules.now (numbers symbols.now) f.0 (λ prec. IsTrue result × Fits known.new prec) }
 {
     if is_listed(symbols, f) {
         return false;
@@ -249,7 +249,7 @@ impl<'a> Arranging<'a> {
     /// What is known once `f` stands behind the listed symbols: none where it is listed, or the test refuses it.
     fn placed(&self, known: &Known, symbols: &[Symbol], f: Symbol) -> Option<Known>
         ensures unlisted { IfSome result (λ more. ¬ Contains (numbers symbols.now) f.0) }
-        ensures sound { (rest : List ℕ) → ¬ Contains (numbers symbols.now) f.0 → Fits known.now (numbers symbols.now ++ f.0 ∷ rest) → LpoOrients (numbers symbols.now ++ f.0 ∷ rest) self.now.rules.now → IsSomeAnd result (λ more. Fits more (numbers symbols.now ++ f.0 ∷ rest)) }
+        ensures sound { EachThatGoesOn known.now self.now.rules.now (numbers symbols.now) f.0 (λ prec. IsSomeAnd result (λ more. Fits more prec)) }
     {
         let mut more = *known;
         let is_next = match self.test {

@@ -1,5 +1,5 @@
 -- Sections of a text of lines: each begins with a line that fixes it, and one line more is told from the lines before it.
-use Rattle.std.specs.Prelude.{◌≡◌, ℕ, ◌+◌, ◌≤◌, ◌⊎◌, List, [], ◌∷◌, ◌++◌, length, drop, decimal, All, ⊤}
+use Rattle.std.specs.Prelude.{◌≡◌, ℕ, ◌+◌, ◌≤◌, ◌⊎◌, List, [], ◌∷◌, ◌++◌, MatchOption, Option, length, drop, decimal, All, ⊤}
 use Rattle.kb_text.specs.Fields.{IsWithout}
 use Rattle.kb_text.specs.declared.fault.TextFault.{TextFault}
 use Rattle.kb_text.specs.declared.fault.TextFault.TheVariants.{BadText, Memory}
@@ -59,6 +59,12 @@ pub record IsFirstLine (text line rest : List ℕ) : Type 0 where
 pub record BeginsWithLine {X : Type 0} (IsOfForm : X → Type 0) (line : X → List ℕ) (text : List ℕ) (x : X) (rest : List ℕ) : Type 0 where
   pub form : IsOfForm x
   pub parts : text ≡ line x ++ 10 ∷ rest
+
+-- what is read of the text: the value of this form whose line it begins with, and how many bytes that line takes; nothing where it begins with none
+abbrev pub ReadsLine : {X Y : Type 0} → (Y → X) → (X → Type 0) → (X → List ℕ) → List ℕ → Option (Y × ℕ) → Type 0
+ReadsLine {X} value IsOfForm line text read =
+    MatchOption read ((x : X) (rest : List ℕ) → ¬ BeginsWithLine IsOfForm line text x rest)
+    (λ p. BeginsWithLine IsOfForm line text (value p.0) (drop p.1 text))
 
 -- the text is the section of x, which has so many lines, and the rest
 pub record BeginsWith {X : Type 0} (S : Section X) (text : List ℕ) (x : X) (count : ℕ) (rest : List ℕ) : Type 0 where

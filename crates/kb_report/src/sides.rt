@@ -6,7 +6,7 @@ ghost use Rattle.kb_term.specs.Tree.{Tree};
 ghost use Rattle.kb_term.specs.View.{tree_of, equations_of_list};
 ghost use Rattle.kb_text.specs.Terms.{names_of};
 ghost use Rattle.kb_checker.specs.Answers.{IsRuleForm};
-ghost use Rattle.kb_report.specs.Sections.{BeginsWith, BeginsWithLine, IsSectionFault};
+ghost use Rattle.kb_report.specs.Sections.{BeginsWith, IsSectionFault, ReadsLine};
 ghost use Rattle.kb_report.specs.SystemSections.{Equations, Rules, equation_body, rule_body, AreSidesIn, IsEquationLine, IsRuleLine};
 
 use crate::header::first_line;
@@ -127,7 +127,7 @@ fn next_equation(
     text: &[u8],
 ) -> Result<Option<((Term, Term), usize)>, Memory>
     requires names { IsSignature sig.now }
-    ensures read { IfOk result (λ read. MatchOption read ((e : Tree × Tree) (back : List ℕ) → ¬ BeginsWithLine (IsEquationWithinLimits sig.now) (equation_body (names_of sig.now)) text.now e back) (λ p. BeginsWithLine (IsEquationWithinLimits sig.now) (equation_body (names_of sig.now)) text.now (tree_of p.0.0, tree_of p.0.1) (drop p.1 text.now))) }
+    ensures read { IfOk result (ReadsLine (λ e. (tree_of e.0, tree_of e.1)) (IsEquationWithinLimits sig.now) (equation_body (names_of sig.now)) text.now) }
     ensures size { IfOk result (λ read. MatchOption read ⊤ (λ p. p.1 ≤ length text.now)) }
 {
     let Some((line, size)) = first_line(text) else {
@@ -146,7 +146,7 @@ fn next_rule(
     text: &[u8],
 ) -> Result<Option<((Rule, u32), usize)>, Memory>
     requires names { IsSignature sig.now }
-    ensures read { IfOk result (λ read. MatchOption read ((r : Rule × ℕ) (back : List ℕ) → ¬ BeginsWithLine (IsRuleForm sig.now) (rule_body (names_of sig.now)) text.now r back) (λ p. BeginsWithLine (IsRuleForm sig.now) (rule_body (names_of sig.now)) text.now p.0 (drop p.1 text.now))) }
+    ensures read { IfOk result (ReadsLine (λ rule. rule) (IsRuleForm sig.now) (rule_body (names_of sig.now)) text.now) }
     ensures size { IfOk result (λ read. MatchOption read ⊤ (λ p. p.1 ≤ length text.now)) }
 {
     let Some((line, size)) = first_line(text) else {
