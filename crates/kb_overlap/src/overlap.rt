@@ -14,8 +14,8 @@ ghost use Rattle.kb_overlap.specs.View.{overlap_of};
 use crate::instance::instance_extent;
 use crate::positions::positions_for;
 use kb_term::{
-    Limit, Memory, Position, Rule, Subst, Term, TermFault, apart, apply, pair_limit, replace, size,
-    subterm,
+    Limit, MAX_DEPTH, MAX_SIZE, Memory, Position, Rule, Subst, Term, TermFault, apart, apply,
+    pair_limit, replace, size, subterm,
 };
 use kb_unify::{Extent, UnifyFault, unify};
 use std::alloc::Global;
@@ -34,9 +34,9 @@ fn extents_limit(first: Extent, inserted: Extent, rest: u32) -> Option<Limit>
     requires { rest < 2 ^ 31 }
     ensures { result ≡ parts_limit first inserted rest }
 {
-    if first.size > 512 || rest + u32::from(inserted.size) > 512 {
+    if u32::from(first.size) > MAX_SIZE || rest + u32::from(inserted.size) > MAX_SIZE {
         Some(Limit::Size)
-    } else if first.depth > 64 || inserted.depth > 64 {
+    } else if u32::from(first.depth.max(inserted.depth)) > MAX_DEPTH {
         Some(Limit::Depth)
     } else {
         None
@@ -45,9 +45,9 @@ fn extents_limit(first: Extent, inserted: Extent, rest: u32) -> Option<Limit>
 
 /// The size of the term without its subterm at the position.
 fn size_without(t: &Term, position: &Position) -> u32
-    requires { tree_size (tree_of t.now) ≤ 512 }
+    requires { tree_size (tree_of t.now) ≤ MAX_SIZE }
     ensures rest { (u : Tree) → subtree_at (tree_of t.now) position.now ≡ Some u → result + tree_size u ≡ tree_size (tree_of t.now) }
-    ensures small { result ≤ 512 }
+    ensures small { result ≤ MAX_SIZE }
 {
     match subterm(t, position) {
         None => 0,

@@ -5,10 +5,16 @@ ghost use Rattle.kb_unify.specs.Table.{slot_at, IsSlot, IsTable, Solves};
 ghost use Rattle.kb_unify.specs.Extent.{IsArgumentsExtent, IsSlotExtent, IsMeasured, IsMeasuredFurther, IsStuck, IsMeasurement, extent_at, unknown_count};
 
 use crate::table::Slot;
-use kb_term::{Limit, Memory};
+use kb_term::{Limit, MAX_DEPTH, MAX_SIZE, Memory};
 use std::alloc::Global;
 
-/// The size of a term up to 513, and its depth up to 65: just above the limits.
+// The greatest size of a term.
+const SIZE: u16 = MAX_SIZE as u16;
+
+// The greatest depth of a term.
+const DEPTH: u16 = MAX_DEPTH as u16;
+
+/// The size and the depth of a term, each up to just above its limit.
 #[derive(Clone, Copy, Debug, PartialEq, Eq)]
 pub struct Extent {
     pub size: u16,
@@ -38,23 +44,23 @@ impl Extent {
 
     /// The extent of these terms and another one.
     pub fn with(self, term: Extent) -> Extent
-        ensures size { result.size ≡ min (term.size + self.size) 513 }
+        ensures size { result.size ≡ min (term.size + self.size) (MAX_SIZE + 1) }
         ensures depth { result.depth ≡ max term.depth self.depth }
     {
         Extent {
-            size: term.size.saturating_add(self.size).min(513),
+            size: term.size.saturating_add(self.size).min(SIZE + 1),
             depth: term.depth.max(self.depth),
         }
     }
 
     /// The extent of a symbol applied to these terms.
     pub fn applied(self) -> Extent
-        ensures size { result.size ≡ min (self.size + 1) 513 }
-        ensures depth { result.depth ≡ min (self.depth + 1) 65 }
+        ensures size { result.size ≡ min (self.size + 1) (MAX_SIZE + 1) }
+        ensures depth { result.depth ≡ min (self.depth + 1) (MAX_DEPTH + 1) }
     {
         Extent {
-            size: self.size.saturating_add(1).min(513),
-            depth: self.depth.saturating_add(1).min(65),
+            size: self.size.saturating_add(1).min(SIZE + 1),
+            depth: self.depth.saturating_add(1).min(DEPTH + 1),
         }
     }
 
@@ -62,9 +68,9 @@ impl Extent {
     pub fn limit(self) -> Option<Limit>
         ensures { result ≡ extent_limit self }
     {
-        if self.size > 512 {
+        if self.size > SIZE {
             Some(Limit::Size)
-        } else if self.depth > 64 {
+        } else if self.depth > DEPTH {
             Some(Limit::Depth)
         } else {
             None

@@ -6,8 +6,8 @@ ghost use Rattle.kb_unify.specs.Extent.{IsSolution};
 ghost use Rattle.kb_unify.specs.Reading.{IsLimitPassed, IsReadable, ListsBelow, ListsBound, depth_at};
 
 use crate::extent::Extent;
-use crate::table::Slot;
-use kb_term::{Limit, Memory, Subst, Term, Terms};
+use crate::table::{Slot, VARIABLES};
+use kb_term::{Limit, MAX_DEPTH, MAX_SIZE, Memory, Subst, Term, Terms};
 use std::alloc::Global;
 
 /// The limit that the term of a variable passes.
@@ -15,13 +15,13 @@ pub fn limit_passed(extents: &[Extent]) -> Option<Limit>
     requires { 128 ≤ length extents.now }
     ensures { IsLimitPassed extents.now result }
 {
-    for i in 0..128 {
-        if extents[i].size > 512 {
+    for i in 0..VARIABLES {
+        if u32::from(extents[i].size) > MAX_SIZE {
             return Some(Limit::Size);
         }
     }
-    for j in 0..128 {
-        if extents[j].depth > 64 {
+    for j in 0..VARIABLES {
+        if u32::from(extents[j].depth) > MAX_DEPTH {
             return Some(Limit::Depth);
         }
     }
@@ -61,7 +61,7 @@ pub fn read_off(alloc: Global, slots: &[Slot], extents: &[Extent]) -> Result<Sub
     ensures variables { IfOk result (λ m. ListsBound slots.now m) }
 {
     let mut entries = Vec::new(alloc);
-    for n in 0..128 {
+    for n in 0..VARIABLES {
         match slots[n] {
             Slot::Free => {}
             Slot::Link(_) | Slot::Node(_, _, _) => {

@@ -7,6 +7,9 @@ ghost use Rattle.kb_unify.specs.Table.{slot_at, IsTable, IsRoot, Solves, Equates
 
 use kb_term::{Memory, Symbol, Term};
 
+// The variables of two terms: 64 of either side.
+pub const VARIABLES: usize = 128;
+
 /// What is known of a place: nothing, that it is a symbol applied to consecutive places, or that it is a lower place.
 #[derive(Clone, Copy, Debug, PartialEq, Eq)]
 pub enum Slot {

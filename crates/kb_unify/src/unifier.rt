@@ -12,7 +12,7 @@ use crate::clashing::clashes;
 use crate::extent::measure;
 use crate::fault::UnifyFault;
 use crate::reading::{limit_passed, read_off};
-use crate::table::{Slot, close, flatten};
+use crate::table::{Slot, VARIABLES, close, flatten};
 use kb_term::{Limit, Memory, Subst, Term};
 use std::alloc::Global;
 
@@ -34,9 +34,9 @@ pub fn table_of(alloc: Global, a: &Term, b: &Term) -> Result<Vec<Slot>, Memory>
     ensures { IfOk result (λ v. IsTableOf (tree_of a.now) (tree_of b.now) v.items) }
 {
     let mut slots = Vec::with_capacity(alloc, ROOM)?;
-    slots.resize(130, Slot::Free)?;
-    flatten(a, 128, &mut slots)?;
-    flatten(b, 129, &mut slots)?;
+    slots.resize(VARIABLES + 2, Slot::Free)?;
+    flatten(a, VARIABLES, &mut slots)?;
+    flatten(b, VARIABLES + 1, &mut slots)?;
     Ok(slots)
 }
 
@@ -48,7 +48,7 @@ pub fn close_table(alloc: Global, slots: &mut Vec<Slot>) -> Result<bool, Memory>
     ensures clash { result ≡ Ok false → (v : ℕ → Tree) → Solves v slots.old.items → ¬ Equates v ((128, 129) ∷ []) }
 {
     let mut pairs = Vec::new(alloc);
-    pairs.push((128, 129))?;
+    pairs.push((VARIABLES, VARIABLES + 1))?;
     close(slots, &mut pairs)
 }
 
