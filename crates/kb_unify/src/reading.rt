@@ -10,17 +10,17 @@ use crate::table::{Slot, VARIABLES};
 use kb_term::{Limit, MAX_DEPTH, MAX_SIZE, Memory, Subst, Term, Terms};
 use std::alloc::Global;
 
-/// The limit that the term of a variable passes.
-pub fn limit_passed(extents: &[Extent]) -> Option<Limit>
-    requires { 128 ≤ length extents.now }
-    ensures { IsLimitPassed extents.now result }
+/// The limit that the term of one of so many variables passes.
+pub fn limit_passed(variables: usize, extents: &[Extent]) -> Option<Limit>
+    requires { variables ≤ length extents.now }
+    ensures { IsLimitPassed variables extents.now result }
 {
-    for i in 0..VARIABLES {
+    for i in 0..variables {
         if u32::from(extents[i].size) > MAX_SIZE {
             return Some(Limit::Size);
         }
     }
-    for j in 0..VARIABLES {
+    for j in 0..variables {
         if u32::from(extents[j].depth) > MAX_DEPTH {
             return Some(Limit::Depth);
         }
@@ -37,7 +37,7 @@ pub fn build(
 ) -> Result<Term, Memory>
     requires readable { IsReadable slots.now extents.now }
     requires inside { place < length slots.now }
-    requires shallow { depth_at extents.now place ≤ 64 }
+    requires shallow { depth_at extents.now place ≤ MAX_DEPTH }
     ensures { IfOk result (λ t. (w : ℕ → Tree) → IsSolution slots.now extents.now w → tree_of t ≡ w place) }
 {
     match slots[place] {
@@ -53,15 +53,22 @@ pub fn build(
     }
 }
 
-/// The terms of all variables that get one.
-pub fn read_off(alloc: Global, slots: &[Slot], extents: &[Extent]) -> Result<Subst, Memory>
+/// The terms of those of so many variables that get one.
+pub fn read_off(
+    alloc: Global,
+    variables: usize,
+    slots: &[Slot],
+    extents: &[Extent],
+) -> Result<Subst, Memory>
+    requires few { variables ≤ VARIABLES }
+    requires long { variables ≤ length slots.now }
     requires readable { IsReadable slots.now extents.now }
-    requires shallow { (i : ℕ) → i < 128 → depth_at extents.now i ≤ 64 }
-    ensures terms { IfOk result (λ m. (w : ℕ → Tree) → IsSolution slots.now extents.now w → ListsBelow 128 w m) }
-    ensures variables { IfOk result (λ m. ListsBound slots.now m) }
+    requires shallow { (i : ℕ) → i < variables → depth_at extents.now i ≤ MAX_DEPTH }
+    ensures terms { IfOk result (λ m. (w : ℕ → Tree) → IsSolution slots.now extents.now w → ListsBelow variables w m) }
+    ensures variables { IfOk result (λ m. ListsBound variables slots.now m) }
 {
     let mut entries = Vec::new(alloc);
-    for n in 0..VARIABLES {
+    for n in 0..variables {
         match slots[n] {
             Slot::Free => {}
             Slot::Link(_) | Slot::Node(_, _, _) => {
