@@ -13,9 +13,10 @@ ghost use Rattle.kb_overlap.specs.View.{overlap_of};
 
 use crate::instance::instance_extent;
 use crate::positions::positions_for;
+use crate::renaming::apart_from;
 use kb_term::{
-    Limit, MAX_DEPTH, MAX_SIZE, Memory, Position, Rule, Subst, Term, TermFault, apart, apply,
-    pair_limit, replace, size, subterm,
+    Limit, MAX_DEPTH, MAX_SIZE, Memory, Position, Rule, Subst, Term, TermFault, apply, pair_limit,
+    replace, size, subterm,
 };
 use kb_unify::{Extent, UnifyFault, unify};
 use std::alloc::Global;
@@ -132,7 +133,7 @@ pub fn overlaps(
     requires arguments { HasFewArguments outer.now.left }
     ensures { IfOk result (λ os. IsOverlapList outer.now inner.now same (map overlap_of os.items)) }
 {
-    let renamed = apart(alloc, inner)?;
+    let renamed = apart_from(alloc, outer, inner)?;
     let positions = positions_for(alloc, outer, same)?;
     let mut found = Vec::new(alloc);
     for position in &positions {
