@@ -15,8 +15,8 @@ use crate::instance::instance_extent;
 use crate::positions::positions_for;
 use crate::renaming::apart_from;
 use kb_term::{
-    Limit, MAX_DEPTH, MAX_SIZE, Memory, Position, Rule, Subst, Term, TermFault, apply, pair_limit,
-    replace, size, subterm,
+    Limit, MAX_DEPTH, MAX_SIZE, Memory, Position, Rule, Subst, Term, TermFault, apply, instance_of,
+    pair_limit, replace, size, subterm,
 };
 use kb_unify::{Extent, UnifyFault, unify};
 use std::alloc::Global;
@@ -77,8 +77,8 @@ fn critical_pair(
     if let Some(limit) = extents_limit(extent, inside, rest) {
         return Err(TermFault::Large(limit));
     }
-    let first = apply(alloc, m, outer.right())?;
-    let inserted = apply(alloc, m, renamed.right())?;
+    let first = instance_of(alloc, m, outer.right())?;
+    let inserted = instance_of(alloc, m, renamed.right())?;
     let second = replace(alloc, &peak, position, &inserted)?;
     match pair_limit(&first, &second) {
         Some(limit) => Err(TermFault::Large(limit)),
