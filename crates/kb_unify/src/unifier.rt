@@ -76,9 +76,9 @@ pub fn solve(alloc: Global, a: &Term, b: &Term) -> Result<Unified, Memory>
     }
     match measure(alloc, &slots)? {
         None => Ok(Unified::Clash),
-        Some(extents) => match limit_passed(variables, &extents) {
+        Some(known) => match limit_passed(variables, &known) {
             Some(limit) => Ok(Unified::Above(limit)),
-            None => Ok(Unified::Unifier(read_off(alloc, variables, &slots, &extents)?)),
+            None => Ok(Unified::Unifier(read_off(alloc, variables, &slots, &known)?)),
         },
     }
 }
