@@ -9,7 +9,7 @@ use Rattle.kb_term.specs.Tree.{Tree, variable, variables_of, tree_size, tree_dep
 use Rattle.kb_term.specs.Substitution.{instance, rename}
 use Rattle.kb_term.specs.Position.{subtree_at, replace_at, function_positions_of}
 use Rattle.kb_term.specs.Pair.{is_too_large, is_too_deep, first_limit, limit_if, term_limit, pair_limit}
-use Rattle.kb_term.specs.Rule.{Rule, apart}
+use Rattle.kb_term.specs.Rule.{Rule, apart, rename_rule}
 use Rattle.kb_term.specs.declared.limit.Limit.{Limit}
 use Rattle.kb_term.specs.declared.limit.Limit.TheVariants.{Size, Depth}
 use Rattle.kb_unify.specs.Unifier.{IsUnifier, IsUnifiable, IsMostGeneralUnifier}
@@ -26,27 +26,30 @@ use Rattle.kb_term.proofs.Variants.{rename-rename, rename_same, variables_rename
 use Rattle.kb_term.proofs.Subtrees.{subtree-instance, replace-there, subtree_variables}
 use Rattle.kb_overlap.proofs.Uniqueness.{variables_of_rule, shift, shifted_unifies}
 
-renamed_back : (t : Tree) → rename (λ n. n - 64) (rename (λ n. n + 64) t) ≡ t
-renamed_back t = rename-rename (λ n. n - 64) (λ n. n + 64) t ∙ rename_same (λ n. n + 64 - 64) t (λ x c. omega arith)
+renamed_back : (by : ℕ) (t : Tree) → rename (λ n. n - by) (rename (λ n. n + by) t) ≡ t
+renamed_back by t = rename-rename (λ n. n - by) (λ n. n + by) t ∙ rename_same (λ n. n + by - by) t (λ x c. omega arith)
 
-renamed_above : (t : Tree) (n : ℕ) → Contains (variables_of (rename (λ n. n + 64) t)) n → 64 ≤ n
-renamed_above t n c =
-    let h = contains_mapped (λ x. x + 64) (variables_of t) n (subst (λ xs. Contains xs n) (variables_renamed (λ x. x + 64) t) c) in
-    let e : h.0 + 64 ≡ n = h.2 in
+renamed_above : (by : ℕ) (t : Tree) (n : ℕ) → Contains (variables_of (rename (λ n. n + by) t)) n → by ≤ n
+renamed_above by t n c =
+    let h = contains_mapped (λ x. x + by) (variables_of t) n (subst (λ xs. Contains xs n) (variables_renamed (λ x. x + by) t) c) in
+    let e : h.0 + by ≡ n = h.2 in
     omega (arith, e)
 
 below_rule : (A : Rule) (bound : ℕ) → AreVariablesBelow bound A → (n : ℕ) → Contains (variables_of_rule A) n → n < bound
 below_rule A bound below n c = elim (Contains-append_cases (variables_of A.left) (variables_of A.right) n c) [ inl l ↦ below.0 n l | inr r ↦ below.1 n r ]
 
--- a rule whose variables are below 64 is apart from the other one with 64 added to its variables
-pub apart_is : (A B : Rule) → AreVariablesBelow 64 A → IsRenamedApart A B (apart B)
-apart_is A B below = record {
-  variant = ((λ n. n + 64), (λ n. n - 64), record { there = refl; back_again = renamed_back B.left }, record { there = refl; back_again = renamed_back B.right });
-  apart = λ n c d. elim (Contains-append_cases (variables_of (rename (λ n. n + 64) B.left)) (variables_of (rename (λ n. n + 64) B.right)) n d) [
-    | inl l ↦ omega (arith, below_rule A 64 below n c, renamed_above B.left n l)
-    | inr r ↦ omega (arith, below_rule A 64 below n c, renamed_above B.right n r)
+-- a rule whose variables are below a number is apart from the other one with the number added to its variables
+pub apart_by : (by : ℕ) (A B : Rule) → AreVariablesBelow by A → IsRenamedApart A B (rename_rule (λ n. n + by) B)
+apart_by by A B below = record {
+  variant = ((λ n. n + by), (λ n. n - by), record { there = refl; back_again = renamed_back by B.left }, record { there = refl; back_again = renamed_back by B.right });
+  apart = λ n c d. elim (Contains-append_cases (variables_of (rename (λ n. n + by) B.left)) (variables_of (rename (λ n. n + by) B.right)) n d) [
+    | inl l ↦ omega (arith, below_rule A by below n c, renamed_above by B.left n l)
+    | inr r ↦ omega (arith, below_rule A by below n c, renamed_above by B.right n r)
   ];
 }
+
+pub apart_is : (A B : Rule) → AreVariablesBelow 64 A → IsRenamedApart A B (apart B)
+apart_is A B below = apart_by 64 A B below
 
 -- where one variant has no unifier none has
 pub none_there : (A B R : Rule) → IsRenamedApart A B R → (p : List ℕ) (u : Tree) → subtree_at A.left p ≡ Some u → ¬ IsUnifiable u R.left → HasNoOverlapAt A B p
@@ -179,11 +182,14 @@ below_subterm A bound below p u at n c = below.0 n (subtree_variables p A.left u
 pub below_more : (A : Rule) → AreVariablesBelow 64 A → AreVariablesBelow 128 A
 below_more A below = ((λ n c. omega (arith, below.0 n c)), (λ n c. omega (arith, below.1 n c)))
 
-pub below_apart : (A : Rule) → AreVariablesBelow 64 A → AreVariablesBelow 128 (apart A)
-below_apart A below = (renamed_below A.left below.0, renamed_below A.right below.1)
+pub below_apart_by : (by : ℕ) (A : Rule) → by ≤ 64 → AreVariablesBelow 64 A → AreVariablesBelow 128 (rename_rule (λ n. n + by) A)
+below_apart_by by A few below = (renamed_below A.left below.0, renamed_below A.right below.1)
   where
-    renamed_below : (t : Tree) → ((x : ℕ) → Contains (variables_of t) x → x < 64) → (n : ℕ) → Contains (variables_of (rename (λ n. n + 64) t)) n → n < 128
+    renamed_below : (t : Tree) → ((x : ℕ) → Contains (variables_of t) x → x < 64) → (n : ℕ) → Contains (variables_of (rename (λ n. n + by) t)) n → n < 128
     renamed_below t h n c =
-        let m = contains_mapped (λ x. x + 64) (variables_of t) n (subst (λ xs. Contains xs n) (variables_renamed (λ x. x + 64) t) c) in
-        let e : m.0 + 64 ≡ n = m.2 in
-        omega (arith, e, h m.0 m.1)
+        let m = contains_mapped (λ x. x + by) (variables_of t) n (subst (λ xs. Contains xs n) (variables_renamed (λ x. x + by) t) c) in
+        let e : m.0 + by ≡ n = m.2 in
+        omega (arith, e, few, h m.0 m.1)
+
+pub below_apart : (A : Rule) → AreVariablesBelow 64 A → AreVariablesBelow 128 (apart A)
+below_apart A below = below_apart_by 64 A (omega arith) below

@@ -1,15 +1,18 @@
 -- The limit that the two sides of an overlap pass, from sizes and depths of their parts.
 use Rattle.std.proofs.Common.{ℕ, zero, suc, ◌+◌, ◌≤◌, ◌≡◌, refl, sym, ap, ap₂, ◌∙◌, arith, List, [], ◌∷◌, Option, Some, None, option_map, option_and_then, Bool, true, false}
-use Rattle.std.specs.Prelude.{min, nat_lt, ◌||◌}
+use Rattle.std.specs.Prelude.{min, nat_lt, ◌||◌, IsSome}
 use Rattle.std.proofs.lemmas.Option.{same_Some}
 use Rattle.kb_term.specs.Tree.{Tree, Trees, variable, apply, no_trees, more_trees, tree_size, trees_size, tree_depth, trees_depth}
 use Rattle.kb_term.specs.Position.{argument, with_argument, subtree_at, replace_at}
-use Rattle.kb_term.specs.Pair.{first_limit, limit_if, pair_limit}
+use Rattle.kb_term.specs.Pair.{first_limit, limit_if, is_too_large, term_limit, pair_limit}
+use Rattle.kb_term.specs.Rule.{Rule}
+use Rattle.kb_term.specs.Substitution.{instance}
+use Rattle.kb_term.proofs.Subtrees.{subtree-instance, replace-instance, replace-there, some_value}
 use Rattle.kb_term.specs.declared.limit.Limit.{Limit}
 use Rattle.kb_term.specs.declared.limit.Limit.TheVariants.{Size, Depth}
-use Rattle.kb_unify.specs.Extent.{IsExtent}
+use Rattle.kb_unify.specs.Extent.{IsExtent, extent_limit}
 use Rattle.kb_unify.specs.declared.extent.Extent.{Extent}
-use Rattle.kb_overlap.specs.Found.{parts_limit}
+use Rattle.kb_overlap.specs.Found.{parts_limit, IsPeakLimit}
 
 size-with_argument : (ts : Trees) (i : ℕ) (a x : Tree) → argument ts i ≡ Some a → trees_size (with_argument ts i x) + tree_size a ≡ trees_size ts + tree_size x
 size-with_argument no_trees zero a x e = absurd (cc)
@@ -95,6 +98,10 @@ or_right false b c h e = h e
 deeper : (m n : ℕ) → m ≤ n → nat_lt 64 m ≡ true → nat_lt 64 n ≡ true
 deeper m n h e = grind arith
 
+none_large : (x y : Bool) → first_limit (limit_if x Size ∷ limit_if y Depth ∷ []) ≡ None → x ≡ false
+none_large true y e = absurd (cc)
+none_large false y e = refl
+
 -- the pair of s and of a peak with v at a position, whose rest has a size
 module _ (first inserted : Extent) (rest : ℕ) (p : List ℕ) (s v peak u w : Tree) (s_is : IsExtent first s) (v_is : IsExtent inserted v) (rest_is : rest + tree_size u ≡ tree_size peak) (there : subtree_at peak p ≡ Some u) (made : replace_at peak p v ≡ Some w) where
   size_is : rest + tree_size v ≡ tree_size w
@@ -116,3 +123,30 @@ module _ (first inserted : Extent) (rest : ℕ) (p : List ℕ) (s v peak u w : T
           let q : Some Depth ≡ Some limit = sym (ap₂ (λ z y. first_limit (limit_if z Size ∷ limit_if y Depth ∷ [])) a b) ∙ e in
           pair_limit-depth s w a (or_right (nat_lt 64 (tree_depth s)) (nat_lt 64 (tree_depth v)) (nat_lt 64 (tree_depth w)) (deeper (tree_depth v) (tree_depth w) (depth-replace p peak v w made)) b) ∙ q
       go false false a b e = let q : None ≡ Some limit = sym (ap₂ (λ z y. first_limit (limit_if z Size ∷ limit_if y Depth ∷ [])) a b) ∙ e in absurd (cc)
+
+  -- where the parts pass none, no side is too large
+  pub parts_small : parts_limit first inserted rest ≡ None → (is_too_large s || is_too_large w) ≡ false
+  parts_small e = sym large_is ∙ none_large (nat_lt 512 first.size || nat_lt 512 (rest + inserted.size)) (nat_lt 64 first.depth || nat_lt 64 inserted.depth) e
+
+-- what is found of the peak and the parts of the pair
+pub peak_answer : (outer renamed : Rule) (p : List ℕ) (m : ℕ → Tree) (u : Tree) → subtree_at outer.left p ≡ Some u → (first inserted : Extent) (rest : ℕ) → term_limit (instance m outer.left) ≡ None → IsExtent first (instance m outer.right) → IsExtent inserted (instance m renamed.right)
+    → rest + tree_size (instance m u) ≡ tree_size (instance m outer.left) → (o : Option Limit) → o ≡ parts_limit first inserted rest → IsPeakLimit outer renamed p m o
+peak_answer outer renamed p m u at first inserted rest none first_is inserted_is rest_is None e = (
+  none,
+  λ t made. parts_small first inserted rest p (instance m outer.right) (instance m renamed.right) (instance m outer.left) (instance m u) t first_is inserted_is rest_is (subtree-instance m p outer.left u at) made (sym e),
+)
+peak_answer outer renamed p m u at first inserted rest none first_is inserted_is rest_is (Some limit) e = λ t made.
+    ap (λ l. first_limit (l ∷ pair_limit (instance m outer.right) t ∷ [])) none
+    ∙ ap (λ l. first_limit (l ∷ [])) (parts_passed first inserted rest p (instance m outer.right) (instance m renamed.right) (instance m outer.left) (instance m u) t first_is inserted_is rest_is (subtree-instance m p outer.left u at) made limit (sym e))
+
+-- the limit by the extent of a term is that of the term
+pub extent_passed : (e : Extent) (t : Tree) → IsExtent e t → extent_limit e ≡ term_limit t
+extent_passed e t is = ap₂ (λ x y. first_limit (limit_if x Size ∷ limit_if y Depth ∷ [])) (cap-size (tree_size t) e.size is.size) (cap-depth (tree_depth t) e.depth is.depth)
+
+-- the second side is the instance of the outer left side with the inner right side put in
+pub second_is : (outer renamed : Rule) (p : List ℕ) (m : ℕ → Tree) → IsSome (subtree_at outer.left p) → (s : Tree) → ((v : Tree) → replace_at outer.left p renamed.right ≡ Some v → s ≡ instance m v)
+    → (t : Tree) → replace_at (instance m outer.left) p (instance m renamed.right) ≡ Some t → s ≡ t
+second_is outer renamed p m there s made t e =
+    let redex = some_value (subtree_at outer.left p) there in
+    let w = replace-there p outer.left redex.0 renamed.right redex.1 in
+    made w.0 w.1 ∙ same_Some (instance m w.0) t (sym (replace-instance m p outer.left renamed.right w.0 w.1) ∙ e)

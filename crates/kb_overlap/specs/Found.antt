@@ -1,8 +1,8 @@
 -- What is found at one position.
-use Rattle.std.specs.Prelude.{ℕ, ◌+◌, ◌≡◌, ◌||◌, nat_lt, List, [], ◌∷◌, Option, Some, None, Result, Ok, Err, ⊤}
+use Rattle.std.specs.Prelude.{ℕ, ◌+◌, ◌≡◌, ◌||◌, false, nat_lt, List, [], ◌∷◌, Option, Some, None, Result, Ok, Err, ⊤}
 use Rattle.kb_term.specs.Tree.{Tree, HasVariablesBelow}
-use Rattle.kb_term.specs.Position.{subtree_at}
-use Rattle.kb_term.specs.Pair.{first_limit, limit_if, term_limit, pair_limit}
+use Rattle.kb_term.specs.Position.{subtree_at, replace_at}
+use Rattle.kb_term.specs.Pair.{first_limit, limit_if, is_too_large, term_limit, pair_limit}
 use Rattle.kb_term.specs.Rule.{Rule}
 use Rattle.kb_term.specs.declared.limit.Limit.{Limit}
 use Rattle.kb_term.specs.declared.limit.Limit.TheVariants.{Size, Depth}
@@ -23,6 +23,12 @@ parts_limit first inserted rest =
 -- the limit that the peak passes, else the pair of the outer right side and t
 abbrev pub built_limit : Rule → (ℕ → Tree) → Tree → Option Limit
 built_limit outer m t = first_limit (term_limit (instance m outer.left) ∷ pair_limit (instance m outer.right) t ∷ [])
+
+-- the limit that the peak or the pair passes, found before the pair is built: where there is none, the peak passes none and no side is too large
+abbrev pub IsPeakLimit : Rule → Rule → List ℕ → (ℕ → Tree) → Option Limit → Type 0
+IsPeakLimit outer renamed p m None =
+    (term_limit (instance m outer.left) ≡ None) × ((t : Tree) → replace_at (instance m outer.left) p (instance m renamed.right) ≡ Some t → (is_too_large (instance m outer.right) || is_too_large t) ≡ false)
+IsPeakLimit outer renamed p m (Some limit) = (t : Tree) → replace_at (instance m outer.left) p (instance m renamed.right) ≡ Some t → built_limit outer m t ≡ Some limit
 
 -- the two terms where no limit is passed, else the limit
 abbrev pub IsPairAnswer : Option Limit → Tree → Tree → Result (Term × Term) TermFault → Type 0

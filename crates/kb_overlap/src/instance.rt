@@ -1,14 +1,16 @@
-// The sizes and depths of instances, before any of them is built.
-ghost use Rattle.std.specs.Prelude.{ℕ, ◌≡◌, ◌≤◌};
-ghost use Rattle.kb_term.specs.Tree.{tree_size, tree_depth};
+// Instances: their sizes and depths, before any of them is built, and one with another term put in.
+ghost use Rattle.std.specs.Prelude.{ℕ, ◌≡◌, ◌≤◌, Some, IfOk};
+ghost use Rattle.kb_term.specs.Tree.{Tree, tree_size, tree_depth};
+ghost use Rattle.kb_term.specs.Position.{replace_at};
 ghost use Rattle.kb_term.specs.Substitution.{instance};
 ghost use Rattle.kb_term.specs.View.{tree_of};
 ghost use Rattle.kb_unify.specs.Extent.{IsExtent};
 ghost use Rattle.kb_term.specs.Substitution.{substitution_of};
 ghost use Rattle.kb_overlap.specs.Instance.{IsSmall};
 
-use kb_term::{Subst, Term, depth, size};
+use kb_term::{Memory, Subst, Term, Terms, depth, instance_of, size};
 use kb_unify::Extent;
+use std::alloc::Global;
 
 /// The extent of what the variable gets.
 fn variable_extent(m: &Subst, n: u16) -> Extent
@@ -39,5 +41,36 @@ pub(crate) fn instance_extent(m: &Subst, t: &Term) -> Extent
             }
             together.applied()
         }
+    }
+}
+
+/// The instance of the term with `inner` at the position of these steps.
+pub(crate) fn instance_with(
+    alloc: Global,
+    m: &Subst,
+    t: &Term,
+    steps: &[u8],
+    inner: &Term,
+) -> Result<Term, Memory>
+    ensures { IfOk result (λ u. (v : Tree) → replace_at (tree_of t.now) steps.now (tree_of inner.now) ≡ Some v → tree_of u ≡ instance (substitution_of m.now) v) }
+{
+    match steps {
+        [] => instance_of(alloc, m, inner),
+        [step, rest @ ..] => match t {
+            Term::Var(n) => Ok(Term::Var(*n)),
+            Term::App(f, arguments) => {
+                let parts = arguments.items();
+                let mut items = Vec::with_capacity(alloc, parts.len())?;
+                for (i, argument) in parts.iter().enumerate() {
+                    let item = if i + 1 == *step as usize {
+                        instance_with(alloc, m, argument, rest, inner)?
+                    } else {
+                        instance_of(alloc, m, argument)?
+                    };
+                    items.push(item)?;
+                }
+                Ok(Term::App(*f, Terms::new(items)))
+            }
+        },
     }
 }

@@ -6,6 +6,7 @@ mod instance;
 mod overlap;
 mod pair_side;
 mod positions;
+mod renaming;
 
 pub use alike::overlaps_alike;
 pub use overlap::{Overlap, overlap_at, overlaps};

@@ -5,17 +5,19 @@ ghost use Rattle.kb_term.specs.View.{tree_of};
 ghost use Rattle.kb_term.specs.Position.{replace_at, subtree_at, function_positions_of};
 ghost use Rattle.kb_term.specs.Substitution.{instance};
 ghost use Rattle.kb_term.specs.Substitution.{substitution_of};
+ghost use Rattle.kb_unify.specs.Extent.{IsExtent};
 ghost use Rattle.kb_overlap.specs.Instance.{IsSmall};
 ghost use Rattle.kb_overlap.specs.Overlap.{IsOverlapList};
-ghost use Rattle.kb_overlap.specs.Found.{parts_limit, built_limit, IsPairAnswer, IsFoundAt, AreVariablesBelow};
+ghost use Rattle.kb_overlap.specs.Found.{parts_limit, built_limit, IsPairAnswer, IsPeakLimit, IsFoundAt, AreVariablesBelow};
 ghost use Rattle.kb_term.specs.FewArguments.{HasFewArguments};
 ghost use Rattle.kb_overlap.specs.View.{overlap_of};
 
-use crate::instance::instance_extent;
+use crate::instance::{instance_extent, instance_with};
 use crate::positions::positions_for;
+use crate::renaming::apart_from;
 use kb_term::{
-    Limit, Memory, Position, Rule, Subst, Term, TermFault, apart, apply, pair_limit, replace, size,
-    subterm,
+    Limit, MAX_DEPTH, MAX_SIZE, Memory, Position, Rule, Subst, Term, TermFault, instance_of,
+    pair_limit, subterm,
 };
 use kb_unify::{Extent, UnifyFault, unify};
 use std::alloc::Global;
@@ -34,30 +36,49 @@ fn extents_limit(first: Extent, inserted: Extent, rest: u32) -> Option<Limit>
     requires { rest < 2 ^ 31 }
     ensures { result ≡ parts_limit first inserted rest }
 {
-    if first.size > 512 || rest + u32::from(inserted.size) > 512 {
+    if u32::from(first.size) > MAX_SIZE || rest + u32::from(inserted.size) > MAX_SIZE {
         Some(Limit::Size)
-    } else if first.depth > 64 || inserted.depth > 64 {
+    } else if u32::from(first.depth.max(inserted.depth)) > MAX_DEPTH {
         Some(Limit::Depth)
     } else {
         None
     }
 }
 
-/// The size of the term without its subterm at the position.
-fn size_without(t: &Term, position: &Position) -> u32
-    requires { tree_size (tree_of t.now) ≤ 512 }
-    ensures rest { (u : Tree) → subtree_at (tree_of t.now) position.now ≡ Some u → result + tree_size u ≡ tree_size (tree_of t.now) }
-    ensures small { result ≤ 512 }
+/// The size of the term's instance, which has the given extent, without that of the subterm at the position.
+fn size_without(m: &Subst, whole: Extent, t: &Term, position: &Position) -> u32
+    requires small { IsSmall (substitution_of m.now) }
+    requires whole { IsExtent whole (instance (substitution_of m.now) (tree_of t.now)) }
+    requires within { whole.size ≤ MAX_SIZE }
+    ensures rest { (u : Tree) → subtree_at (tree_of t.now) position.now ≡ Some u → result + tree_size (instance (substitution_of m.now) u) ≡ tree_size (instance (substitution_of m.now) (tree_of t.now)) }
+    ensures small { result ≤ MAX_SIZE }
 {
     match subterm(t, position) {
         None => 0,
-        Some(u) => size(t) - size(u),
+        Some(u) => u32::from(whole.size - instance_extent(m, u).size),
     }
+}
+
+/// The limit that the peak or the pair that the unifier makes passes by the sizes and depths of its parts, before any term
+/// is built.
+fn peak_limit(outer: &Rule, renamed: &Rule, position: &Position, m: &Subst) -> Option<Limit>
+    requires small { IsSmall (substitution_of m.now) }
+    requires there { IsSome (subtree_at outer.now.left position.now) }
+    ensures { IsPeakLimit outer.now renamed.now position.now (substitution_of m.now) result }
+{
+    let peak = instance_extent(m, outer.left());
+    if let Some(limit) = peak.limit() {
+        return Some(limit);
+    }
+    let first = instance_extent(m, outer.right());
+    let inserted = instance_extent(m, renamed.right());
+    let rest = size_without(m, peak, outer.left(), position);
+    extents_limit(first, inserted, rest)
 }
 
 /// The pair that the unifier makes, or the limit that its peak or the pair passes.
 ///
-/// Sizes and depths are decided first: no term above the limits is built.
+/// Sizes are decided first: no term larger than the limit is built.
 fn critical_pair(
     alloc: Global,
     outer: &Rule,
@@ -69,16 +90,11 @@ fn critical_pair(
     requires there { IsSome (subtree_at outer.now.left position.now) }
     ensures { (t : Tree) → replace_at (instance (substitution_of m.now) outer.now.left) position.now (instance (substitution_of m.now) renamed.now.right) ≡ Some t → IsPairAnswer (built_limit outer.now (substitution_of m.now) t) (instance (substitution_of m.now) outer.now.right) t result }
 {
-    let peak = apply(alloc, m, outer.left())?;
-    let extent = instance_extent(m, outer.right());
-    let inside = instance_extent(m, renamed.right());
-    let rest = size_without(&peak, position);
-    if let Some(limit) = extents_limit(extent, inside, rest) {
+    if let Some(limit) = peak_limit(outer, renamed, position, m) {
         return Err(TermFault::Large(limit));
     }
-    let first = apply(alloc, m, outer.right())?;
-    let inserted = apply(alloc, m, renamed.right())?;
-    let second = replace(alloc, &peak, position, &inserted)?;
+    let first = instance_of(alloc, m, outer.right())?;
+    let second = instance_with(alloc, m, outer.left(), position.steps(), renamed.right())?;
     match pair_limit(&first, &second) {
         Some(limit) => Err(TermFault::Large(limit)),
         None => Ok((first, second)),
@@ -132,7 +148,7 @@ pub fn overlaps(
     requires arguments { HasFewArguments outer.now.left }
     ensures { IfOk result (λ os. IsOverlapList outer.now inner.now same (map overlap_of os.items)) }
 {
-    let renamed = apart(alloc, inner)?;
+    let renamed = apart_from(alloc, outer, inner)?;
     let positions = positions_for(alloc, outer, same)?;
     let mut found = Vec::new(alloc);
     for position in &positions {

@@ -1,14 +1,20 @@
 // Sizes and depths, before any term is built.
-ghost use Rattle.std.specs.Prelude.{ℕ, ◌≡◌, ◌<◌, ◌≤◌, ◌+◌, length, IfOk, true, false, Some, None, Ok, IfSome, map, replicate};
+ghost use Rattle.std.specs.Prelude.{ℕ, ◌≡◌, ◌<◌, ◌≤◌, ◌+◌, length, IfOk, true, false, Some, None, Ok, IfSome, replicate};
 ghost use Rattle.kb_term.specs.Tree.{Tree};
 ghost use Rattle.kb_unify.specs.Table.{slot_at, IsSlot, IsTable, Solves};
-ghost use Rattle.kb_unify.specs.Extent.{IsArgumentsExtent, IsSlotExtent, IsMeasured, IsMeasuredFurther, IsStuck, IsMeasurement, extent_at, unknown_count};
+ghost use Rattle.kb_unify.specs.Extent.{IsArgumentsExtent, IsSlotExtent, IsMeasured, IsMeasuredFurther, IsStuck, IsMeasurement, extent_at, extents_of, unknown_count};
 
 use crate::table::Slot;
-use kb_term::{Limit, Memory};
+use kb_term::{Limit, MAX_DEPTH, MAX_SIZE, Memory};
 use std::alloc::Global;
 
-/// The size of a term up to 513, and its depth up to 65: just above the limits.
+// The greatest size of a term.
+const SIZE: u16 = MAX_SIZE as u16;
+
+// The greatest depth of a term.
+const DEPTH: u16 = MAX_DEPTH as u16;
+
+/// The size and the depth of a term, each up to just above its limit.
 #[derive(Clone, Copy, Debug, PartialEq, Eq)]
 pub struct Extent {
     pub size: u16,
@@ -38,23 +44,23 @@ impl Extent {
 
     /// The extent of these terms and another one.
     pub fn with(self, term: Extent) -> Extent
-        ensures size { result.size ≡ min (term.size + self.size) 513 }
+        ensures size { result.size ≡ min (term.size + self.size) (MAX_SIZE + 1) }
         ensures depth { result.depth ≡ max term.depth self.depth }
     {
         Extent {
-            size: term.size.saturating_add(self.size).min(513),
+            size: term.size.saturating_add(self.size).min(SIZE + 1),
             depth: term.depth.max(self.depth),
         }
     }
 
     /// The extent of a symbol applied to these terms.
     pub fn applied(self) -> Extent
-        ensures size { result.size ≡ min (self.size + 1) 513 }
-        ensures depth { result.depth ≡ min (self.depth + 1) 65 }
+        ensures size { result.size ≡ min (self.size + 1) (MAX_SIZE + 1) }
+        ensures depth { result.depth ≡ min (self.depth + 1) (MAX_DEPTH + 1) }
     {
         Extent {
-            size: self.size.saturating_add(1).min(513),
-            depth: self.depth.saturating_add(1).min(65),
+            size: self.size.saturating_add(1).min(SIZE + 1),
+            depth: self.depth.saturating_add(1).min(DEPTH + 1),
         }
     }
 
@@ -62,9 +68,9 @@ impl Extent {
     pub fn limit(self) -> Option<Limit>
         ensures { result ≡ extent_limit self }
     {
-        if self.size > 512 {
+        if self.size > SIZE {
             Some(Limit::Size)
-        } else if self.depth > 64 {
+        } else if self.depth > DEPTH {
             Some(Limit::Depth)
         } else {
             None
@@ -103,17 +109,17 @@ pub fn slot_extent(place: usize, slot: Slot, known: &[Option<Extent>]) -> Option
     }
 }
 
-/// Measures what can be measured by what is known: whether anything new was.
+/// Measures what can be measured by what is known: how many places.
 ///
 /// It goes from the last place to the first, since the arguments of a node stand behind it: one pass measures a term of any depth.
-pub fn measure_more(slots: &[Slot], known: &mut Vec<Option<Extent>>) -> bool
+pub fn measure_more(slots: &[Slot], known: &mut Vec<Option<Extent>>) -> usize
     requires table { IsTable slots.now }
     requires lengths { length known.old.items ≡ length slots.now }
     ensures further { IsMeasuredFurther slots.now known.old.items known.new.items }
-    ensures progress { result ≡ true → unknown_count known.new.items < unknown_count known.old.items }
-    ensures stuck { result ≡ false → (i : ℕ) → i < length slots.now → extent_at known.new.items i ≡ None → IsStuck (λ j. extent_at known.new.items j ≡ None) (slot_at slots.now i) }
+    ensures measured { unknown_count known.new.items + result ≡ unknown_count known.old.items }
+    ensures stuck { result ≡ 0 → (i : ℕ) → i < length slots.now → extent_at known.new.items i ≡ None → IsStuck (λ j. extent_at known.new.items j ≡ None) (slot_at slots.now i) }
 {
-    let mut changed = false;
+    let mut measured = 0;
     for done in 0..slots.len() {
         let i = slots.len() - 1 - done;
         match known[i] {
@@ -122,12 +128,12 @@ pub fn measure_more(slots: &[Slot], known: &mut Vec<Option<Extent>>) -> bool
                 None => {}
                 Some(extent) => {
                     known[i] = Some(extent);
-                    changed = true;
+                    measured += 1;
                 }
             },
         }
     }
-    changed
+    measured
 }
 
 /// No extents yet.
@@ -139,38 +145,37 @@ pub fn nothing_known(alloc: Global, count: usize) -> Result<Vec<Option<Extent>>,
     Ok(known)
 }
 
-/// Measures until nothing new can be measured.
-pub fn measure_all(slots: &[Slot], known: &mut Vec<Option<Extent>>)
+/// Measures until nothing new can be measured: whether all places are.
+pub fn measure_all(slots: &[Slot], known: &mut Vec<Option<Extent>>) -> bool
     requires table { IsTable slots.now }
     requires lengths { length known.old.items ≡ length slots.now }
+    requires nothing { unknown_count known.old.items ≡ length slots.now }
     ensures further { IsMeasuredFurther slots.now known.old.items known.new.items }
-    ensures stuck { (i : ℕ) → i < length slots.now → extent_at known.new.items i ≡ None → IsStuck (λ j. extent_at known.new.items j ≡ None) (slot_at slots.now i) }
+    ensures all { result ≡ true → unknown_count known.new.items ≡ 0 }
+    ensures some { result ≡ false → 0 < unknown_count known.new.items }
+    ensures stuck { result ≡ false → (i : ℕ) → i < length slots.now → extent_at known.new.items i ≡ None → IsStuck (λ j. extent_at known.new.items j ≡ None) (slot_at slots.now i) }
 {
-    while measure_more(slots, known) {}
-}
-
-/// The extents, where all are known.
-pub fn all_known(alloc: Global, known: &[Option<Extent>]) -> Result<Option<Vec<Extent>>, Memory>
-    ensures all { IfOk result (λ o. IfSome o (λ v. map Some v.items ≡ known.now)) }
-    ensures missing { result ≡ Ok None → (i : ℕ) × (i < length known.now) × (extent_at known.now i ≡ None) }
-{
-    let mut extents = Vec::with_capacity(alloc, known.len())?;
-    for i in 0..known.len() {
-        match known[i] {
-            None => return Ok(None),
-            Some(extent) => extents.push(extent)?,
+    let mut left = slots.len();
+    while left > 0 {
+        let measured = measure_more(slots, known);
+        if measured == 0 {
+            return false;
         }
+        left -= measured;
     }
-    Ok(Some(extents))
+    true
 }
 
 /// The extents of all places, where the table has a solution; none where it has none.
-pub fn measure(alloc: Global, slots: &[Slot]) -> Result<Option<Vec<Extent>>, Memory>
+pub fn measure(alloc: Global, slots: &[Slot]) -> Result<Option<Vec<Option<Extent>>>, Memory>
     requires { IsTable slots.now }
-    ensures solution { IfOk result (λ o. IfSome o (λ v. IsMeasurement slots.now (Some v.items))) }
+    ensures solution { IfOk result (λ o. IfSome o (λ v. IsMeasurement slots.now (Some (extents_of v.items)))) }
     ensures none { result ≡ Ok None → IsMeasurement slots.now None }
 {
     let mut known = nothing_known(alloc, slots.len())?;
-    measure_all(slots, &mut known);
-    all_known(alloc, &known)
+    if measure_all(slots, &mut known) {
+        Ok(Some(known))
+    } else {
+        Ok(None)
+    }
 }

@@ -7,6 +7,9 @@ ghost use Rattle.kb_unify.specs.Table.{slot_at, IsTable, IsRoot, Solves, Equates
 
 use kb_term::{Memory, Symbol, Term};
 
+/// So many variables are in two terms at most: 64 of either side.
+pub const VARIABLES: usize = 128;
+
 /// What is known of a place: nothing, that it is a symbol applied to consecutive places, or that it is a lower place.
 #[derive(Clone, Copy, Debug, PartialEq, Eq)]
 pub enum Slot {
@@ -25,13 +28,12 @@ pub fn reserve(count: usize, slots: &mut Vec<Slot>) -> Result<(), Memory>
     Ok(())
 }
 
-/// Puts the term at the free place; variables are the places below 128.
+/// Puts the term at the free place; the place of a variable is its number.
 pub fn flatten(t: &Term, at: usize, slots: &mut Vec<Slot>) -> Result<(), Memory>
     requires table { IsTable slots.old.items }
-    requires above { 128 ≤ at }
     requires inside { at < length slots.old.items }
     requires free { slot_at slots.old.items at ≡ Slot.Free }
-    requires variables { HasVariablesBelow 128 (tree_of t.now) }
+    requires variables { HasVariablesBelow at (tree_of t.now) }
     ensures { IfOk result (λ _. IsFlattened slots.old.items slots.new.items at (tree_of t.now)) }
 {
     match t {

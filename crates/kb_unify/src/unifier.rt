@@ -1,5 +1,5 @@
 // Unification.
-ghost use Rattle.std.specs.Prelude.{ℕ, ◌≡◌, ◌<◌, length, IfOk, Ok, true, false, Contains, [], ◌∷◌};
+ghost use Rattle.std.specs.Prelude.{ℕ, ◌≡◌, ◌<◌, ◌≤◌, ◌+◌, ◌↔◌, length, IfOk, Ok, true, false, Contains, [], ◌∷◌};
 ghost use Rattle.kb_term.specs.Tree.{Tree, variables_of};
 ghost use Rattle.kb_term.specs.View.{tree_of};
 ghost use Rattle.kb_unify.specs.Unifier.{IsMostGeneralUnifier};
@@ -12,12 +12,12 @@ use crate::clashing::clashes;
 use crate::extent::measure;
 use crate::fault::UnifyFault;
 use crate::reading::{limit_passed, read_off};
-use crate::table::{Slot, close, flatten};
-use kb_term::{Limit, Memory, Subst, Term};
+use crate::table::{Slot, VARIABLES, close, flatten};
+use kb_term::{Limit, Memory, Subst, Term, variable_bound};
 use std::alloc::Global;
 
-// So many places have room in a table before it is moved: the variables, both terms, and what most terms are made of.
-const ROOM: usize = 192;
+// So many places have room in a table behind the variables before it is moved: both terms, and what most terms are made of.
+const ROOM: usize = 64;
 
 /// What is found of two terms: that nothing unifies them, a limit that the most general unifier passes, or the unifier.
 #[derive(Drop)]
@@ -27,49 +27,58 @@ pub enum Unified {
     Unifier(Subst),
 }
 
-/// The table of both terms.
-pub fn table_of(alloc: Global, a: &Term, b: &Term) -> Result<Vec<Slot>, Memory>
-    requires a_variables { HasVariablesBelow 128 (tree_of a.now) }
-    requires b_variables { HasVariablesBelow 128 (tree_of b.now) }
-    ensures { IfOk result (λ v. IsTableOf (tree_of a.now) (tree_of b.now) v.items) }
+/// How many places the variables of both terms take: one more than the greatest.
+pub fn variable_places(a: &Term, b: &Term) -> usize
+    ensures { (n : ℕ) → (result ≤ n) ↔ (HasVariablesBelow n (tree_of a.now) × HasVariablesBelow n (tree_of b.now)) }
 {
-    let mut slots = Vec::with_capacity(alloc, ROOM)?;
-    slots.resize(130, Slot::Free)?;
-    flatten(a, 128, &mut slots)?;
-    flatten(b, 129, &mut slots)?;
+    variable_bound(a).max(variable_bound(b)) as usize
+}
+
+/// The table of both terms, whose variables are the first so many places.
+pub fn table_of(alloc: Global, variables: usize, a: &Term, b: &Term) -> Result<Vec<Slot>, Memory>
+    requires few { variables ≤ VARIABLES }
+    requires a_variables { HasVariablesBelow variables (tree_of a.now) }
+    requires b_variables { HasVariablesBelow variables (tree_of b.now) }
+    ensures { IfOk result (λ v. IsTableOf variables (tree_of a.now) (tree_of b.now) v.items) }
+{
+    let mut slots = Vec::with_capacity(alloc, variables + ROOM)?;
+    slots.resize(variables + 2, Slot::Free)?;
+    flatten(a, variables, &mut slots)?;
+    flatten(b, variables + 1, &mut slots)?;
     Ok(slots)
 }
 
-/// Adds the equation of both terms: whether there is no clash.
-pub fn close_table(alloc: Global, slots: &mut Vec<Slot>) -> Result<bool, Memory>
+/// Adds the equation of both terms, which stand behind so many variables: whether there is no clash.
+pub fn close_table(alloc: Global, variables: usize, slots: &mut Vec<Slot>) -> Result<bool, Memory>
     requires table { IsTable slots.old.items }
-    requires long { 129 < length slots.old.items }
-    ensures closed { result ≡ Ok true → IsClosed slots.old.items slots.new.items ((128, 129) ∷ []) }
-    ensures clash { result ≡ Ok false → (v : ℕ → Tree) → Solves v slots.old.items → ¬ Equates v ((128, 129) ∷ []) }
+    requires long { variables + 1 < length slots.old.items }
+    ensures closed { result ≡ Ok true → IsClosed slots.old.items slots.new.items ((variables, variables + 1) ∷ []) }
+    ensures clash { result ≡ Ok false → (v : ℕ → Tree) → Solves v slots.old.items → ¬ Equates v ((variables, variables + 1) ∷ []) }
 {
     let mut pairs = Vec::new(alloc);
-    pairs.push((128, 129))?;
+    pairs.push((variables, variables + 1))?;
     close(slots, &mut pairs)
 }
 
 /// The most general unifier, or what stands in its place.
 pub fn solve(alloc: Global, a: &Term, b: &Term) -> Result<Unified, Memory>
-    requires a_variables { HasVariablesBelow 128 (tree_of a.now) }
-    requires b_variables { HasVariablesBelow 128 (tree_of b.now) }
+    requires a_variables { HasVariablesBelow VARIABLES (tree_of a.now) }
+    requires b_variables { HasVariablesBelow VARIABLES (tree_of b.now) }
     ensures { IfOk result (λ u. IsUnified (tree_of a.now) (tree_of b.now) u) }
 {
     if clashes(a, b) {
         return Ok(Unified::Clash);
     }
-    let mut slots = table_of(alloc, a, b)?;
-    if !close_table(alloc, &mut slots)? {
+    let variables = variable_places(a, b);
+    let mut slots = table_of(alloc, variables, a, b)?;
+    if !close_table(alloc, variables, &mut slots)? {
         return Ok(Unified::Clash);
     }
     match measure(alloc, &slots)? {
         None => Ok(Unified::Clash),
-        Some(extents) => match limit_passed(&extents) {
+        Some(known) => match limit_passed(variables, &known) {
             Some(limit) => Ok(Unified::Above(limit)),
-            None => Ok(Unified::Unifier(read_off(alloc, &slots, &extents)?)),
+            None => Ok(Unified::Unifier(read_off(alloc, variables, &slots, &known)?)),
         },
     }
 }

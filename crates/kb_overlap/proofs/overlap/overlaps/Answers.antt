@@ -4,10 +4,10 @@ use Rattle.std.proofs.lemmas.List.{take_more, map-append}
 use Rattle.kb_term.specs.Tree.{Tree}
 use Rattle.kb_term.specs.Position.{subtree_at, function_positions_of}
 use Rattle.kb_unify.specs.Unifier.{IsUnifiable}
-use Rattle.kb_overlap.specs.Found.{IsFoundAt, AreVariablesBelow}
+use Rattle.kb_overlap.specs.Found.{IsFoundAt}
 use Rattle.kb_overlap.specs.Overlap.{IsRenamedApart, ListsOverlaps}
 use Rattle.kb_overlap.specs.View.{overlap_of}
-use Rattle.kb_overlap.proofs.Finding.{apart_is, below_more, below_apart, none_there}
+use Rattle.kb_overlap.proofs.Finding.{below_more, none_there}
 use Rattle.kb_overlap.proofs.Preorder.{listed_at, lists_none, lists_some}
 use Rattle.kb_term.proofs.Subtrees.{position_there}
 use Rattle.kb_overlap.proofs.overlap.overlaps.Goals.{in-Some+in_ok-push-in-Some, in-None}
@@ -17,7 +17,7 @@ pub overlap_at-requires-clause-outer_variables : goal.overlap_at-requires-clause
 overlap_at-requires-clause-outer_variables c = below_more c.args.outer.now c.requires.outer_variables
 
 pub overlap_at-requires-clause-renamed_variables : goal.overlap_at-requires-clause-renamed_variables
-overlap_at-requires-clause-renamed_variables c = subst (AreVariablesBelow 128) (sym c.in_ok-renamed.ensures) (below_apart c.args.inner.now c.requires.inner_variables)
+overlap_at-requires-clause-renamed_variables c = c.in_ok-renamed.ensures.below
 
 pub overlap_at-requires-clause-there : goal.overlap_at-requires-clause-there
 overlap_at-requires-clause-there c =
@@ -33,7 +33,7 @@ loop-position-preserved c =
     let i = c.loop-position.position-index in
     let p = c.position-item.result in
     let more = take_more ps i p c.loop-position-test.true ∙ ap (λ q. take i ps ++ q ∷ []) (sym c.position-item.is) in
-    let renamed_apart : IsRenamedApart outer inner renamed = subst (IsRenamedApart outer inner) (sym c.in_ok-renamed.ensures) (apart_is outer inner c.requires.outer_variables) in
+    let renamed_apart : IsRenamedApart outer inner renamed = c.in_ok-renamed.ensures.apart in
     let there = listed_at outer c.args.same ps (c.deref-position-items.ensures.value ∙ c.in_ok-positions.ensures) i p c.loop-position-test.true in
     let here : Contains (function_positions_of outer.left) p = subst (Contains (function_positions_of outer.left)) (sym c.position-item.is) there in
     let redex = position_there outer.left p here in
