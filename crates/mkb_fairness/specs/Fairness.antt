@@ -1,19 +1,21 @@
 -- How long an overlap that is due waits for others of its process.
-use Rattle.std.specs.Prelude.{ℕ, ◌+◌, ◌≤◌, ◌≢◌, ◌⊎◌, List, ◌++◌, Bool, false, filter, Contains, AllPairs, IsTrue}
+use Rattle.std.specs.Prelude.{ℕ, ◌+◌, ◌≤◌, ◌≢◌, ◌⊎◌, List, ◌++◌, Bool, false, filter, length, Contains, AllPairs, IsTrue}
 use Rattle.std.specs.List.{filter_map}
 use Rattle.std.specs.declared.option.Option.{Option}
 use Rattle.std.specs.declared.option.Option.TheVariants.{Some, None}
 use Rattle.kb_term.specs.Pair.{Pair, IsCanonical, IsTrivial}
 use Rattle.kb_term.specs.Signature.{Signature, Problem, IsWellFormed}
+use Rattle.kb_term.specs.declared.origin.RuleRef.{RuleRef}
 use Rattle.kb_label.specs.Names.{Name, name_eq}
 use Rattle.kb_node.specs.declared.job.Job.{Job}
 use Rattle.kb_node.specs.declared.job.Job.TheVariants.{Overlap}
 use Rattle.mkb_model.specs.Jobs.{process_of}
-use Rattle.mkb_model.specs.Plain.{Plain, pair_size}
+use Rattle.mkb_model.specs.Plain.{Plain, pair_size, weight_by}
 use Rattle.mkb_model.specs.DueJobs.{due_jobs_of}
 use Rattle.mkb_model.specs.Journals.{Moment, IsRun, journal_of, takes_in_turn}
 use Rattle.mkb_model.specs.declared.entry.Entry.{Entry}
 use Rattle.mkb_model.specs.declared.entry.Entry.TheVariants.{Take}
+use Rattle.mkb_model.specs.declared.settings.Selection.TheVariants.{Size}
 use Rattle.mkb_model.specs.declared.settings.Settings.{Settings}
 
 -- ---- the overlaps that are taken
@@ -52,6 +54,16 @@ pub record Waits (problem : Problem) (settings : Settings) (job : Job) (stretch 
   pub in_turn : IsInTurn (stretch ++ earlier)
   pub stays_due : StaysDue job stretch
 
+-- it holds of each overlap that waits: of the problem, the settings and the board, of this overlap, and of the overlaps of its process that are taken meanwhile
+abbrev pub OfEachWait : (Problem → Settings → Plain → Job → List Job → Type 0) → Type 0
+OfEachWait P =
+    (problem : Problem) (settings : Settings) (stretch earlier : List Moment) (board : Plain) (p : Name) (a c : RuleRef) → Waits problem settings (Overlap p a c) stretch earlier board
+    → P problem settings board (Overlap p a c) (overlaps_taken p stretch)
+
+-- none of the jobs weighs more by sizes than this one
+abbrev pub AreNoHeavier : Plain → Job → List Job → Type 0
+AreNoHeavier b j jobs = (i : Job) → Contains jobs i → weight_by Size b i ≤ weight_by Size b j
+
 -- ---- pairs of pairs
 
 -- the pair is canonical and not trivial, and its sides are terms over the signature
@@ -64,3 +76,7 @@ pub record IsPairOver (signature : Signature) (q : Pair) : Type 0 where
 -- the list has each two such pairs whose sizes are together at most this, in one order or the other
 abbrev pub HasPairsUpTo : Signature → ℕ → List (Pair × Pair) → Type 0
 HasPairsUpTo signature size all = (q r : Pair) → IsPairOver signature q → IsPairOver signature r → pair_size q + pair_size r ≤ size → Contains all (q, r) ⊎ Contains all (r, q)
+
+-- the jobs are no more than the members of any such list
+abbrev pub AreNoMoreThanPairs : Signature → ℕ → List Job → Type 0
+AreNoMoreThanPairs signature size jobs = (all : List (Pair × Pair)) → HasPairsUpTo signature size all → length jobs ≤ length all

@@ -1,12 +1,14 @@
 -- Which commits change what the board says of its processes.
-use Rattle.std.specs.Prelude.{ℕ, ◌≡◌, ◌⊎◌, IsTrue}
+use Rattle.std.specs.Prelude.{ℕ, List, ◌≡◌, ◌⊎◌, IsTrue}
 use Rattle.std.specs.declared.option.Option.TheVariants.{Some, None}
 use Rattle.kb_term.specs.declared.origin.RuleRef.{RuleRef}
 use Rattle.kb_label.specs.Names.{Name, has}
 use Rattle.kb_label.specs.declared.verdict.Reason.TheVariants.{Nodes, Processes}
 use Rattle.kb_node.specs.declared.node.LabelKind.{LabelKind}
 use Rattle.mkb_model.specs.Plain.{Plain, label, done_of, known, is_over}
-use Rattle.mkb_model.specs.Effects.{own_reason, limit_of, effect_label}
+use Rattle.mkb_model.specs.Effects.{own_reason, limit_of, effect_label, counted}
+use Rattle.mkb_model.specs.Journals.{Moment, IsCommitting, landed}
+use Rattle.mkb_model.specs.declared.entry.Effect.{Effect}
 use Rattle.mkb_model.specs.declared.proposed.Proposed.{Proposed}
 
 -- each label names the same processes on both boards, the same is known of each side and rule, and the same processes live
@@ -29,3 +31,7 @@ pub record IsIdleLimit (b : Plain) (x : Proposed) : Type 0 where
   pub some : Name
   pub acts : IsTrue (has (effect_label b x) some)
   pub all_over : (p : Name) → IsTrue (has (effect_label b x) p) → IsTrue (is_over b p)
+
+-- a commit on the board that is an idle limit changes the number of commits and the flight alone
+abbrev pub IdleLimitsOnlyCount : List Moment → Plain → Type 0
+IdleLimitsOnlyCount past b = (w t : ℕ) (e : Effect) (c : Plain) → (commit : IsCommitting past b w t e c) → IsIdleLimit b commit.proposal → c ≡ landed t (counted b)

@@ -6,6 +6,7 @@ pub mod Effects
 pub mod Proposals
 pub mod Verdicts
 pub mod Journals
+pub mod Runs
 pub mod Limits
 pub mod Ready
 pub mod Headline

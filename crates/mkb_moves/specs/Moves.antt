@@ -2,6 +2,8 @@
 use Rattle.std.specs.Prelude.{ℕ, List, true, false, ◌≡◌, ◌≢◌, ◌⊎◌, ◌↔◌, IsTrue, IsFalse, Contains}
 use Rattle.std.specs.declared.option.Option.TheVariants.{Some}
 use Rattle.kb_term.specs.Tree.{Tree}
+use Rattle.kb_term.specs.View.{tree_of}
+use Rattle.kb_term.specs.declared.term.Term.{Term}
 use Rattle.kb_term.specs.Pair.{Pair, canonical_pair}
 use Rattle.kb_term.specs.declared.origin.RuleRef.{RuleRef}
 use Rattle.kb_term.specs.declared.origin.Found.{Found}
@@ -9,10 +11,11 @@ use Rattle.kb_term.specs.declared.origin.Found.TheVariants.{Strict}
 use Rattle.kb_overlap.specs.Trace.{other_side}
 use Rattle.kb_label.specs.Names.{Name, has, child}
 use Rattle.kb_label.specs.declared.verdict.Reason.{Reason}
+use Rattle.kb_node.specs.declared.node.NodeId.{NodeId}
 use Rattle.kb_node.specs.declared.node.LabelKind.TheVariants.{X}
 use Rattle.kb_node.specs.declared.job.Deduced.{Deduced}
 use Rattle.mkb_model.specs.Plain.{Plain, label, other, view, equations_of, rules_of, constraints_of, done_of, is_over, over_reason, pair_at}
-use Rattle.mkb_model.specs.Effects.{direction}
+use Rattle.mkb_model.specs.Effects.{direction, overlap_label, rewrite_label}
 
 -- ---- who is not moved
 
@@ -55,6 +58,10 @@ pub record Deduces (b c : Plain) (p : Name) (pairs : List Deduced) : Type 0 wher
   pub rules : rules_of c p ≡ rules_of b p
   pub constraints : constraints_of c p ≡ constraints_of b p
 
+-- each process that has both rules and has not overlapped them yet gains the pairs, and the two rules are noted as overlapped
+abbrev pub DeducesByBoth : Plain → Plain → RuleRef → RuleRef → List Deduced → Type 0
+DeducesByBoth b c a e pairs = (p : Name) → IsTrue (has (overlap_label b a e) p) → Deduces b c p pairs × IsTrue (has (done_of c a e) p)
+
 -- ---- rewriting
 
 -- the node is that of the equation of the two terms, which is not trivial
@@ -92,6 +99,11 @@ pub record Rewrites (b c : Plain) (p : Name) (n w : ℕ) (a : RuleRef) (found : 
       ⊎ (Composes b c p (record { node = n; dir = other w }) (other_side pair w) result
       ⊎ ((found ≡ Strict) × Collapses b c p (record { node = n; dir = w }) (other_side pair w) result))
   pub constraints : constraints_of c p ≡ constraints_of b p
+
+-- the node has a pair, of which each process of the label of the rewriting has side w rewritten to the result
+abbrev pub RewritesLabel : Plain → Plain → NodeId → ℕ → RuleRef → Found → Term → Type 0
+RewritesLabel b c n w a found result =
+    (pair : Pair) × (pair_at b n.0 ≡ Some pair) × ((p : Name) → IsTrue (has (rewrite_label b n.0 w a found) p) → Rewrites b c p n.0 w a found pair (tree_of result))
 
 -- ---- giving up
 

@@ -8,7 +8,7 @@ use Rattle.kb_label.specs.declared.verdict.Reason.{Reason}
 use Rattle.kb_node.specs.declared.job.Job.{Job}
 use Rattle.mkb_model.specs.Jobs.{process_of, kind_number, job_numbers, clashes}
 use Rattle.mkb_model.specs.Plain.{Plain, cost, weight, is_over, over_reason}
-use Rattle.mkb_model.specs.DueJobs.{is_due}
+use Rattle.mkb_model.specs.DueJobs.{is_due, free_jobs}
 use Rattle.mkb_model.specs.declared.entry.Ticket.{Ticket}
 
 -- ---- jobs
@@ -39,6 +39,10 @@ pub record MayBeTaken (b : Plain) (j : Job) : Type 0 where
   pub lives : IsTrue (has b.living (process_of j))
   pub awake : IsFalse (has b.asleep (process_of j))
   pub clear : (t : Ticket) → Contains b.flight t → IsFalse (clashes j t.job)
+
+-- i may be taken, and each other job that may be comes after it
+abbrev pub IsLeastFree : Plain → Job → Type 0
+IsLeastFree b i = Contains (free_jobs b) i × ((j : Job) → Contains (free_jobs b) j → ((j ≡ i) ⊎ IsBefore b i j) × ¬ IsBefore b j i)
 
 -- ---- who gave up
 

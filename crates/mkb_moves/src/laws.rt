@@ -1,8 +1,5 @@
 // The laws. A run lists its moments, each a board and the entry made on it, the newest first.
-ghost use Rattle.std.specs.Prelude.{◌≡◌, ◌⊎◌, ◌++◌, ℕ, List, [], Contains, Some, None, IsTrue, IsFalse};
-ghost use Rattle.kb_term.specs.Pair.{Pair};
-ghost use Rattle.kb_term.specs.Signature.{Problem, IsWithinLimits};
-ghost use Rattle.kb_term.specs.View.{tree_of};
+ghost use Rattle.std.specs.Prelude.{◌≡◌, ◌++◌, ℕ, List, [], Contains, Some, None, IsTrue, IsFalse};
 ghost use Rattle.kb_term.specs.declared.term.Term.{Term};
 ghost use Rattle.kb_term.specs.declared.origin.RuleRef.{RuleRef};
 ghost use Rattle.kb_term.specs.declared.origin.Found.{Found};
@@ -16,62 +13,61 @@ ghost use Rattle.kb_node.specs.declared.node.LabelKind.TheVariants.{X};
 ghost use Rattle.kb_node.specs.declared.job.Job.{Job};
 ghost use Rattle.kb_node.specs.declared.job.Deduced.{Deduced};
 ghost use Rattle.kb_node.specs.declared.job.Fact.{Fact};
-ghost use Rattle.mkb_model.specs.Plain.{Plain, label, view, done_of, pair_at};
+ghost use Rattle.mkb_model.specs.Plain.{Plain, label, view};
 ghost use Rattle.mkb_model.specs.DueJobs.{first_job, free_jobs};
 ghost use Rattle.mkb_model.specs.Sleeping.{is_failed};
-ghost use Rattle.mkb_model.specs.Effects.{effect_label, rewrite_label, overlap_label};
+ghost use Rattle.mkb_model.specs.Effects.{effect_label};
 ghost use Rattle.mkb_model.specs.Verdicts.{verdict};
-ghost use Rattle.mkb_model.specs.Journals.{Moment, IsPossibleRun, IsCommitting};
+ghost use Rattle.mkb_model.specs.Runs.{OfEachRun, OfEachLimitedRun, OfAnyCommit, OfEachCommit, OfEachLimitedCommit};
 ghost use Rattle.mkb_model.specs.declared.entry.Effect.{Effect};
 ghost use Rattle.mkb_model.specs.declared.entry.Effect.TheVariants.{Over, Made};
 ghost use Rattle.mkb_model.specs.declared.proposed.Proposed.TheVariants.{Facts, Rewrite, One, Both, Refuse, Deduce, Unjoined, Closed};
-ghost use Rattle.mkb_model.specs.declared.settings.Settings.{Settings};
-ghost use Rattle.mkb_moves.specs.Moves.{IsLeftAlone, Orients, Forks, Deduces, Rewrites, GivesUp};
-ghost use Rattle.mkb_moves.specs.Order.{IsBefore, MayBeTaken, IsFirstOver};
+ghost use Rattle.mkb_moves.specs.Moves.{IsLeftAlone, Orients, Forks, Deduces, DeducesByBoth, RewritesLabel, GivesUp};
+ghost use Rattle.mkb_moves.specs.Order.{IsLeastFree, MayBeTaken, IsFirstOver};
 ghost use Rattle.mkb_moves.specs.Stuck.{IsUnorientable, IsStuck};
 
 /// In each possible run each commit leaves alone the living processes that its effect label does not name: they live on with the
 /// same equations, rules and constraints, are refused the same nodes and have overlapped the same rules, and are closed or have
 /// given up as before.
 pub fn others_keep_their_state()
-    ensures { (problem : Problem) (settings : Settings) (past : List Moment) (board : Plain) (worker ticket : ℕ) (effect : Effect) (next : Plain) → IsPossibleRun problem settings past board → (commit : IsCommitting past board worker ticket effect next) → (p : Name) → IsTrue (has board.living p) → IsFalse (has (effect_label board commit.proposal) p) → IsLeftAlone board next p }
+    ensures { (effect : Effect) → OfEachCommit effect (λ board next proposal. (p : Name) → IsTrue (has board.living p) → IsFalse (has (effect_label board proposal) p) → IsLeftAlone board next p) }
 {}
 
 /// Where an orientation has its effect, its process has the equation of the node no more, but the rule in the direction, which
 /// is a constraint too, and else what it had. At a fork the two children take the place of the process, with a direction each.
 /// A refusal is noted of the node, and its process has what it had.
 pub fn orienting_makes_rules()
-    ensures one { (past : List Moment) (board : Plain) (worker ticket : ℕ) (p : Name) (n : NodeId) (d : ℕ) (c : Certificate) (next : Plain) → IsCommitting past board worker ticket (Made (One p n d c)) next → Orients board p next p (record { node = n.0; dir = d }) }
-    ensures both { (problem : Problem) (settings : Settings) (past : List Moment) (board : Plain) (worker ticket : ℕ) (p : Name) (n : NodeId) (c0 c1 : Certificate) (next : Plain) → IsPossibleRun problem settings past board → IsCommitting past board worker ticket (Made (Both p n c0 c1)) next → Forks board p next n.0 }
-    ensures refused { (past : List Moment) (board : Plain) (worker ticket : ℕ) (p : Name) (n : NodeId) (next : Plain) → IsCommitting past board worker ticket (Made (Refuse p n)) next → IsTrue (has (label next n.0 X) p) × (view next p ≡ view board p) }
+    ensures one { (p : Name) (n : NodeId) (d : ℕ) (c : Certificate) → OfAnyCommit (Made (One p n d c)) (λ board next. Orients board p next p (record { node = n.0; dir = d })) }
+    ensures both { (p : Name) (n : NodeId) (c0 c1 : Certificate) → OfEachCommit (Made (Both p n c0 c1)) (λ board next _. Forks board p next n.0) }
+    ensures refused { (p : Name) (n : NodeId) → OfAnyCommit (Made (Refuse p n)) (λ board next. IsTrue (has (label next n.0 X) p) × (view next p ≡ view board p)) }
 {}
 
 /// In each possible run, where the pairs of the overlaps of two rules are committed, each process that has both and has not
 /// overlapped them yet gains the pairs as equations, but for those that it has as rules; its rules and constraints stay, and the
 /// two rules are noted as overlapped. The process of a closing gains the pairs of its overlaps that do not join in the same way.
 pub fn deducing_adds_equations()
-    ensures overlaps { (problem : Problem) (settings : Settings) (past : List Moment) (board : Plain) (worker ticket : ℕ) (a c : RuleRef) (pairs : List Deduced) (next : Plain) → IsPossibleRun problem settings past board → IsCommitting past board worker ticket (Made (Deduce a c pairs)) next → (p : Name) → IsTrue (has (overlap_label board a c) p) → Deduces board next p pairs × IsTrue (has (done_of next a c) p) }
-    ensures unjoined { (problem : Problem) (settings : Settings) (past : List Moment) (board : Plain) (worker ticket : ℕ) (p : Name) (pairs : List Deduced) (next : Plain) → IsPossibleRun problem settings past board → IsCommitting past board worker ticket (Made (Unjoined p pairs)) next → Deduces board next p pairs }
+    ensures overlaps { (a c : RuleRef) (pairs : List Deduced) → OfEachCommit (Made (Deduce a c pairs)) (λ board next _. DeducesByBoth board next a c pairs) }
+    ensures unjoined { (p : Name) (pairs : List Deduced) → OfEachCommit (Made (Unjoined p pairs)) (λ board next _. Deduces board next p pairs) }
 {}
 
 /// In each possible run of a problem within the limits, where a rewriting has its effect, each process of its label has the rule,
 /// and its equation of the node is simplified, its rule with the side on the right is composed, or its rule with the side on the
 /// left, where the redex is strict, is collapsed. Its other equations and rules stay, and so do its constraints.
 pub fn rewriting_moves_its_label()
-    ensures { (problem : Problem) (settings : Settings) (past : List Moment) (board : Plain) → IsWithinLimits problem → IsPossibleRun problem settings past board → (worker ticket : ℕ) (n : NodeId) (w : ℕ) (at : List ℕ) (a : RuleRef) (found : Found) (t : Term) (next : Plain) → IsCommitting past board worker ticket (Made (Rewrite n w at a found t)) next → (pair : Pair) × (pair_at board n.0 ≡ Some pair) × ((p : Name) → IsTrue (has (rewrite_label board n.0 w a found) p) → Rewrites board next p n.0 w a found pair (tree_of t)) }
+    ensures { (n : NodeId) (w : ℕ) (at : List ℕ) (a : RuleRef) (found : Found) (t : Term) → OfEachLimitedCommit (Made (Rewrite n w at a found t)) (λ board next _. RewritesLabel board next n w a found t) }
 {}
 
 /// Where a closing has its effect, the process is closed, and has the equations, rules and constraints that it had. Facts are noted
 /// after those that were known, and act on no process.
 pub fn closings_and_facts_are_noted()
-    ensures closed { (past : List Moment) (board : Plain) (worker ticket : ℕ) (p : Name) (next : Plain) → IsCommitting past board worker ticket (Made (Closed p)) next → IsTrue (has next.closed p) × (view next p ≡ view board p) }
-    ensures facts { (past : List Moment) (board : Plain) (worker ticket : ℕ) (facts : List Fact) (next : Plain) → IsCommitting past board worker ticket (Made (Facts facts)) next → (next.facts ≡ board.facts ++ facts) × ((p : Name) → view next p ≡ view board p) }
+    ensures closed { (p : Name) → OfAnyCommit (Made (Closed p)) (λ board next. IsTrue (has next.closed p) × (view next p ≡ view board p)) }
+    ensures facts { (facts : List Fact) → OfAnyCommit (Made (Facts facts)) (λ board next. (next.facts ≡ board.facts ++ facts) × ((p : Name) → view next p ≡ view board p)) }
 {}
 
 /// In each possible run, where a commit comes to a limit, each process of its effect label has given up, for this reason unless it
 /// had before, and has the equations, rules and constraints that it had.
 pub fn limits_stop_their_processes()
-    ensures { (problem : Problem) (settings : Settings) (past : List Moment) (board : Plain) → IsPossibleRun problem settings past board → (worker ticket : ℕ) (reason : Reason) (next : Plain) → (commit : IsCommitting past board worker ticket (Over reason) next) → (p : Name) → IsTrue (has (effect_label board commit.proposal) p) → GivesUp board next p reason }
+    ensures { (reason : Reason) → OfEachCommit (Over reason) (λ board next proposal. (p : Name) → IsTrue (has (effect_label board proposal) p) → GivesUp board next p reason) }
 {}
 
 /// On any board, the first job is one of those that may be taken, and each other of these comes after it: by the cost of its
@@ -79,7 +75,7 @@ pub fn limits_stop_their_processes()
 /// There is none only where none may be taken. What may be taken is due, for a process that lives and does not sleep, and clashes
 /// with no job in flight.
 pub fn first_job_is_the_least()
-    ensures least { (board : Plain) (first : Job) → first_job board ≡ Some first → Contains (free_jobs board) first × ((job : Job) → Contains (free_jobs board) job → ((job ≡ first) ⊎ IsBefore board first job) × ¬ IsBefore board job first) }
+    ensures least { (board : Plain) (first : Job) → first_job board ≡ Some first → IsLeastFree board first }
     ensures none { (board : Plain) → first_job board ≡ None → free_jobs board ≡ [] }
     ensures free { (board : Plain) (job : Job) → Contains (free_jobs board) job → MayBeTaken board job }
 {}
@@ -87,7 +83,7 @@ pub fn first_job_is_the_least()
 /// In each possible run, where the verdict is that all failed or gave up, its reason is that of the first living process by name
 /// that gave up.
 pub fn reasons_are_of_the_first()
-    ensures { (problem : Problem) (settings : Settings) (past : List Moment) (board : Plain) (reason : Reason) → IsPossibleRun problem settings past board → verdict board ≡ Some (Spent (OverFor reason)) → (p : Name) × IsFirstOver board p reason }
+    ensures { OfEachRun (λ board. (reason : Reason) → verdict board ≡ Some (Spent (OverFor reason)) → (p : Name) × IsFirstOver board p reason) }
 {}
 
 /// In each possible run no order of the run's family orders the constraints of a process and an equation that it is refused, in
@@ -95,7 +91,7 @@ pub fn reasons_are_of_the_first()
 /// refused so, and none of its rules rewrites a side of it at any position, to whatever term. Where the verdict is that all failed,
 /// this holds of each living process.
 pub fn failed_processes_are_stuck()
-    ensures refused { (problem : Problem) (settings : Settings) (past : List Moment) (board : Plain) → IsPossibleRun problem settings past board → (p : Name) (n : ℕ) → IsTrue (has (label board n X) p) → IsUnorientable board p n }
-    ensures stuck { (problem : Problem) (settings : Settings) (past : List Moment) (board : Plain) (p : Name) → IsWithinLimits problem → IsPossibleRun problem settings past board → IsTrue (has board.living p) → IsTrue (is_failed board p) → IsStuck board p }
-    ensures all { (problem : Problem) (settings : Settings) (past : List Moment) (board : Plain) (p : Name) → IsWithinLimits problem → IsPossibleRun problem settings past board → verdict board ≡ Some AllFailed → IsTrue (has board.living p) → IsStuck board p }
+    ensures refused { OfEachRun (λ board. (p : Name) (n : ℕ) → IsTrue (has (label board n X) p) → IsUnorientable board p n) }
+    ensures stuck { OfEachLimitedRun (λ board. (p : Name) → IsTrue (has board.living p) → IsTrue (is_failed board p) → IsStuck board p) }
+    ensures all { OfEachLimitedRun (λ board. (p : Name) → verdict board ≡ Some AllFailed → IsTrue (has board.living p) → IsStuck board p) }
 {}

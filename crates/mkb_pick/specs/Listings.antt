@@ -1,11 +1,12 @@
 -- What an agenda lists.
-use Rattle.std.specs.Prelude.{ℕ, ◌≡◌, ◌⊎◌, List, Bool, true, false, Contains}
+use Rattle.std.specs.Prelude.{ℕ, ◌≡◌, ◌⊎◌, ◌↔◌, List, Bool, true, false, Contains}
 use Rattle.std.specs.declared.cmp.Ordering.TheVariants.{Less}
 use Rattle.std.specs.declared.option.Option.{Option}
 use Rattle.std.specs.declared.option.Option.TheVariants.{Some, None}
-use Rattle.kb_label.specs.Names.{Name}
+use Rattle.kb_label.specs.Names.{Name, child}
 use Rattle.kb_node.specs.declared.job.Job.{Job}
 use Rattle.mkb_pick.specs.Jobs.{Weighed, weighed_cmp}
+use Rattle.mkb_pick.specs.Tasks.{job_of, work_of}
 use Rattle.mkb_model.specs.Jobs.{process_of, is_free}
 
 -- a listed process, and its jobs with their weights
@@ -42,3 +43,26 @@ abbrev pub IsLeastOffered : List Listed → List Job → Option Job → Type 0
 IsLeastOffered ps flight None = (w : Weighed) → ¬ IsOffered ps flight w
 IsLeastOffered ps flight (Some job) =
     (w : Weighed) × (w.job ≡ job) × IsOffered ps flight w × ((v : Weighed) → IsOffered ps flight v → (v ≡ w) ⊎ (weighed_cmp w v ≡ Less))
+
+-- ---- one process changes
+
+-- the process is listed with this cost now, and each other one as before
+abbrev pub SetsCost : List Listed → Name → ℕ → List Listed → Type 0
+SetsCost ps p cost qs = (n : Name) (c : ℕ) (r : Bool) → IsListed qs n c r ↔ (((n ≡ p) × (c ≡ cost) × ((d : ℕ) × IsListed ps n d r)) ⊎ ((¬ (n ≡ p)) × IsListed ps n c r))
+
+-- the process rests now, or not, and each other one is listed as before
+abbrev pub SetsRest : List Listed → Name → Bool → List Listed → Type 0
+SetsRest ps p rests qs = (n : Name) (c : ℕ) (r : Bool) → IsListed qs n c r ↔ (((n ≡ p) × (r ≡ rests) × ((s : Bool) × IsListed ps n c s)) ⊎ ((¬ (n ≡ p)) × IsListed ps n c r))
+
+-- n is one of the two children of p
+abbrev pub IsChild : Name → Name → Type 0
+IsChild p n = (n ≡ child p false) ⊎ (n ≡ child p true)
+
+-- the children of the process are listed as it was, in its place, and each other process as before
+abbrev pub SplitsProcess : List Listed → Name → List Listed → Type 0
+SplitsProcess ps p qs = (n : Name) (c : ℕ) (r : Bool) → IsListed qs n c r ↔ ((IsChild p n × IsListed ps p c r) ⊎ ((¬ (n ≡ p)) × IsListed ps n c r))
+
+-- each job of the process is a job of either child, and each other job is listed as before
+abbrev pub SplitsJobs : List Listed → Name → List Listed → Type 0
+SplitsJobs ps p qs =
+    (j : Job) (w : ℕ) → HasJob qs j w ↔ ((IsChild p (process_of j) × HasJob ps (job_of p (work_of j)) w) ⊎ ((¬ (process_of j ≡ p)) × HasJob ps j w))

@@ -3,8 +3,7 @@ ghost use Rattle.std.specs.Prelude.{ℕ, Bool, ◌≡◌, ◌⊎◌, ◌↔◌, 
 ghost use Rattle.kb_label.specs.Names.{Name, child};
 ghost use Rattle.kb_node.specs.declared.job.Job.{Job};
 ghost use Rattle.mkb_model.specs.Jobs.{process_of};
-ghost use Rattle.mkb_pick.specs.Tasks.{job_of, work_of};
-ghost use Rattle.mkb_pick.specs.Listings.{Listed, IsListed, IsProcess, HasJob, IsLeastOffered};
+ghost use Rattle.mkb_pick.specs.Listings.{Listed, IsListed, IsProcess, HasJob, IsLeastOffered, SetsCost, SetsRest, SplitsProcess, SplitsJobs};
 
 use crate::changes::filled;
 use crate::queue::{Entry, Queue};
@@ -143,7 +142,7 @@ impl Agenda {
     /// Gives a listed process another cost. It takes no memory.
     pub fn set_cost(&mut self, process: &Process, cost: u64)
         requires { IsProcess self.old.processes process.now }
-        ensures processes { (n : Name) (c : ℕ) (r : Bool) → IsListed self.new.processes n c r ↔ (((n ≡ process.now) × (c ≡ cost) × ((d : ℕ) × IsListed self.old.processes n d r)) ⊎ ((¬ (n ≡ process.now)) × IsListed self.old.processes n c r)) }
+        ensures processes { SetsCost self.old.processes process.now cost self.new.processes }
         ensures jobs { (j : Job) (w : ℕ) → HasJob self.new.processes j w ↔ HasJob self.old.processes j w }
         ensures spare_jobs { self.new.spare_jobs ≡ self.old.spare_jobs }
         ensures spare_processes { self.new.spare_processes ≡ self.old.spare_processes }
@@ -154,7 +153,7 @@ impl Agenda {
     /// Lets a listed process rest: its jobs stay, and none of them is next. It takes no memory.
     pub fn rest(&mut self, process: &Process)
         requires { IsProcess self.old.processes process.now }
-        ensures processes { (n : Name) (c : ℕ) (r : Bool) → IsListed self.new.processes n c r ↔ (((n ≡ process.now) × (r ≡ true) × ((s : Bool) × IsListed self.old.processes n c s)) ⊎ ((¬ (n ≡ process.now)) × IsListed self.old.processes n c r)) }
+        ensures processes { SetsRest self.old.processes process.now true self.new.processes }
         ensures jobs { (j : Job) (w : ℕ) → HasJob self.new.processes j w ↔ HasJob self.old.processes j w }
         ensures spare_jobs { self.new.spare_jobs ≡ self.old.spare_jobs }
         ensures spare_processes { self.new.spare_processes ≡ self.old.spare_processes }
@@ -165,7 +164,7 @@ impl Agenda {
     /// Wakes a listed process. It takes no memory.
     pub fn wake(&mut self, process: &Process)
         requires { IsProcess self.old.processes process.now }
-        ensures processes { (n : Name) (c : ℕ) (r : Bool) → IsListed self.new.processes n c r ↔ (((n ≡ process.now) × (r ≡ false) × ((s : Bool) × IsListed self.old.processes n c s)) ⊎ ((¬ (n ≡ process.now)) × IsListed self.old.processes n c r)) }
+        ensures processes { SetsRest self.old.processes process.now false self.new.processes }
         ensures jobs { (j : Job) (w : ℕ) → HasJob self.new.processes j w ↔ HasJob self.old.processes j w }
         ensures spare_jobs { self.new.spare_jobs ≡ self.old.spare_jobs }
         ensures spare_processes { self.new.spare_processes ≡ self.old.spare_processes }
@@ -193,8 +192,8 @@ impl Agenda {
         requires listed { IsProcess self.old.processes process.now }
         requires short { length process.now < MAX_BITS }
         requires free { (bit : Bool) → ¬ IsProcess self.old.processes (child process.now bit) }
-        ensures processes { OnOk result ((n : Name) (c : ℕ) (r : Bool) → IsListed self.new.processes n c r ↔ ((((n ≡ child process.now false) ⊎ (n ≡ child process.now true)) × IsListed self.old.processes process.now c r) ⊎ ((¬ (n ≡ process.now)) × IsListed self.old.processes n c r))) }
-        ensures jobs { OnOk result ((j : Job) (w : ℕ) → HasJob self.new.processes j w ↔ ((((process_of j ≡ child process.now false) ⊎ (process_of j ≡ child process.now true)) × HasJob self.old.processes (job_of process.now (work_of j)) w) ⊎ ((¬ (process_of j ≡ process.now)) × HasJob self.old.processes j w))) }
+        ensures processes { OnOk result (SplitsProcess self.old.processes process.now self.new.processes) }
+        ensures jobs { OnOk result (SplitsJobs self.old.processes process.now self.new.processes) }
         ensures spare_jobs { OnOk result ((l : Listed) → Contains self.old.processes l → l.name ≡ process.now → self.new.spare_jobs ≡ self.old.spare_jobs - length l.jobs) }
         ensures spare_processes { OnOk result (self.new.spare_processes ≡ self.old.spare_processes - 1) }
         ensures err { OnErr result (self.new ≡ self.old) }

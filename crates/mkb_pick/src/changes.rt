@@ -1,8 +1,9 @@
 // What changes in the queue.
-ghost use Rattle.std.specs.Prelude.{◌≡◌, ◌⊎◌, ◌↔◌, ◌+◌, ◌-◌, ◌^◌, ◌<◌, ◌≤◌, min, false, true, IsTrue, ℕ, Bool, length};
+ghost use Rattle.std.specs.Prelude.{◌≡◌, ◌⊎◌, ◌↔◌, ◌+◌, ◌-◌, ◌^◌, ◌<◌, ◌≤◌, min, IsTrue, ℕ, Bool, length};
 ghost use Rattle.kb_label.specs.Names.{Name, child};
 ghost use Rattle.mkb_pick.specs.Trees.{Has, IsOrdered, count};
 ghost use Rattle.mkb_pick.specs.Tasks.{task_cmp};
+ghost use Rattle.mkb_pick.specs.Listings.{IsChild};
 ghost use Rattle.mkb_pick.specs.Queues.{IsQueue, IsSeated, HasTask, Sits};
 ghost use Rattle.mkb_pick.specs.Stores.{IsStocked};
 
@@ -106,8 +107,8 @@ impl Queue {
         requires free { (e : Entry) (bit : Bool) → Has self.old.entries e → ¬ (e.name ≡ child name.now bit) }
         requires many { (e : Entry) → Has self.old.entries e → e.name ≡ name.now → count e.tasks ≡ jobs }
         requires some { jobs ≤ stores.old.spare_jobs }
-        ensures seats { (n : Name) (c : ℕ) (r : Bool) → Sits self.new n c r ↔ ((((n ≡ child name.now false) ⊎ (n ≡ child name.now true)) × Sits self.old name.now c r) ⊎ ((¬ (n ≡ name.now)) × Sits self.old n c r)) }
-        ensures tasks { (n : Name) (t : Task) → HasTask self.new n t ↔ ((((n ≡ child name.now false) ⊎ (n ≡ child name.now true)) × HasTask self.old name.now t) ⊎ ((¬ (n ≡ name.now)) × HasTask self.old n t)) }
+        ensures seats { (n : Name) (c : ℕ) (r : Bool) → Sits self.new n c r ↔ ((IsChild name.now n × Sits self.old name.now c r) ⊎ ((¬ (n ≡ name.now)) × Sits self.old n c r)) }
+        ensures tasks { (n : Name) (t : Task) → HasTask self.new n t ↔ ((IsChild name.now n × HasTask self.old name.now t) ⊎ ((¬ (n ≡ name.now)) × HasTask self.old n t)) }
         ensures queue { IsQueue self.new }
         ensures jobs { stores.new.spare_jobs + jobs ≡ stores.old.spare_jobs }
         ensures processes { stores.new.spare_processes ≡ stores.old.spare_processes }

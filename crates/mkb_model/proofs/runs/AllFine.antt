@@ -55,7 +55,7 @@ use Rattle.mkb_model.proofs.runs.Ancestors.{ancestor_is, begins-refl}
 use Rattle.mkb_model.proofs.runs.Simulation.{begins-child, forked_names, apart_from}
 use Rattle.mkb_model.proofs.runs.Readiness.{named_rule, rewrite_ready, rewriting_ready}
 use Rattle.mkb_model.proofs.runs.Openings.{run_completes}
-use Rattle.mkb_model.proofs.labels.LivingNames.{run_orders, within_budget}
+use Rattle.mkb_model.proofs.labels.LivingNames.{run_orders}
 use Rattle.mkb_model.proofs.tickets.InFlight.{taken_free, free_due}
 use Rattle.mkb_model.proofs.labels.LivingLabels.{IsLabelled, labelled_run}
 use Rattle.mkb_model.proofs.closing.LeftAlone.{rules_in}

@@ -42,7 +42,7 @@ use Rattle.mkb_model.proofs.commits.Views.{rule_listed}
 use Rattle.mkb_model.proofs.commits.Orienting.{OrientRoles, orient-roles}
 use Rattle.mkb_model.proofs.commits.Commits.{IsApartFrom, pairs-applied, orients, children_differ, bit_number, fork_roles}
 use Rattle.mkb_model.proofs.runs.Simulation.{forked_names, apart_from}
-use Rattle.mkb_model.proofs.labels.LivingNames.{run_orders, within_budget}
+use Rattle.mkb_model.proofs.labels.LivingNames.{run_orders}
 use Rattle.mkb_model.proofs.tickets.InFlight.{unlike}
 use Rattle.mkb_model.proofs.runs.KnownFacts.{rule_stays}
 use Rattle.mkb_model.proofs.closing.RestInRuns.{Stands, stands_run}

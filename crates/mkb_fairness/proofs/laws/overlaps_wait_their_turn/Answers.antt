@@ -8,10 +8,10 @@ pub returns-clause-few : goal.returns-clause-few
 returns-clause-few c = few_pairs
 
 pub returns-clause-lighter : goal.returns-clause-lighter
-returns-clause-lighter c = λ P n stretch earlier b p a d size waits. taken_lighter P n stretch earlier b p a d waits size
+returns-clause-lighter c = taken_lighter
 
 pub returns-clause-once : goal.returns-clause-once
 returns-clause-once c = taken_once
 
 pub returns-clause-bounded : goal.returns-clause-bounded
-returns-clause-bounded c = taken_few
+returns-clause-bounded c = λ P n stretch earlier b p a d waits size within. taken_few P n stretch earlier b p a d size within waits

@@ -7,4 +7,4 @@ pub returns-clause-differ : goal.returns-clause-differ
 returns-clause-differ c = run_pairs_differ
 
 pub returns-clause-numbers : goal.returns-clause-numbers
-returns-clause-numbers c = λ P n ms b m run i. pairs_stay IsFreeJob P n ms b run m i
+returns-clause-numbers c = pairs_stay IsFreeJob

@@ -2,7 +2,7 @@ use Rattle.mkb_moves.proofs.Added.{deduce_adds, unjoined_adds}
 use Rattle.mkb_moves.proofs.laws.deducing_adds_equations.Goals as goal
 
 pub returns-clause-overlaps : goal.returns-clause-overlaps
-returns-clause-overlaps c = λ P n past b w t a d ds next run f. deduce_adds P n past b run w t a d ds next f
+returns-clause-overlaps c = λ a d ds P n past b w t next run f. deduce_adds P n past b run w t a d ds next f
 
 pub returns-clause-unjoined : goal.returns-clause-unjoined
-returns-clause-unjoined c = λ P n past b w t p ds next run f. unjoined_adds P n past b run w t p ds next f
+returns-clause-unjoined c = λ p ds P n past b w t next run f. unjoined_adds P n past b run w t p ds next f

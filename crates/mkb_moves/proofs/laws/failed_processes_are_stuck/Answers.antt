@@ -6,7 +6,7 @@ pub returns-clause-refused : goal.returns-clause-refused
 returns-clause-refused c = refused_unorientable
 
 pub returns-clause-stuck : goal.returns-clause-stuck
-returns-clause-stuck c = failed_stuck
+returns-clause-stuck c = λ P n past b within run p. failed_stuck P n past b p within run
 
 pub returns-clause-all : goal.returns-clause-all
-returns-clause-all c = all_stuck
+returns-clause-all c = λ P n past b within run p. all_stuck P n past b p within run
