@@ -1,14 +1,16 @@
 -- Lists of names in their order are told by what they name.
-use Rattle.std.specs.Prelude.{List, [], ◌∷◌, Bool, true, false, ◌&&◌, ◌||◌, not, ◌≡◌, refl}
+use Rattle.std.specs.Prelude.{List, [], ◌∷◌, Bool, true, false, ◌&&◌, ◌||◌, not, if◌then◌else◌, ◌≡◌, ◌<◌, length, refl}
 use Rattle.std.proofs.Common.{ap, ap₂, sym, ◌∙◌, subst}
 use mathlib.Core.Bool.{true≢false}
 use Rattle.std.specs.declared.cmp.Ordering.{Ordering}
 use Rattle.std.specs.declared.cmp.Ordering.TheVariants.{Less, Equal, Greater}
-use Rattle.std.proofs.Math.Bool.{or-false}
-use Rattle.kb_label.specs.Names.{Name, child, name_cmp, name_eq, has, add, minus, relabel, IsInNameOrder}
+use Rattle.std.proofs.Math.Bool.{or-false, or-true}
+use Rattle.std.proofs.Math.Dec.{ltb}
+use Rattle.std.proofs.lemmas.Bool.{lt-ltb}
+use Rattle.kb_label.specs.Names.{Name, child, name_cmp, name_eq, has, add, minus, relabel, united, IsInNameOrder, IsTakenBack}
 use Rattle.kb_label.specs.NameOrder.{name_cmp-equal}
 use Rattle.kb_label.proofs.Members.{name_eq-refl, name_eq-eq, has-add, has-minus}
-use Rattle.kb_label.proofs.Ordered.{turned, rest, lower, before-absent}
+use Rattle.kb_label.proofs.Ordered.{turned, rest, lower, before-absent, ordered-add, ordered-without}
 use Rattle.kb_label.proofs.Forked.{relabelled}
 
 first : (p : Name) (l : List Name) → has (p ∷ l) p ≡ true
@@ -48,3 +50,46 @@ has-relabel p q l h =
 
 pub relabel-absent : (p : Name) (l : List Name) → has l p ≡ false → relabel p l ≡ l
 relabel-absent p l h = rw h refl
+
+-- ---- a fork that is taken back
+
+taken_back : (a b c t : Bool) → (a ≡ true → t ≡ true) → (b ≡ true → t ≡ false) → (c ≡ true → t ≡ false) → (a || (not (b || false) && (not (c || false) && (b || (c || (not a && t)))))) ≡ t
+taken_back true b c t is left right = sym (is refl)
+taken_back false true c t is left right = sym (left refl)
+taken_back false false true t is left right = sym (right refl)
+taken_back false false false t is left right = refl
+
+module _ (p : Name) (l : List Name) (o : IsInNameOrder l) where
+  pub united-relabel : IsTakenBack p l
+  united-relabel short h none_left none_right =
+      go (ltb (length p) 64) (has m left) (has m right) (lt-ltb (length p) 64 short) has_left has_right
+      ∙ same_names (add p (minus (minus m (right ∷ [])) (left ∷ []))) l
+      (ordered-add p (minus (minus m (right ∷ [])) (left ∷ [])) (ordered-without left (minus m (right ∷ [])) (ordered-without right m ordered))) o same
+    where
+      left : Name
+      left = child p false
+
+      right : Name
+      right = child p true
+
+      m : List Name
+      m = relabel p l
+
+      ordered : IsInNameOrder m
+      ordered = rw (relabelled p l h) (ordered-add left (add right (minus l (p ∷ []))) (ordered-add right (minus l (p ∷ [])) (ordered-without p l o)))
+
+      has_left : has m left ≡ true
+      has_left = has-relabel p left l h ∙ ap (λ b. b || (name_eq left right || (not (name_eq left p) && has l left))) (name_eq-refl left)
+
+      has_right : has m right ≡ true
+      has_right = has-relabel p right l h ∙ ap (λ b. name_eq right left || (b || (not (name_eq right p) && has l right))) (name_eq-refl right) ∙ or-true (name_eq right left)
+
+      go : (a b c : Bool) → a ≡ true → b ≡ true → c ≡ true → (if a && (b && c) then add p (minus (minus m (right ∷ [])) (left ∷ [])) else m) ≡ add p (minus (minus m (right ∷ [])) (left ∷ []))
+      go a b c e f g = rw (e, f, g) refl
+
+      same : (q : Name) → has (add p (minus (minus m (right ∷ [])) (left ∷ []))) q ≡ has l q
+      same q =
+          has-add p (minus (minus m (right ∷ [])) (left ∷ [])) q
+          ∙ ap (λ b. name_eq q p || b) (has-minus (minus m (right ∷ [])) (left ∷ []) q ∙ ap (λ b. not (name_eq q left || false) && b) (has-minus m (right ∷ []) q ∙ ap (λ b. not (name_eq q right || false) && b) (has-relabel p q l h)))
+          ∙ taken_back (name_eq q p) (name_eq q left) (name_eq q right) (has l q)
+          (λ e. ap (has l) (name_eq-eq q p e) ∙ h) (λ e. ap (has l) (name_eq-eq q left e) ∙ none_left) (λ e. ap (has l) (name_eq-eq q right e) ∙ none_right)

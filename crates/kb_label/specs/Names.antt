@@ -1,5 +1,6 @@
 -- Names of processes, and the lists of names that are labels.
-use Rattle.std.specs.Prelude.{List, [], ◌∷◌, ◌++◌, length, Bool, true, false, ◌&&◌, ◌||◌, not, if◌then◌else◌, ◌≡◌, filter}
+use Rattle.std.specs.Prelude.{List, [], ◌∷◌, ◌++◌, length, Bool, true, false, ◌&&◌, ◌||◌, not, if◌then◌else◌, ◌≡◌, ◌<◌, filter}
+use Rattle.std.proofs.Math.Dec.{ltb}
 use Rattle.std.specs.Ordering.{ordering_then, is_eq, nat_cmp, bool_cmp}
 use Rattle.std.specs.Cmp.Lexicographic.{slice_cmp}
 use Rattle.std.specs.declared.cmp.Ordering.{Ordering}
@@ -75,6 +76,14 @@ minus l m = filter (λ p. not (has m p)) l
 -- the label after a fork of p: its two children stand in the place of p
 abbrev pub relabel : Name → List Name → List Name
 relabel p l = if has l p then add (child p false) (add (child p true) (minus l (p ∷ []))) else l
+
+-- the label with p, of fewer than 64 bits, in the place of its two children, where it names both
+abbrev pub united : Name → List Name → List Name
+united p l = if ltb (length p) 64 && (has l (child p false) && has l (child p true)) then add p (minus (minus l (child p true ∷ [])) (child p false ∷ [])) else l
+
+-- uniting the children of p, who weren't in the label when p forked, takes the fork back
+abbrev pub IsTakenBack : Name → List Name → Type 0
+IsTakenBack p l = length p < 64 → has l p ≡ true → has l (child p false) ≡ false → has l (child p true) ≡ false → united p (relabel p l) ≡ l
 
 -- a label names no process
 abbrev pub is_empty : List Name → Bool

@@ -1,5 +1,5 @@
 // Names as a list keeps them.
-ghost use Rattle.std.specs.Prelude.{◌≡◌, IfOk};
+ghost use Rattle.std.specs.Prelude.{◌≡◌, ◌≤◌, length, IfOk};
 ghost use Rattle.kb_label.specs.Names.{name_cmp};
 
 use crate::process::{Process, WORD_BITS};
@@ -32,16 +32,26 @@ impl KeptName {
     pub(crate) fn of(alloc: Global, name: &Process) -> Result<KeptName, AllocError>
         ensures { IfOk result (λ kept. kept ≡ name.now) }
     {
-        let whole = if name.len() <= WORD_BITS {
-            None
-        } else {
-            Some(Box::new(alloc, *name)?)
-        };
+        if name.len() <= WORD_BITS {
+            return Ok(KeptName::short(name));
+        }
         Ok(KeptName {
             first: name.first_word(),
             len: name.len() as u16,
-            whole,
+            whole: Some(Box::new(alloc, *name)?),
         })
+    }
+
+    /// A name that fits a word, kept. It takes no memory.
+    pub(crate) fn short(name: &Process) -> KeptName
+        requires { length name.now ≤ WORD_BITS }
+        ensures { result ≡ name.now }
+    {
+        KeptName {
+            first: name.first_word(),
+            len: name.len() as u16,
+            whole: None,
+        }
     }
 
     /// The name itself.

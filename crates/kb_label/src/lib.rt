@@ -16,5 +16,5 @@ pub use laws::{
 };
 pub use list_labels::{ListLabels, NameLog};
 pub use living::{Living, MAX_LIVING};
-pub use process::{MAX_BITS, Process};
+pub use process::{MAX_BITS, Process, WORD_BITS};
 pub use verdict::{Reason, Spent, Verdict};

@@ -1,6 +1,6 @@
 // Labels that are plain lists of names.
 ghost use Rattle.std.specs.Prelude.{◌≡◌, ◌+◌, ◌<◌, ◌≤◌, [], ◌∷◌, length, insert, remove, is_ok, IfOk, IfErr, OnOk, OnErr, IsTrue, vec_len, vec_capacity};
-ghost use Rattle.kb_label.specs.Names.{add, has, relabel, join, meet, minus, is_empty, IsInNameOrder};
+ghost use Rattle.kb_label.specs.Names.{add, has, relabel, united, IsTakenBack, join, meet, minus, is_empty, IsInNameOrder};
 
 use crate::labels::Labels;
 use crate::living::Living;
@@ -129,9 +129,18 @@ impl ListLabels {
     pub fn relabel(&mut self, process: &Process) -> Result<(), AllocError>
         requires { length process.now < MAX_BITS }
         ensures ok { OnOk result (self.new ≡ relabel process.now self.old) }
+        ensures back { IsTakenBack process.now self.old }
         ensures err { OnErr result (self.new ≡ self.old) }
     {
         self.names.relabel(process)
+    }
+
+    /// Puts a process of fewer than 64 bits in the place of its two children, where the label has both. It takes no memory. So it
+    /// takes a relabelling back, unless a child was there before.
+    pub fn unite(&mut self, process: &Process)
+        ensures { self.new ≡ united process.now self.old }
+    {
+        self.names.unite(process)
     }
 
     /// The label in which the two children of a process stand in its place, where this one has it.

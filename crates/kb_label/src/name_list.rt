@@ -1,10 +1,11 @@
 // Lists of names in their order.
 ghost use Rattle.std.specs.Prelude.{◌≡◌, ◌+◌, ◌<◌, ◌≤◌, [], ◌∷◌, length, true, insert, remove, is_ok, OnOk, OnErr, IfOk, IfErr, IsTrue, vec_len, vec_capacity};
 ghost use Rattle.kb_label.specs.Kept.{AreBefore, AreAfter};
-ghost use Rattle.kb_label.specs.Names.{has, add, join, meet, minus, relabel, is_empty, IsInNameOrder};
+ghost use Rattle.kb_label.specs.Names.{has, add, join, meet, minus, relabel, united, is_empty, IsTakenBack, IsInNameOrder};
+ghost use Rattle.std.specs.declared.cmp.Ordering.TheVariants.{Equal, Greater};
 
 use crate::kept_name::KeptName;
-use crate::process::{MAX_BITS, Process};
+use crate::process::{MAX_BITS, Process, WORD_BITS};
 use std::alloc::{AllocError, Global};
 use std::cmp::Ordering;
 use std::marker::Model;
@@ -145,11 +146,28 @@ impl NameList {
     pub(crate) fn relabel(&mut self, process: &Process) -> Result<(), AllocError>
         requires { length process.now < MAX_BITS }
         ensures ok { OnOk result (self.new ≡ relabel process.now self.old) }
+        ensures back { IsTakenBack process.now self.old }
         ensures err { OnErr result (self.new ≡ self.old) }
     {
         match self.place(process) {
             Ok(place) => self.relabel_at(place, process),
             Err(_) => Ok(()),
+        }
+    }
+
+    /// Puts a process whose children fit a word in the place of both of them, where both are named. It takes no memory.
+    pub(crate) fn unite(&mut self, process: &Process)
+        ensures { self.new ≡ united process.now self.old }
+    {
+        if process.len() >= WORD_BITS {
+            return;
+        }
+        let left = KeptName::short(&process.child(false));
+        let right = KeptName::short(&process.child(true));
+        if self.has_kept(&left) && self.has_kept(&right) {
+            take_out(&mut self.names, &right);
+            take_out(&mut self.names, &left);
+            put(&mut self.names, KeptName::short(process));
         }
     }
 
@@ -201,13 +219,39 @@ impl NameList {
     pub(crate) fn has_from(&self, process: &Process, place: &mut usize) -> bool
         ensures { result ≡ has self.now process.now }
     {
-        if self.is_at(process, *place) {
-            *place = place.saturating_add(1);
-            return true;
+        match self.against_at(process, *place) {
+            Ordering::Equal => {
+                *place = place.saturating_add(1);
+                true
+            }
+            Ordering::Greater if self.are_before(process, *place) => false,
+            _ => self.has_by_search(process, place),
         }
-        if self.are_before(process, *place) && self.are_after(process, *place) {
-            return false;
+    }
+
+    // How the name at the place stands to the process; behind the last name is what comes after it.
+    fn against_at(&self, process: &Process, place: usize) -> Ordering
+        ensures equal { result ≡ Equal → has self.now process.now ≡ true }
+        ensures greater { result ≡ Greater → AreAfter self.now place process.now }
+    {
+        if place < self.names.len() {
+            self.names[place].against(process)
+        } else {
+            Ordering::Greater
         }
+    }
+
+    // Whether the names before the place come before the process: the last of them does.
+    fn are_before(&self, process: &Process, place: usize) -> bool
+        ensures { IsTrue result → AreBefore self.now place process.now }
+    {
+        place == 0 || (place <= self.names.len() && self.names[place - 1].against(process).is_lt())
+    }
+
+    // Whether the process is named. The search leaves the place behind the process.
+    fn has_by_search(&self, process: &Process, place: &mut usize) -> bool
+        ensures { result ≡ has self.now process.now }
+    {
         match self.place(process) {
             Ok(at) => {
                 *place = at.saturating_add(1);
@@ -218,27 +262,6 @@ impl NameList {
                 false
             }
         }
-    }
-
-    // Whether the name at the place is the process's.
-    fn is_at(&self, process: &Process, place: usize) -> bool
-        ensures { IsTrue result → has self.now process.now ≡ true }
-    {
-        place < self.names.len() && self.names[place].against(process).is_eq()
-    }
-
-    // Whether the names before the place come before the process: the last of them does.
-    fn are_before(&self, process: &Process, place: usize) -> bool
-        ensures { IsTrue result → AreBefore self.now place process.now }
-    {
-        place == 0 || (place <= self.names.len() && self.names[place - 1].against(process).is_lt())
-    }
-
-    // Whether the names from the place on come after the process: the first of them does.
-    fn are_after(&self, process: &Process, place: usize) -> bool
-        ensures { IsTrue result → AreAfter self.now place process.now }
-    {
-        place >= self.names.len() || self.names[place].against(process).is_gt()
     }
 
     // Whether a name that is kept elsewhere is here.
@@ -256,6 +279,7 @@ impl NameList {
         ensures left { IfOk result (λ place. remove self.now place ≡ minus self.now (process.now ∷ [])) }
         ensures within { IfErr result (λ place. place ≤ length self.now) }
         ensures absent { IfErr result (λ place. insert self.now place process.now ≡ add process.now self.now) }
+        ensures in_order { IsInNameOrder self.now }
     {
         self.names
             .as_slice()
@@ -268,6 +292,8 @@ fn kept_place(names: &[KeptName], name: &KeptName) -> Result<usize, usize>
     requires { IsInNameOrder names.now }
     ensures found { is_ok result ≡ has names.now name.now }
     ensures present { IfOk result (λ _. add name.now names.now ≡ names.now) }
+    ensures there { IfOk result (λ place. place < length names.now) }
+    ensures left { IfOk result (λ place. remove names.now place ≡ minus names.now (name.now ∷ [])) }
     ensures within { IfErr result (λ place. place ≤ length names.now) }
     ensures absent { IfErr result (λ place. insert names.now place name.now ≡ add name.now names.now) }
 {
@@ -284,6 +310,19 @@ fn put(names: &mut Vec<KeptName>, name: KeptName)
 {
     if let Err(place) = kept_place(names.as_slice(), &name) {
         names.insert(place, name).unwrap();
+    }
+}
+
+// Takes a name out, where it is there.
+fn take_out(names: &mut Vec<KeptName>, name: &KeptName)
+    requires in_order { IsInNameOrder names.old.items }
+    ensures items { names.new.items ≡ minus names.old.items (name.now ∷ []) }
+    ensures len { vec_len names.new ≤ vec_len names.old }
+    ensures less { IsTrue (has names.old.items name.now) → vec_len names.new < vec_len names.old }
+    ensures capacity { vec_capacity names.old ≤ vec_capacity names.new }
+{
+    if let Ok(place) = kept_place(names.as_slice(), name) {
+        names.remove(place);
     }
 }
 

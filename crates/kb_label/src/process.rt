@@ -11,8 +11,8 @@ use std::marker::Model;
 /// The most bits that a name may have.
 pub const MAX_BITS: usize = 1023;
 
-/// The bits of a word.
-pub(crate) const WORD_BITS: usize = 64;
+/// The bits of a word. Of a process of fewer bits both children's names fit one.
+pub const WORD_BITS: usize = 64;
 
 // The words of a name: room for one bit more than the most.
 const WORDS: usize = 16;

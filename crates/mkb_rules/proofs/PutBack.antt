@@ -9,9 +9,9 @@ use Rattle.kb_node.specs.declared.node.LabelKind.TheVariants.{R0, R1, E, C0, C1,
 use Rattle.kb_node.specs.Labelled.{Node, with_label_at, label_in as node_label, with_label as node_with_label}
 use Rattle.mkb_model.specs.Plain.{PlainNode, label_in, label_at}
 use Rattle.mkb_model.specs.Effects.{with_label_in, with_label}
-use Rattle.mkb_model.proofs.commits.Roles.{length-put}
+use Rattle.mkb_model.proofs.Roles.{length-put, put_same}
 use Rattle.mkb_rules.specs.Parts.{plain_node, plain_nodes}
-use Rattle.mkb_rules.specs.Nodes.{put_back}
+use Rattle.mkb_rules.specs.Nodes.{former_label, put_back, put_one_back}
 use Rattle.mkb_rules.specs.declared.nodes.Replaced.{Replaced}
 
 plain-with_label_in : (x : Node (List Name)) (k : LabelKind) (l : List Name) → plain_node (node_with_label x k l) ≡ with_label_in (plain_node x) k l
@@ -72,41 +72,60 @@ put-undone [] n k l = refl
 put-undone (x ∷ xs) zero k l = ap (λ y. y ∷ xs) (put_in-put_in x k (label_in x k) l ∙ put_in-own x k)
 put-undone (x ∷ xs) (suc n) k l = ap (λ ys. x ∷ ys) (put-undone xs n k l)
 
+-- of two labels that are put at one place the last one stays
+pub put-twice : (xs : List PlainNode) (n : ℕ) (k : LabelKind) (l m : List Name) → with_label n k l (with_label n k m xs) ≡ with_label n k l xs
+put-twice [] n k l m = refl
+put-twice (x ∷ xs) zero k l m = ap (λ y. y ∷ xs) (put_in-put_in x k l m)
+put-twice (x ∷ xs) (suc n) k l m = ap (λ ys. x ∷ ys) (put-twice xs n k l m)
+
+length-put_one : (r : Replaced) (xs : List PlainNode) → length (put_one_back r xs) ≡ length xs
+length-put_one r xs = length-put xs r.node.0 r.kind (former_label r.former (label_at xs r.node.0 r.kind))
+
 pub length-put_back : (rs : List Replaced) (xs : List PlainNode) → length (put_back rs xs) ≡ length xs
 length-put_back [] xs = refl
-length-put_back (r ∷ rs) xs = length-put (put_back rs xs) r.node.0 r.kind r.label ∙ length-put_back rs xs
+length-put_back (r ∷ rs) xs = length-put_one r (put_back rs xs) ∙ length-put_back rs xs
 
 -- one label more that was replaced
-pub put_back-more : (rs : List Replaced) (r : Replaced) (xs : List PlainNode) → put_back (rs ++ r ∷ []) xs ≡ put_back rs (with_label r.node.0 r.kind r.label xs)
+pub put_back-more : (rs : List Replaced) (r : Replaced) (xs : List PlainNode) → put_back (rs ++ r ∷ []) xs ≡ put_back rs (put_one_back r xs)
 put_back-more [] r xs = refl
-put_back-more (q ∷ rs) r xs = ap (with_label q.node.0 q.kind q.label) (put_back-more rs r xs)
+put_back-more (q ∷ rs) r xs = ap (put_one_back q) (put_back-more rs r xs)
 
 -- the last label that was replaced is put back into the table
-pub put_back-last : (old new : List (Node (List Name))) (before rs : List Replaced) (r : Replaced) → before ≡ rs ++ r ∷ [] → new ≡ with_label_at old r.node.0 r.kind r.label → put_back rs (plain_nodes new) ≡ put_back before (plain_nodes old)
+pub put_back-last : (old new : List (Node (List Name))) (before rs : List Replaced) (r : Replaced) → before ≡ rs ++ r ∷ [] → plain_nodes new ≡ put_one_back r (plain_nodes old) → put_back rs (plain_nodes new) ≡ put_back before (plain_nodes old)
 put_back-last old new before rs r split is =
-    ap (λ xs. put_back rs (plain_nodes xs)) is
-    ∙ ap (put_back rs) (plain-with_label old r.node.0 r.kind r.label)
+    ap (put_back rs) is
     ∙ sym (put_back-more rs r (plain_nodes old))
     ∙ ap (λ qs. put_back qs (plain_nodes old)) (sym split)
 
--- a label is put anew, and the one that it replaces is kept
-pub put_back-put : (rs : List Replaced) (r : Replaced) (xs : List PlainNode) (l : List Name) → r.label ≡ label_at xs r.node.0 r.kind → put_back (rs ++ r ∷ []) (with_label r.node.0 r.kind l xs) ≡ put_back rs xs
-put_back-put rs r xs l own =
-    put_back-more rs r (with_label r.node.0 r.kind l xs)
-    ∙ ap (λ m. put_back rs (with_label r.node.0 r.kind m (with_label r.node.0 r.kind l xs))) own
-    ∙ ap (put_back rs) (put-undone xs r.node.0 r.kind l)
+-- a label is put anew, and how the one before is had back is kept
+pub put_back-put : (rs : List Replaced) (r : Replaced) (xs : List PlainNode) (l : List Name) → r.node.0 < length xs → former_label r.former l ≡ label_at xs r.node.0 r.kind → put_back (rs ++ r ∷ []) (with_label r.node.0 r.kind l xs) ≡ put_back rs xs
+put_back-put rs r xs l there own =
+    let n = r.node.0 in
+    let k = r.kind in
+    put_back-more rs r (with_label n k l xs)
+    ∙ ap (λ m. put_back rs (with_label n k (former_label r.former m) (with_label n k l xs))) (put_same xs n k l there)
+    ∙ ap (λ m. put_back rs (with_label n k m (with_label n k l xs))) own
+    ∙ ap (put_back rs) (put-undone xs n k l)
 
 put-longer : (xs ys : List PlainNode) (n : ℕ) (k : LabelKind) (l : List Name) → n < length xs → with_label n k l (xs ++ ys) ≡ with_label n k l xs ++ ys
 put-longer [] ys n k l h = absurd (omega (arith, h))
 put-longer (x ∷ xs) ys zero k l h = refl
 put-longer (x ∷ xs) ys (suc n) k l h = ap (λ zs. x ∷ zs) (put-longer xs ys n k l (omega (arith, h)))
 
+label-longer : (xs ys : List PlainNode) (n : ℕ) (k : LabelKind) → n < length xs → label_at (xs ++ ys) n k ≡ label_at xs n k
+label-longer [] ys n k h = absurd (omega (arith, h))
+label-longer (x ∷ xs) ys zero k h = refl
+label-longer (x ∷ xs) ys (suc n) k h = label-longer xs ys n k (omega (arith, h))
+
 -- labels are put back in the nodes that were there
-put_back-longer : (rs : List Replaced) (xs ys : List PlainNode) → All (λ (r : Replaced). r.node.0 < length xs) rs → put_back rs (xs ++ ys) ≡ put_back rs xs ++ ys
+pub put_back-longer : (rs : List Replaced) (xs ys : List PlainNode) → All (λ (r : Replaced). r.node.0 < length xs) rs → put_back rs (xs ++ ys) ≡ put_back rs xs ++ ys
 put_back-longer [] xs ys h = refl
 put_back-longer (r ∷ rs) xs ys h =
-    ap (with_label r.node.0 r.kind r.label) (put_back-longer rs xs ys (λ k d u. h (suc k) d (omega arith)))
-    ∙ put-longer (put_back rs xs) ys r.node.0 r.kind r.label (omega (arith, h 0 r (omega arith), length-put_back rs xs))
+    let zs = put_back rs xs in
+    let there : r.node.0 < length zs = omega (arith, h 0 r (omega arith), length-put_back rs xs) in
+    ap (put_one_back r) (put_back-longer rs xs ys (λ k d u. h (suc k) d (omega arith)))
+    ∙ ap (λ l. with_label r.node.0 r.kind (former_label r.former l) (zs ++ ys)) (label-longer zs ys r.node.0 r.kind there)
+    ∙ put-longer zs ys r.node.0 r.kind (former_label r.former (label_at zs r.node.0 r.kind)) there
 
 -- nodes that come at the end change nothing of what is taken back
 pub before-longer : (kept : ℕ) (rs : List Replaced) (xs ys : List PlainNode) → kept ≤ length xs → All (λ (r : Replaced). r.node.0 < length xs) rs → take kept (put_back rs (xs ++ ys)) ≡ take kept (put_back rs xs)

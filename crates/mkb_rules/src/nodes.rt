@@ -1,11 +1,11 @@
 // Nodes whose last changes can be taken back.
-ghost use Rattle.std.specs.Prelude.{◌≡◌, ◌<◌, ◌≤◌, ◌↔◌, [], length, All, IsFalse, OnOk, OnErr, IfOk, IfSome};
+ghost use Rattle.std.specs.Prelude.{◌≡◌, ◌<◌, ◌≤◌, ◌↔◌, [], Bool, true, false, length, All, IsFalse, OnOk, OnErr, IfOk, IfSome};
 ghost use Rattle.mkb_model.specs.Plain.{label_at};
 ghost use Rattle.mkb_model.specs.Effects.{with_label, with_node, node_of, is_present, most_nodes, gains as with_gain, loses as with_loss, gains_equation as with_equation, gains_rule as with_rule};
-ghost use Rattle.kb_label.specs.Names.{minus};
+ghost use Rattle.kb_label.specs.Names.{child, has, minus, relabel};
 ghost use Rattle.mkb_rules.specs.Parts.{plain_nodes};
 ghost use Rattle.mkb_rules.specs.Accounts.{DiffersFor, IsAccountOf};
-ghost use Rattle.mkb_rules.specs.Nodes.{put_back};
+ghost use Rattle.mkb_rules.specs.Nodes.{put_back, put_one_back};
 ghost use Rattle.mkb_rules.specs.Roles.{AreRolesOf};
 ghost use Rattle.mkb_rules.specs.SetAside.{AreSetAside};
 ghost use Rattle.mkb_rules.specs.Sizes.{is_dead_at, AreAlive, AreSizesOf};
@@ -17,18 +17,25 @@ use crate::role_row::RoleRow;
 use crate::set_aside::SetAside;
 use crate::sizes::Sizes;
 use crate::tracked::Tracked;
-use kb_label::{Labels, ListLabels, MAX_BITS, NameLog, Process};
+use kb_label::{Labels, ListLabels, MAX_BITS, NameLog, Process, WORD_BITS};
 use kb_node::{LabelKind, NodeFault, NodeId, NodeTable};
 use kb_term::{Origin, Pair, RuleRef};
 use std::alloc::{AllocError, Global};
 use std::marker::Model;
 
-/// A label that another one took the place of.
+/// How a label was before it changed: another one, or with a process in the place of its two children.
+#[derive(Drop)]
+enum Former {
+    Label(ListLabels),
+    Forked(Process),
+}
+
+/// A label that changed, and how it was before.
 #[derive(Drop)]
 struct Replaced {
     node: NodeId,
     kind: LabelKind,
-    label: ListLabels,
+    former: Former,
 }
 
 /// The table of nodes, with what was replaced in it since changes were last kept. Contracts see the nodes as they are
@@ -183,7 +190,36 @@ impl Nodes {
             .push(Replaced {
                 node: change.node,
                 kind: change.kind,
-                label,
+                former: Former::Label(label),
+            })
+            .unwrap();
+        Ok(())
+    }
+
+    /// Puts the two children of a process in its place in a label that names it and neither of them. No account is kept from here
+    /// on.
+    pub(crate) fn relabel(
+        &mut self,
+        log: &NameLog,
+        n: NodeId,
+        kind: LabelKind,
+        p: &Process,
+    ) -> Result<(), AllocError>
+        requires short { length p.now < WORD_BITS }
+        requires there { n.0 < length self.old.now }
+        requires named { has (label_at self.old.now n.0 kind) p.now ≡ true }
+        requires alone { (bit : Bool) → has (label_at self.old.now n.0 kind) (child p.now bit) ≡ false }
+        ensures ok { OnOk result (self.new.now ≡ with_label n.0 kind (relabel p.now (label_at self.old.now n.0 kind)) self.old.now) }
+        ensures before { self.new.before ≡ self.old.before }
+        ensures err { OnErr result (self.new.now ≡ self.old.now) }
+    {
+        self.replaced.reserve(1)?;
+        self.table.relabel(log, n, kind, p)?;
+        self.replaced
+            .push(Replaced {
+                node: n,
+                kind,
+                former: Former::Forked(*p),
             })
             .unwrap();
         Ok(())
@@ -311,6 +347,19 @@ fn left(
     Ok(label)
 }
 
+// Puts a label back as it was before it changed.
+fn put_one_back(table: &mut Tracked, replaced: Replaced)
+    requires { replaced.node.0 < length table.old }
+    ensures nodes { plain_nodes table.new ≡ put_one_back replaced (plain_nodes table.old) }
+    ensures count { length table.new ≡ length table.old }
+{
+    let Replaced { node, kind, former } = replaced;
+    match former {
+        Former::Label(label) => table.put_back(node, kind, label),
+        Former::Forked(process) => table.unite(node, kind, &process),
+    }
+}
+
 // Puts the replaced labels back, the last one first.
 fn put_all_back(table: &mut Tracked, replaced: &mut Vec<Replaced>)
     requires { All (λ (r : Replaced). r.node.0 < length table.old) replaced.old.items }
@@ -318,7 +367,6 @@ fn put_all_back(table: &mut Tracked, replaced: &mut Vec<Replaced>)
     ensures none { replaced.new.items ≡ [] }
 {
     while let Some(last) = replaced.pop() {
-        let Replaced { node, kind, label } = last;
-        table.put_back(node, kind, label);
+        put_one_back(table, last);
     }
 }

@@ -1,8 +1,9 @@
 // The table of nodes, with what is kept beside it.
-ghost use Rattle.std.specs.Prelude.{◌≡◌, ℕ, List, [], Some, ◌+◌, ◌<◌, ◌≤◌, ◌↔◌, length, take, set, get_or, true, slice_get, option_map, All, IfOk, IfSome, IsTrue, OnErr};
+ghost use Rattle.std.specs.Prelude.{◌≡◌, ℕ, List, [], Some, ◌+◌, ◌<◌, ◌≤◌, ◌↔◌, length, take, set, get_or, true, slice_get, option_map, All, IfOk, IfSome, IsTrue, OnErr, OnOk};
 ghost use Rattle.kb_node.specs.Labelled.{label_in, with_label_at, HasPair, LacksPair, AddsNode};
-ghost use Rattle.kb_label.specs.Names.{Name};
+ghost use Rattle.kb_label.specs.Names.{relabel, united, IsTakenBack, Name};
 ghost use Rattle.mkb_rules.specs.Parts.{plain_nodes};
+ghost use Rattle.mkb_model.specs.Effects.{with_label};
 ghost use Rattle.mkb_model.specs.Plain.{label_at};
 ghost use Rattle.mkb_rules.specs.Accounts.{DiffersFor, IsAccountOf};
 ghost use Rattle.mkb_rules.specs.Roles.{AreRolesOf};
@@ -17,7 +18,7 @@ use crate::sizes::Sizes;
 use kb_label::{Labels, ListLabels, MAX_BITS, NameLog, Process};
 use kb_node::{LabelKind, NodeFault, NodeId, NodeTable};
 use kb_term::{MAX_NODES, Origin, Pair};
-use std::alloc::Global;
+use std::alloc::{AllocError, Global};
 use std::marker::Model;
 use std::mem::replace;
 
@@ -113,6 +114,50 @@ impl Tracked {
         self.accounts.clear();
         self.used.set(n, true);
         let _replaced = self.table.set_label(n, kind, label);
+    }
+
+    /// Puts the two children of a process in its place in a label of the node, where it stands there. No account is kept from here on.
+    ///
+    /// # Errors
+    ///
+    /// Want of memory; the nodes are then as before.
+    pub(crate) fn relabel(
+        &mut self,
+        log: &NameLog,
+        n: NodeId,
+        kind: LabelKind,
+        p: &Process,
+    ) -> Result<(), AllocError>
+        requires there { n.0 < length self.old }
+        requires short { length p.now < MAX_BITS }
+        ensures ok { OnOk result (plain_nodes self.new ≡ with_label n.0 kind (relabel p.now (label_at (plain_nodes self.old) n.0 kind)) (plain_nodes self.old)) }
+        ensures err { OnErr result (plain_nodes self.new ≡ plain_nodes self.old) }
+        ensures back { IsTakenBack p.now (label_at (plain_nodes self.old) n.0 kind) }
+        ensures count { length self.new ≡ length self.old }
+    {
+        let empty = ListLabels::new(*self.accounts.allocator());
+        let mut label = self.table.set_label(n, kind, empty);
+        let outcome = label.relabel(p);
+        let _empty = self.table.set_label(n, kind, label);
+        self.accounts.clear();
+        let is_dead = self.table.is_dead(log, n);
+        self.used.set(n, !is_dead);
+        outcome
+    }
+
+    /// Puts a process of fewer than 64 bits in the place of its two children in a label of the node, where both stand there. It takes
+    /// no memory.
+    pub(crate) fn unite(&mut self, n: NodeId, kind: LabelKind, p: &Process)
+        requires { n.0 < length self.old }
+        ensures new { plain_nodes self.new ≡ with_label n.0 kind (united p.now (label_at (plain_nodes self.old) n.0 kind)) (plain_nodes self.old) }
+        ensures count { length self.new ≡ length self.old }
+    {
+        self.accounts.clear();
+        self.used.set(n, true);
+        let empty = ListLabels::new(*self.accounts.allocator());
+        let mut label = self.table.set_label(n, kind, empty);
+        label.unite(p);
+        let _empty = self.table.set_label(n, kind, label);
     }
 
     /// Keeps the first nodes alone. It takes no memory.

@@ -22,7 +22,9 @@ use crate::overlapped::{DonePair, OverlappedPairs};
 use crate::sleepers::Sleepers;
 use crate::state::{Certified, GivenUp, State, certificate_place};
 use kb_cert::Certificate;
-use kb_label::{Labels, ListLabels, Living, MAX_BITS, MAX_LIVING, NameLog, Process, Reason};
+use kb_label::{
+    Labels, ListLabels, Living, MAX_BITS, MAX_LIVING, NameLog, Process, Reason, WORD_BITS,
+};
 use kb_node::{LabelKind, NodeId};
 use kb_term::{Memory, RuleRef};
 use std::alloc::{AllocError, Global};
@@ -401,6 +403,10 @@ fn fork_label(
     }
     if !old.has(fork.log, fork.process) {
         return Ok(is_without_children(old, fork));
+    }
+    if fork.process.len() < WORD_BITS && is_without_children(old, fork) {
+        nodes.relabel(fork.log, n, kind, fork.process)?;
+        return Ok(true);
     }
     let label = old.relabelled(fork.process)?;
     let change = Change {

@@ -2,5 +2,5 @@ use Rattle.std.proofs.Common.{sym}
 use Rattle.kb_label.proofs.Searched.{between-absent}
 use Rattle.kb_label.proofs.name_list.NameList.has_from.Goals as goal
 
-pub returns-then-are_after : goal.returns-then-are_after
-returns-then-are_after c = sym (between-absent c.args.self.now c.args.process.now c.args.place.now (c.are_before.ensures c.if-are_before.true) (c.are_after.ensures c.if-are_after.true))
+pub returns-in-Greater : goal.returns-in-Greater
+returns-in-Greater c = sym (between-absent c.args.self.now c.args.process.now c.args.place.now (c.are_before.ensures c.if-are_before.true) (c.against_at.ensures.greater c.in-Greater.is))

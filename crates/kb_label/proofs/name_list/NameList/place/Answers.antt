@@ -33,3 +33,6 @@ returns-clause-left c =
 pub returns-clause-absent : goal.returns-clause-absent
 returns-clause-absent c =
     rw (← same c) (search-absent c.as_slice.result.now c.args.process.now (in_order c) c.binary_search_by.result c.binary_search_by.ensures.bound (searched c))
+
+pub returns-clause-in_order : goal.returns-clause-in_order
+returns-clause-in_order c = rw (← c.self.view_is) c.self.invariant

@@ -32,6 +32,12 @@ returns-then-not-has-clause-inherit c = λ t.
     (ap (has l) (sym c.requires.children.0) ∙ ap (λ (m : List Name). has m c.args.fork.now.left) (sym c.node_label-old.ensures) ∙ none.0)
     (ap (has l) (sym c.requires.children.1) ∙ ap (λ (m : List Name). has m c.args.fork.now.right) (sym c.node_label-old.ensures) ∙ none.1)
 
+pub returns-then-is_without_children-clause-inherit : goal.returns-then-is_without_children-clause-inherit
+returns-then-is_without_children-clause-inherit c = λ t.
+    let p = c.args.fork.now.process.now in
+    inherits_named p (label_at c.args.nodes.now.now c.args.n.0 c.args.kind)
+    (ap (λ (l : List Name). has l p) (sym c.node_label-old.ensures) ∙ sym c.has.ensures ∙ c.if-not-has.false)
+
 pub returns-clause-inherit : goal.returns-clause-inherit
 returns-clause-inherit c = λ t.
     let p = c.args.fork.now.process.now in
