@@ -5,7 +5,7 @@ ghost use Rattle.kb_rewrite.specs.Search.{Applies, IsFirstRule, IsRootRedex};
 ghost use Rattle.kb_rewrite.specs.Indexed.{IsNumbered, IsRepeated};
 
 use crate::roots::Roots;
-use kb_match::matches;
+use kb_match::{fits, matches};
 use kb_term::{Memory, Rule, Term, is_variant};
 use rule_index::RuleIndex;
 use std::alloc::Global;
@@ -107,7 +107,8 @@ impl<'a> System<'a> {
         match &self.lookup {
             Lookup::Scan => {
                 for i in 0..self.rules.len() {
-                    if applies(alloc, &self.rules[i], whole, strict_only, t)? {
+                    let rule = &self.rules[i];
+                    if fits(rule.left(), t) && applies(alloc, rule, whole, strict_only, t)? {
                         return Ok(Some(i));
                     }
                 }

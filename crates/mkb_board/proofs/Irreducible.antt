@@ -24,7 +24,7 @@ use Rattle.std.proofs.Math.Bool.{and-false}
 use Rattle.kb_lemmas.proofs.Booleans.{and_gives_left, and_gives_right}
 use Rattle.mkb_model.specs.declared.proposed.Proposed.{Proposed}
 use Rattle.mkb_model.specs.declared.proposed.Proposed.TheVariants.{Facts, Rewrite, One, Both, Refuse, Deduce, Unjoined, Closed, Limit}
-use Rattle.mkb_model.proofs.Lists.{any_in, in_any, filter_in, in_filter, same_test, not_of_false, decide, clash}
+use Rattle.mkb_model.proofs.Lists.{any_in, in_any, false_unless, filter_in, in_filter, same_test, not_of_false, decide, clash}
 use Rattle.mkb_model.proofs.closing.Completed.{ref_self}
 use Rattle.mkb_rules.specs.Roles.{roles_of}
 use Rattle.mkb_board.specs.Normal.{AreAllNormal, AreNormal, IsPast, Serves, is_among, is_open_in, is_open_to, recounted}
@@ -279,3 +279,12 @@ normals_with b ks i k all one = record {
 -- what holds at each place holds on each later board
 pub normals_after : (b : Plain) (x : Proposed) (ks : List Normal) → AreAllNormal b ks → AreAllNormal (effect b x) ks
 normals_after b x ks all = record { some = all.some; each = λ n d h. normal_after b x (get_or ks n d) (all.each n d h) }
+
+-- where the test is passed by none, it isn't by one of the first
+pub none_early : (q : RuleRef → Bool) (rules : List RuleRef) (a : RuleRef) → list_any q rules ≡ false → is_among rules a ≡ true → q a ≡ false
+none_early q rules a none e = false_unless (q a) (λ h. clash (in_any q rules a (among_in rules a e) h) none)
+
+-- one more element is mapped behind the others
+pub mapped_next : {A B : Type 0} (f : A → B) (xs : List A) (i : ℕ) (d : A) (old new : List B) (y : B) → i < length xs → old ≡ map f (take i xs) → y ≡ f (get_or xs i d) → new ≡ old ++ y ∷ [] → new ≡ map f (take (i + 1) xs)
+mapped_next {A} {B} f xs i d old new y there behind one more =
+    more ∙ ap₂ (λ (p : List B) (q : B). p ++ q ∷ []) behind one ∙ sym (map-append f (take i xs) (get_or xs i d ∷ [])) ∙ ap (map f) (sym (take_more xs i d there))

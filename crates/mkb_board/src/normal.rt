@@ -1,9 +1,10 @@
 // Nodes that no rule reduces.
-ghost use Rattle.std.specs.Prelude.{ℕ, ◌≡◌, ◌<◌, ◌++◌, length, map, not, filter, get_or, nat_lt, take, IfOk, IsTrue, OnOk};
-ghost use Rattle.std.specs.List.{list_any};
+ghost use Rattle.std.specs.Prelude.{ℕ, ◌≡◌, ◌<◌, ◌≤◌, ◌++◌, length, map, not, filter, get_or, nat_lt, take, IfOk, IsTrue, OnOk};
+ghost use Rattle.std.specs.List.{list_any, position_or_len};
 ghost use Rattle.kb_term.specs.declared.origin.RuleRef.{RuleRef as Reference};
 ghost use Rattle.kb_node.specs.declared.job.Job.TheVariants as jobs;
 ghost use Rattle.kb_node.specs.declared.node.NodeId.{NodeId as Numbered};
+ghost use Rattle.mkb_model.specs.Jobs.{ref_eq};
 ghost use Rattle.mkb_model.specs.Plain.{Plain, known, other, rules_of};
 ghost use Rattle.mkb_model.specs.DueJobs.{is_work_due};
 ghost use Rattle.mkb_rules.specs.Roles.{AreRolesOf, has_rule, held_of, roles_of};
@@ -151,6 +152,33 @@ fn push_fresh(kept: &mut Vec<RuleRef>, old: &[RuleRef], rules: &[RuleRef]) -> Re
     Ok(())
 }
 
+// Where the rule stands among these; behind all of them where it is none of them.
+fn place_of(rules: &[RuleRef], rule: RuleRef) -> usize
+    ensures { result ≡ position_or_len (λ a. ref_eq a rule) rules.now }
+{
+    for i in 0..rules.len() {
+        if rules[i] == rule {
+            return i;
+        }
+    }
+    rules.len()
+}
+
+// Where each of the rules stands by arrival.
+fn places_of(
+    alloc: Global,
+    arrived: &[RuleRef],
+    rules: &[RuleRef],
+) -> Result<Vec<usize>, AllocError>
+    ensures { IfOk result (λ places. places.items ≡ map (λ (rule : Reference). position_or_len (λ a. ref_eq a rule) arrived.now) rules.now) }
+{
+    let mut places = Vec::new(alloc);
+    for i in 0..rules.len() {
+        places.push(place_of(arrived, rules[i]))?;
+    }
+    Ok(places)
+}
+
 // What is noted of a node: how a process had it, and how many of the first rules by arrival were then not open to it.
 #[derive(Clone, Copy)]
 struct Noted {
@@ -167,7 +195,7 @@ fn recount(nodes: &mut [Noted], kept: &Stayed)
     }
 }
 
-/// Rules, in their order and by arrival, and for each node the roles in which it was asked about and how many of the first rules by
+/// Rules, in their order and by arrival, with the place of each by arrival, and for each node the roles in which it was asked about and how many of the first rules by
 /// arrival are known not to be open to it; and how the process that it was turned to last has the nodes.
 ///
 /// What is known of a side of a node and a rule stays known, so what is noted holds on each later board.
@@ -176,6 +204,7 @@ pub(crate) struct Normal {
     alloc: Global,
     rules: Vec<RuleRef>,
     arrived: Vec<RuleRef>,
+    places: Vec<usize>,
     nodes: Vec<Noted>,
     roles: Vec<Roles>,
     held: Vec<NodeId>,
@@ -204,6 +233,7 @@ impl Normal {
             alloc,
             rules: Vec::new(alloc),
             arrived: Vec::new(alloc),
+            places: Vec::new(alloc),
             nodes: Vec::new(alloc),
             roles: Vec::new(alloc),
             held: Vec::new(alloc),
@@ -269,10 +299,12 @@ impl Normal {
         let kept = kept(self.alloc, self.arrived.as_slice(), rules)?;
         let mut arrived = Vec::from_slice(self.alloc, kept.rules.as_slice())?;
         push_fresh(&mut arrived, self.arrived.as_slice(), rules)?;
+        let places = places_of(self.alloc, arrived.as_slice(), rules)?;
         if kept.rules.len() < self.arrived.len() {
             recount(&mut self.nodes, &kept);
         }
         self.arrived = arrived;
+        self.places = places;
         self.rules = own;
         Ok(())
     }
@@ -320,6 +352,55 @@ impl Normal {
             Some(noted) if noted.roles.is_same(roles) => noted.passed,
             _ => 0,
         }
+    }
+
+    // Whether the rule, where it stands at this place in the order, is one of so many first ones by arrival.
+    fn is_early(&self, place: usize, rule: RuleRef, count: usize) -> bool
+        requires { count ≤ length self.now.arrived.items }
+        ensures { IsTrue result → IsTrue (is_among (take count self.now.arrived.items) rule) }
+    {
+        match self.places.get(place) {
+            Some(arrival) => *arrival < count && self.arrived[*arrival] == rule,
+            None => false,
+        }
+    }
+
+    // Whether some side of the node is open to the rule, which may stand at this place in the order, where so much is noted of the node.
+    fn is_open_at(
+        &self,
+        state: &State,
+        n: NodeId,
+        noted: Noted,
+        place: usize,
+        rule: RuleRef,
+    ) -> bool
+        requires { IsPast state.now self.now.arrived.items n.0 noted }
+        ensures { result ≡ is_open_to state.now noted.roles n.0 rule }
+    {
+        !self.is_early(place, rule, noted.passed) && is_open_to(state, noted.roles, n, rule)
+    }
+
+    /// Those of the rules to which some side of the node is open, where a process has it in these roles. What is known of a rule is looked
+    /// up only where the node isn't noted to have passed it, so that few are asked about where these are the rules that it has.
+    pub(crate) fn open_to(
+        &self,
+        state: &State,
+        roles: Roles,
+        n: NodeId,
+        rules: &[RuleRef],
+    ) -> Result<Vec<RuleRef>, AllocError>
+        requires { AreNormal state.now self.now }
+        ensures { IfOk result (λ kept. kept.items ≡ filter (is_open_to state.now roles n.0) rules.now) }
+    {
+        let passed = self.passed(n, roles);
+        let noted = Noted { roles, passed };
+        let mut kept = Vec::new(self.alloc);
+        for i in 0..rules.len() {
+            if self.is_open_at(state, n, noted, i, rules[i]) {
+                kept.push(rules[i])?;
+            }
+        }
+        Ok(kept)
     }
 
     // Where the first rule by arrival stands that is open to the node in these roles; without one, how many rules there are.

@@ -59,7 +59,7 @@ impl Board {
         ensures undecided { OnErr result (verdict self.old.plain ≡ None) }
         ensures unhalted { OnErr result (IsFalse (has_halt self.old.journal)) }
     {
-        let snapshot = snapshot(alloc, &self.state, &mut self.shelf, job)?;
+        let snapshot = snapshot(alloc, &self.state, &self.normals, &mut self.shelf, job)?;
         reserve(&mut self.flight, &mut self.journal)?;
         let ticket = Ticket {
             number: self.taken + 1,

@@ -9,7 +9,7 @@ use Rattle.kb_node.specs.declared.node.LabelKind.TheVariants.{R0, R1, E, C0, C1,
 use Rattle.kb_node.specs.Labelled.{Node, with_label_at, label_in as node_label, with_label as node_with_label}
 use Rattle.mkb_model.specs.Plain.{PlainNode, label_in, label_at}
 use Rattle.mkb_model.specs.Effects.{with_label_in, with_label}
-use Rattle.mkb_model.proofs.Roles.{length-put, put_same}
+use Rattle.mkb_model.proofs.commits.Roles.{length-put, put_same}
 use Rattle.mkb_rules.specs.Parts.{plain_node, plain_nodes}
 use Rattle.mkb_rules.specs.Nodes.{former_label, put_back, put_one_back}
 use Rattle.mkb_rules.specs.declared.nodes.Replaced.{Replaced}

@@ -1,22 +1,22 @@
 // What a Reduce reads.
-ghost use Rattle.std.specs.Prelude.{◌≡◌, ◌<◌, ◌≤◌, ◌^◌, ◌++◌, ◌||◌, ◌∷◌, [], IfOk, OnOk, filter, length};
+ghost use Rattle.std.specs.Prelude.{◌≡◌, ◌<◌, ◌≤◌, ◌^◌, ◌++◌, ◌||◌, ◌∷◌, [], IfOk, OnOk, length};
 ghost use Rattle.std.specs.List.{flat_map};
 ghost use Rattle.kb_jobs.specs.Taken.{IsTakenReduce};
 ghost use Rattle.mkb_model.specs.Plain.{is_equation, is_rule};
 ghost use Rattle.mkb_model.specs.Invariants.{FactsHold};
-ghost use Rattle.mkb_board.specs.Normal.{is_open_to};
+ghost use Rattle.mkb_board.specs.Normal.{AreNormal};
 ghost use Rattle.mkb_board.specs.Shelf.{HoldsRules};
 ghost use Rattle.mkb_board.specs.Snapshots.{AreWithin, IsWholeReduce, open_rules, unknown_on, with_names};
 
 use super::named::{named_rules, pair_at, rules_of};
 use crate::choosing::{is_equation, is_rule};
-use crate::normal::{is_open_to, roles_by};
+use crate::normal::{Normal, roles_by};
 use crate::shelf::Shelf;
 use kb_jobs::ReduceSnapshot;
 use kb_label::Process;
 use kb_node::NodeId;
 use kb_term::{MAX_NODES, Memory, RuleRef};
-use mkb_rules::{Roles, State};
+use mkb_rules::State;
 use std::alloc::{AllocError, Global};
 
 /// The pair of the node, the rules of the process in other nodes to which some side of the node is open, and what is unknown of them.
@@ -24,11 +24,13 @@ use std::alloc::{AllocError, Global};
 pub(crate) fn reduce_snapshot(
     alloc: Global,
     state: &State,
+    normal: &Normal,
     shelf: &mut Shelf,
     process: Process,
     node: NodeId,
 ) -> Result<ReduceSnapshot, Memory>
     requires there { node.0 < length state.now.nodes }
+    requires normal { AreNormal state.now normal.now }
     requires facts { FactsHold state.now }
     requires shelf { HoldsRules state.now shelf.old }
     ensures shelf { HoldsRules state.now shelf.new }
@@ -38,7 +40,7 @@ pub(crate) fn reduce_snapshot(
     ensures whole { IfOk result IsWholeReduce }
 {
     let pair = pair_at(state, node)?;
-    let names = open_rules(alloc, state, &process, node)?;
+    let names = open_rules(alloc, state, normal, &process, node)?;
     let unknown = unknown(alloc, state, node, names.as_slice())?;
     let rules = named_rules(alloc, state, shelf, names)?;
     Ok(ReduceSnapshot {
@@ -52,33 +54,20 @@ pub(crate) fn reduce_snapshot(
     })
 }
 
-// The rules to which some side of the node is open, where a process has it in these roles.
-#[tactic(auto, using(crate::proofs::Viewed::passing_next))]
-fn open_to(
+// The rules of the process in other nodes to which some side of the node is open.
+fn open_rules(
     alloc: Global,
     state: &State,
-    names: &[RuleRef],
+    normal: &Normal,
+    p: &Process,
     n: NodeId,
-    roles: Roles,
-) -> Result<Vec<RuleRef>, AllocError>
-    ensures { IfOk result (λ kept. kept.items ≡ filter (is_open_to state.now roles n.0) names.now) }
-{
-    let mut kept = Vec::new(alloc);
-    for i in 0..names.len() {
-        if is_open_to(state, roles, n, names[i]) {
-            kept.push(names[i])?;
-        }
-    }
-    Ok(kept)
-}
-
-// The rules of the process in other nodes to which some side of the node is open.
-fn open_rules(alloc: Global, state: &State, p: &Process, n: NodeId) -> Result<Vec<RuleRef>, Memory>
-    requires { n.0 < length state.now.nodes }
+) -> Result<Vec<RuleRef>, Memory>
+    requires there { n.0 < length state.now.nodes }
+    requires normal { AreNormal state.now normal.now }
     ensures names { IfOk result (λ names. names.items ≡ open_rules state.now p.now n.0) }
     ensures few { IfOk result (λ names. length names.items < 2 ^ 32) }
 {
-    let names = listed_open(alloc, state, p, n)?;
+    let names = listed_open(alloc, state, normal, p, n)?;
     // Each node gives at most two rules.
     let count = state.nodes().len();
     prove!(count <= MAX_NODES as u32);
@@ -86,16 +75,23 @@ fn open_rules(alloc: Global, state: &State, p: &Process, n: NodeId) -> Result<Ve
 }
 
 // The same, however many they are.
-fn listed_open(alloc: Global, state: &State, p: &Process, n: NodeId) -> Result<Vec<RuleRef>, Memory>
-    requires { n.0 < length state.now.nodes }
+fn listed_open(
+    alloc: Global,
+    state: &State,
+    normal: &Normal,
+    p: &Process,
+    n: NodeId,
+) -> Result<Vec<RuleRef>, Memory>
+    requires there { n.0 < length state.now.nodes }
+    requires normal { AreNormal state.now normal.now }
     ensures { IfOk result (λ names. names.items ≡ open_rules state.now p.now n.0) }
 {
     let roles = roles_by(state, state.roles(p), p, n);
     if let Some(rules) = state.rules(p) {
-        return Ok(open_to(alloc, state, rules, n, roles)?);
+        return Ok(normal.open_to(state, roles, n, rules)?);
     }
     let rules = rules_of(alloc, state, p)?;
-    Ok(open_to(alloc, state, rules.as_slice(), n, roles)?)
+    Ok(normal.open_to(state, roles, n, rules.as_slice())?)
 }
 
 // Whether any redex may be rewritten on the side that the rule of the direction leads to.

@@ -1,13 +1,17 @@
 use Rattle.std.proofs.Common.{ℕ, ◌<◌, ◌≡◌, sym, ap, subst, arith, length, below_more, get_or, List}
 use Rattle.kb_term.specs.Rule.{Rule}
+use Rattle.kb_term.specs.Tree.{Tree}
 use Rattle.kb_term.specs.View.{tree_of}
+use Rattle.kb_match.specs.Fitting.{Fits}
 use Rattle.rule_index.specs.Index.{IsCandidate}
 use Rattle.kb_rewrite.specs.Indexed.{IsIndexOf, Finds}
 use Rattle.kb_rewrite.specs.Search.{IsRootRedex}
 use Rattle.kb_rewrite.proofs.FirstRedexes.{rule_inside}
 use Rattle.kb_rewrite.proofs.Positions.{false_true}
 use Rattle.kb_rewrite.proofs.Indexing.{candidate_inside, key_at, number_at, found_before, first_rule_some, first_rule_none, none_before_candidate}
+use Rattle.kb_match.proofs.FittingLaws.{fits_from_match}
 use Rattle.kb_rewrite.proofs.system.System.first_applying.Goals as goal
+use Rattle.kb_rewrite.proofs.system.System.first_applying.Goals.{else-fits-via-then-fits+in_ok-applies-in-Scan+else-branch, else-fits-via-else-fits}
 
 pub loop-i-init : goal.loop-i-init
 loop-i-init c = λ j h r. absurd (omega (arith, h))
@@ -16,7 +20,11 @@ pub returns-then-branch : goal.returns-then-branch
 returns-then-branch c = first_rule_some c.args.self.now c.self.inside.rules.now c.args.strict_only (tree_of c.args.whole.now) (tree_of c.args.t.now) c.loop-i.i c.index-self-i.result c.self.view_is c.loop-i-test.true (c.in_ok-applies-in-Scan.ensures.0 c.if-branch.true) c.loop-i.invariant
 
 pub loop-i-preserved : goal.loop-i-preserved
-loop-i-preserved c = below_more _ _ c.loop-i.invariant (first_rule_none c.args.self.now c.self.inside.rules.now c.args.strict_only (tree_of c.args.whole.now) (tree_of c.args.t.now) c.loop-i.i c.index-self-i.result c.self.view_is c.loop-i-test.true (λ h. false_true c.if-branch.false (c.in_ok-applies-in-Scan.ensures.1 h)))
+loop-i-preserved c =
+    elim c.else-fits.branch [
+      | else-fits-via-then-fits+in_ok-applies-in-Scan+else-branch w ↦ below_more _ _ c.loop-i.invariant (first_rule_none c.args.self.now c.self.inside.rules.now c.args.strict_only (tree_of c.args.whole.now) (tree_of c.args.t.now) c.loop-i.i c.index-self-i.result c.self.view_is c.loop-i-test.true (λ h. false_true w.if-branch.false (w.in_ok-applies-in-Scan.ensures.1 h)))
+      | else-fits-via-else-fits w ↦ below_more _ _ c.loop-i.invariant (first_rule_none c.args.self.now c.self.inside.rules.now c.args.strict_only (tree_of c.args.whole.now) (tree_of c.args.t.now) c.loop-i.i c.index-self-i.result c.self.view_is c.loop-i-test.true (λ h. false_true w.if-fits.false (c.fits.ensures.1 (subst {A = Tree} (λ u. Fits u (tree_of c.args.t.now)) (sym c.left.ensures) (fits_from_match _ (tree_of c.args.t.now) h.0)))))
+    ]
 
 pub bounds-self-inside-i-in-loop-k : goal.bounds-self-inside-i-in-loop-k
 bounds-self-inside-i-in-loop-k c =
