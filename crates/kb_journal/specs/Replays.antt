@@ -29,6 +29,11 @@ pub record HasLines (P : Problem) (s : Settings) (ls : List EntryLine) (J : List
 abbrev pub AreMade : Problem → Settings → List EntryLine → Type 0
 AreMade P s ls = (J : List Entry) × (c : Plain) × HasLines P s ls J c
 
+-- two legal journals with the same lines are the same, and so are their boards
+abbrev pub LinesDecideJournals : Problem → Settings → Type 0
+LinesDecideJournals problem settings =
+    (lines : List EntryLine) (journal other : List Entry) (board end : Plain) → HasLines problem settings lines journal board → HasLines problem settings lines other end → (journal ≡ other) × (board ≡ end)
+
 -- the entry with this number, from 1, is the first that no board makes: a legal journal has the lines before it, and none has them and its own
 pub record IsBadEntry (j : Journal) (n : ℕ) : Type 0 where
   pub from_one : 1 ≤ n

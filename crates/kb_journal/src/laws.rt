@@ -1,12 +1,9 @@
 // What holds of the texts of journals.
 ghost use Rattle.std.specs.Prelude.{◌≡◌, ℕ, List};
 ghost use Rattle.kb_term.specs.Signature.{Problem, IsWithinLimits};
-ghost use Rattle.mkb_model.specs.Plain.{Plain};
-ghost use Rattle.mkb_model.specs.declared.entry.Entry.{Entry};
 ghost use Rattle.mkb_model.specs.declared.settings.Settings.{Settings};
-ghost use Rattle.kb_journal.specs.declared.entry_line.EntryLine.{EntryLine};
 ghost use Rattle.kb_journal.specs.Journals.{Journal, JournalSpelled};
-ghost use Rattle.kb_journal.specs.Replays.{HasLines};
+ghost use Rattle.kb_journal.specs.Replays.{LinesDecideJournals};
 
 /// A text is that of one journal alone, and a journal has one text.
 pub fn journal_texts_are_one()
@@ -16,5 +13,5 @@ pub fn journal_texts_are_one()
 
 /// At most one legal journal of a problem within the limits and settings has given lines, and it leads to one board.
 pub fn lines_decide_journals()
-    ensures { (problem : Problem) (settings : Settings) → IsWithinLimits problem → (lines : List EntryLine) (journal other : List Entry) (board end : Plain) → HasLines problem settings lines journal board → HasLines problem settings lines other end → (journal ≡ other) × (board ≡ end) }
+    ensures { (problem : Problem) (settings : Settings) → IsWithinLimits problem → LinesDecideJournals problem settings }
 {}

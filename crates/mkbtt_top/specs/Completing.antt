@@ -31,7 +31,7 @@ use Rattle.mkbtt_top.specs.Workers.{are_in_rounds, takers_of}
 use Rattle.mkbtt_top.specs.declared.status.Status.{Status}
 use Rattle.mkbtt_top.specs.declared.status.Status.TheVariants.{Done, AllFailed, Spent}
 use Rattle.mkbtt_top.specs.declared.workers.Workers.{Workers}
-use Rattle.mkbtt_top.specs.declared.workers.Workers.TheVariants.{Free}
+use Rattle.mkbtt_top.specs.declared.workers.Workers.TheVariants.{Free, InRounds}
 use Rattle.mkb_model.specs.declared.settings.Settings.{Settings}
 use Rattle.kb_term.specs.declared.limits.TheConstants.{MAX_PROBLEM_BYTES}
 
@@ -89,6 +89,12 @@ pub record IsCompletionOf (told : Told) (bytes : List ℕ) (settings : Settings)
   pub problem : Problem
   pub spelled : Spells bytes problem
   pub completion : IsCompletion told problem settings workers status board text
+
+-- the completions by so many and by so many workers in rounds have the same status and the same report
+abbrev pub RoundsAgree : List ℕ → Settings → ℕ → ℕ → Type 0
+RoundsAgree bytes settings few many =
+    (one other : Status) (board end : Option Seen) (text written : List ℕ) → IsCompletionOf Report bytes settings (InRounds few) one board text → IsCompletionOf Report bytes settings (InRounds many) other end written
+    → (one ≡ other) × (text ≡ written)
 
 -- the source was read to its end, and this is a completion of the problem that its bytes spell
 pub record Completes (told : Told) (settings : Settings) (workers : Workers) (status : Status) (board : Option Seen) (left_old left_new : Option (List ℕ)) (text : List ℕ) : Type 0 where
