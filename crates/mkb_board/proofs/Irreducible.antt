@@ -1,6 +1,6 @@
 -- Nodes that none of some rules reduces.
 use Rattle.std.proofs.Common.{ℕ, suc, length, ◌<◌, ◌≡◌, zero, ◌≤◌, set, get_or, length-append, refl, sym, ap, ap₂, ◌∙◌, subst, arith, List, [], ◌∷◌, ◌++◌, ◌+◌, take, drop, map, filter, Contains, Bool, true, false, cond, not, ◌&&◌, ◌||◌, ◌==◌, ⊎_elim, Option, Some, None}
-use Rattle.std.specs.Prelude.{option_map}
+use Rattle.std.specs.Prelude.{option_map, slice_get}
 use Rattle.std.specs.List.{find, list_any}
 use Rattle.std.specs.Option.{option_or}
 use Rattle.std.proofs.lemmas.List.{length-set, length-map, map-append, take-append-le, take_more, take_more_set, drop-set-lt, get_or-map, get_or-set_other}
@@ -11,22 +11,24 @@ use Rattle.std.proofs.lemmas.List.Folds.{find-append, list_any-append}
 use Rattle.kb_term.specs.declared.origin.RuleRef.{RuleRef}
 use Rattle.kb_term.specs.declared.origin.Found.{Found}
 use Rattle.kb_term.specs.declared.origin.Found.TheVariants.{No, Variant, Strict}
-use Rattle.kb_label.specs.Names.{Name}
+use Rattle.kb_label.specs.Names.{Name, has}
+use Rattle.kb_node.specs.declared.node.LabelKind.TheVariants.{E, R0, R1}
 use Rattle.kb_node.specs.declared.job.Fact.{Fact}
 use Rattle.mkb_model.specs.Jobs.{ref_eq}
-use Rattle.mkb_model.specs.Plain.{Plain, known, rules_of}
+use Rattle.mkb_model.specs.Plain.{Plain, PlainNode, known, label_or_none, rules_of}
 use Rattle.mkb_model.specs.DueJobs.{is_open, is_reducible}
 use Rattle.mkb_model.specs.Effects.{applied, effect, effect_label, give_up, limit_of}
 use Rattle.kb_label.specs.declared.verdict.Reason.{Reason}
 use Rattle.std.specs.Option.{option_map_or}
 use Rattle.std.proofs.lemmas.Bool.{eqb-true, eqb-false, or_cases, or_left, or_right, or_parts, or_from}
 use Rattle.std.proofs.Math.Bool.{and-false}
+use Rattle.std.proofs.Math.Seq.{take-length}
 use Rattle.kb_lemmas.proofs.Booleans.{and_gives_left, and_gives_right}
 use Rattle.mkb_model.specs.declared.proposed.Proposed.{Proposed}
 use Rattle.mkb_model.specs.declared.proposed.Proposed.TheVariants.{Facts, Rewrite, One, Both, Refuse, Deduce, Unjoined, Closed, Limit}
 use Rattle.mkb_model.proofs.Lists.{any_in, in_any, false_unless, filter_in, in_filter, same_test, not_of_false, decide, clash}
 use Rattle.mkb_model.proofs.closing.Completed.{ref_self}
-use Rattle.mkb_rules.specs.Roles.{roles_of}
+use Rattle.mkb_rules.specs.Roles.{no_roles, roles_at, roles_in, roles_of}
 use Rattle.mkb_board.specs.Normal.{AreAllNormal, AreNormal, IsPast, Serves, is_among, is_open_in, is_open_to, recounted}
 use Rattle.mkb_board.specs.declared.normal.Noted.{Noted}
 use Rattle.mkb_rules.specs.declared.roles.Roles.{Roles}
@@ -69,6 +71,23 @@ reducible_by b p n =
 pub reducible_by_arrival : (b : Plain) (p : Name) (n : ℕ) (k : Normal) → Serves b p k → is_reducible b p n ≡ list_any (is_open_to b (roles_of b p n) n) k.arrived.items
 reducible_by_arrival b p n k h =
     reducible_by b p n ∙ ap (list_any (is_open_to b (roles_of b p n) n)) (sym h.rules) ∙ sym (h.known.same (is_open_to b (roles_of b p n) n))
+
+roles_by_labels : (p : Name) (o : Option PlainNode) → option_map_or (roles_in p) o no_roles ≡ record { equation = has (label_or_none o E) p; first = has (label_or_none o R0) p; second = has (label_or_none o R1) p }
+roles_by_labels p None = refl
+roles_by_labels p (Some x) = refl
+
+-- how the process has the node, by the node alone
+pub roles_there : (b : Plain) (p : Name) (n : ℕ) → roles_at b.nodes n p ≡ roles_of b p n
+roles_there b p n = roles_by_labels p (slice_get b.nodes n)
+
+-- a node that passed all rules in the roles in which the process has it is not reducible
+pub none_left : (b : Plain) (p : Name) (n : ℕ) (k : Normal) (m : Noted) → Serves b p k → IsPast b k.arrived.items n m → length k.arrived.items ≤ m.passed → m.roles ≡ roles_of b p n → is_reducible b p n ≡ false
+none_left b p n k m serves past all same =
+    let q = is_open_to b m.roles n in
+    let arrived = k.arrived.items in
+    let many : m.passed ≡ length arrived = omega (arith, all, past.within) in
+    reducible_by_arrival b p n k serves ∙ ap (λ (r : Roles). list_any (is_open_to b r n) arrived) (sym same)
+    ∙ ap (list_any q) (sym (take-length arrived) ∙ ap (λ c. take c arrived) (sym many)) ∙ past.none
 
 -- ---- what is known stays known
 

@@ -1,12 +1,13 @@
 // Nodes that no rule reduces.
-ghost use Rattle.std.specs.Prelude.{ℕ, ◌≡◌, ◌<◌, ◌≤◌, ◌++◌, length, map, not, filter, get_or, nat_lt, take, IfOk, IsTrue, OnOk};
+ghost use Rattle.std.specs.Prelude.{ℕ, ◌≡◌, ◌<◌, ◌≤◌, ◌++◌, length, map, not, filter, get_or, nat_lt, take, IfOk, IsFalse, IsTrue, OnOk};
 ghost use Rattle.std.specs.List.{list_any, position_or_len};
 ghost use Rattle.kb_term.specs.declared.origin.RuleRef.{RuleRef as Reference};
 ghost use Rattle.kb_node.specs.declared.job.Job.TheVariants as jobs;
 ghost use Rattle.kb_node.specs.declared.node.NodeId.{NodeId as Numbered};
 ghost use Rattle.mkb_model.specs.Jobs.{ref_eq};
 ghost use Rattle.mkb_model.specs.Plain.{Plain, known, other, rules_of};
-ghost use Rattle.mkb_model.specs.DueJobs.{is_work_due};
+ghost use Rattle.mkb_model.specs.DueJobs.{is_reducible, is_work_due};
+ghost use Rattle.kb_label.specs.Names.{Name};
 ghost use Rattle.mkb_rules.specs.Roles.{AreRolesOf, has_rule, held_of, roles_of};
 ghost use Rattle.mkb_board.specs.Normal.{AreAllNormal, AreNormal, IsPast, Serves, is_among, is_open_in, is_open_to, recounted};
 
@@ -429,8 +430,31 @@ impl Normal {
         }
     }
 
+    // Whether the node is noted to have passed all rules, in the roles in which the process has it.
+    fn has_passed_all(&self, n: NodeId) -> bool
+        ensures { (b : Plain) (p : Name) → IsTrue result → Serves b p self.now → IsFalse (is_reducible b p n.0) }
+    {
+        let at = n.0 as usize;
+        if at >= self.nodes.len() || at >= self.roles.len() {
+            return false;
+        }
+        let noted = self.nodes[at];
+        noted.passed >= self.arrived.len() && noted.roles.is_same(self.roles[at])
+    }
+
     /// Whether the process, whose rules these are, may reduce the node. How many rules can't is noted.
     pub(crate) fn is_reduce_due(&mut self, state: &State, p: &Process, n: NodeId) -> bool
+        requires there { n.0 < length state.now.nodes }
+        requires serves { Serves state.now p.now self.old }
+        ensures due { result ≡ is_work_due state.now (jobs.Reduce p.now n) }
+        ensures held { self.new.held.items ≡ self.old.held.items }
+        ensures serves { Serves state.now p.now self.new }
+    {
+        !self.has_passed_all(n) && self.is_reducible(state, p, n)
+    }
+
+    // Whether the process, whose rules these are, may reduce the node, by what is known of the rules that it isn't noted to have passed.
+    fn is_reducible(&mut self, state: &State, p: &Process, n: NodeId) -> bool
         requires there { n.0 < length state.now.nodes }
         requires serves { Serves state.now p.now self.old }
         ensures due { result ≡ is_work_due state.now (jobs.Reduce p.now n) }

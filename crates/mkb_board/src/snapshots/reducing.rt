@@ -113,7 +113,7 @@ fn unknown(
     ensures names { IfOk result (λ us. with_names names.now us.items ≡ flat_map (unknown_on state.now n.0 names.now) (0 ∷ 1 ∷ [])) }
     ensures within { IfOk result (λ us. AreWithin (length names.now) us.items) }
 {
-    let mut us = Vec::new(alloc);
+    let mut us = Vec::with_capacity(alloc, 2 * names.len())?;
     push_unknown(&mut us, state, n, 0, names)?;
     push_unknown(&mut us, state, n, 1, names)?;
     Ok(us)

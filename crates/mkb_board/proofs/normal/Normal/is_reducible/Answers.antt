@@ -8,7 +8,7 @@ use Rattle.mkb_rules.specs.Roles.{AreRolesOf, is_in_use}
 use Rattle.mkb_board.specs.Normal.{is_open_to}
 use Rattle.mkb_rules.specs.declared.roles.Roles.{Roles}
 use Rattle.mkb_board.proofs.Irreducible.{reducible_by_arrival}
-use Rattle.mkb_board.proofs.normal.Normal.is_reduce_due.Goals as goal
+use Rattle.mkb_board.proofs.normal.Normal.is_reducible.Goals as goal
 
 pub returns-then-not-is_in_use-clause-due : goal.returns-then-not-is_in_use-clause-due
 returns-then-not-is_in_use-clause-due c =
