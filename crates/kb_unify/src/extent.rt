@@ -1,8 +1,8 @@
 // Sizes and depths, before any term is built.
-ghost use Rattle.std.specs.Prelude.{ℕ, ◌≡◌, ◌<◌, ◌≤◌, ◌+◌, length, IfOk, true, false, Some, None, Ok, IfSome, map};
+ghost use Rattle.std.specs.Prelude.{ℕ, ◌≡◌, ◌<◌, ◌≤◌, ◌+◌, length, IfOk, true, false, Some, None, Ok, IfSome, replicate};
 ghost use Rattle.kb_term.specs.Tree.{Tree};
 ghost use Rattle.kb_unify.specs.Table.{slot_at, IsSlot, IsTable, Solves};
-ghost use Rattle.kb_unify.specs.Extent.{IsArgumentsExtent, IsSlotExtent, IsMeasured, IsMeasuredFurther, IsStuck, IsMeasurement, extent_at, extents_of, free_extent, unknown_count};
+ghost use Rattle.kb_unify.specs.Extent.{IsArgumentsExtent, IsSlotExtent, IsMeasured, IsMeasuredFurther, IsStuck, IsMeasurement, extent_at, extents_of, unknown_count};
 
 use crate::table::Slot;
 use kb_term::{Limit, MAX_DEPTH, MAX_SIZE, Memory};
@@ -136,39 +136,26 @@ pub fn measure_more(slots: &[Slot], known: &mut Vec<Option<Extent>>) -> usize
     measured
 }
 
-/// The extents of the places of which nothing is known, which are variables, and how many other places there are.
-pub fn variables_known(
-    alloc: Global,
-    slots: &[Slot],
-) -> Result<(Vec<Option<Extent>>, usize), Memory>
-    ensures known { IfOk result (λ r. r.0.items ≡ map free_extent slots.now) }
-    ensures left { IfOk result (λ r. r.1 ≡ unknown_count r.0.items) }
+/// No extents yet.
+pub fn nothing_known(alloc: Global, count: usize) -> Result<Vec<Option<Extent>>, Memory>
+    ensures { IfOk result (λ v. v.items ≡ replicate count None) }
 {
-    let mut known = Vec::with_capacity(alloc, slots.len())?;
-    let mut left = 0;
-    for i in 0..slots.len() {
-        match slots[i] {
-            Slot::Free => known.push(Some(Extent::of_variable()))?,
-            Slot::Link(_) | Slot::Node(_, _, _) => {
-                known.push(None)?;
-                left += 1;
-            }
-        }
-    }
-    Ok((known, left))
+    let mut known = Vec::with_capacity(alloc, count)?;
+    known.resize(count, None)?;
+    Ok(known)
 }
 
-/// Measures until nothing new can be measured, where so many places aren't: whether all are in the end.
-pub fn measure_all(slots: &[Slot], unknown: usize, known: &mut Vec<Option<Extent>>) -> bool
+/// Measures until nothing new can be measured: whether all places are.
+pub fn measure_all(slots: &[Slot], known: &mut Vec<Option<Extent>>) -> bool
     requires table { IsTable slots.now }
     requires lengths { length known.old.items ≡ length slots.now }
-    requires unknown { unknown_count known.old.items ≡ unknown }
+    requires nothing { unknown_count known.old.items ≡ length slots.now }
     ensures further { IsMeasuredFurther slots.now known.old.items known.new.items }
     ensures all { result ≡ true → unknown_count known.new.items ≡ 0 }
     ensures some { result ≡ false → 0 < unknown_count known.new.items }
     ensures stuck { result ≡ false → (i : ℕ) → i < length slots.now → extent_at known.new.items i ≡ None → IsStuck (λ j. extent_at known.new.items j ≡ None) (slot_at slots.now i) }
 {
-    let mut left = unknown;
+    let mut left = slots.len();
     while left > 0 {
         let measured = measure_more(slots, known);
         if measured == 0 {
@@ -185,8 +172,8 @@ pub fn measure(alloc: Global, slots: &[Slot]) -> Result<Option<Vec<Option<Extent
     ensures solution { IfOk result (λ o. IfSome o (λ v. IsMeasurement slots.now (Some (extents_of v.items)))) }
     ensures none { result ≡ Ok None → IsMeasurement slots.now None }
 {
-    let (mut known, unknown) = variables_known(alloc, slots)?;
-    if measure_all(slots, unknown, &mut known) {
+    let mut known = nothing_known(alloc, slots.len())?;
+    if measure_all(slots, &mut known) {
         Ok(Some(known))
     } else {
         Ok(None)
