@@ -1,19 +1,23 @@
 -- What is kept of processes after a fork: of the others as before, of the children what was kept of the process that forks.
-use Rattle.std.proofs.Common.{ℕ, zero, suc, ◌+◌, ◌≡◌, refl, sym, ap, ap₂, ◌∙◌, List, [], ◌∷◌, map, get_or, Bool, true, false, not, ◌&&◌, ◌||◌, All}
-use Rattle.std.proofs.Math.Bool.{or-true}
+use Rattle.std.proofs.Common.{ℕ, zero, suc, ◌+◌, ◌<◌, ◌≡◌, length, arith, refl, sym, ap, ap₂, ◌∙◌, List, [], ◌∷◌, map, get_or, Bool, true, false, not, ◌&&◌, ◌||◌, All}
+use Rattle.std.proofs.Math.Bool.{or-false, or-true}
 use Rattle.std.proofs.lemmas.List.Sums.{sum_by-cons}
-use Rattle.kb_label.specs.Names.{Name, has, name_eq, child, relabel}
-use Rattle.kb_label.proofs.Members.{name_eq-refl}
+use Rattle.kb_term.specs.declared.origin.RuleRef.{RuleRef}
+use Rattle.kb_label.specs.Names.{Name, has, name_eq, child, join, minus, relabel}
+use Rattle.kb_label.proofs.Members.{name_eq-refl, has-join, has-minus}
 use Rattle.kb_label.proofs.Sets.{has-relabel, relabel-absent}
 use Rattle.kb_node.specs.declared.node.LabelKind.{LabelKind}
 use Rattle.kb_node.specs.declared.node.LabelKind.TheVariants.{R0, R1, E, C0, C1}
-use Rattle.mkb_model.specs.Plain.{PlainNode, label_at}
-use Rattle.mkb_model.specs.Effects.{forked_node}
+use Rattle.mkb_model.specs.Plain.{PlainNode, label_at, rule_kind, constraint_kind}
+use Rattle.mkb_model.specs.Effects.{forked_node, gains, loses}
 use Rattle.mkb_model.proofs.commits.Roles.{relabel-other}
 use Rattle.mkb_rules.specs.Accounts.{renamed, Inherits, InheritNodes, IsAccountOf, IsApart, is_apart}
 use Rattle.mkb_rules.specs.Roles.{roles_in, roles_at}
 use Rattle.mkb_rules.specs.Sizes.{open_share, rule_share, open_sizes, rule_sizes}
 use Rattle.mkb_rules.specs.declared.account.Account.{Account}
+use Rattle.mkb_rules.specs.Parts.{oriented_by}
+use Rattle.mkb_rules.proofs.Relabelled.{length_gains, length_loses}
+use Rattle.mkb_rules.proofs.RolesKept.{account_kept}
 
 -- ---- who stands in labels after a fork of p as another one did before
 
@@ -87,6 +91,40 @@ pub accounts_kept : (p : Name) (xs : List PlainNode) (accounts : List Account) �
 accounts_kept p xs accounts apart right = λ k d h.
     let a = get_or accounts k d in
     account_forked p a.sizes.process xs a (λ n j. named p a.sizes.process (apart k d h) (label_at xs n j)) (right k d h)
+
+-- ---- the others when the children orient
+
+-- where a label with one name more or less than another one is put, those who aren't among these names have it as before
+module _ (l : List Name) (n : ℕ) (k : LabelKind) (xs : List PlainNode) (a : Account) (there : n < length xs) (absent : has l a.sizes.process ≡ false) (right : IsAccountOf xs a) where
+  account-loses : IsAccountOf (loses n k l xs) a
+  account-loses =
+      let m = label_at xs n k in
+      account_kept xs n k (minus m l) a there (sym (has-minus m l a.sizes.process ∙ ap (λ b. not b && has m a.sizes.process) absent)) right
+
+  account-gains : IsAccountOf (gains n k l xs) a
+  account-gains =
+      let m = label_at xs n k in
+      account_kept xs n k (join m l) a there (sym (has-join m l a.sizes.process ∙ ap (λ b. has m a.sizes.process || b) absent ∙ or-false (has m a.sizes.process))) right
+
+-- who doesn't orient an equation has its account as before
+account_oriented : (l : List Name) (r : RuleRef) (xs : List PlainNode) (a : Account) → r.node < length xs → has l a.sizes.process ≡ false → IsAccountOf xs a → IsAccountOf (oriented_by l r xs) a
+account_oriented l r xs a there absent right =
+    let n = r.node in
+    let once = loses n E l xs in
+    let twice = gains n (rule_kind r.dir) l once in
+    let first : n < length once = omega (arith, there, length_loses n E l xs) in
+    let second : n < length twice = omega (arith, first, length_gains n (rule_kind r.dir) l once) in
+    account-gains l n (constraint_kind r.dir) twice a second absent (account-gains l n (rule_kind r.dir) once a first absent (account-loses l n E xs a there absent right))
+
+-- so the accounts of processes apart are right after the children of p have oriented
+pub accounts_oriented : (p : Name) (bit : Bool) (r : RuleRef) (xs : List PlainNode) (accounts : List Account) → r.node < length xs → All (IsApart p) accounts → All (IsAccountOf xs) accounts → All (IsAccountOf (oriented_by (child p bit ∷ []) r xs)) accounts
+accounts_oriented p bit r xs accounts there apart right = λ k d h.
+    let a = get_or accounts k d in
+    account_oriented (child p bit ∷ []) r xs a there (absent a.sizes.process (apart k d h) bit) (right k d h)
+  where
+    absent : (q : Name) → is_apart p q ≡ true → (b : Bool) → has (child p b ∷ []) q ≡ false
+    absent q e false = or-false (name_eq q (child p false)) ∙ (parts p q e (name_eq q p) (name_eq q (child p false)) (name_eq q (child p true)) e).1
+    absent q e true = or-false (name_eq q (child p true)) ∙ (parts p q e (name_eq q p) (name_eq q (child p false)) (name_eq q (child p true)) e).2
 
 -- ---- the children
 

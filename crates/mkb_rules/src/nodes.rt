@@ -123,6 +123,14 @@ impl Nodes {
         self.table.take_back(accounts);
     }
 
+    /// These accounts of others are kept too from here on.
+    pub(crate) fn take_in(&mut self, others: Vec<Account>)
+        requires { All (IsAccountOf self.old.now) others.items }
+        ensures { self.new ≡ self.old }
+    {
+        self.table.take_in(others);
+    }
+
     /// What the process pays, where that is kept at this place.
     pub(crate) fn sizes(&self, place: usize, p: &Process) -> Option<Sizes>
         ensures process { IfSome result (λ s. s.process ≡ p.now) }
@@ -328,7 +336,8 @@ impl Nodes {
         self.table.table().label(n, kind)
     }
 
-    fn allocator(&self) -> Global {
+    /// The allocator of what is kept.
+    pub(crate) fn allocator(&self) -> Global {
         *self.replaced.allocator()
     }
 }

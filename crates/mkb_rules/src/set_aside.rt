@@ -4,10 +4,11 @@ ghost use Rattle.kb_label.specs.Names.{child};
 ghost use Rattle.mkb_model.specs.Plain.{PlainNode};
 ghost use Rattle.mkb_model.specs.Effects.{forked_node};
 ghost use Rattle.mkb_rules.specs.Accounts.{renamed, InheritNodes, IsAccountOf};
-ghost use Rattle.mkb_rules.specs.SetAside.{AreSetAside};
+ghost use Rattle.mkb_rules.specs.SetAside.{AreHandedOn, AreSetAside};
 
 use crate::account::Account;
 use kb_label::{MAX_BITS, Process};
+use std::alloc::Global;
 
 /// Accounts that are set aside while a process forks: its own, where it is kept, and those of all other processes but its
 /// children.
@@ -15,6 +16,13 @@ use kb_label::{MAX_BITS, Process};
 pub(crate) struct SetAside {
     own: Option<Account>,
     others: Vec<Account>,
+}
+
+/// Accounts after a fork: those of the children of the process that forked, as far as they are kept, and those of all others.
+#[derive(Drop)]
+pub(crate) struct HandedOn {
+    pub(crate) children: Vec<Account>,
+    pub(crate) others: Vec<Account>,
 }
 
 impl SetAside {
@@ -35,18 +43,33 @@ impl SetAside {
 
     /// The accounts after the fork; among them, where the children stand in each label in which the process stood and in no other,
     /// and where memory allows, those of the children.
-    pub(crate) fn after_fork_of(self, p: &Process, children_inherit: bool) -> Vec<Account>
+    pub(crate) fn after_fork_of(
+        self,
+        alloc: Global,
+        p: &Process,
+        children_inherit: bool,
+    ) -> HandedOn
         requires { length p.now < MAX_BITS }
-        ensures { (xs : List PlainNode) → AreSetAside xs p.now self → (IsTrue children_inherit → InheritNodes p.now xs) → All (IsAccountOf (map (forked_node p.now) xs)) result.items }
+        ensures { (xs : List PlainNode) → AreSetAside xs p.now self → (IsTrue children_inherit → InheritNodes p.now xs) → AreHandedOn (map (forked_node p.now) xs) p.now result }
     {
-        let SetAside { own, mut others } = self;
+        let SetAside { own, others } = self;
+        let mut children = Vec::new(alloc);
         match own {
             Some(own) if children_inherit => {
-                hand_on(&mut others, own, p);
-                others
+                hand_on(&mut children, own, p);
+                HandedOn { children, others }
             }
-            _ => others,
+            _ => HandedOn { children, others },
         }
+    }
+}
+
+/// Puts each of the accounts at its place among others, unless one of its process stands there or memory is wanting.
+pub(crate) fn put_all_in(others: &mut Vec<Account>, accounts: &mut Vec<Account>)
+    ensures { (xs : List PlainNode) → All (IsAccountOf xs) accounts.old.items → All (IsAccountOf xs) others.old.items → All (IsAccountOf xs) others.new.items }
+{
+    while let Some(account) = accounts.pop() {
+        put_in(others, account);
     }
 }
 

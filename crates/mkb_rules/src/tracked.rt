@@ -13,7 +13,7 @@ ghost use Rattle.mkb_rules.specs.Sizes.{is_dead_at, AreAlive, AreSizesOf};
 use crate::account::{Account, Change, account_of, follow, follow_new};
 use crate::marks::Marks;
 use crate::role_row::RoleRow;
-use crate::set_aside::SetAside;
+use crate::set_aside::{SetAside, put_all_in};
 use crate::sizes::Sizes;
 use kb_label::{Labels, ListLabels, MAX_BITS, NameLog, Process};
 use kb_node::{LabelKind, NodeFault, NodeId, NodeTable};
@@ -232,6 +232,16 @@ impl Tracked {
         requires { All (IsAccountOf (plain_nodes self.old)) accounts.items }
         ensures { self.new ≡ self.old }
     {
+        self.accounts = accounts;
+    }
+
+    /// These accounts of others are kept too from here on.
+    pub(crate) fn take_in(&mut self, others: Vec<Account>)
+        requires { All (IsAccountOf (plain_nodes self.old)) others.items }
+        ensures { self.new ≡ self.old }
+    {
+        let mut accounts = others;
+        put_all_in(&mut accounts, &mut self.accounts);
         self.accounts = accounts;
     }
 

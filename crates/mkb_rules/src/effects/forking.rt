@@ -1,24 +1,25 @@
 // Processes that fork.
-ghost use Rattle.std.specs.Prelude.{◌≡◌, ◌<◌, [], IfOk, IsTrue, OnErr, OnOk, false, length, map, true};
+ghost use Rattle.std.specs.Prelude.{◌≡◌, ◌<◌, ◌∷◌, [], All, IfOk, IsTrue, OnErr, OnOk, false, length, map, true};
 ghost use Rattle.kb_label.specs.Names.{child, has, relabel};
 ghost use Rattle.mkb_model.specs.Plain.{label_at};
 ghost use Rattle.mkb_model.specs.Effects.{certify_in, counted, forked_certificates, forked_node, oriented, with_label};
 ghost use Rattle.mkb_model.specs.declared.proposed.Proposed.TheVariants.{Both};
 ghost use Rattle.kb_node.specs.declared.node.LabelKind.{LabelKind};
-ghost use Rattle.mkb_rules.specs.Accounts.{HasChildren, Inherits};
+ghost use Rattle.mkb_rules.specs.Accounts.{HasChildren, Inherits, IsAccountOf, IsApart};
 ghost use Rattle.mkb_rules.specs.Applying.{Commits, HasBudget};
 ghost use Rattle.mkb_rules.specs.Forking.{forked_done, forked_over, fork_at, relabelled_lists, with_names_at, with_new_names, with_parts, IsForkOf};
 ghost use Rattle.mkb_rules.specs.Kept.{plain_certificates, plain_done};
 ghost use Rattle.mkb_rules.specs.Over.{lists_of};
 ghost use Rattle.mkb_rules.specs.Parts.{oriented_by};
 
-use crate::account::{Change, Concerned};
+use crate::account::{Account, Change, Concerned};
 use crate::applied::Applied;
 use crate::effects::label::{counted_up, node_count, node_label};
 use crate::effects::orienting::{certify, orient_nodes};
 use crate::labels::only;
 use crate::nodes::Nodes;
 use crate::overlapped::{DonePair, OverlappedPairs};
+use crate::set_aside::HandedOn;
 use crate::sleepers::Sleepers;
 use crate::state::{Certified, GivenUp, State, certificate_place};
 use kb_cert::Certificate;
@@ -331,21 +332,28 @@ fn fork_and_orient(
 ) -> Result<(), AllocError>
     requires short { length p.now < MAX_BITS }
     requires there { n.0 < length nodes.old.now }
+    requires left { left.now ≡ child p.now false ∷ [] }
+    requires right { right.now ≡ child p.now true ∷ [] }
     ensures ok { OnOk result (nodes.new.now ≡ oriented_by right.now (record { node = n.0; dir = 1 }) (oriented_by left.now (record { node = n.0; dir = 0 }) (map (forked_node p.now) nodes.old.now))) }
     ensures before { nodes.new.before ≡ nodes.old.before }
 {
-    fork_nodes(nodes, log, p)?;
+    let others = fork_nodes(nodes, log, p)?;
     orient_nodes(nodes, log, RuleRef { node: n.0, dir: 0 }, left)?;
-    orient_nodes(nodes, log, RuleRef { node: n.0, dir: 1 }, right)
+    orient_nodes(nodes, log, RuleRef { node: n.0, dir: 1 }, right)?;
+    nodes.take_in(others);
+    Ok(())
 }
 
-// In each label the children of the process stand in its place. What is kept of the processes is kept on; where the children
-// stand wherever the process stood, and nowhere else, what was kept of it is kept of them.
-fn fork_nodes(nodes: &mut Nodes, log: &NameLog, p: &Process) -> Result<(), AllocError>
+// In each label the children of the process stand in its place. Where they stand wherever it stood, and nowhere else, what was kept
+// of it is kept of them; the accounts of all others are given, so that what the children gain and lose isn't looked up in each.
+fn fork_nodes(nodes: &mut Nodes, log: &NameLog, p: &Process) -> Result<Vec<Account>, AllocError>
     requires { length p.now < MAX_BITS }
     ensures ok { OnOk result (nodes.new.now ≡ map (forked_node p.now) nodes.old.now) }
+    ensures right { IfOk result (λ others. All (IsAccountOf (map (forked_node p.now) nodes.old.now)) others.items) }
+    ensures apart { IfOk result (λ others. All (IsApart p.now) others.items) }
     ensures before { nodes.new.before ≡ nodes.old.before }
 {
+    let alloc = nodes.allocator();
     let accounts = nodes.set_aside(p);
     let fork = Fork {
         log,
@@ -359,8 +367,9 @@ fn fork_nodes(nodes: &mut Nodes, log: &NameLog, p: &Process) -> Result<(), Alloc
         let inherit = fork_node(nodes, &fork, NodeId(i as u16))?;
         all_inherit &= inherit;
     }
-    nodes.take_back(accounts.after_fork_of(p, all_inherit));
-    Ok(())
+    let HandedOn { children, others } = accounts.after_fork_of(alloc, p, all_inherit);
+    nodes.take_back(children);
+    Ok(others)
 }
 
 // In each label of the node the children of the process stand in its place. Whether they then stand wherever it stood, and nowhere

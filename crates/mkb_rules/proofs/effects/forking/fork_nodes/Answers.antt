@@ -32,11 +32,23 @@ take_back-requires c =
     let p = c.args.p.now in
     let xs = c.args.nodes.now.now in
     let all : c.loop-i.i ≡ length xs = omega (arith, c.node_count-count.ensures.count, ap (λ (z : Changed). length z.now) c.set_aside-accounts.ensures.same, c.loop-i-test.false, c.loop-i.auto.i-end) in
-    subst {A = List PlainNode} (λ ys. All (IsAccountOf ys) c.after_fork_of.result.items) (sym (front_whole p c.loop-i.i xs c.loop-i.nodes.now c.loop-i.invariant.now all))
-    (c.after_fork_of.ensures xs c.set_aside-accounts.ensures.right (λ inherit. nodes_inherited p c.loop-i.i xs all (c.loop-i.invariant.inherit inherit)))
+    let handed = c.after_fork_of-children.ensures xs c.set_aside-accounts.ensures.right (λ inherit. nodes_inherited p c.loop-i.i xs all (c.loop-i.invariant.inherit inherit)) in
+    subst {A = List PlainNode} (λ ys. All (IsAccountOf ys) c.after_fork_of-children.result.children.items) (sym (front_whole p c.loop-i.i xs c.loop-i.nodes.now c.loop-i.invariant.now all)) handed.children
 
 pub returns-clause-ok : goal.returns-clause-ok
 returns-clause-ok c =
     let xs = c.args.nodes.now.now in
     let all : c.loop-i.i ≡ length xs = omega (arith, c.node_count-count.ensures.count, ap (λ (z : Changed). length z.now) c.set_aside-accounts.ensures.same, c.loop-i-test.false, c.loop-i.auto.i-end) in
     ap (λ (z : Changed). z.now) c.take_back.ensures ∙ front_whole c.args.p.now c.loop-i.i xs c.loop-i.nodes.now c.loop-i.invariant.now all
+
+pub returns-clause-right : goal.returns-clause-right
+returns-clause-right c =
+    let xs = c.args.nodes.now.now in
+    let all : c.loop-i.i ≡ length xs = omega (arith, c.node_count-count.ensures.count, ap (λ (z : Changed). length z.now) c.set_aside-accounts.ensures.same, c.loop-i-test.false, c.loop-i.auto.i-end) in
+    (c.after_fork_of-children.ensures xs c.set_aside-accounts.ensures.right (λ inherit. nodes_inherited c.args.p.now c.loop-i.i xs all (c.loop-i.invariant.inherit inherit))).others
+
+pub returns-clause-apart : goal.returns-clause-apart
+returns-clause-apart c =
+    let xs = c.args.nodes.now.now in
+    let all : c.loop-i.i ≡ length xs = omega (arith, c.node_count-count.ensures.count, ap (λ (z : Changed). length z.now) c.set_aside-accounts.ensures.same, c.loop-i-test.false, c.loop-i.auto.i-end) in
+    (c.after_fork_of-children.ensures xs c.set_aside-accounts.ensures.right (λ inherit. nodes_inherited c.args.p.now c.loop-i.i xs all (c.loop-i.invariant.inherit inherit))).apart

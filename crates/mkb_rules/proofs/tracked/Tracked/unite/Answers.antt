@@ -1,7 +1,7 @@
 use Rattle.std.proofs.Common.{◌≡◌, List, Bool, true, length, ◌∙◌, sym, ap, subst, arith}
 use mathlib.Core.Bool.{true≢false}
 use Rattle.kb_label.specs.Names.{united}
-use Rattle.mkb_model.specs.Plain.{PlainNode, label_at}
+use Rattle.mkb_model.specs.Plain.{PlainNode}
 use Rattle.mkb_model.specs.Effects.{with_label}
 use Rattle.mkb_rules.specs.Parts.{plain_nodes}
 use Rattle.mkb_rules.specs.Sizes.{AreMarked}
