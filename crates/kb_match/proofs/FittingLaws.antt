@@ -2,7 +2,7 @@
 use Rattle.std.proofs.Common.{ℕ, zero, suc, ◌<◌, ◌≡◌, refl, ap, arith, subst, List, [], ◌∷◌, length, get_or}
 use Rattle.kb_term.specs.Tree.{Tree, Trees, variable, apply, no_trees, more_trees, trees_of}
 use Rattle.kb_term.specs.Substitution.{instance, instances, Matches}
-use Rattle.kb_match.specs.Fitting.{Fits, FitEach, RootFits, RootsFit}
+use Rattle.kb_match.specs.Fitting.{Fits, FitEach}
 
 mutual
   fits_instance : (m : ℕ → Tree) (p : Tree) → Fits p (instance m p)
@@ -39,16 +39,3 @@ fit_length [] [] h = refl
 fit_length [] (t ∷ ts) h = absurd h
 fit_length (p ∷ ps) [] h = absurd h
 fit_length (p ∷ ps) (t ∷ ts) h = ap suc (fit_length ps ts h.1)
-
--- where a pattern fits, its root does
-pub root_from_fit : (p t : Tree) → Fits p t → RootFits p t
-root_from_fit (variable n) t h = tt
-root_from_fit (apply f ps) (variable n) h = h
-root_from_fit (apply f ps) (apply g ts) h = h.0
-
--- where each argument fits, each root does
-pub roots_from_fit : (ps ts : List Tree) → FitEach (trees_of ps) (trees_of ts) → RootsFit ps ts
-roots_from_fit ps ts h j d = root_from_fit (get_or ps j (variable 0)) (get_or ts j (variable 0)) (fits_at ps ts j d h)
-
-pub root_same : {p q s t : Tree} → p ≡ q → s ≡ t → RootFits p s → RootFits q t
-root_same {p} {q} {s} {t} d e h = subst (λ u. RootFits u t) d (subst (RootFits p) e h)

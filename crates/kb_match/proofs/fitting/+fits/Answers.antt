@@ -4,7 +4,7 @@ use Rattle.kb_term.specs.Tree.{tree_depth, trees_of, apply}
 use Rattle.kb_term.specs.View.{tree_of}
 use Rattle.kb_term.proofs.Arguments.{argument-is, argument-depth, arguments-length}
 use Rattle.kb_match.specs.Fitting.{Fits}
-use Rattle.kb_match.proofs.FittingLaws.{fits_same, fit_each, fits_at, fit_length, roots_from_fit}
+use Rattle.kb_match.proofs.FittingLaws.{fits_same, fit_each, fits_at, fit_length}
 use Rattle.kb_match.proofs.fitting.+fits.Goals as goal
 use Rattle.kb_match.proofs.fitting.+fits.Goals.{then-f-g-via-then-f-g, then-f-g-via-else-f-g+then-patterns-subjects}
 
@@ -47,17 +47,6 @@ returns-then-not-fits t c =
       (λ e. absurd (cc)),
       λ h. let fit : Fits (apply c.in-App-App.f.0 (trees_of ps)) (apply c.in-App-App.g.0 (trees_of ts)) = fits_same whole other h in
           c.if-not-fits.ensures.1 (fits_same (sym here) (sym there) (fits_at ps ts i room fit.1)),
-    )
-
-pub returns-then-not-roots_fit : goal.returns-then-not-roots_fit
-returns-then-not-roots_fit t c =
-    let ps = map tree_of c.items-patterns.result.now in
-    let ts = map tree_of c.items-subjects.result.now in
-    let whole : tree_of c.args.pattern.now ≡ apply c.in-App-App.f.0 (trees_of ps) = ap tree_of c.in-App-App.is-0 ∙ ap (λ vs. apply c.in-App-App.f.0 (trees_of vs)) (sym c.items-patterns.ensures) in
-    let other : tree_of c.args.subject.now ≡ apply c.in-App-App.g.0 (trees_of ts) = ap tree_of c.in-App-App.is-1 ∙ ap (λ vs. apply c.in-App-App.g.0 (trees_of vs)) (sym c.items-subjects.ensures) in (
-      (λ e. absurd (cc)),
-      λ h. let fit : Fits (apply c.in-App-App.f.0 (trees_of ps)) (apply c.in-App-App.g.0 (trees_of ts)) = fits_same whole other h in
-          c.if-not-roots_fit.ensures.1 (roots_from_fit ps ts fit.1),
     )
 
 pub loop-i-preserved : goal.loop-i-preserved
