@@ -6,6 +6,7 @@ use Rattle.std.specs.Option.{option_map_or}
 use Rattle.std.specs.Ordering.{ordering_then}
 use Rattle.std.specs.declared.cmp.Ordering.{Ordering}
 use Rattle.std.proofs.lemmas.List.{map-append, take_more, append-nil}
+use Rattle.std.proofs.lemmas.Grind.{flat_map-append}
 use Rattle.std.proofs.lemmas.List.Elements.{filter-append, filter_map-append, All-contains, Contains-append_cases}
 use Rattle.mkb_model.proofs.commits.Views.{there_pair}
 use Rattle.kb_lemmas.proofs.Membership.{all_rest, contains_first, contains_cases, contains_flat_map_back, none_in}
@@ -24,6 +25,7 @@ use Rattle.kb_jobs.specs.Rules.{named, ComesBefore, AreInOrder}
 use Rattle.kb_jobs.proofs.Preorder.{nat_less, nat_same}
 use Rattle.kb_jobs.specs.Reducing.{no_name}
 use Rattle.mkb_rules.specs.Named.{IsRuleThere}
+use Rattle.mkb_rules.proofs.Costs.{numbers_next}
 use Rattle.mkb_board.specs.Snapshots.{AreWithin, with_names, unknown_on}
 pub use Rattle.mkb_rules.proofs.Viewed.{in_directions, passing_there, rules_there, constraints_there, others_there, equations_there, rules_behind, rules_next}
 
@@ -168,3 +170,15 @@ pub others_few : (b : Plain) (p : Name) (F : RuleRef → Bool) (rules names : Li
 others_few b p F rules names e f l = omega (arith, ap length e, ap length f, filter_less F rules, rules_few b p, l)
 
 -- ---- rules, node by node
+
+-- the constraints of one node more
+pub directions_next : (F : RuleRef → Bool) (n : ℕ) (cs : List RuleRef) → cs ≡ filter F (flat_map directions (numbers_from 0 n))
+    → (cs ++ filter F (record { node = n; dir = 0 } ∷ [])) ++ filter F (record { node = n; dir = 1 } ∷ []) ≡ filter F (flat_map directions (numbers_from 0 (n + 1)))
+directions_next F n cs e =
+    let first : List RuleRef = record { node = n; dir = 0 } ∷ [] in
+    let second : List RuleRef = record { node = n; dir = 1 } ∷ [] in
+    append_assoc cs (filter F first) (filter F second) ∙ ap (λ (z : List RuleRef). cs ++ z) (sym (filter-append F first second))
+    ∙ ap (λ (z : List RuleRef). z ++ filter F (first ++ second)) e
+    ∙ sym (filter-append F (flat_map directions (numbers_from 0 n)) (first ++ second))
+    ∙ ap (filter F) (sym (flat_map-append directions (numbers_from 0 n) (n ∷ [])))
+    ∙ ap (λ (l : List ℕ). filter F (flat_map directions l)) (sym (numbers_next n))

@@ -1,18 +1,19 @@
 // What an Orient reads.
-ghost use Rattle.std.specs.Prelude.{◌≡◌, ◌<◌, ◌++◌, ◌∷◌, [], All, IfOk, IsSome, length};
-ghost use Rattle.mkb_model.specs.Plain.{certificate_of, rules_at};
+ghost use Rattle.std.specs.Prelude.{◌≡◌, ◌<◌, ◌++◌, ◌∷◌, [], All, IfOk, OnOk, IsSome, filter, length};
+ghost use Rattle.mkb_model.specs.Plain.{certificate_of, constraints_of, is_constraint, rules_at};
 ghost use Rattle.kb_jobs.specs.Taken.{IsTakenOrient};
 ghost use Rattle.mkb_rules.specs.Named.{IsRuleThere, Lives};
 ghost use Rattle.mkb_board.specs.Shelf.{HoldsRules};
 
 use super::named::rules_at;
+use crate::choosing::node_count;
 use crate::shelf::Shelf;
 use kb_jobs::OrientSnapshot;
 use kb_label::Process;
-use kb_node::NodeId;
+use kb_node::{LabelKind, NodeId};
 use kb_term::{Memory, Rule, RuleRef};
 use mkb_rules::State;
-use std::alloc::Global;
+use std::alloc::{AllocError, Global};
 
 /// The run's family of orders, the signature, the order in force, and the constraints of the process with the rule of each direction of the node behind them.
 #[tactic(auto, using(crate::proofs::Viewed::constraints_there))]
@@ -32,8 +33,8 @@ pub(crate) fn orient_snapshot(
     ensures node { IfOk result (λ s. s.node ≡ node) }
     ensures taken { IfOk result (IsTakenOrient state.now) }
 {
-    let view = state.view_of(&process)?;
-    let constraints = view.constraints.items();
+    let constraints = constraints_of(alloc, state, &process)?;
+    let constraints = constraints.as_slice();
     let family = state.settings().family;
     let in_force = state.certificate(&process).clone()?;
     let signature = state.problem().signature().clone()?;
@@ -66,6 +67,40 @@ pub(crate) fn orient_snapshot(
         forth,
         back,
     })
+}
+
+// The constraints of the process, by node, then direction.
+fn constraints_of(alloc: Global, state: &State, p: &Process) -> Result<Vec<RuleRef>, AllocError>
+    ensures { IfOk result (λ constraints. constraints.items ≡ constraints_of state.now p.now) }
+{
+    let mut constraints = Vec::new(alloc);
+    for n in 0..node_count(state) {
+        let node = n as u16;
+        push_constraint(&mut constraints, state, p, RuleRef { node, dir: 0 })?;
+        push_constraint(&mut constraints, state, p, RuleRef { node, dir: 1 })?;
+    }
+    Ok(constraints)
+}
+
+// Adds the rule, where it is a constraint of the process.
+fn push_constraint(
+    constraints: &mut Vec<RuleRef>,
+    state: &State,
+    p: &Process,
+    rule: RuleRef,
+) -> Result<(), AllocError>
+    requires { rule.node < length state.now.nodes }
+    ensures { OnOk result (constraints.new.items ≡ constraints.old.items ++ filter (is_constraint state.now p.now) (rule ∷ [])) }
+{
+    let kind = if rule.dir == 0 {
+        LabelKind::C0
+    } else {
+        LabelKind::C1
+    };
+    if state.has_label(p, NodeId(rule.node), kind) {
+        constraints.push(rule)?;
+    }
+    Ok(())
 }
 
 // The rules with the names, and one more behind them.
