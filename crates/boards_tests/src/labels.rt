@@ -102,26 +102,6 @@ fn a_label_is_relabelled_at_a_fork(rt: HostRuntime) {
     assert!(rt; !label.is_empty(&log));
 }
 
-#[test]
-fn a_relabelling_is_taken_back(rt: HostRuntime) {
-    let alloc = rt.alloc();
-    let log: NameLog = forked_twice(alloc).expect(&rt, "memory");
-    let zero = Process::root().child(false);
-    let one = Process::root().child(true);
-    let mut label: ListLabels = label_of(alloc, &log, &zero, &one.child(true)).expect(
-        &rt, "memory",
-    );
-    label.relabel(&zero).expect(&rt, "memory");
-    assert_eq!(rt; label.names(&log).expect(&rt, "memory").len(), 3);
-    label.unite(&one);
-    assert_eq!(rt; label.names(&log).expect(&rt, "memory").len(), 3);
-    label.unite(&zero);
-    let names = label.names(&log).expect(&rt, "memory");
-    assert_eq!(rt; names.len(), 2);
-    assert!(rt; is_at(&names, 0, &[false]));
-    assert!(rt; is_at(&names, 1, &[true, true]));
-}
-
 /// What the labels of two processes each of a log with three give together.
 fn worked_after_forks(alloc: Global, way: u8) -> Result<Vec<Process>, AllocError> {
     let log: NameLog = forked_twice(alloc)?;
