@@ -1,6 +1,7 @@
 // Worked examples.
 use kb_label::{Labels, ListLabels, Living, MAX_BITS, MAX_LIVING, NameLog, Process};
 use std::alloc::{AllocError, Global};
+use std::process::Abort;
 
 /// A log after a fork of the first process and one of its second child, by the trait alone.
 fn forked_twice<L: Living>(alloc: Global) -> Result<L, AllocError> {
@@ -87,8 +88,17 @@ fn a_shorter_name_comes_first(rt: HostRuntime) {
     assert!(rt; Process::root() < one);
 }
 
+// The children of the first process, both in the label, give way to it.
+fn is_taken_back(rt: &impl Abort, log: &NameLog, label: &mut ListLabels) {
+    let root = Process::root();
+    label.unite(&root);
+    assert!(rt; label.has(log, &root));
+    assert!(rt; !label.has(log, &root.child(false)));
+    assert!(rt; !label.has(log, &root.child(true)));
+}
+
 #[test]
-fn a_label_is_relabelled_at_a_fork(rt: HostRuntime) {
+fn a_label_is_relabelled_at_a_fork_and_back(rt: HostRuntime) {
     let alloc = rt.alloc();
     let log = NameLog::start(alloc).expect(&rt, "memory");
     let root = Process::root();
@@ -100,6 +110,7 @@ fn a_label_is_relabelled_at_a_fork(rt: HostRuntime) {
     assert!(rt; is_at(&names, 1, &[true]));
     assert!(rt; !label.has(&log, &root));
     assert!(rt; !label.is_empty(&log));
+    is_taken_back(&rt, &log, &mut label);
 }
 
 /// What the labels of two processes each of a log with three give together.
