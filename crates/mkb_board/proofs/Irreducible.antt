@@ -1,7 +1,7 @@
 -- Nodes that none of some rules reduces.
 use Rattle.std.proofs.Common.{ℕ, suc, length, ◌<◌, ◌≡◌, zero, ◌≤◌, set, get_or, length-append, refl, sym, ap, ap₂, ◌∙◌, subst, arith, List, [], ◌∷◌, ◌++◌, ◌+◌, take, drop, map, filter, Contains, Bool, true, false, cond, not, ◌&&◌, ◌||◌, ◌==◌, ⊎_elim, Option, Some, None}
-use Rattle.std.specs.Prelude.{option_map, slice_get}
-use Rattle.std.specs.List.{find, list_any}
+use Rattle.std.specs.Prelude.{option_map, slice_get, IfSome}
+use Rattle.std.specs.List.{find, list_any, position_or_len}
 use Rattle.std.specs.Option.{option_or}
 use Rattle.std.proofs.lemmas.List.{length-set, length-map, map-append, take-append-le, take_more, take_more_set, drop-set-lt, get_or-map, get_or-set_other}
 use Rattle.mkb_board.proofs.Better.{drop_at}
@@ -16,8 +16,9 @@ use Rattle.kb_node.specs.declared.node.LabelKind.TheVariants.{E, R0, R1}
 use Rattle.kb_node.specs.declared.job.Fact.{Fact}
 use Rattle.mkb_model.specs.Jobs.{ref_eq}
 use Rattle.mkb_model.specs.Plain.{Plain, PlainNode, known, label_or_none, rules_of}
-use Rattle.mkb_model.specs.DueJobs.{is_open, is_reducible}
-use Rattle.mkb_model.specs.Effects.{applied, effect, effect_label, give_up, limit_of}
+use Rattle.mkb_model.specs.DueJobs.{is_node_of, is_open, is_reducible}
+use Rattle.mkb_model.specs.Effects.{applied, counted, effect, effect_label, give_up, limit_of}
+use Rattle.mkb_model.specs.Sleeping.{settle}
 use Rattle.kb_label.specs.declared.verdict.Reason.{Reason}
 use Rattle.std.specs.Option.{option_map_or}
 use Rattle.std.proofs.lemmas.Bool.{eqb-true, eqb-false, or_cases, or_left, or_right, or_parts, or_from}
@@ -28,8 +29,8 @@ use Rattle.mkb_model.specs.declared.proposed.Proposed.{Proposed}
 use Rattle.mkb_model.specs.declared.proposed.Proposed.TheVariants.{Facts, Rewrite, One, Both, Refuse, Deduce, Unjoined, Closed, Limit}
 use Rattle.mkb_model.proofs.Lists.{any_in, in_any, false_unless, filter_in, in_filter, same_test, not_of_false, decide, clash}
 use Rattle.mkb_model.proofs.closing.Completed.{ref_self}
-use Rattle.mkb_rules.specs.Roles.{no_roles, roles_at, roles_in, roles_of}
-use Rattle.mkb_board.specs.Normal.{AreAllNormal, AreNormal, IsPast, Serves, is_among, is_open_in, is_open_to, recounted}
+use Rattle.mkb_rules.specs.Roles.{held_of, no_roles, roles_at, roles_in, roles_of}
+use Rattle.mkb_board.specs.Normal.{AreAllNormal, AreNormal, IsPast, IsTurned, Serves, is_among, is_open_in, is_open_to, may_reduce, places_among, recounted}
 use Rattle.mkb_board.specs.declared.normal.Noted.{Noted}
 use Rattle.mkb_rules.specs.declared.roles.Roles.{Roles}
 use Rattle.mkb_board.specs.declared.normal.Normal.{Normal}
@@ -67,10 +68,14 @@ reducible_by b p n =
     ∙ any_alike (λ (a : RuleRef). not (a.node == n) && list_any (λ w. is_open b p n w (known b n w a)) (0 ∷ 1 ∷ [])) (is_open_to b (roles_of b p n) n) (rules_of b p)
     (λ a. ap (λ z. not (a.node == n) && z) (ap₂ (λ x y. x || (y || false)) (open_zero b p n (known b n 0 a)) (open_one b p n (known b n 1 a))))
 
+-- what is said of the process to which it is turned
+pub serves_turned : (b : Plain) (p : Name) (k : Normal) → Serves b p k → IsTurned b k.rules.items k.behind p
+serves_turned b p k h = subst {A = Option Name} (λ o. IfSome o (IsTurned b k.rules.items k.behind)) h.turned h.known.turned
+
 -- a node is reducible where one of the rules is open to it, by their arrival
 pub reducible_by_arrival : (b : Plain) (p : Name) (n : ℕ) (k : Normal) → Serves b p k → is_reducible b p n ≡ list_any (is_open_to b (roles_of b p n) n) k.arrived.items
 reducible_by_arrival b p n k h =
-    reducible_by b p n ∙ ap (list_any (is_open_to b (roles_of b p n) n)) (sym h.rules) ∙ sym (h.known.same (is_open_to b (roles_of b p n) n))
+    reducible_by b p n ∙ ap (list_any (is_open_to b (roles_of b p n) n)) (sym (serves_turned b p k h).own) ∙ sym (h.known.same (is_open_to b (roles_of b p n) n))
 
 roles_by_labels : (p : Name) (o : Option PlainNode) → option_map_or (roles_in p) o no_roles ≡ record { equation = has (label_or_none o E) p; first = has (label_or_none o R0) p; second = has (label_or_none o R1) p }
 roles_by_labels p None = refl
@@ -116,15 +121,17 @@ past_stays b c fs e rules n m h = record {
   none = any_still (is_open_to b m.roles n) (is_open_to c m.roles n) (take m.passed rules) (rule_stays b c fs e m.roles n) h.none;
 }
 
--- what is noted holds where more facts are known
-pub normal_stays : (b c : Plain) (fs : List Fact) → c.facts ≡ b.facts ++ fs → (k : Normal) → AreNormal b k → AreNormal c k
-normal_stays b c fs e k h = record {
+-- what is noted holds where more facts are known, if what is said of the process to which it is turned does
+pub normal_stays : (b c : Plain) (fs : List Fact) → c.facts ≡ b.facts ++ fs → (k : Normal) → IfSome k.turned (IsTurned c k.rules.items k.behind) → AreNormal b k → AreNormal c k
+normal_stays b c fs e k turned h = record {
   same = h.same;
+  places = h.places;
   past = λ n d i. past_stays b c fs e k.arrived.items n (get_or k.nodes.items n d) (h.past n d i);
+  turned = turned;
 }
 
--- a commit adds facts at the end
-append_none : {A : Type 0} (xs : List A) → xs ≡ xs ++ []
+-- nothing is added by no elements
+pub append_none : {A : Type 0} (xs : List A) → xs ≡ xs ++ []
 append_none [] = refl
 append_none (x ∷ xs) = ap (λ z. x ∷ z) (append_none xs)
 
@@ -144,8 +151,53 @@ grown_by b (Limit j cause) None = ([], append_none b.facts)
 pub effect_facts : (b : Plain) (x : Proposed) → (fs : List Fact) × ((effect b x).facts ≡ b.facts ++ fs)
 effect_facts b x = grown_by b x (limit_of b x)
 
-pub normal_after : (b : Plain) (x : Proposed) (k : Normal) → AreNormal b k → AreNormal (effect b x) k
-normal_after b x k h = let e = effect_facts b x in normal_stays b (effect b x) e.0 e.1 k h
+-- it is turned to no process
+abbrev pub away : Normal → Normal
+away k = record k { turned = None }
+
+pub normal_away : (b : Plain) (k : Normal) → AreNormal b k → AreNormal b (away k)
+normal_away b k h = record { same = h.same; places = h.places; past = h.past; turned = tt }
+
+normal_after : (b : Plain) (x : Proposed) (k : Normal) → AreNormal b k → AreNormal (effect b x) (away k)
+normal_after b x k h = let e = effect_facts b x in normal_stays b (effect b x) e.0 e.1 (away k) tt (normal_away b k h)
+
+-- ---- what facts leave as it is
+
+module _ (b : Plain) (fs : List Fact) where
+  -- the board after the facts are noted, whether that comes to a limit or not
+  abbrev noted_on : Option Reason → Plain
+  noted_on o = settle (counted (option_map_or (λ r. give_up r (effect_label b (Facts fs)) b) o (applied b (Facts fs))))
+
+  reducible_stays : (p : Name) (n : ℕ) → is_reducible b p n ≡ false → is_reducible (noted_on None) p n ≡ false
+  reducible_stays p n h =
+      let c = noted_on None in
+      let r = roles_of b p n in
+      reducible_by c p n ∙ any_still (is_open_to b r n) (is_open_to c r n) (rules_of b p) (rule_stays b c fs refl r n) (sym (reducible_by b p n) ∙ h)
+
+  may_reduce_stays : (p : Name) (n : ℕ) → may_reduce b p n ≡ false → may_reduce (noted_on None) p n ≡ false
+  may_reduce_stays p n h = go (is_node_of b p n) h
+    where
+      go : (t : Bool) → (t && is_reducible b p n) ≡ false → (t && is_reducible (noted_on None) p n) ≡ false
+      go false e = refl
+      go true e = reducible_stays p n e
+
+  turned_stays : (l : Option Reason) (rules : List RuleRef) (behind : ℕ) (o : Option Name) → IfSome o (IsTurned b rules behind) → IfSome o (IsTurned (noted_on l) rules behind)
+  turned_stays l rules behind None h = tt
+  turned_stays (Some r) rules behind (Some p) h = record { own = h.own; none = h.none }
+  turned_stays None rules behind (Some p) h = record {
+    own = h.own;
+    none = any_still (may_reduce b p) (may_reduce (noted_on None) p) (take behind (held_of b p)) (may_reduce_stays p) h.none;
+  }
+
+  normal_facts : (k : Normal) → AreNormal b k → AreNormal (effect b (Facts fs)) k
+  normal_facts k h = let e = effect_facts b (Facts fs) in normal_stays b (effect b (Facts fs)) e.0 e.1 k (turned_stays (limit_of b (Facts fs)) k.rules.items k.behind k.turned h.turned) h
+
+-- where the test is passed by none of the first, nor by the next, it is by none of one more
+pub none_more : (q : ℕ → Bool) (i : ℕ) (xs : List ℕ) → list_any q (take i xs) ≡ false → q (get_or xs i 0) ≡ false → list_any q (take (suc i) xs) ≡ false
+none_more q zero [] h e = refl
+none_more q zero (x ∷ xs) h e = or_from (q x) false e refl
+none_more q (suc i) [] h e = refl
+none_more q (suc i) (x ∷ xs) h e = let k = or_parts (q x) (list_any q (take i xs)) h in or_from (q x) (list_any q (take (suc i) xs)) k.0 (none_more q i xs k.1 e)
 
 -- ---- rules that come and go
 
@@ -295,9 +347,16 @@ normals_with b ks i k all one = record {
   each = All-set (AreNormal b) ks i k one all.each;
 }
 
--- what holds at each place holds on each later board
-pub normals_after : (b : Plain) (x : Proposed) (ks : List Normal) → AreAllNormal b ks → AreAllNormal (effect b x) ks
-normals_after b x ks all = record { some = all.some; each = λ n d h. normal_after b x (get_or ks n d) (all.each n d h) }
+-- what holds at each place holds after a commit, where it is turned away
+pub normals_away : (b : Plain) (x : Proposed) (ks : List Normal) → AreAllNormal b ks → AreAllNormal (effect b x) (map away ks)
+normals_away b x ks all = record {
+  some = omega (arith, all.some, length-map ks away);
+  each = λ n d h. let there : n < length ks = omega (arith, h, length-map ks away) in subst {A = Normal} (AreNormal (effect b x)) (sym (get_or-map away ks n d d there)) (normal_after b x (get_or ks n d) (all.each n d there));
+}
+
+-- or where facts alone are noted
+pub normals_facts : (b : Plain) (fs : List Fact) (ks : List Normal) → AreAllNormal b ks → AreAllNormal (effect b (Facts fs)) ks
+normals_facts b fs ks all = record { some = all.some; each = λ n d h. normal_facts b fs (get_or ks n d) (all.each n d h) }
 
 -- where the test is passed by none, it isn't by one of the first
 pub none_early : (q : RuleRef → Bool) (rules : List RuleRef) (a : RuleRef) → list_any q rules ≡ false → is_among rules a ≡ true → q a ≡ false
@@ -307,3 +366,20 @@ none_early q rules a none e = false_unless (q a) (λ h. clash (in_any q rules a 
 pub mapped_next : {A B : Type 0} (f : A → B) (xs : List A) (i : ℕ) (d : A) (old new : List B) (y : B) → i < length xs → old ≡ map f (take i xs) → y ≡ f (get_or xs i d) → new ≡ old ++ y ∷ [] → new ≡ map f (take (i + 1) xs)
 mapped_next {A} {B} f xs i d old new y there behind one more =
     more ∙ ap₂ (λ (p : List B) (q : B). p ++ q ∷ []) behind one ∙ sym (map-append f (take i xs) (get_or xs i d ∷ [])) ∙ ap (map f) (sym (take_more xs i d there))
+
+-- a rule that stands early enough is one of the first
+found_early : (q : RuleRef → Bool) (xs : List RuleRef) (c : ℕ) → position_or_len q xs < c → c ≤ length xs → list_any q (take c xs) ≡ true
+found_early q [] c h k = absurd (omega (arith, h, k))
+found_early q (x ∷ xs) zero h k = absurd (omega (arith, h))
+found_early q (x ∷ xs) (suc c) h k = go (q x) refl (found_early q xs c)
+  where
+    go : (t : Bool) → q x ≡ t → (position_or_len q xs < c → c ≤ length xs → list_any q (take c xs) ≡ true) → (t || list_any q (take c xs)) ≡ true
+    go true e ih = refl
+    go false e ih = ih (omega (arith, h, ap (λ s. cond (not s) (1 + position_or_len q xs) 0) e)) (omega (arith, k))
+
+-- no rule that stands early enough among the rules is open to a node that is past them
+pub early_closed : (b : Plain) (arrived rules : List RuleRef) (places : List ℕ) (n : ℕ) (m : Noted) (i x : ℕ) (a : RuleRef) → places ≡ places_among arrived rules → IsPast b arrived n m → i < length rules → x ≡ get_or places i x → a ≡ get_or rules i a → x < m.passed → is_open_to b m.roles n a ≡ false
+early_closed b arrived rules places n m i x a same past there is_x is_a early =
+    let stands = λ (rule : RuleRef). position_or_len (λ c. ref_eq c rule) arrived in
+    let at_it : x ≡ stands a = is_x ∙ ap (λ (l : List ℕ). get_or l i x) same ∙ get_or-map stands rules i a x there ∙ ap stands (sym is_a) in
+    none_early (is_open_to b m.roles n) (take m.passed arrived) a past.none (found_early (λ c. ref_eq c a) arrived m.passed (omega (arith, at_it, early)) past.within)

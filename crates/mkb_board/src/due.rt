@@ -8,9 +8,10 @@ ghost use Rattle.mkb_model.specs.Jobs.{clashes, is_free, process_of, ref_le};
 ghost use Rattle.mkb_model.specs.Plain.{is_rule, node_numbers, rules_of};
 ghost use Rattle.mkb_model.specs.DueJobs.{is_work_due, work_of};
 ghost use Rattle.mkb_board.specs.Choosing.{jobs_of, is_choice, HasNodes};
-ghost use Rattle.mkb_board.specs.Normal.{Serves};
+ghost use Rattle.mkb_board.specs.Normal.{IsSearch, Serves};
 
 use crate::choosing::is_rule;
+use crate::holding::Search;
 use crate::normal::Normal;
 use kb_label::Process;
 use kb_node::{Job, NodeId};
@@ -20,53 +21,49 @@ use mkb_rules::{State, is_ordered};
 
 /// The first job of the process, in their order, that is due by what it sees and clashes with none in flight; closing is
 /// none of them. It takes no memory.
-pub(crate) fn first_work(
-    state: &State,
-    flight: &[Ticket],
-    normal: &mut Normal,
-    p: &Process,
-    rules: &[RuleRef],
-) -> Option<Job>
-    requires serves { Serves state.now p.now normal.old }
-    requires rules { rules.now ≡ rules_of state.now p.now }
-    ensures first { result ≡ find (is_choice state.now (jobs_of flight.now)) (work_of state.now p.now) }
-    ensures serves { Serves state.now p.now normal.new }
+pub(crate) fn first_work(state: &State, normal: &mut Normal, search: &Search) -> Option<Job>
+    requires serves { Serves state.now search.now.process.now normal.old }
+    requires search { IsSearch state.now search.now }
+    ensures first { result ≡ find (is_choice state.now (jobs_of search.now.flight.now)) (work_of state.now search.now.process.now) }
+    ensures serves { Serves state.now search.now.process.now normal.new }
 {
-    if let Some(job) = first_reduce(state, flight, normal, p) {
+    if let Some(job) = first_reduce(state, normal, search) {
         return Some(job);
     }
-    if let Some(job) = first_orient(state, flight, normal, p) {
+    if let Some(job) = first_orient(state, search) {
         return Some(job);
     }
-    first_overlap(state, flight, p, rules)
+    first_overlap(state, search.flight, search.process, search.rules)
 }
 
-// The first node that may be reduced.
-fn first_reduce(state: &State, flight: &[Ticket], normal: &mut Normal, p: &Process) -> Option<Job>
-    requires { Serves state.now p.now normal.old }
-    ensures first { result ≡ find (is_choice state.now (jobs_of flight.now)) (map (λ n. jobs.Reduce p.now (record { 0 = n })) (node_numbers state.now)) }
-    ensures serves { Serves state.now p.now normal.new }
+// The first node that may be reduced. The search begins behind the first nodes that are noted not to be due; of those behind them
+// that aren't due either it is noted.
+fn first_reduce(state: &State, normal: &mut Normal, search: &Search) -> Option<Job>
+    requires serves { Serves state.now search.now.process.now normal.old }
+    requires search { IsSearch state.now search.now }
+    ensures first { result ≡ find (is_choice state.now (jobs_of search.now.flight.now)) (map (λ n. jobs.Reduce search.now.process.now (record { 0 = n })) (node_numbers state.now)) }
+    ensures serves { Serves state.now search.now.process.now normal.new }
 {
-    let count = normal.held().len();
-    for i in 0..count {
-        let n = normal.held()[i];
-        if is_reduce_choice(state, flight, normal, p, n) {
-            return Some(Job::Reduce(*p, n));
+    for i in normal.behind()..search.nodes.len() {
+        let n = search.nodes[i];
+        if !normal.is_reduce_due(state, search, n) {
+            normal.pass_by(i);
+        } else if is_free(search.flight, &Job::Reduce(*search.process, n)) {
+            return Some(Job::Reduce(*search.process, n));
         }
     }
     None
 }
 
 // The first node that may be oriented.
-fn first_orient(state: &State, flight: &[Ticket], normal: &Normal, p: &Process) -> Option<Job>
-    requires { Serves state.now p.now normal.now }
-    ensures { result ≡ find (is_choice state.now (jobs_of flight.now)) (map (λ n. jobs.Orient p.now (record { 0 = n })) (node_numbers state.now)) }
+fn first_orient(state: &State, search: &Search) -> Option<Job>
+    requires { IsSearch state.now search.now }
+    ensures { result ≡ find (is_choice state.now (jobs_of search.now.flight.now)) (map (λ n. jobs.Orient search.now.process.now (record { 0 = n })) (node_numbers state.now)) }
 {
-    let held = normal.held();
-    for i in 0..held.len() {
-        let n = held[i];
-        if is_orient_choice(state, flight, normal, p, n) {
-            return Some(Job::Orient(*p, n));
+    for i in 0..search.nodes.len() {
+        let n = search.nodes[i];
+        if is_orient_choice(state, search, n) {
+            return Some(Job::Orient(*search.process, n));
         }
     }
     None
@@ -106,36 +103,13 @@ fn first_second(
     None
 }
 
-// Whether the node may be reduced, and that clashes with nothing in flight.
-fn is_reduce_choice(
-    state: &State,
-    flight: &[Ticket],
-    normal: &mut Normal,
-    p: &Process,
-    n: NodeId,
-) -> bool
-    requires there { n.0 < length state.now.nodes }
-    requires serves { Serves state.now p.now normal.old }
-    ensures choice { result ≡ is_choice state.now (jobs_of flight.now) (jobs.Reduce p.now n) }
-    ensures held { normal.new.held.items ≡ normal.old.held.items }
-    ensures serves { Serves state.now p.now normal.new }
-{
-    normal.is_reduce_due(state, p, n) && is_free(flight, &Job::Reduce(*p, n))
-}
-
 // Whether the node may be oriented, and that clashes with nothing in flight.
-fn is_orient_choice(
-    state: &State,
-    flight: &[Ticket],
-    normal: &Normal,
-    p: &Process,
-    n: NodeId,
-) -> bool
+fn is_orient_choice(state: &State, search: &Search, n: NodeId) -> bool
     requires there { n.0 < length state.now.nodes }
-    requires serves { Serves state.now p.now normal.now }
-    ensures { result ≡ is_choice state.now (jobs_of flight.now) (jobs.Orient p.now n) }
+    requires search { IsSearch state.now search.now }
+    ensures { result ≡ is_choice state.now (jobs_of search.now.flight.now) (jobs.Orient search.now.process.now n) }
 {
-    is_orient_due(state, normal, p, n) && is_free(flight, &Job::Orient(*p, n))
+    is_orient_due(state, search, n) && is_free(search.flight, &Job::Orient(*search.process, n))
 }
 
 // Whether two rules of the process, in this order, may be overlapped, and that clashes with nothing in flight.
@@ -149,39 +123,41 @@ fn is_overlap_choice(state: &State, flight: &[Ticket], p: &Process, a: RuleRef, 
 }
 
 // Whether the job is due by what its process sees, and clashes with none in flight.
-pub(crate) fn is_choice(state: &State, flight: &[Ticket], normal: &mut Normal, job: &Job) -> bool
+pub(crate) fn is_choice(state: &State, normal: &mut Normal, search: &Search, job: &Job) -> bool
     requires there { HasNodes state.now job.now }
-    requires serves { Serves state.now (process_of job.now) normal.old }
-    ensures choice { result ≡ is_choice state.now (jobs_of flight.now) job.now }
-    ensures held { normal.new.held.items ≡ normal.old.held.items }
-    ensures serves { Serves state.now (process_of job.now) normal.new }
+    requires own { process_of job.now ≡ search.now.process.now }
+    requires serves { Serves state.now search.now.process.now normal.old }
+    requires search { IsSearch state.now search.now }
+    ensures choice { result ≡ is_choice state.now (jobs_of search.now.flight.now) job.now }
+    ensures serves { Serves state.now search.now.process.now normal.new }
 {
-    is_work_due(state, normal, job) && is_free(flight, job)
+    is_work_due(state, normal, search, job) && is_free(search.flight, job)
 }
 
 // Whether the job is due by what its process sees.
-fn is_work_due(state: &State, normal: &mut Normal, job: &Job) -> bool
+fn is_work_due(state: &State, normal: &mut Normal, search: &Search, job: &Job) -> bool
     requires there { HasNodes state.now job.now }
-    requires serves { Serves state.now (process_of job.now) normal.old }
+    requires own { process_of job.now ≡ search.now.process.now }
+    requires serves { Serves state.now search.now.process.now normal.old }
+    requires search { IsSearch state.now search.now }
     ensures due { result ≡ is_work_due state.now job.now }
-    ensures held { normal.new.held.items ≡ normal.old.held.items }
-    ensures serves { Serves state.now (process_of job.now) normal.new }
+    ensures serves { Serves state.now search.now.process.now normal.new }
 {
     match job {
-        Job::Reduce(p, n) => normal.is_reduce_due(state, p, *n),
-        Job::Orient(p, n) => is_orient_due(state, normal, p, *n),
+        Job::Reduce(_, n) => normal.is_reduce_due(state, search, *n),
+        Job::Orient(_, n) => is_orient_due(state, search, *n),
         Job::Overlap(p, a, c) => is_overlap_due(state, p, *a, *c),
         Job::Close(_) => false,
     }
 }
 
 // Whether the process has the node as an equation that it has not refused.
-fn is_orient_due(state: &State, normal: &Normal, p: &Process, n: NodeId) -> bool
+fn is_orient_due(state: &State, search: &Search, n: NodeId) -> bool
     requires there { n.0 < length state.now.nodes }
-    requires serves { Serves state.now p.now normal.now }
-    ensures { result ≡ is_work_due state.now (jobs.Orient p.now n) }
+    requires search { IsSearch state.now search.now }
+    ensures { result ≡ is_work_due state.now (jobs.Orient search.now.process.now n) }
 {
-    normal.roles_of(state, p, n).equation && !state.is_refused(p, n)
+    search.roles_of(state, n).equation && !state.is_refused(search.process, n)
 }
 
 // Whether the process has both rules, in this order, and has not overlapped them.

@@ -13,6 +13,7 @@ ghost use Rattle.mkb_board.specs.Takes.{IsProposalOf, IsFinishedBy};
 use crate::answers::Finished;
 use crate::board::{Board, land};
 use crate::choosing;
+use crate::normal::turn_away;
 use crate::settling::settle;
 use kb_label::Process;
 use kb_node::Job;
@@ -95,6 +96,7 @@ impl Board {
             Ok(applied) => applied,
             Err(_) => return Err((ticket, proposal)),
         };
+        turn_away(&mut self.normals, &proposal);
         settle(&mut self.state);
         self.verdict = choosing::verdict(&self.state);
         land(&mut self.flight, ticket.number);

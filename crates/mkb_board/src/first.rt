@@ -5,21 +5,21 @@ ghost use Rattle.kb_label.specs.Names.{has, IsInNameOrder};
 ghost use Rattle.mkb_model.specs.Limits.{AreLimited};
 ghost use Rattle.kb_node.specs.declared.job.Job.TheVariants.{Close};
 ghost use Rattle.mkb_model.specs.Jobs.{process_of, job_cmp, is_free};
-ghost use Rattle.mkb_model.specs.Plain.{cost, is_over, weight, rules_of};
+ghost use Rattle.mkb_model.specs.Plain.{cost, is_over, weight};
 ghost use Rattle.mkb_model.specs.DueJobs.{first_job, work_of};
 ghost use Rattle.mkb_board.specs.Choosing.{jobs_of, first_choice, least_choice, merged, ClosedRest, IsCosted};
-ghost use Rattle.mkb_board.specs.Normal.{AreAllNormal, AreNormal, Serves};
+ghost use Rattle.mkb_board.specs.Normal.{AreAllNormal, AreNormal, IsSearch, Serves};
 ghost use Rattle.mkb_board.specs.declared.first.Choice.{Choice};
 
 use crate::cost::{cost, place_of};
 use crate::due::{first_work, is_free};
-use crate::holding::{held_nodes, rules_among};
+use crate::holding::{Search, held_nodes, rules_among};
 use crate::lightest::lightest_work;
 use crate::normal::Normal;
 use crate::settling::{Costed, least_working};
 use kb_label::Process;
 use kb_node::Job;
-use kb_term::{Memory, RuleRef};
+use kb_term::Memory;
 use mkb_model::{Selection, Ticket};
 use mkb_rules::State;
 
@@ -154,58 +154,75 @@ fn first_choice(
     if state.is_closed(p) || state.is_over(p) {
         return Ok(None);
     }
-    let held = held_nodes(normal.allocator(), state, p)?;
-    if let Some(rules) = state.rules(p) {
-        normal.turn_to(state, p, held, rules)?;
-        return Ok(choice_by_rules(state, flight, normal, p, rules));
+    let roles = state.roles(p);
+    if let Some(nodes) = state.held(p) {
+        if let Some(rules) = state.rules(p) {
+            let search = Search {
+                flight,
+                process: p,
+                nodes,
+                roles,
+                rules,
+            };
+            return choice_by(state, normal, &search);
+        }
     }
-    let rules = rules_among(normal.allocator(), state, p, held.as_slice())?;
-    normal.turn_to(state, p, held, rules.as_slice())?;
-    Ok(choice_by_rules(state, flight, normal, p, rules.as_slice()))
+    let nodes = held_nodes(normal.allocator(), state, p)?;
+    let rules = rules_among(normal.allocator(), state, p, nodes.as_slice())?;
+    let search = Search {
+        flight,
+        process: p,
+        nodes: nodes.as_slice(),
+        roles,
+        rules: rules.as_slice(),
+    };
+    choice_by(state, normal, &search)
+}
+
+// What a process that is not over would take first, by what it has.
+fn choice_by(state: &State, normal: &mut Normal, search: &Search) -> Result<Option<Job>, Memory>
+    requires limited { AreLimited state.now.problem.signature state.now.nodes }
+    requires normal { AreNormal state.now normal.old }
+    requires search { IsSearch state.now search.now }
+    requires lives { IsTrue (has state.now.living search.now.process.now) }
+    requires goes_on { IsFalse (is_over state.now search.now.process.now) }
+    ensures first { IfOk result (λ o. o ≡ first_choice state.now (jobs_of search.now.flight.now) search.now.process.now) }
+    ensures normal { AreNormal state.now normal.new }
+{
+    normal.turn_to(state, search)?;
+    Ok(choice_by_rules(state, normal, search))
 }
 
 // What a process that is not over, and has these rules, would take first.
-fn choice_by_rules(
-    state: &State,
-    flight: &[Ticket],
-    normal: &mut Normal,
-    p: &Process,
-    rules: &[RuleRef],
-) -> Option<Job>
+fn choice_by_rules(state: &State, normal: &mut Normal, search: &Search) -> Option<Job>
     requires limited { AreLimited state.now.problem.signature state.now.nodes }
-    requires serves { Serves state.now p.now normal.old }
-    requires rules { rules.now ≡ rules_of state.now p.now }
-    requires lives { IsTrue (has state.now.living p.now) }
-    requires goes_on { IsFalse (is_over state.now p.now) }
-    ensures first { result ≡ first_choice state.now (jobs_of flight.now) p.now }
-    ensures serves { Serves state.now p.now normal.new }
+    requires serves { Serves state.now search.now.process.now normal.old }
+    requires search { IsSearch state.now search.now }
+    requires lives { IsTrue (has state.now.living search.now.process.now) }
+    requires goes_on { IsFalse (is_over state.now search.now.process.now) }
+    ensures first { result ≡ first_choice state.now (jobs_of search.now.flight.now) search.now.process.now }
+    ensures serves { Serves state.now search.now.process.now normal.new }
 {
-    if let Some(job) = selected_work(state, flight, normal, p, rules) {
+    if let Some(job) = selected_work(state, normal, search) {
         return Some(job);
     }
-    match first_work(state, &[], normal, p, rules) {
+    match first_work(state, normal, &search.with_none_in_flight()) {
         Some(_) => None,
-        None => first_close(state, flight, p),
+        None => first_close(state, search.flight, search.process),
     }
 }
 
 // The least work of the process by the selection that clashes with none in flight.
-fn selected_work(
-    state: &State,
-    flight: &[Ticket],
-    normal: &mut Normal,
-    p: &Process,
-    rules: &[RuleRef],
-) -> Option<Job>
+fn selected_work(state: &State, normal: &mut Normal, search: &Search) -> Option<Job>
     requires limited { AreLimited state.now.problem.signature state.now.nodes }
-    requires serves { Serves state.now p.now normal.old }
-    requires rules { rules.now ≡ rules_of state.now p.now }
-    ensures least { result ≡ least_choice state.now.settings.selection state.now (jobs_of flight.now) (work_of state.now p.now) }
-    ensures serves { Serves state.now p.now normal.new }
+    requires serves { Serves state.now search.now.process.now normal.old }
+    requires search { IsSearch state.now search.now }
+    ensures least { result ≡ least_choice state.now.settings.selection state.now (jobs_of search.now.flight.now) (work_of state.now search.now.process.now) }
+    ensures serves { Serves state.now search.now.process.now normal.new }
 {
     match state.settings().selection {
-        Selection::Stated => first_work(state, flight, normal, p, rules),
-        Selection::Size => lightest_work(state, flight, normal, p, rules),
+        Selection::Stated => first_work(state, normal, search),
+        Selection::Size => lightest_work(state, normal, search),
     }
 }
 

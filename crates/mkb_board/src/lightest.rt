@@ -10,16 +10,15 @@ ghost use Rattle.mkb_model.specs.Plain.{cost, node_numbers, rules_of, weight_by}
 ghost use Rattle.mkb_model.specs.DueJobs.{work_of};
 ghost use Rattle.mkb_model.specs.declared.settings.Selection.TheVariants as selections;
 ghost use Rattle.mkb_board.specs.Choosing.{jobs_of, is_choice, least_choice, merged, node_job, HasNodes, IsWeighed, StandsEarlier};
-ghost use Rattle.mkb_board.specs.Normal.{Serves};
+ghost use Rattle.mkb_board.specs.Normal.{IsSearch, Serves};
 ghost use Rattle.mkb_board.specs.declared.lightest.Weighed.{Weighed};
 
 use crate::cost::node_size;
 use crate::due::is_choice;
+use crate::holding::Search;
 use crate::normal::Normal;
 use kb_label::Process;
 use kb_node::{Job, NodeId};
-use kb_term::RuleRef;
-use mkb_model::Ticket;
 use mkb_rules::State;
 
 /// The kinds of job that name one node.
@@ -38,26 +37,20 @@ struct Weighed {
 
 /// The lightest work of the process that is due by what it sees and clashes with none in flight: of the first kind that has
 /// any, the one whose nodes are the smallest, and of equal ones the first by its numbers. Closing is none of it.
-pub(crate) fn lightest_work(
-    state: &State,
-    flight: &[Ticket],
-    normal: &mut Normal,
-    p: &Process,
-    rules: &[RuleRef],
-) -> Option<Job>
+pub(crate) fn lightest_work(state: &State, normal: &mut Normal, search: &Search) -> Option<Job>
     requires limited { AreLimited state.now.problem.signature state.now.nodes }
-    requires serves { Serves state.now p.now normal.old }
-    requires rules { rules.now ≡ rules_of state.now p.now }
-    ensures lightest { result ≡ least_choice selections.Size state.now (jobs_of flight.now) (work_of state.now p.now) }
-    ensures serves { Serves state.now p.now normal.new }
+    requires serves { Serves state.now search.now.process.now normal.old }
+    requires search { IsSearch state.now search.now }
+    ensures lightest { result ≡ least_choice selections.Size state.now (jobs_of search.now.flight.now) (work_of state.now search.now.process.now) }
+    ensures serves { Serves state.now search.now.process.now normal.new }
 {
-    if let Some(job) = lightest_at_node(state, flight, normal, p, NodeJob::Reduce) {
+    if let Some(job) = lightest_at_node(state, normal, search, NodeJob::Reduce) {
         return Some(job);
     }
-    if let Some(job) = lightest_at_node(state, flight, normal, p, NodeJob::Orient) {
+    if let Some(job) = lightest_at_node(state, normal, search, NodeJob::Orient) {
         return Some(job);
     }
-    lightest_overlap(state, flight, normal, p, rules)
+    lightest_overlap(state, normal, search)
 }
 
 // The job of this kind for the node.
@@ -73,52 +66,45 @@ fn job_at(kind: NodeJob, p: &Process, n: NodeId) -> Job
 // The lightest job of this kind that may be chosen.
 fn lightest_at_node(
     state: &State,
-    flight: &[Ticket],
     normal: &mut Normal,
-    p: &Process,
+    search: &Search,
     kind: NodeJob,
 ) -> Option<Job>
-    requires { Serves state.now p.now normal.old }
-    ensures lightest { result ≡ least_choice selections.Size state.now (jobs_of flight.now) (map (node_job kind p.now) (node_numbers state.now)) }
-    ensures serves { Serves state.now p.now normal.new }
+    requires serves { Serves state.now search.now.process.now normal.old }
+    requires search { IsSearch state.now search.now }
+    ensures lightest { result ≡ least_choice selections.Size state.now (jobs_of search.now.flight.now) (map (node_job kind search.now.process.now) (node_numbers state.now)) }
+    ensures serves { Serves state.now search.now.process.now normal.new }
 {
-    let count = normal.held().len();
     let mut best = None;
-    for i in 0..count {
-        let n = normal.held()[i];
+    for i in 0..search.nodes.len() {
+        let n = search.nodes[i];
         let next = Weighed {
             weight: node_size(state, n.0),
-            job: job_at(kind, p, n),
+            job: job_at(kind, search.process, n),
         };
-        best = lighter(state, flight, normal, best, next);
+        best = lighter(state, normal, search, best, next);
     }
     job_of(best)
 }
 
 // The lightest two rules of the process that may be overlapped.
-fn lightest_overlap(
-    state: &State,
-    flight: &[Ticket],
-    normal: &mut Normal,
-    p: &Process,
-    rules: &[RuleRef],
-) -> Option<Job>
+fn lightest_overlap(state: &State, normal: &mut Normal, search: &Search) -> Option<Job>
     requires limited { AreLimited state.now.problem.signature state.now.nodes }
-    requires serves { Serves state.now p.now normal.old }
-    requires rules { rules.now ≡ rules_of state.now p.now }
-    ensures lightest { result ≡ least_choice selections.Size state.now (jobs_of flight.now) (flat_map (λ (a : Reference). map (jobs.Overlap p.now a) (rules_of state.now p.now)) (rules_of state.now p.now)) }
-    ensures serves { Serves state.now p.now normal.new }
+    requires serves { Serves state.now search.now.process.now normal.old }
+    requires search { IsSearch state.now search.now }
+    ensures lightest { result ≡ least_choice selections.Size state.now (jobs_of search.now.flight.now) (flat_map (λ (a : Reference). map (jobs.Overlap search.now.process.now a) (rules_of state.now search.now.process.now)) (rules_of state.now search.now.process.now)) }
+    ensures serves { Serves state.now search.now.process.now normal.new }
 {
     let mut best = None;
-    for i in 0..rules.len() {
-        let first = rules[i];
-        for j in i..rules.len() {
-            let second = rules[j];
+    for i in 0..search.rules.len() {
+        let first = search.rules[i];
+        for j in i..search.rules.len() {
+            let second = search.rules[j];
             let next = Weighed {
                 weight: node_size(state, first.node) + node_size(state, second.node),
-                job: Job::Overlap(*p, first, second),
+                job: Job::Overlap(*search.process, first, second),
             };
-            best = lighter(state, flight, normal, best, next);
+            best = lighter(state, normal, search, best, next);
         }
     }
     job_of(best)
@@ -127,23 +113,24 @@ fn lightest_overlap(
 // The best so far, or the next job where it is lighter and may be chosen.
 fn lighter(
     state: &State,
-    flight: &[Ticket],
     normal: &mut Normal,
+    search: &Search,
     best: Option<Weighed>,
     next: Weighed,
 ) -> Option<Weighed>
     requires nodes { HasNodes state.now next.job }
-    requires serves { Serves state.now (process_of next.job) normal.old }
+    requires own { process_of next.job ≡ search.now.process.now }
+    requires serves { Serves state.now search.now.process.now normal.old }
+    requires search { IsSearch state.now search.now }
     requires next { IsWeighed state.now next }
     requires best { IfSome best (IsWeighed state.now) }
     requires earlier { IfSome best (λ (w : Weighed). StandsEarlier next.job w.job) }
-    ensures least { option_map (λ (w : Weighed). w.job) result ≡ merged (job_cmp (cost state.now) (weight_by selections.Size state.now)) (option_map (λ (w : Weighed). w.job) best) (least_choice selections.Size state.now (jobs_of flight.now) (next.job ∷ [])) }
+    ensures least { option_map (λ (w : Weighed). w.job) result ≡ merged (job_cmp (cost state.now) (weight_by selections.Size state.now)) (option_map (λ (w : Weighed). w.job) best) (least_choice selections.Size state.now (jobs_of search.now.flight.now) (next.job ∷ [])) }
     ensures weighed { IfSome result (IsWeighed state.now) }
     ensures of_either { (result ≡ best) ⊎ (result ≡ Some next) }
-    ensures held { normal.new.held.items ≡ normal.old.held.items }
-    ensures serves { Serves state.now (process_of next.job) normal.new }
+    ensures serves { Serves state.now search.now.process.now normal.new }
 {
-    if is_lighter(next.weight, &best) && is_choice(state, flight, normal, &next.job) {
+    if is_lighter(next.weight, &best) && is_choice(state, normal, search, &next.job) {
         Some(next)
     } else {
         best

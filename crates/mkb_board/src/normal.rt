@@ -1,20 +1,22 @@
 // Nodes that no rule reduces.
-ghost use Rattle.std.specs.Prelude.{ℕ, ◌≡◌, ◌<◌, ◌≤◌, ◌++◌, length, map, not, filter, get_or, nat_lt, take, IfOk, IsFalse, IsTrue, OnOk};
+ghost use Rattle.std.specs.Prelude.{ℕ, ◌≡◌, ◌<◌, ◌≤◌, ◌++◌, length, map, not, filter, get_or, nat_lt, take, false, None, Some, IfOk, IfSome, IsFalse, IsTrue, OnOk};
 ghost use Rattle.std.specs.List.{list_any, position_or_len};
 ghost use Rattle.kb_term.specs.declared.origin.RuleRef.{RuleRef as Reference};
 ghost use Rattle.kb_node.specs.declared.job.Job.TheVariants as jobs;
-ghost use Rattle.kb_node.specs.declared.node.NodeId.{NodeId as Numbered};
 ghost use Rattle.mkb_model.specs.Jobs.{ref_eq};
+ghost use Rattle.mkb_model.specs.Effects.{effect};
 ghost use Rattle.mkb_model.specs.Plain.{Plain, known, other, rules_of};
 ghost use Rattle.mkb_model.specs.DueJobs.{is_reducible, is_work_due};
 ghost use Rattle.kb_label.specs.Names.{Name};
 ghost use Rattle.mkb_rules.specs.Roles.{AreRolesOf, has_rule, held_of, roles_of};
-ghost use Rattle.mkb_board.specs.Normal.{AreAllNormal, AreNormal, IsPast, Serves, is_among, is_open_in, is_open_to, recounted};
+ghost use Rattle.mkb_board.specs.Normal.{AreAllNormal, AreNormal, IsPast, IsSearch, Serves, is_among, is_open_in, is_open_to, may_reduce, recounted};
 
 use crate::choosing::{is_equation, is_rule, node_count};
+use crate::holding::Search;
 use kb_label::Process;
 use kb_node::NodeId;
 use kb_term::{Found, Memory, RuleRef};
+use mkb_model::Proposed;
 use mkb_rules::{Roles, State};
 use std::alloc::{AllocError, Global};
 
@@ -196,19 +198,20 @@ fn recount(nodes: &mut [Noted], kept: &Stayed)
     }
 }
 
-/// Rules, in their order and by arrival, with the place of each by arrival, and for each node the roles in which it was asked about and how many of the first rules by
-/// arrival are known not to be open to it; and how the process that it was turned to last has the nodes.
+/// Rules, in their order and by arrival, with the place of each by arrival, and for each node the roles in which it was asked about
+/// and how many of the first rules by arrival are known not to be open to it. While it is turned to a process the rules are those of
+/// the process, and of the nodes that the process has the first ones, as many as are left behind, have no rule open to them.
 ///
-/// What is known of a side of a node and a rule stays known, so what is noted holds on each later board.
+/// What is known of a side of a node and a rule stays known, so what is noted of nodes holds on each later board.
 #[derive(Drop)]
 pub(crate) struct Normal {
     alloc: Global,
+    turned: Option<Process>,
+    behind: usize,
     rules: Vec<RuleRef>,
     arrived: Vec<RuleRef>,
     places: Vec<usize>,
     nodes: Vec<Noted>,
-    roles: Vec<Roles>,
-    held: Vec<NodeId>,
 }
 
 // For how many processes something is noted at once: as many as may be active and awake.
@@ -225,6 +228,18 @@ pub(crate) fn nothing_noted(alloc: Global) -> Result<Vec<Normal>, AllocError>
     Ok(normals)
 }
 
+/// Over a commit: nothing is turned to a process any more, unless the commit notes facts alone, which leave what each process has.
+pub(crate) fn turn_away(normals: &mut Vec<Normal>, proposal: &Proposed)
+    ensures { (b : Plain) → AreAllNormal b normals.old.items → AreAllNormal (effect b proposal.now) normals.new.items }
+{
+    if let Proposed::Facts(_) = proposal {
+        return;
+    }
+    for i in 0..normals.len() {
+        normals[i].forget();
+    }
+}
+
 impl Normal {
     /// No rules, and no node is noted. It takes no memory.
     pub(crate) fn new(alloc: Global) -> Normal
@@ -232,12 +247,12 @@ impl Normal {
     {
         Normal {
             alloc,
+            turned: None,
+            behind: 0,
             rules: Vec::new(alloc),
             arrived: Vec::new(alloc),
             places: Vec::new(alloc),
             nodes: Vec::new(alloc),
-            roles: Vec::new(alloc),
-            held: Vec::new(alloc),
         }
     }
 
@@ -246,54 +261,61 @@ impl Normal {
         self.alloc
     }
 
-    /// Takes the nodes and the rules of the process. What is noted of the rules that it has already stays noted.
+    // Is turned to no process.
+    fn forget(&mut self)
+        ensures { self.new ≡ record self.old { turned = None } }
+    {
+        self.turned = None;
+    }
+
+    /// Whether it is turned to the process.
+    fn is_turned_to(&self, p: &Process) -> bool
+        ensures { IsTrue result → self.now.turned ≡ Some p.now }
+    {
+        match &self.turned {
+            Some(turned) => *turned == *p,
+            None => false,
+        }
+    }
+
+    /// Turns to the process of the search. What is noted of the rules that it has already stays noted.
     ///
     /// # Errors
     ///
-    /// Want of memory; then it has some rules, and what is noted holds of them.
-    pub(crate) fn turn_to(
-        &mut self,
-        state: &State,
-        p: &Process,
-        held: Vec<NodeId>,
-        rules: &[RuleRef],
-    ) -> Result<(), Memory>
+    /// Want of memory; then what is noted holds.
+    pub(crate) fn turn_to(&mut self, state: &State, search: &Search) -> Result<(), Memory>
         requires normal { AreNormal state.now self.old }
-        requires held { map (λ (n : Numbered). n.0) held.items ≡ held_of state.now p.now }
-        requires rules { rules.now ≡ rules_of state.now p.now }
+        requires search { IsSearch state.now search.now }
         ensures normal { AreNormal state.now self.new }
-        ensures serves { OnOk result (Serves state.now p.now self.new) }
+        ensures serves { OnOk result (Serves state.now search.now.process.now self.new) }
     {
-        self.make_room(node_count(state))?;
-        self.take_nodes(state, p, held)?;
-        if !are_same(self.rules.as_slice(), rules) {
-            self.take_rules(rules)?;
+        if self.is_turned_to(search.process) {
+            return Ok(());
         }
+        self.forget();
+        self.make_ready(state, search.rules)?;
+        self.turned = Some(*search.process);
+        self.behind = 0;
         Ok(())
     }
 
-    // Takes the nodes that the process has, and what is kept of how it has them.
-    fn take_nodes(
-        &mut self,
-        state: &State,
-        p: &Process,
-        held: Vec<NodeId>,
-    ) -> Result<(), AllocError>
-        ensures rules { self.new.rules.items ≡ self.old.rules.items }
+    // Makes room for all nodes, and takes these rules where it has others.
+    fn make_ready(&mut self, state: &State, rules: &[RuleRef]) -> Result<(), AllocError>
+        requires { self.old.turned ≡ None }
         ensures known { (b : Plain) → AreNormal b self.old → AreNormal b self.new }
-        ensures roles { OnOk result (AreRolesOf state.now.nodes p.now self.new.roles.items) }
-        ensures held { OnOk result (self.new.held.items ≡ held.items) }
+        ensures rules { OnOk result (self.new.rules.items ≡ rules.now) }
     {
-        self.held = held;
-        self.roles.clear();
-        self.roles.extend_from_slice(state.roles(p))
+        self.make_room(node_count(state))?;
+        if are_same(self.rules.as_slice(), rules) {
+            return Ok(());
+        }
+        self.take_rules(rules)
     }
 
     // Takes these rules: those that it has stay in their order of arrival, and the others arrive behind them.
     fn take_rules(&mut self, rules: &[RuleRef]) -> Result<(), AllocError>
+        requires { self.old.turned ≡ None }
         ensures known { (b : Plain) → AreNormal b self.old → AreNormal b self.new }
-        ensures roles { self.new.roles.items ≡ self.old.roles.items }
-        ensures held { self.new.held.items ≡ self.old.held.items }
         ensures rules { OnOk result (self.new.rules.items ≡ rules.now) }
     {
         let own = Vec::from_slice(self.alloc, rules)?;
@@ -310,25 +332,27 @@ impl Normal {
         Ok(())
     }
 
-    /// The nodes that the process has as an equation or as a rule, in their order.
-    pub(crate) fn held(&self) -> &[NodeId]
-        ensures { result.now ≡ self.now.held.items }
+    /// How many of the first nodes of the process to which it is turned are noted to have no rule open to them.
+    pub(crate) fn behind(&self) -> usize
+        ensures { result ≡ self.now.behind }
     {
-        self.held.as_slice()
+        self.behind
     }
 
-    /// How the process has the node.
-    pub(crate) fn roles_of(&self, state: &State, p: &Process, n: NodeId) -> Roles
-        requires there { n.0 < length state.now.nodes }
-        requires serves { Serves state.now p.now self.now }
-        ensures { result ≡ roles_of state.now p.now n.0 }
+    /// Notes that the process may not reduce the node at this place of those that it has, where it is noted that it may reduce none
+    /// before it.
+    pub(crate) fn pass_by(&mut self, place: usize)
+        ensures serves { (b : Plain) (p : Name) → may_reduce b p (get_or (held_of b p) place 0) ≡ false → Serves b p self.old → Serves b p self.new }
     {
-        roles_by(state, self.roles.as_slice(), p, n)
+        if self.behind == place && place < self.nodes.len() {
+            self.behind = place + 1;
+        }
     }
 
     // Makes room to note so many nodes.
     fn make_room(&mut self, count: u32) -> Result<(), AllocError>
         ensures rules { self.new.rules.items ≡ self.old.rules.items }
+        ensures turned { self.new.turned ≡ self.old.turned }
         ensures known { (b : Plain) → AreNormal b self.old → AreNormal b self.new }
     {
         if self.nodes.len() < count as usize {
@@ -355,53 +379,34 @@ impl Normal {
         }
     }
 
-    // Whether the rule, where it stands at this place in the order, is one of so many first ones by arrival.
-    fn is_early(&self, place: usize, rule: RuleRef, count: usize) -> bool
-        requires { count ≤ length self.now.arrived.items }
-        ensures { IsTrue result → IsTrue (is_among (take count self.now.arrived.items) rule) }
-    {
-        match self.places.get(place) {
-            Some(arrival) => *arrival < count && self.arrived[*arrival] == rule,
-            None => false,
-        }
-    }
-
-    // Whether some side of the node is open to the rule, which may stand at this place in the order, where so much is noted of the node.
-    fn is_open_at(
+    /// The rules of the process to which some side of the node is open, where the process has it in these roles; none where it isn't
+    /// turned to the process. What is known of a rule is looked up only where the node isn't noted to have passed it.
+    ///
+    /// # Errors
+    ///
+    /// Want of memory.
+    pub(crate) fn open_rules(
         &self,
         state: &State,
-        n: NodeId,
-        noted: Noted,
-        place: usize,
-        rule: RuleRef,
-    ) -> bool
-        requires { IsPast state.now self.now.arrived.items n.0 noted }
-        ensures { result ≡ is_open_to state.now noted.roles n.0 rule }
-    {
-        !self.is_early(place, rule, noted.passed) && is_open_to(state, noted.roles, n, rule)
-    }
-
-    /// Those of the rules to which some side of the node is open, where a process has it in these roles. What is known of a rule is looked
-    /// up only where the node isn't noted to have passed it, so that few are asked about where these are the rules that it has.
-    pub(crate) fn open_to(
-        &self,
-        state: &State,
+        p: &Process,
         roles: Roles,
         n: NodeId,
-        rules: &[RuleRef],
-    ) -> Result<Vec<RuleRef>, AllocError>
+    ) -> Result<Option<Vec<RuleRef>>, AllocError>
         requires { AreNormal state.now self.now }
-        ensures { IfOk result (λ kept. kept.items ≡ filter (is_open_to state.now roles n.0) rules.now) }
+        ensures { IfOk result (λ o. IfSome o (λ kept. kept.items ≡ filter (is_open_to state.now roles n.0) (rules_of state.now p.now))) }
     {
+        if !self.is_turned_to(p) {
+            return Ok(None);
+        }
         let passed = self.passed(n, roles);
-        let noted = Noted { roles, passed };
         let mut kept = Vec::new(self.alloc);
-        for i in 0..rules.len() {
-            if self.is_open_at(state, n, noted, i, rules[i]) {
-                kept.push(rules[i])?;
+        for i in 0..self.rules.len() {
+            let rule = self.rules[i];
+            if self.places[i] >= passed && is_open_to(state, roles, n, rule) {
+                kept.push(rule)?;
             }
         }
-        Ok(kept)
+        Ok(Some(kept))
     }
 
     // Where the first rule by arrival stands that is open to the node in these roles; without one, how many rules there are.
@@ -420,9 +425,7 @@ impl Normal {
 
     // Notes it of the node, where there is room.
     fn note(&mut self, n: NodeId, noted: Noted)
-        ensures rules { self.new.rules.items ≡ self.old.rules.items }
-        ensures roles { self.new.roles.items ≡ self.old.roles.items }
-        ensures held { self.new.held.items ≡ self.old.held.items }
+        ensures turned { self.new.turned ≡ self.old.turned }
         ensures known { (b : Plain) → AreNormal b self.old → IsPast b self.old.arrived.items n.0 noted → AreNormal b self.new }
     {
         if (n.0 as usize) < self.nodes.len() {
@@ -431,37 +434,37 @@ impl Normal {
     }
 
     // Whether the node is noted to have passed all rules, in the roles in which the process has it.
-    fn has_passed_all(&self, n: NodeId) -> bool
-        ensures { (b : Plain) (p : Name) → IsTrue result → Serves b p self.now → IsFalse (is_reducible b p n.0) }
+    fn has_passed_all(&self, search: &Search, n: NodeId) -> bool
+        ensures { (b : Plain) → IsTrue result → IsSearch b search.now → Serves b search.now.process.now self.now → IsFalse (is_reducible b search.now.process.now n.0) }
     {
         let at = n.0 as usize;
-        if at >= self.nodes.len() || at >= self.roles.len() {
+        if at >= self.nodes.len() || at >= search.roles.len() {
             return false;
         }
         let noted = self.nodes[at];
-        noted.passed >= self.arrived.len() && noted.roles.is_same(self.roles[at])
+        noted.passed >= self.arrived.len() && noted.roles.is_same(search.roles[at])
     }
 
-    /// Whether the process, whose rules these are, may reduce the node. How many rules can't is noted.
-    pub(crate) fn is_reduce_due(&mut self, state: &State, p: &Process, n: NodeId) -> bool
+    /// Whether the process of the search may reduce the node. How many rules can't is noted.
+    pub(crate) fn is_reduce_due(&mut self, state: &State, search: &Search, n: NodeId) -> bool
         requires there { n.0 < length state.now.nodes }
-        requires serves { Serves state.now p.now self.old }
-        ensures due { result ≡ is_work_due state.now (jobs.Reduce p.now n) }
-        ensures held { self.new.held.items ≡ self.old.held.items }
-        ensures serves { Serves state.now p.now self.new }
+        requires serves { Serves state.now search.now.process.now self.old }
+        requires search { IsSearch state.now search.now }
+        ensures due { result ≡ is_work_due state.now (jobs.Reduce search.now.process.now n) }
+        ensures serves { Serves state.now search.now.process.now self.new }
     {
-        !self.has_passed_all(n) && self.is_reducible(state, p, n)
+        !self.has_passed_all(search, n) && self.is_reducible(state, search, n)
     }
 
-    // Whether the process, whose rules these are, may reduce the node, by what is known of the rules that it isn't noted to have passed.
-    fn is_reducible(&mut self, state: &State, p: &Process, n: NodeId) -> bool
+    // Whether the process may reduce the node, by what is known of the rules that it isn't noted to have passed.
+    fn is_reducible(&mut self, state: &State, search: &Search, n: NodeId) -> bool
         requires there { n.0 < length state.now.nodes }
-        requires serves { Serves state.now p.now self.old }
-        ensures due { result ≡ is_work_due state.now (jobs.Reduce p.now n) }
-        ensures held { self.new.held.items ≡ self.old.held.items }
-        ensures serves { Serves state.now p.now self.new }
+        requires serves { Serves state.now search.now.process.now self.old }
+        requires search { IsSearch state.now search.now }
+        ensures due { result ≡ is_work_due state.now (jobs.Reduce search.now.process.now n) }
+        ensures serves { Serves state.now search.now.process.now self.new }
     {
-        let roles = self.roles_of(state, p, n);
+        let roles = search.roles_of(state, n);
         if !roles.is_in_use() {
             return false;
         }

@@ -1,22 +1,22 @@
 // What a Reduce reads.
-ghost use Rattle.std.specs.Prelude.{◌≡◌, ◌<◌, ◌≤◌, ◌^◌, ◌++◌, ◌||◌, ◌∷◌, [], IfOk, OnOk, length};
+ghost use Rattle.std.specs.Prelude.{◌≡◌, ◌<◌, ◌≤◌, ◌^◌, ◌++◌, ◌||◌, ◌∷◌, [], filter, IfOk, OnOk, length};
 ghost use Rattle.std.specs.List.{flat_map};
 ghost use Rattle.kb_jobs.specs.Taken.{IsTakenReduce};
 ghost use Rattle.mkb_model.specs.Plain.{is_equation, is_rule};
 ghost use Rattle.mkb_model.specs.Invariants.{FactsHold};
-ghost use Rattle.mkb_board.specs.Normal.{AreNormal};
+ghost use Rattle.mkb_board.specs.Normal.{AreNormal, is_open_to};
 ghost use Rattle.mkb_board.specs.Shelf.{HoldsRules};
 ghost use Rattle.mkb_board.specs.Snapshots.{AreWithin, IsWholeReduce, open_rules, unknown_on, with_names};
 
 use super::named::{named_rules, pair_at, rules_of};
 use crate::choosing::{is_equation, is_rule};
-use crate::normal::{Normal, roles_by};
+use crate::normal::{Normal, is_open_to, roles_by};
 use crate::shelf::Shelf;
 use kb_jobs::ReduceSnapshot;
 use kb_label::Process;
 use kb_node::NodeId;
 use kb_term::{MAX_NODES, Memory, RuleRef};
-use mkb_rules::State;
+use mkb_rules::{Roles, State};
 use std::alloc::{AllocError, Global};
 
 /// The pair of the node, the rules of the process in other nodes to which some side of the node is open, and what is unknown of them.
@@ -87,11 +87,30 @@ fn listed_open(
     ensures { IfOk result (λ names. names.items ≡ open_rules state.now p.now n.0) }
 {
     let roles = roles_by(state, state.roles(p), p, n);
-    if let Some(rules) = state.rules(p) {
-        return Ok(normal.open_to(state, roles, n, rules)?);
+    if let Some(open) = normal.open_rules(state, p, roles, n)? {
+        return Ok(open);
     }
     let rules = rules_of(alloc, state, p)?;
-    Ok(normal.open_to(state, roles, n, rules.as_slice())?)
+    Ok(open_among(alloc, state, roles, n, rules.as_slice())?)
+}
+
+// Those of the rules to which some side of the node is open, where a process has it in these roles.
+fn open_among(
+    alloc: Global,
+    state: &State,
+    roles: Roles,
+    n: NodeId,
+    rules: &[RuleRef],
+) -> Result<Vec<RuleRef>, AllocError>
+    ensures { IfOk result (λ kept. kept.items ≡ filter (is_open_to state.now roles n.0) rules.now) }
+{
+    let mut kept = Vec::new(alloc);
+    for i in 0..rules.len() {
+        if is_open_to(state, roles, n, rules[i]) {
+            kept.push(rules[i])?;
+        }
+    }
+    Ok(kept)
 }
 
 // Whether any redex may be rewritten on the side that the rule of the direction leads to.

@@ -6,4 +6,4 @@ use Rattle.mkb_board.proofs.due.first_orient.Given as goal
 
 -- no node so far may be chosen
 abbrev pub invariant-loop-i : goal.invariant-loop-i
-invariant-loop-i l = find (is_choice l.state (jobs_of l.flight)) (map (Orient l.p) l.normal.held.items) ≡ find (is_choice l.state (jobs_of l.flight)) (map (Orient l.p) (drop l.i l.normal.held.items))
+invariant-loop-i l = find (is_choice l.state (jobs_of l.search.flight.now)) (map (Orient l.search.process.now) l.search.nodes.now) ≡ find (is_choice l.state (jobs_of l.search.flight.now)) (map (Orient l.search.process.now) (drop l.i l.search.nodes.now))

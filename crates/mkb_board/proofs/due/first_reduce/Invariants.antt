@@ -8,7 +8,6 @@ use Rattle.mkb_board.proofs.due.first_reduce.Given as goal
 -- no node so far may be chosen
 abbrev pub invariant-loop-i : goal.invariant-loop-i
 invariant-loop-i l = record {
-  none : find (is_choice l.state (jobs_of l.flight)) (map (Reduce l.p) l.fn.normal.held.items) ≡ find (is_choice l.state (jobs_of l.flight)) (map (Reduce l.p) (drop l.i l.fn.normal.held.items));
-  held : l.normal.held.items ≡ l.fn.normal.held.items;
-  serves : Serves l.state l.p l.normal;
+  none : find (is_choice l.state (jobs_of l.search.flight.now)) (map (Reduce l.search.process.now) l.search.nodes.now) ≡ find (is_choice l.state (jobs_of l.search.flight.now)) (map (Reduce l.search.process.now) (drop l.i l.search.nodes.now));
+  serves : Serves l.state l.search.process.now l.normal;
 }

@@ -22,16 +22,16 @@ overlaps b p = flat_map (λ (a : RuleRef). map (Overlap p a) (rules_of b p)) (ru
 pub returns-in-Some-clause-first : goal.returns-in-Some-clause-first
 returns-in-Some-clause-first c =
     let b = c.args.state.now in
-    let p = c.args.p.now in
-    let q = is_choice b (jobs_of c.args.flight.now) in
+    let p = c.args.search.now.process.now in
+    let q = is_choice b (jobs_of c.args.search.now.flight.now) in
     or_some (find q (reduces b p)) (option_or (find q (orients b p)) (find q (overlaps b p))) c.in-Some.job (sym c.first_reduce.ensures.first ∙ c.in-Some.is)
     ∙ sym (find_three q (reduces b p) (orients b p) (overlaps b p))
 
 pub returns-in-Some-first_orient-clause-first : goal.returns-in-Some-first_orient-clause-first
 returns-in-Some-first_orient-clause-first c =
     let b = c.args.state.now in
-    let p = c.args.p.now in
-    let q = is_choice b (jobs_of c.args.flight.now) in
+    let p = c.args.search.now.process.now in
+    let q = is_choice b (jobs_of c.args.search.now.flight.now) in
     or_some (find q (orients b p)) (find q (overlaps b p)) c.in-Some-first_orient.job (sym c.in-Some-first_orient.ensures)
     ∙ or_none (find q (reduces b p)) (option_or (find q (orients b p)) (find q (overlaps b p))) (sym c.first_reduce.ensures.first ∙ c.in_default.is)
     ∙ sym (find_three q (reduces b p) (orients b p) (overlaps b p))
@@ -39,8 +39,8 @@ returns-in-Some-first_orient-clause-first c =
 pub returns-clause-first : goal.returns-clause-first
 returns-clause-first c =
     let b = c.args.state.now in
-    let p = c.args.p.now in
-    let q = is_choice b (jobs_of c.args.flight.now) in
+    let p = c.args.search.now.process.now in
+    let q = is_choice b (jobs_of c.args.search.now.flight.now) in
     c.first_overlap.ensures
     ∙ or_none (find q (orients b p)) (find q (overlaps b p)) (sym c.in_default-first_orient.ensures)
     ∙ or_none (find q (reduces b p)) (option_or (find q (orients b p)) (find q (overlaps b p))) (sym c.first_reduce.ensures.first ∙ c.in_default.is)

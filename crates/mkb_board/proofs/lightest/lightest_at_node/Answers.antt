@@ -18,77 +18,69 @@ use Rattle.mkb_board.proofs.lightest.lightest_at_node.Goals as goal
 pub loop-i-init : goal.loop-i-init
 loop-i-init c =
     let b = c.args.state.now in
-    let p = c.args.p.now in
-    let flight = jobs_of c.args.flight.now in
+    let p = c.args.search.now.process.now in
+    let flight = jobs_of c.args.search.now.flight.now in
     record {
       best = begins_at (node_job c.args.kind p) b p flight (nodes_rise c.args.kind p (held_of b p) (held_rise b p)) (unused_job c.args.kind b flight p);
-      held = refl;
-      serves = c.requires;
+      serves = c.requires.serves;
     }
 
 pub node_size-requires : goal.node_size-requires
-node_size-requires c =
-    let same = c.held.ensures ∙ c.loop-i.invariant.held in
-    held_there c.args.state.now c.args.p.now c.held.result.now c.loop-i.i (record { 0 = 0 }) (ap (map (λ (n : NodeId). n.0)) same ∙ c.requires.held)
-    (omega (arith, c.loop-i-test.true, ap length same, ap length c.held-count.ensures))
+node_size-requires c = held_there c.args.state.now c.args.search.now.process.now c.args.search.now.nodes.now c.loop-i.i (record { 0 = 0 }) c.requires.search.nodes (omega (arith, c.loop-i-test.true))
 
 pub lighter-best-requires-clause-nodes : goal.lighter-best-requires-clause-nodes
 lighter-best-requires-clause-nodes c =
     let b = c.args.state.now in
     let d : NodeId = record { 0 = 0 } in
-    let same = c.held.ensures ∙ c.loop-i.invariant.held in
-    let there =
-    held_there b c.args.p.now c.held.result.now c.loop-i.i d (ap (map (λ (n : NodeId). n.0)) same ∙ c.requires.held)
-    (omega (arith, c.loop-i-test.true, ap length same, ap length c.held-count.ensures)) in
-    subst {A = Job} (λ j. HasNodes b j) (sym c.job_at.ensures) (node_there b c.args.kind c.args.p.now (get_or c.held.result.now c.loop-i.i d).0 there)
+    let there = held_there b c.args.search.now.process.now c.args.search.now.nodes.now c.loop-i.i d c.requires.search.nodes (omega (arith, c.loop-i-test.true)) in
+    subst {A = Job} (λ j. HasNodes b j) (sym c.job_at.ensures) (node_there b c.args.kind c.args.search.now.process.now (get_or c.args.search.now.nodes.now c.loop-i.i d).0 there)
 
-pub lighter-best-requires-clause-serves : goal.lighter-best-requires-clause-serves
-lighter-best-requires-clause-serves c =
-    let n = (get_or c.held.result.now c.loop-i.i (record { 0 = 0 })).0 in
-    subst {A = Name} (λ q. Serves c.args.state.now q c.loop-i.normal) (sym (ap process_of c.job_at.ensures ∙ of_process c.args.kind c.args.p.now n)) c.loop-i.invariant.serves
+pub lighter-best-requires-clause-own : goal.lighter-best-requires-clause-own
+lighter-best-requires-clause-own c =
+    let n = (get_or c.args.search.now.nodes.now c.loop-i.i (record { 0 = 0 })).0 in
+    ap process_of c.job_at.ensures ∙ of_process c.args.kind c.args.search.now.process.now n
 
 pub lighter-best-requires-clause-next : goal.lighter-best-requires-clause-next
 lighter-best-requires-clause-next c =
-    let n = (get_or c.held.result.now c.loop-i.i (record { 0 = 0 })).0 in
-    c.node_size.ensures.size ∙ node_weight c.args.state.now c.args.kind c.args.p.now n ∙ ap (weight_by Size c.args.state.now) (sym c.job_at.ensures)
+    let n = (get_or c.args.search.now.nodes.now c.loop-i.i (record { 0 = 0 })).0 in
+    c.node_size.ensures.size ∙ node_weight c.args.state.now c.args.kind c.args.search.now.process.now n ∙ ap (weight_by Size c.args.state.now) (sym c.job_at.ensures)
 
 pub lighter-best-requires-clause-earlier : goal.lighter-best-requires-clause-earlier
 lighter-best-requires-clause-earlier c =
     let b = c.args.state.now in
-    let p = c.args.p.now in
-    let held = c.args.normal.now.held.items in
+    let p = c.args.search.now.process.now in
+    let held = c.args.search.now.nodes.now in
     let i = c.loop-i.i in
-    let n = (get_or c.held.result.now i (record { 0 = 0 })).0 in
+    let n = (get_or c.args.search.now.nodes.now i (record { 0 = 0 })).0 in
     let f : ℕ → Job = node_job c.args.kind p in
-    let there : i < length (held_of b p) = omega (arith, c.loop-i-test.true, ap length c.held-count.ensures, held_length b p held c.requires.held) in
-    let is = held_number b p c.held.result.now held i (c.held.ensures ∙ c.loop-i.invariant.held) c.requires.held in
+    let there : i < length (held_of b p) = omega (arith, c.loop-i-test.true, held_length b p held c.requires.search.nodes) in
+    let is = held_number b p c.args.search.now.nodes.now held i refl c.requires.search.nodes in
     subst {A = Job} (λ j. IfSome c.loop-i.best (λ (w : Weighed). StandsEarlier j w.job)) (sym c.job_at.ensures)
-    ((at_node f b p (jobs_of c.args.flight.now) i n c.loop-i.best there is c.loop-i.invariant.best).earlier (f n) (contains_first (f n) (map f (drop (i + 1) (held_of b p)))))
+    ((at_node f b p (jobs_of c.args.search.now.flight.now) i n c.loop-i.best there is c.loop-i.invariant.best).earlier (f n) (contains_first (f n) (map f (drop (i + 1) (held_of b p)))))
 
 pub loop-i-preserved : goal.loop-i-preserved
 loop-i-preserved c =
     let b = c.args.state.now in
-    let p = c.args.p.now in
-    let held = c.args.normal.now.held.items in
+    let p = c.args.search.now.process.now in
+    let held = c.args.search.now.nodes.now in
     let i = c.loop-i.i in
-    let n = (get_or c.held.result.now i (record { 0 = 0 })).0 in
+    let n = (get_or c.args.search.now.nodes.now i (record { 0 = 0 })).0 in
     let f : ℕ → Job = node_job c.args.kind p in
-    let flight = jobs_of c.args.flight.now in
+    let flight = jobs_of c.args.search.now.flight.now in
     let rest = map f (drop (i + 1) (held_of b p)) in
-    let there : i < length (held_of b p) = omega (arith, c.loop-i-test.true, ap length c.held-count.ensures, held_length b p held c.requires.held) in
-    let is = held_number b p c.held.result.now held i (c.held.ensures ∙ c.loop-i.invariant.held) c.requires.held in
+    let there : i < length (held_of b p) = omega (arith, c.loop-i-test.true, held_length b p held c.requires.search.nodes) in
+    let is = held_number b p c.args.search.now.nodes.now held i refl c.requires.search.nodes in
     record {
       best =
           goes_on b flight (map f (node_numbers b)) rest c.loop-i.best c.lighter-best.result (record { weight = c.node_size.result; job = c.job_at.result })
           (subst {A = Job} (λ j. IsBestBefore b flight (map f (node_numbers b)) (j ∷ rest) c.loop-i.best) (sym c.job_at.ensures) (at_node f b p flight i n c.loop-i.best there is c.loop-i.invariant.best))
           c.lighter-best.ensures.least c.lighter-best.ensures.weighed c.lighter-best.ensures.of_either;
-      held = c.lighter-best.ensures.held ∙ c.loop-i.invariant.held;
-      serves = subst {A = Name} (λ q. Serves b q c.lighter-best.new.normal) (ap process_of c.job_at.ensures ∙ of_process c.args.kind p n) c.lighter-best.ensures.serves;
+      serves = c.lighter-best.ensures.serves;
     }
 
 pub returns-clause-lightest : goal.returns-clause-lightest
 returns-clause-lightest c =
     let b = c.args.state.now in
-    let p = c.args.p.now in
-    let all : length (held_of b p) ≤ c.loop-i.i = omega (arith, c.loop-i-test.false, ap length c.held-count.ensures, held_length b p c.args.normal.now.held.items c.requires.held) in
-    c.job_of.ensures ∙ ends_at (node_job c.args.kind p) b p (jobs_of c.args.flight.now) c.loop-i.i c.loop-i.best all c.loop-i.invariant.best
+    let p = c.args.search.now.process.now in
+    let all : length (held_of b p) ≤ c.loop-i.i = omega (arith, c.loop-i-test.false, held_length b p c.args.search.now.nodes.now c.requires.search.nodes) in
+    c.job_of.ensures ∙ ends_at (node_job c.args.kind p) b p (jobs_of c.args.search.now.flight.now) c.loop-i.i c.loop-i.best all c.loop-i.invariant.best

@@ -10,16 +10,16 @@ use Rattle.mkb_board.proofs.lightest.lightest_work.Goals as goal
 pub returns-in-Some-clause-lightest : goal.returns-in-Some-clause-lightest
 returns-in-Some-clause-lightest c =
     let b = c.args.state.now in
-    let p = c.args.p.now in
-    let flight = jobs_of c.args.flight.now in
+    let p = c.args.search.now.process.now in
+    let flight = jobs_of c.args.search.now.flight.now in
     or_some (least_choice Size b flight (reduces b p)) (option_or (least_choice Size b flight (orients b p)) (least_choice Size b flight (overlaps b p))) c.in-Some.job (sym c.lightest_at_node.ensures.lightest ∙ c.in-Some.is)
     ∙ sym (lightest_parts b flight p)
 
 pub returns-in-Some-lightest_at_node-clause-lightest : goal.returns-in-Some-lightest_at_node-clause-lightest
 returns-in-Some-lightest_at_node-clause-lightest c =
     let b = c.args.state.now in
-    let p = c.args.p.now in
-    let flight = jobs_of c.args.flight.now in
+    let p = c.args.search.now.process.now in
+    let flight = jobs_of c.args.search.now.flight.now in
     or_some (least_choice Size b flight (orients b p)) (least_choice Size b flight (overlaps b p)) c.in-Some-lightest_at_node.job (sym c.lightest_at_node-2.ensures.lightest ∙ c.in-Some-lightest_at_node.is)
     ∙ or_none (least_choice Size b flight (reduces b p)) (option_or (least_choice Size b flight (orients b p)) (least_choice Size b flight (overlaps b p))) (sym c.lightest_at_node.ensures.lightest ∙ c.in_default.is)
     ∙ sym (lightest_parts b flight p)
@@ -27,8 +27,8 @@ returns-in-Some-lightest_at_node-clause-lightest c =
 pub returns-clause-lightest : goal.returns-clause-lightest
 returns-clause-lightest c =
     let b = c.args.state.now in
-    let p = c.args.p.now in
-    let flight = jobs_of c.args.flight.now in
+    let p = c.args.search.now.process.now in
+    let flight = jobs_of c.args.search.now.flight.now in
     c.lightest_overlap.ensures.lightest
     ∙ or_none (least_choice Size b flight (orients b p)) (least_choice Size b flight (overlaps b p)) (sym c.lightest_at_node-2.ensures.lightest ∙ c.in_default-lightest_at_node.is)
     ∙ or_none (least_choice Size b flight (reduces b p)) (option_or (least_choice Size b flight (orients b p)) (least_choice Size b flight (overlaps b p))) (sym c.lightest_at_node.ensures.lightest ∙ c.in_default.is)

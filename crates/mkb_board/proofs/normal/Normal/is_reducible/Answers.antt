@@ -1,10 +1,9 @@
-use Rattle.std.proofs.Common.{◌∙◌, ◌≡◌, ◌&&◌, List, ap, ap₂, arith, length, map, subst, sym}
+use Rattle.std.proofs.Common.{◌∙◌, ◌≡◌, ◌&&◌, ap, ap₂, arith, length, sym}
 use Rattle.std.specs.Prelude.{nat_lt}
 use Rattle.std.specs.List.{list_any}
 use Rattle.std.proofs.lemmas.Bool.{and_left}
 use Rattle.mkb_model.specs.DueJobs.{is_node_of, is_reducible}
-use Rattle.kb_node.specs.declared.node.NodeId.{NodeId}
-use Rattle.mkb_rules.specs.Roles.{AreRolesOf, is_in_use}
+use Rattle.mkb_rules.specs.Roles.{is_in_use}
 use Rattle.mkb_board.specs.Normal.{is_open_to}
 use Rattle.mkb_rules.specs.declared.roles.Roles.{Roles}
 use Rattle.mkb_board.proofs.Irreducible.{reducible_by_arrival}
@@ -13,14 +12,14 @@ use Rattle.mkb_board.proofs.normal.Normal.is_reducible.Goals as goal
 pub returns-then-not-is_in_use-clause-due : goal.returns-then-not-is_in_use-clause-due
 returns-then-not-is_in_use-clause-due c =
     let b = c.args.state.now in
-    let p = c.args.p.now in
+    let p = c.args.search.now.process.now in
     let n = c.args.n.0 in
     sym (and_left (is_node_of b p n) (is_reducible b p n) (ap is_in_use (sym c.roles_of-roles.ensures) ∙ sym c.is_in_use.ensures ∙ c.if-not-is_in_use.true))
 
 pub returns-clause-due : goal.returns-clause-due
 returns-clause-due c =
     let b = c.args.state.now in
-    let p = c.args.p.now in
+    let p = c.args.search.now.process.now in
     let n = c.args.n.0 in
     let k = c.args.self.now in
     let many : c.len.result ≡ length k.arrived.items = omega (arith, c.len.ensures, k.arrived.ok) in
@@ -29,8 +28,6 @@ returns-clause-due c =
 
 pub returns-clause-serves : goal.returns-clause-serves
 returns-clause-serves c = record {
-  rules = c.note.ensures.rules ∙ c.requires.serves.rules;
-  held = ap (map (λ (n : NodeId). n.0)) c.note.ensures.held ∙ c.requires.serves.held;
-  roles = subst {A = List Roles} (AreRolesOf c.args.state.now.nodes c.args.p.now) (sym c.note.ensures.roles) c.requires.serves.roles;
+  turned = c.note.ensures.turned ∙ c.requires.serves.turned;
   known = c.note.ensures.known c.args.state.now c.requires.serves.known c.first_open-passed.ensures.past;
 }

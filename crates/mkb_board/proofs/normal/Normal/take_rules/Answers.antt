@@ -1,8 +1,10 @@
 use Rattle.std.proofs.Common.{ℕ, ◌∙◌, ◌≡◌, ◌<◌, ◌++◌, List, filter, get_or, length, map, not, take, ap, ap₂, subst, sym, arith}
 use Rattle.std.specs.List.{list_any}
+use Rattle.std.specs.Prelude.{Option, IfSome}
+use Rattle.kb_label.specs.Names.{Name}
 use Rattle.std.proofs.lemmas.List.{with_items_is}
 use Rattle.kb_term.specs.declared.origin.RuleRef.{RuleRef}
-use Rattle.mkb_board.specs.Normal.{IsPast, is_among, recounted}
+use Rattle.mkb_board.specs.Normal.{IsPast, IsTurned, is_among, places_among, recounted}
 use Rattle.mkb_board.specs.declared.normal.Normal.{Normal}
 use Rattle.mkb_board.specs.declared.normal.Noted.{Noted}
 use Rattle.mkb_board.proofs.Irreducible.{all_more, all_stay, all_staying, turned_same}
@@ -29,5 +31,10 @@ returns-clause-known c = λ b h.
     ] in
     record {
       same = λ q. ap (list_any q) (is_new ∙ ap (λ (z : List RuleRef). z ++ more) is_stay) ∙ turned_same q old rules ∙ ap (list_any q) (sym c.in_ok-own.ensures.items);
+      places = c.in_ok-places.ensures ∙ ap₂ places_among c.as_slice-4.ensures.value (sym c.in_ok-own.ensures.items);
       past = λ n d i. subst {A = List RuleRef} (λ z. IsPast b z n (get_or turned n d)) (sym is_new) (past n d i);
+      turned = subst {A = Option Name} (λ o. IfSome o (IsTurned b c.in_ok-own.own.items c.if-len.self.behind)) (sym (elim c.if-len.branch [
+        | then-len w ↦ ap (λ (k : Normal). k.turned) w.self-is ∙ c.requires
+        | else-len w ↦ ap (λ (k : Normal). k.turned) w.self-is ∙ c.requires
+      ])) tt;
     }

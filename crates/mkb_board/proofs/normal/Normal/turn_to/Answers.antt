@@ -1,14 +1,23 @@
-use Rattle.std.proofs.Common.{◌∙◌, ap, map, sym}
-use Rattle.kb_node.specs.declared.node.NodeId.{NodeId}
+use Rattle.std.proofs.Common.{◌≡◌, ◌∙◌, refl, subst, sym}
+use Rattle.mkb_model.specs.Plain.{Plain}
+use Rattle.mkb_board.specs.Normal.{AreNormal}
+use Rattle.mkb_board.specs.declared.normal.Normal.{Normal}
+use Rattle.mkb_board.proofs.Irreducible.{away, normal_away}
 use Rattle.mkb_board.proofs.normal.Normal.turn_to.Goals as goal
 
-pub returns-else-not-are_same-clause-normal : goal.returns-else-not-are_same-clause-normal
-returns-else-not-are_same-clause-normal c = c.take_nodes.ensures.known c.args.state.now (c.make_room.ensures.known c.args.state.now c.requires.normal)
+-- what is noted holds where it is turned away
+forgotten : (b : Plain) (k new : Normal) → new ≡ away k → AreNormal b k → AreNormal b new
+forgotten b k new e h = subst {A = Normal} (AreNormal b) (sym e) (normal_away b k h)
 
-pub returns-else-not-are_same-clause-serves : goal.returns-else-not-are_same-clause-serves
-returns-else-not-are_same-clause-serves c = record {
-  rules = sym c.as_slice.ensures.value ∙ c.are_same.ensures c.if-not-are_same.false ∙ c.requires.rules;
-  held = ap (map (λ (n : NodeId). n.0)) c.in_ok-take_nodes.ensures.held ∙ c.requires.held;
-  roles = c.in_ok-take_nodes.ensures.roles;
-  known = c.take_nodes.ensures.known c.args.state.now (c.make_room.ensures.known c.args.state.now c.requires.normal);
-}
+pub returns-in_err-make_ready-clause-normal : goal.returns-in_err-make_ready-clause-normal
+returns-in_err-make_ready-clause-normal c = c.make_ready.ensures.known c.args.state.now (forgotten c.args.state.now c.args.self.now c.forget.new.self c.forget.ensures c.requires.normal)
+
+pub returns-clause-normal : goal.returns-clause-normal
+returns-clause-normal c =
+    let h = c.make_ready.ensures.known c.args.state.now (forgotten c.args.state.now c.args.self.now c.forget.new.self c.forget.ensures c.requires.normal) in
+    record { same = h.same; places = h.places; past = h.past; turned = record { own = c.in_ok-make_ready.ensures.rules ∙ c.requires.search.rules; none = refl } }
+
+pub returns-clause-serves : goal.returns-clause-serves
+returns-clause-serves c =
+    let h = c.make_ready.ensures.known c.args.state.now (forgotten c.args.state.now c.args.self.now c.forget.new.self c.forget.ensures c.requires.normal) in
+    record { turned = refl; known = record { same = h.same; places = h.places; past = h.past; turned = record { own = c.in_ok-make_ready.ensures.rules ∙ c.requires.search.rules; none = refl } } }

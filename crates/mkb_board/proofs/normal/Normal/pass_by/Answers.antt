@@ -1,0 +1,1 @@
+use Rattle.mkb_board.proofs.normal.Normal.pass_by.Goals as goal
