@@ -1,23 +1,59 @@
 -- Who works after a commit, and which process it completes.
-use Rattle.std.proofs.Common.{◌≤◌, ◌≡◌, ◌≢◌, refl, sym, ap, ◌∙◌, List, [], ◌∷◌, length, filter, Contains, Bool, true, false, cond, not, ◌&&◌, ◌||◌, ⊎_elim}
-use Rattle.std.specs.List.{list_all}
-use Rattle.std.proofs.lemmas.Bool.{or_cases}
+use Rattle.std.proofs.Common.{ℕ, ◌≤◌, ◌≡◌, ◌≢◌, refl, sym, ap, ap₂, ◌∙◌, subst, List, [], ◌∷◌, map, length, filter, Contains, Bool, true, false, cond, not, ◌&&◌, ◌||◌, ◌==◌, Option, Some, None, ⊎_elim}
+use Rattle.std.specs.Prelude.{IsFalse, option_map, option_and_then}
+use Rattle.std.specs.List.{find, list_all, list_any}
+use Rattle.std.specs.Option.{option_map_or}
+use Rattle.std.proofs.Math.Bool.{and-false}
+use Rattle.std.proofs.lemmas.Bool.{or_cases, or_left, or_right}
 use Rattle.kb_lemmas.proofs.Booleans.{and_gives_left, and_gives_right}
-use Rattle.kb_lemmas.proofs.Membership.{contains_first}
+use Rattle.kb_lemmas.proofs.Membership.{contains_behind, contains_first}
+use Rattle.kb_lemmas.proofs.Options.{none_some}
 use Rattle.kb_term.specs.Signature.{Problem}
-use Rattle.kb_label.specs.Names.{Name, root, has, minus}
-use Rattle.mkb_model.specs.Plain.{Plain, is_over, equations_of}
+use Rattle.kb_label.specs.Names.{Name, root, child, has, join, minus, name_eq, relabel, IsInNameOrder}
+use Rattle.kb_label.specs.declared.verdict.Reason.{Reason}
+use Rattle.kb_label.specs.declared.verdict.Spent.TheVariants.{Commits, Over}
+use Rattle.kb_label.specs.declared.verdict.Verdict.TheVariants.{Complete, AllFailed, Spent as IsSpent}
+use Rattle.kb_label.proofs.Members.{has-add, has-filter, has-join, has-minus, name_eq-eq, name_eq-refl}
+use Rattle.kb_label.proofs.Ordered.{ordered-add, ordered-filter}
+use Rattle.kb_label.proofs.Sets.{has-relabel, relabel-absent, same_names}
+use Rattle.kb_node.specs.declared.job.Job.{Job}
+use Rattle.kb_node.specs.declared.node.LabelKind.TheVariants.{E}
+use Rattle.mkb_model.specs.Plain.{Plain, PlainNode, GivenUp, equations_of, is_over, over_reason}
+use Rattle.mkb_model.specs.Effects.{acted, applied, counted, effect, effect_label, first_some, give_up, is_dropped, limit_of, not_over, reason_eq, some_if}
+use Rattle.mkb_model.specs.Invariants.{AreApart}
 use Rattle.mkb_model.specs.Sleeping.{is_active, is_failed, most_awake, no_members, working}
-use Rattle.mkb_model.specs.Journals.{opening}
+use Rattle.mkb_model.specs.Verdicts.{first_over, is_complete, verdict}
+use Rattle.mkb_model.specs.Journals.{Moment, IsFinishing, IsFreeJob, IsPossibleRun, opening}
+use Rattle.mkb_model.specs.Ready.{KeepsPairs}
 use Rattle.mkb_model.specs.declared.entry.Entry.{Entry}
+use Rattle.mkb_model.specs.declared.entry.Entry.TheVariants.{Take}
 use Rattle.mkb_model.specs.declared.entry.Ticket.{Ticket}
+use Rattle.mkb_model.specs.declared.proposed.Proposed.{Proposed}
+use Rattle.mkb_model.specs.declared.proposed.Proposed.TheVariants.{Facts, Rewrite, One, Both, Refuse, Deduce, Unjoined, Closed, Limit}
 use Rattle.mkb_model.specs.declared.settings.Settings.{Settings}
-use Rattle.mkb_model.proofs.Lists.{clash, false_unless, filter_in, not_true, of_all}
+use Rattle.mkb_model.proofs.Lists.{clash, decide, false_unless, filter_in, find_none, not_true, of_all}
+use Rattle.mkb_model.proofs.closing.RestInRuns.{IsForkOfClosed, IsResting, Stands, not_forked, resting_run, stands_run, stays}
+use Rattle.mkb_model.proofs.closing.StillClosed.{same_equations}
+use Rattle.mkb_model.proofs.commits.Bystanders.{IsUnmoved}
+use Rattle.mkb_model.proofs.commits.Commits.{orients, pairs-applied}
+use Rattle.mkb_model.proofs.commits.Roles.{KeepsRoles, relabel-child, relabel-other}
 use Rattle.mkb_model.proofs.labels.AtMostSixtyFour.{sleepers_run}
+use Rattle.mkb_model.proofs.labels.LivingLabels.{ActorLives, IsLabelled, actor_lives}
+use Rattle.mkb_model.proofs.labels.NameLists.{IsLabelOf}
+use Rattle.mkb_model.proofs.labels.Sleepers.{in_working, working_ordered}
+use Rattle.mkb_model.proofs.nodes.DistinctPairs.{pairs_stay}
+use Rattle.mkb_model.proofs.runs.Endings.{has_in, in_has, nones}
 use Rattle.mkb_model.proofs.runs.Selections.{legal-possible}
+use Rattle.mkb_model.proofs.runs.Simulation.{begins-child}
+use Rattle.mkb_model.proofs.tickets.InFlight.{taken_free}
 use Rattle.mkb_board.specs.Boards.{seen, IsLegalBoard}
-use Rattle.mkb_board.proofs.AtRest.{opening_rest}
+use Rattle.mkb_board.specs.Choosing.{ClosedRest}
+use Rattle.mkb_board.specs.Takes.{IsProposalOf}
+use Rattle.mkb_board.specs.Working.{completed_by, still_working}
+use Rattle.mkb_board.proofs.AtRest.{legal_rest, opening_rest}
+use Rattle.mkb_board.proofs.Ends.{dropped_flying, effect_flying, finishing}
 use Rattle.mkb_board.proofs.Idle.{failed_closed}
+use Rattle.mkb_board.proofs.Ready.{acted_labels, acted_rest}
 
 -- ---- while a run goes on
 
@@ -53,3 +89,113 @@ some_work b h = go (working b b.asleep) (λ p i. i) h
 -- the first process alone works at the opening
 pub opening_works : (P : Problem) (n : Settings) → working (opening P n) (opening P n).asleep ≡ root ∷ []
 opening_works P n = ap (λ x. cond (not x && true) (root ∷ []) []) (failed_closed (opening P n) root (opening_rest P n (opening P n) refl) refl)
+
+-- ---- who is active
+
+-- whether a process is active, by whether it is closed, has no equation and gave up
+abbrev goes_on : Bool → Bool → Bool → Bool
+goes_on closed none over = not (closed && not none) && not over
+
+active_as : (b : Plain) (p : Name) → ClosedRest b → has b.living p ≡ true → is_active b p ≡ goes_on (has b.closed p) (no_members (equations_of b p)) (is_over b p)
+active_as b p rest lives = ap (λ x. not x && not (is_over b p)) (failed_closed b p rest lives)
+
+-- the equations of who is not closed don't matter
+open_alike : (closed n m over : Bool) → (closed ≡ true → n ≡ m) → goes_on closed n over ≡ goes_on closed m over
+open_alike true n m over h = ap (λ z. goes_on true z over) (h refl)
+open_alike false n m over h = refl
+
+-- who gave up before has given up after
+given_up : (closed none before after : Bool) → (before ≡ true → after ≡ true) → goes_on closed none after ≡ (not after && goes_on closed none before)
+given_up true true true after h = ap (λ z. goes_on true true z) (h refl) ∙ sym (ap (λ z. not z && goes_on true true true) (h refl))
+given_up true true false true h = refl
+given_up true true false false h = refl
+given_up true false before true h = refl
+given_up true false before false h = refl
+given_up false none true after h = ap (λ z. goes_on false none z) (h refl) ∙ sym (ap (λ z. not z && goes_on false none true) (h refl))
+given_up false none false true h = refl
+given_up false none false false h = refl
+
+-- who is closed goes on where it has no equation, and else has failed
+closing : (it closed none over done : Bool) → (it ≡ true → none ≡ done) → goes_on (it || closed) none over ≡ (cond done true (not it) && goes_on closed none over)
+closing false closed none over true h = refl
+closing false closed none over false h = refl
+closing true true none over true h = refl
+closing true false none over true h = ap (λ z. goes_on true z over) (h refl) ∙ sym (ap (λ z. goes_on false z over) (h refl))
+closing true closed none over false h = ap (λ z. goes_on true z over) (h refl)
+
+and_assoc : (x y z : Bool) → (x && (y && z)) ≡ ((x && y) && z)
+and_assoc true y z = refl
+and_assoc false y z = refl
+
+-- two tests that agree for the living
+for_living : (x y a : Bool) (lives : Bool) → (lives ≡ true → x ≡ y) → (x && (a && lives)) ≡ (y && (a && lives))
+for_living x y a true h = ap (λ z. z && (a && true)) (h refl)
+for_living x y a false h = ap (λ z. x && z) (and-false a) ∙ and-false x ∙ sym (ap (λ z. y && z) (and-false a) ∙ and-false y)
+
+-- ---- lists
+
+none_of : {A : Type 0} (f : A → Bool) (xs : List A) → ((x : A) → Contains xs x → f x ≡ false) → find f xs ≡ None
+none_of f [] h = refl
+none_of f (x ∷ xs) h = ap (λ z. cond z (Some x) (find f xs)) (h x (contains_first x xs)) ∙ none_of f xs (λ y i. h y (contains_behind x xs y i))
+
+-- what is found where at most one name passes
+found_one : (f : Name → Bool) (p : Name) (k : Bool) (l : List Name) → ((q : Name) → Contains l q → f q ≡ (name_eq q p && k)) → has l p ≡ true → find f l ≡ cond k (Some p) None
+found_one f p false l h lives = none_of f l (λ q i. h q i ∙ and-false (name_eq q p))
+found_one f p true [] h lives = clash lives refl
+found_one f p true (q ∷ l) h lives = go (found_one f p true l (λ r i. h r (contains_behind q l r i))) (name_eq q p) refl
+  where
+    later : name_eq q p ≡ false → has l p ≡ true
+    later e = ⊎_elim (λ k. clash (subst {A = Name} (λ z. name_eq z p ≡ true) (name_eq-eq p q k) (name_eq-refl p)) e) (λ k. k) (or_cases (name_eq p q) (has l p) lives)
+
+    go : (has l p ≡ true → find f l ≡ Some p) → (x : Bool) → name_eq q p ≡ x → find f (q ∷ l) ≡ Some p
+    go ih true e = ap (λ z. cond z (Some q) (find f l)) (h q (contains_first q l) ∙ ap (λ z. z && true) e) ∙ ap Some (name_eq-eq q p e)
+    go ih false e = ap (λ z. cond z (Some q) (find f l)) (h q (contains_first q l) ∙ ap (λ z. z && true) e) ∙ ih (later e)
+
+-- who gave up, where each list names q as it named p
+over_as : (f : GivenUp → GivenUp) (p q : Name) (gs : List GivenUp) → ((g : GivenUp) → Contains gs g → has (f g).names q ≡ has g.names p) → list_any (λ (g : GivenUp). has g.names q) (map f gs) ≡ list_any (λ (g : GivenUp). has g.names p) gs
+over_as f p q [] h = refl
+over_as f p q (g ∷ gs) h = ap₂ (λ (x y : Bool). x || y) (h g (contains_first g gs)) (over_as f p q gs (λ k i. h k (contains_behind g gs k i)))
+
+-- who gave up has given up after more did
+over_more : (f : GivenUp → GivenUp) (p : Name) → ((g : GivenUp) → has g.names p ≡ true → has (f g).names p ≡ true) → (gs : List GivenUp) → list_any (λ (g : GivenUp). has g.names p) gs ≡ true → list_any (λ (g : GivenUp). has g.names p) (map f gs) ≡ true
+over_more f p more [] h = h
+over_more f p more (g ∷ gs) h = ⊎_elim (λ k. or_left (has (f g).names p) (list_any (λ (g : GivenUp). has g.names p) (map f gs)) (more g k)) (λ k. or_right (has (f g).names p) (list_any (λ (g : GivenUp). has g.names p) (map f gs)) (over_more f p more gs k)) (or_cases (has g.names p) (list_any (λ (g : GivenUp). has g.names p) gs) h)
+
+-- ---- a commit that comes to this limit, or to none
+
+-- what the commit does
+abbrev acted_at : Plain → Proposed → Option Reason → Plain
+acted_at b x o = counted (option_map_or (λ r. give_up r (effect_label b x) b) o (applied b x))
+
+-- what is known of the board and the proposal
+record IsActing (b : Plain) (x : Proposed) (o : Option Reason) : Type 0 where
+  rest : ClosedRest b
+  rests : ClosedRest (acted_at b x o)
+  labelled : IsLabelled b
+  in_order : IsInNameOrder (acted_at b x o).living
+  apart : AreApart b.living
+  lives : ActorLives b x
+  acts : IsFalse (is_dropped b x)
+  unforked : ¬ IsForkOfClosed b x
+  stays : (q : Name) → has b.closed q ≡ true → equations_of (acted_at b x o) q ≡ equations_of b q
+  incomplete : find (is_complete b) b.living ≡ None
+
+-- ---- at a limit
+
+module _ (b : Plain) (x : Proposed) (r : Reason) (h : IsActing b x (Some r)) where
+  abbrev limited : Plain
+  limited = acted_at b x (Some r)
+
+  more_over : (q : Name) → is_over b q ≡ true → is_over limited q ≡ true
+  more_over q = over_more (λ (g : GivenUp). cond (reason_eq g.reason r) (record g { names = join g.names (not_over b (effect_label b x)) }) g) q (λ g k. named g k (reason_eq g.reason r)) b.over
+    where
+      named : (g : GivenUp) → has g.names q ≡ true → (y : Bool) → has (cond y (record g { names = join g.names (not_over b (effect_label b x)) }) g).names q ≡ true
+      named g k true = has-join g.names (not_over b (effect_label b x)) q ∙ or_left (has g.names q) (has (not_over b (effect_label b x)) q) k
+      named g k false = k
+
+  works_limited : working limited limited.asleep ≡ filter (λ p. not (is_over limited p)) (working b b.asleep)
+  works_limited = same_names (working limited limited.asleep) (filter (λ p. not (is_over limited p)) (working b b.asleep)) (working_ordered limited h.in_order b.asleep) (ordered-filter (λ p. not (is_over limited p)) (working b b.asleep) (working_ordered b h.labelled.alive b.asleep)) (λ q.
+      in_working limited b.asleep q
+      ∙ for_living (is_active limited q) (not (is_over limited q) && is_active b q) (not (has b.asleep q)) (has b.living q) (λ lives. active_as limited q h.rests lives ∙ given_up (has b.closed q) (no_members (equations_of b q)) (is_over b q) (is_over limited q) (more_over q) ∙ sym (ap (λ z. not (is_over limited q) && z) (active_as b q h.rest lives)))
+      ∙ sym (and_assoc (not (is_over limited q)) (is_active b q) (not (has b.asleep q) && has b.living q))
+      ∙ sym (has-filter (λ p. not (is_over limited p)) (working b b.asleep) q ∙ ap (λ z. not (is_over limited q) && z) (in_working b b.asleep q)))
