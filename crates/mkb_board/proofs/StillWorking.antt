@@ -3,7 +3,7 @@ use Rattle.std.proofs.Common.{ℕ, ◌≤◌, ◌≡◌, ◌≢◌, refl, sym, a
 use Rattle.std.specs.Prelude.{IsFalse, option_map, option_and_then}
 use Rattle.std.specs.List.{find, list_all, list_any}
 use Rattle.std.specs.Option.{option_map_or}
-use Rattle.std.proofs.Math.Bool.{and-false}
+use Rattle.std.proofs.Math.Bool.{and-false, and-true, or-false}
 use Rattle.std.proofs.lemmas.Bool.{or_cases, or_left, or_right}
 use Rattle.kb_lemmas.proofs.Booleans.{and_gives_left, and_gives_right}
 use Rattle.kb_lemmas.proofs.Membership.{contains_behind, contains_first}
@@ -199,3 +199,82 @@ module _ (b : Plain) (x : Proposed) (r : Reason) (h : IsActing b x (Some r)) whe
       ∙ for_living (is_active limited q) (not (is_over limited q) && is_active b q) (not (has b.asleep q)) (has b.living q) (λ lives. active_as limited q h.rests lives ∙ given_up (has b.closed q) (no_members (equations_of b q)) (is_over b q) (is_over limited q) (more_over q) ∙ sym (ap (λ z. not (is_over limited q) && z) (active_as b q h.rest lives)))
       ∙ sym (and_assoc (not (is_over limited q)) (is_active b q) (not (has b.asleep q) && has b.living q))
       ∙ sym (has-filter (λ p. not (is_over limited p)) (working b b.asleep) q ∙ ap (λ z. not (is_over limited q) && z) (in_working b b.asleep q)))
+
+-- ---- without a limit
+
+module _ (b : Plain) (x : Proposed) (h : IsActing b x None) where
+  abbrev made : Plain
+  made = acted_at b x None
+
+  -- a process that is closed or not as it was, and gave up or not, is active or not as it was
+  active_so : (q : Name) → has made.living q ≡ true → has b.living q ≡ true → has made.closed q ≡ has b.closed q → is_over made q ≡ is_over b q → is_active made q ≡ is_active b q
+  active_so q lives before closed over =
+      active_as made q h.rests lives
+      ∙ ap₂ (λ (y z : Bool). goes_on y (no_members (equations_of made q)) z) closed over
+      ∙ open_alike (has b.closed q) (no_members (equations_of made q)) (no_members (equations_of b q)) (is_over b q) (λ k. ap (λ (l : List ℕ). no_members l) (h.stays q k))
+      ∙ sym (active_as b q h.rest before)
+
+  -- where these lists are as before the same work
+  works_alike : made.living ≡ b.living → made.asleep ≡ b.asleep → made.closed ≡ b.closed → made.over ≡ b.over → working made made.asleep ≡ working b b.asleep
+  works_alike living asleep closed over = same_names (working made made.asleep) (working b b.asleep) (working_ordered made h.in_order made.asleep) (working_ordered b h.labelled.alive b.asleep) (λ q.
+      in_working made made.asleep q
+      ∙ ap₂ (λ (a l : List Name). is_active made q && (not (has a q) && has l q)) asleep living
+      ∙ for_living (is_active made q) (is_active b q) (not (has b.asleep q)) (has b.living q) (λ lives. active_so q (ap (λ (l : List Name). has l q) living ∙ lives) lives (ap (λ (l : List Name). has l q) closed) (ap (λ (gs : List GivenUp). list_any (λ (g : GivenUp). has g.names q) gs) over))
+      ∙ sym (in_working b b.asleep q))
+
+  -- none is complete of those that were closed before
+  closed_incomplete : (q : Name) → has b.closed q ≡ true → no_members (equations_of b q) ≡ false
+  closed_incomplete q k = go (no_members (equations_of b q)) (find_none (is_complete b) b.living h.incomplete q (in_has b.living q (h.labelled.closed.lives q k)))
+    where
+      go : (y : Bool) → (y && has b.closed q) ≡ false → y ≡ false
+      go true e = clash k e
+      go false e = refl
+
+  -- so where none was closed none is complete
+  none_completes : ((q : Name) → has made.closed q ≡ true → has b.closed q ≡ true) → find (is_complete made) made.living ≡ None
+  none_completes closed = none_of (is_complete made) made.living (λ q i. go q (has made.closed q) refl)
+    where
+      go : (q : Name) (y : Bool) → has made.closed q ≡ y → (no_members (equations_of made q) && y) ≡ false
+      go q true e = let k = closed q e in ap (λ (l : List ℕ). no_members l && true) (h.stays q k) ∙ ap (λ z. z && true) (closed_incomplete q k)
+      go q false e = and-false (no_members (equations_of made q))
+
+-- ---- a closing
+
+module _ (b : Plain) (p : Name) (h : IsActing b (Closed p) None) where
+  abbrev shut : Plain
+  shut = acted_at b (Closed p) None
+
+  abbrev done : Bool
+  done = no_members (equations_of shut p)
+
+  done_as : (q : Name) → name_eq q p ≡ true → no_members (equations_of b q) ≡ done
+  done_as q e = ap (λ z. no_members (equations_of b z)) (name_eq-eq q p e)
+
+  left : (l : List Name) (q : Name) (y : Bool) → has (cond y l (minus l (p ∷ []))) q ≡ (cond y true (not (name_eq q p)) && has l q)
+  left l q true = refl
+  left l q false = has-minus l (p ∷ []) q ∙ ap (λ z. not z && has l q) (or-false (name_eq q p))
+
+  left_ordered : (l : List Name) (y : Bool) → IsInNameOrder l → IsInNameOrder (cond y l (minus l (p ∷ [])))
+  left_ordered l true k = k
+  left_ordered l false k = ordered-filter (λ q. not (has (p ∷ []) q)) l k
+
+  active_shut : (q : Name) → has b.living q ≡ true → is_active shut q ≡ (cond done true (not (name_eq q p)) && is_active b q)
+  active_shut q lives =
+      active_as shut q h.rests lives
+      ∙ ap (λ z. goes_on z (no_members (equations_of b q)) (is_over b q)) (has-add p b.closed q)
+      ∙ closing (name_eq q p) (has b.closed q) (no_members (equations_of b q)) (is_over b q) done (done_as q)
+      ∙ sym (ap (λ z. cond done true (not (name_eq q p)) && z) (active_as b q h.rest lives))
+
+  works_shut : working shut shut.asleep ≡ cond done (working b b.asleep) (minus (working b b.asleep) (p ∷ []))
+  works_shut = same_names (working shut shut.asleep) (cond done (working b b.asleep) (minus (working b b.asleep) (p ∷ []))) (working_ordered shut h.in_order b.asleep) (left_ordered (working b b.asleep) done (working_ordered b h.labelled.alive b.asleep)) (λ q.
+      in_working shut b.asleep q
+      ∙ for_living (is_active shut q) (cond done true (not (name_eq q p)) && is_active b q) (not (has b.asleep q)) (has b.living q) (active_shut q)
+      ∙ sym (and_assoc (cond done true (not (name_eq q p))) (is_active b q) (not (has b.asleep q) && has b.living q))
+      ∙ sym (left (working b b.asleep) q done ∙ ap (λ z. cond done true (not (name_eq q p)) && z) (in_working b b.asleep q)))
+
+  completes_shut : find (is_complete shut) shut.living ≡ cond done (Some p) None
+  completes_shut = found_one (is_complete shut) p done b.living (λ q i. ap (λ z. no_members (equations_of b q) && z) (has-add p b.closed q) ∙ go q (name_eq q p) refl (find_none (is_complete b) b.living h.incomplete q i)) h.lives
+    where
+      go : (q : Name) (y : Bool) → name_eq q p ≡ y → (no_members (equations_of b q) && has b.closed q) ≡ false → (no_members (equations_of b q) && (y || has b.closed q)) ≡ (y && done)
+      go q true e k = and-true (no_members (equations_of b q)) ∙ done_as q e
+      go q false e k = k
