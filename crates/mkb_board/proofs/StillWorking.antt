@@ -9,7 +9,7 @@ use Rattle.kb_lemmas.proofs.Booleans.{and_gives_left, and_gives_right}
 use Rattle.kb_lemmas.proofs.Membership.{contains_behind, contains_first}
 use Rattle.kb_lemmas.proofs.Options.{none_some}
 use Rattle.kb_term.specs.Signature.{Problem}
-use Rattle.kb_label.specs.Names.{Name, root, child, has, join, minus, name_eq, relabel, IsInNameOrder}
+use Rattle.kb_label.specs.Names.{Name, root, add, child, has, join, minus, name_eq, relabel, IsInNameOrder}
 use Rattle.kb_label.specs.declared.verdict.Reason.{Reason}
 use Rattle.kb_label.specs.declared.verdict.Spent.TheVariants.{Commits, Over}
 use Rattle.kb_label.specs.declared.verdict.Verdict.TheVariants.{Complete, AllFailed, Spent as IsSpent}
@@ -17,6 +17,8 @@ use Rattle.kb_label.proofs.Members.{has-add, has-filter, has-join, has-minus, na
 use Rattle.kb_label.proofs.Ordered.{ordered-add, ordered-filter}
 use Rattle.kb_label.proofs.Sets.{has-relabel, relabel-absent, same_names}
 use Rattle.kb_node.specs.declared.job.Job.{Job}
+use Rattle.kb_node.specs.declared.node.NodeId.{NodeId}
+use Rattle.kb_cert.specs.declared.certificate.Certificate.{Certificate}
 use Rattle.kb_node.specs.declared.node.LabelKind.TheVariants.{E}
 use Rattle.mkb_model.specs.Plain.{Plain, PlainNode, GivenUp, equations_of, is_over, over_reason}
 use Rattle.mkb_model.specs.Effects.{acted, applied, counted, effect, effect_label, first_some, give_up, is_dropped, limit_of, not_over, reason_eq, some_if}
@@ -278,3 +280,127 @@ module _ (b : Plain) (p : Name) (h : IsActing b (Closed p) None) where
       go : (q : Name) (y : Bool) → name_eq q p ≡ y → (no_members (equations_of b q) && has b.closed q) ≡ false → (no_members (equations_of b q) && (y || has b.closed q)) ≡ (y && done)
       go q true e k = and-true (no_members (equations_of b q)) ∙ done_as q e
       go q false e k = k
+
+-- ---- a fork
+
+-- a name is none of its children's
+unlike : (p : Name) (bit : Bool) → name_eq p (child p bit) ≡ false
+unlike [] bit = refl
+unlike (true ∷ p) bit = unlike p bit
+unlike (false ∷ p) bit = unlike p bit
+
+-- after its fork a process is named no more
+relabel-itself : (p : Name) (l : List Name) → has (relabel p l) p ≡ false
+relabel-itself p l = ⊎_elim named (λ e. ap (λ (m : List Name). has m p) (relabel-absent p l e) ∙ e) (decide (has l p))
+  where
+    gone : (x y z : Bool) → x ≡ false → y ≡ false → z ≡ true → (x || (y || (not z && has l p))) ≡ false
+    gone x y z e f g = ap (λ w. w || (y || (not z && has l p))) e ∙ ap (λ w. w || (not z && has l p)) f ∙ ap (λ w. not w && has l p) g
+
+    named : has l p ≡ true → has (relabel p l) p ≡ false
+    named k = has-relabel p p l k ∙ gone (name_eq p (child p false)) (name_eq p (child p true)) (name_eq p p) (unlike p false) (unlike p true) (name_eq-refl p)
+
+relabel-ordered : (p : Name) (l : List Name) → IsInNameOrder l → IsInNameOrder (relabel p l)
+relabel-ordered p l k = go (has l p)
+  where
+    go : (y : Bool) → IsInNameOrder (cond y (add (child p false) (add (child p true) (minus l (p ∷ [])))) l)
+    go true = ordered-add (child p false) (add (child p true) (minus l (p ∷ []))) (ordered-add (child p true) (minus l (p ∷ [])) (ordered-filter (λ q. not (has (p ∷ []) q)) l k))
+    go false = k
+
+module _ (b : Plain) (p : Name) (n : NodeId) (c0 c1 : Certificate) (h : IsActing b (Both p n c0 c1) None) where
+  abbrev forked : Plain
+  forked = acted_at b (Both p n c0 c1) None
+
+  parent_lives : has b.living p ≡ true
+  parent_lives = (h.labelled.nodes n.0 E).lives p (orients b p n.0 h.acts)
+
+  parent_open : has b.closed p ≡ false
+  parent_open = false_unless (has b.closed p) h.unforked
+
+  -- a label names no child
+  fresh : (bit : Bool) (l : List Name) → IsLabelOf b.living l → has l (child p bit) ≡ false
+  fresh bit l k = false_unless (has l (child p bit)) (λ named. clash (subst {A = Name} (λ z. name_eq p z ≡ true) (h.apart p (child p bit) parent_lives (k.lives (child p bit) named) (begins-child p bit)) (name_eq-refl p)) (unlike p bit))
+
+  alive : IsLabelOf b.living b.living
+  alive = record { ordered = h.labelled.alive; lives = λ q k. k }
+
+  working_label : IsLabelOf b.living (working b b.asleep)
+  working_label = record {
+    ordered = working_ordered b h.labelled.alive b.asleep;
+    lives = λ q k. and_gives_right (not (has b.asleep q)) (has b.living q) (and_gives_right (is_active b q) (not (has b.asleep q) && has b.living q) (sym (in_working b b.asleep q) ∙ k));
+  }
+
+  child_named : (bit : Bool) (l : List Name) → IsLabelOf b.living l → has (relabel p l) (child p bit) ≡ has l p
+  child_named bit l k = relabel-child p bit l (fresh bit l k)
+
+  -- a child is active where its parent was
+  child_active : (bit : Bool) → is_active forked (child p bit) ≡ is_active b p
+  child_active bit =
+      let q = child p bit in
+      active_as forked q h.rests (child_named bit b.living alive ∙ parent_lives)
+      ∙ ap₂ (λ (y z : Bool). goes_on y (no_members (equations_of forked q)) z) (child_named bit b.closed h.labelled.closed ∙ parent_open) (over_as (λ (g : GivenUp). record g { names = relabel p g.names }) p q b.over (λ g i. child_named bit g.names (h.labelled.over g i)))
+      ∙ sym (ap (λ z. goes_on z (no_members (equations_of b p)) (is_over b p)) parent_open)
+      ∙ sym (active_as b p h.rest parent_lives)
+
+  works_child : (bit : Bool) → has (working forked forked.asleep) (child p bit) ≡ has (relabel p (working b b.asleep)) (child p bit)
+  works_child bit =
+      in_working forked forked.asleep (child p bit)
+      ∙ ap₂ (λ (y z : Bool). y && (not z && has forked.living (child p bit))) (child_active bit) (child_named bit b.asleep h.labelled.asleep)
+      ∙ ap (λ z. is_active b p && (not (has b.asleep p) && z)) (child_named bit b.living alive)
+      ∙ sym (child_named bit (working b b.asleep) working_label ∙ in_working b b.asleep p)
+
+  works_parent : has (working forked forked.asleep) p ≡ has (relabel p (working b b.asleep)) p
+  works_parent =
+      in_working forked forked.asleep p
+      ∙ ap (λ z. is_active forked p && (not (has forked.asleep p) && z)) (relabel-itself p b.living)
+      ∙ ap (λ z. is_active forked p && z) (and-false (not (has forked.asleep p)))
+      ∙ and-false (is_active forked p)
+      ∙ sym (relabel-itself p (working b b.asleep))
+
+  module _ (q : Name) (itself : name_eq q p ≡ false) (first : name_eq q (child p false) ≡ false) (second : name_eq q (child p true) ≡ false) where
+    other : (l : List Name) → has (relabel p l) q ≡ has l q
+    other l = relabel-other p q l itself first second
+
+    works_other : has (working forked forked.asleep) q ≡ has (relabel p (working b b.asleep)) q
+    works_other =
+        in_working forked forked.asleep q
+        ∙ ap₂ (λ (a l : Bool). is_active forked q && (not a && l)) (other b.asleep) (other b.living)
+        ∙ for_living (is_active forked q) (is_active b q) (not (has b.asleep q)) (has b.living q) (λ lives. active_so b (Both p n c0 c1) h q (other b.living ∙ lives) lives (other b.closed) (over_as (λ (g : GivenUp). record g { names = relabel p g.names }) q q b.over (λ g i. other g.names)))
+        ∙ sym (other (working b b.asleep) ∙ in_working b b.asleep q)
+
+  works_each : (q : Name) → has (working forked forked.asleep) q ≡ has (relabel p (working b b.asleep)) q
+  works_each q = ⊎_elim (at p works_parent) (λ e. ⊎_elim (at (child p false) (works_child false)) (λ f. ⊎_elim (at (child p true) (works_child true)) (works_other q e f) (decide (name_eq q (child p true)))) (decide (name_eq q (child p false)))) (decide (name_eq q p))
+    where
+      at : (r : Name) → has (working forked forked.asleep) r ≡ has (relabel p (working b b.asleep)) r → name_eq q r ≡ true → has (working forked forked.asleep) q ≡ has (relabel p (working b b.asleep)) q
+      at r k e = subst {A = Name} (λ z. has (working forked forked.asleep) z ≡ has (relabel p (working b b.asleep)) z) (sym (name_eq-eq q r e)) k
+
+  works_forked : working forked forked.asleep ≡ relabel p (working b b.asleep)
+  works_forked = same_names (working forked forked.asleep) (relabel p (working b b.asleep)) (working_ordered forked h.in_order forked.asleep) (relabel-ordered p (working b b.asleep) (working_ordered b h.labelled.alive b.asleep)) works_each
+
+  completes_forked : find (is_complete forked) forked.living ≡ None
+  completes_forked = none_completes b (Both p n c0 c1) h (λ q k. subst {A = List Name} (λ l. has l q ≡ true) (relabel-absent p b.closed parent_open) k)
+
+-- ---- any commit
+
+works_at : (b : Plain) (x : Proposed) (o : Option Reason) → IsActing b x o → working (acted_at b x o) (acted_at b x o).asleep ≡ still_working (acted_at b x o) o x (working b b.asleep)
+works_at b x (Some r) h = works_limited b x r h
+works_at b (Both p n c0 c1) None h = works_forked b p n c0 c1 h
+works_at b (Closed p) None h = works_shut b p h
+works_at b (Facts fs) None h = works_alike b (Facts fs) h refl refl refl refl
+works_at b (Rewrite n w at a found t) None h = works_alike b (Rewrite n w at a found t) h refl refl refl refl
+works_at b (One p n d c) None h = works_alike b (One p n d c) h refl refl refl refl
+works_at b (Refuse p n) None h = works_alike b (Refuse p n) h refl refl refl refl
+works_at b (Deduce a c pairs) None h = works_alike b (Deduce a c pairs) h refl refl refl refl
+works_at b (Unjoined p pairs) None h = works_alike b (Unjoined p pairs) h refl refl refl refl
+works_at b (Limit j cause) None h = works_alike b (Limit j cause) h refl refl refl refl
+
+completes_at : (b : Plain) (x : Proposed) (o : Option Reason) → IsActing b x o → find (is_complete (acted_at b x o)) (acted_at b x o).living ≡ completed_by (acted_at b x o) o x
+completes_at b x (Some r) h = h.incomplete
+completes_at b (Both p n c0 c1) None h = completes_forked b p n c0 c1 h
+completes_at b (Closed p) None h = completes_shut b p h
+completes_at b (Facts fs) None h = none_completes b (Facts fs) h (λ q k. k)
+completes_at b (Rewrite n w at a found t) None h = none_completes b (Rewrite n w at a found t) h (λ q k. k)
+completes_at b (One p n d c) None h = none_completes b (One p n d c) h (λ q k. k)
+completes_at b (Refuse p n) None h = none_completes b (Refuse p n) h (λ q k. k)
+completes_at b (Deduce a c pairs) None h = none_completes b (Deduce a c pairs) h (λ q k. k)
+completes_at b (Unjoined p pairs) None h = none_completes b (Unjoined p pairs) h (λ q k. k)
+completes_at b (Limit j cause) None h = none_completes b (Limit j cause) h (λ q k. k)
