@@ -404,3 +404,92 @@ completes_at b (Refuse p n) None h = none_completes b (Refuse p n) h (λ q k. k)
 completes_at b (Deduce a c pairs) None h = none_completes b (Deduce a c pairs) h (λ q k. k)
 completes_at b (Unjoined p pairs) None h = none_completes b (Unjoined p pairs) h (λ q k. k)
 completes_at b (Limit j cause) None h = none_completes b (Limit j cause) h (λ q k. k)
+
+-- ---- on a legal board
+
+unmapped : {A B : Type 0} (f : A → B) (o : Option A) → option_map f o ≡ None → o ≡ None
+unmapped f None e = refl
+unmapped f (Some x) e = none_some (sym e)
+
+pairs_at : (b : Plain) (x : Proposed) (o : Option Reason) → KeepsPairs b.nodes (acted_at b x o).nodes
+pairs_at b x None = pairs-applied b x
+pairs_at b x (Some r) = λ m q e. e
+
+unforked_grounded : (b : Plain) (f : List Ticket) (x : Proposed) → ¬ IsForkOfClosed (record b { flight = f }) x → ¬ IsForkOfClosed b x
+unforked_grounded b f (Both q n c0 c1) h k = h k
+unforked_grounded b f (Facts fs) h k = k
+unforked_grounded b f (Rewrite n w at a found t) h k = k
+unforked_grounded b f (One q n d c) h k = k
+unforked_grounded b f (Refuse q n) h k = k
+unforked_grounded b f (Deduce a c pairs) h k = k
+unforked_grounded b f (Unjoined q pairs) h k = k
+unforked_grounded b f (Closed q) h k = k
+unforked_grounded b f (Limit j cause) h k = k
+
+lives_grounded : (b : Plain) (f : List Ticket) (x : Proposed) → ActorLives (record b { flight = f }) x → ActorLives b x
+lives_grounded b f (Both q n c0 c1) h = h
+lives_grounded b f (Facts fs) h = h
+lives_grounded b f (Rewrite n w at a found t) h = h
+lives_grounded b f (One q n d c) h = h
+lives_grounded b f (Refuse q n) h = h
+lives_grounded b f (Deduce a c pairs) h = h
+lives_grounded b f (Unjoined q pairs) h = h
+lives_grounded b f (Closed q) h = h
+lives_grounded b f (Limit j cause) h = h
+
+module _ (state : Plain) (flight : List Ticket) (J : List Entry) (t : Ticket) (x : Proposed) (legal : IsLegalBoard (seen state flight J)) (none : verdict (record state { flight = flight }) ≡ None) (flying : Contains flight t) (proposal : IsProposalOf (seen state flight J) t x) (acts : IsFalse (is_dropped (record state { flight = flight }) x)) where
+  abbrev board : Plain
+  board = record state { flight = flight }
+
+  abbrev moments : List Moment
+  moments = legal.after.0
+
+  run : IsPossibleRun board.problem board.settings moments board
+  run = legal-possible board.problem board.settings moments board legal.after.2
+
+  finished : IsFinishing moments board t.worker t.number t.job x
+  finished = finishing (seen state flight J) t x none flying proposal moments legal.after.1 legal.after.2
+
+  stands : Stands board
+  stands = stands_run board.problem board.settings moments board run
+
+  resting : IsResting board
+  resting = resting_run board.problem board.settings moments board run
+
+  free : IsFreeJob finished.before t.job
+  free = (taken_free board.problem board.settings moments board run finished.before t.worker t.number t.job finished.taken).0
+
+  keeps : KeepsPairs finished.before.nodes board.nodes
+  keeps = pairs_stay IsFreeJob board.problem board.settings moments board run (record { board = finished.before; entry = Take t.worker t.number t.job }) finished.taken
+
+  unmoved : (q : Name) → has state.closed q ≡ true → IsUnmoved board (effect board x) q
+  unmoved q k = stays finished.before board t.worker t.number t.job x finished.proposed free keeps flying acts stands resting q (resting.closed q k) (stands.labelled.closed.lives q k) (λ own. resting.no_own q k t flying own)
+
+  roles_stay : (q : Name) → has state.closed q ≡ true → KeepsRoles state.nodes (acted state x).nodes q
+  roles_stay q k = subst {A = List PlainNode} (λ ns. KeepsRoles state.nodes ns q) (ap (λ (z : Plain). z.nodes) (effect_flying state flight x)) (unmoved q k).roles
+
+  labels : IsLabelled state
+  labels = let k = stands.labelled in record { alive = k.alive; nodes = k.nodes; done = k.done; closed = k.closed; over = k.over; asleep = k.asleep }
+
+  acting : IsActing state x (limit_of state x)
+  acting = record {
+    rest = legal_rest state flight J legal;
+    rests = acted_rest state flight J t x legal none flying proposal acts;
+    labelled = labels;
+    in_order = (acted_labels state flight J t x legal none flying proposal acts).alive;
+    apart = stands.apart;
+    lives = lives_grounded state flight x (actor_lives finished.before board t x finished.proposed stands.owners flying);
+    acts = sym (dropped_flying state flight x) ∙ acts;
+    unforked = unforked_grounded state flight x (not_forked finished.before board t.worker t.number t.job x finished.proposed free keeps flying acts stands resting x finished.proposed);
+    stays = λ q k. same_equations state (acted state x) q (roles_stay q k) (pairs_at state x (limit_of state x));
+    incomplete = unmapped Complete (find (is_complete board) board.living)
+        (nones (option_map Complete (find (is_complete board) board.living)) (some_if (list_all (is_failed board) board.living) AllFailed) (some_if (board.commits == board.settings.budget) (IsSpent Commits)) (cond (list_all (λ p. is_failed board p || is_over board p) board.living) (option_map (λ r. IsSpent (Over r)) (option_and_then (over_reason board) (first_over board))) None) none).0;
+  }
+
+  -- who works after the commit
+  pub works_after : working (acted state x) (acted state x).asleep ≡ still_working (acted state x) (limit_of state x) x (working state state.asleep)
+  works_after = works_at state x (limit_of state x) acting
+
+  -- which process is complete after the commit: none was before
+  pub completes_after : find (is_complete (acted state x)) (acted state x).living ≡ completed_by (acted state x) (limit_of state x) x
+  completes_after = completes_at state x (limit_of state x) acting
