@@ -16,12 +16,11 @@ use Rattle.kb_label.specs.declared.verdict.Verdict.TheVariants.{Complete, AllFai
 use Rattle.kb_label.proofs.Members.{has-add, has-filter, has-join, has-minus, name_eq-eq, name_eq-refl}
 use Rattle.kb_label.proofs.Ordered.{ordered-add, ordered-filter}
 use Rattle.kb_label.proofs.Sets.{has-relabel, relabel-absent, same_names}
-use Rattle.kb_node.specs.declared.job.Job.{Job}
 use Rattle.kb_node.specs.declared.node.NodeId.{NodeId}
 use Rattle.kb_cert.specs.declared.certificate.Certificate.{Certificate}
 use Rattle.kb_node.specs.declared.node.LabelKind.TheVariants.{E}
 use Rattle.mkb_model.specs.Plain.{Plain, PlainNode, GivenUp, equations_of, is_over, over_reason}
-use Rattle.mkb_model.specs.Effects.{acted, applied, counted, effect, effect_label, first_some, give_up, is_dropped, limit_of, not_over, reason_eq, some_if}
+use Rattle.mkb_model.specs.Effects.{acted, applied, counted, effect, effect_label, give_up, is_dropped, limit_of, not_over, reason_eq, some_if}
 use Rattle.mkb_model.specs.Invariants.{AreApart}
 use Rattle.mkb_model.specs.Sleeping.{is_active, is_failed, most_awake, no_members, working}
 use Rattle.mkb_model.specs.Verdicts.{first_over, is_complete, verdict}
@@ -44,7 +43,7 @@ use Rattle.mkb_model.proofs.labels.LivingLabels.{ActorLives, IsLabelled, actor_l
 use Rattle.mkb_model.proofs.labels.NameLists.{IsLabelOf}
 use Rattle.mkb_model.proofs.labels.Sleepers.{in_working, working_ordered}
 use Rattle.mkb_model.proofs.nodes.DistinctPairs.{pairs_stay}
-use Rattle.mkb_model.proofs.runs.Endings.{has_in, in_has, nones}
+use Rattle.mkb_model.proofs.runs.Endings.{in_has, nones}
 use Rattle.mkb_model.proofs.runs.Selections.{legal-possible}
 use Rattle.mkb_model.proofs.runs.Simulation.{begins-child}
 use Rattle.mkb_model.proofs.tickets.InFlight.{taken_free}
@@ -107,15 +106,10 @@ open_alike true n m over h = ap (λ z. goes_on true z over) (h refl)
 open_alike false n m over h = refl
 
 -- who gave up before has given up after
-given_up : (closed none before after : Bool) → (before ≡ true → after ≡ true) → goes_on closed none after ≡ (not after && goes_on closed none before)
-given_up true true true after h = ap (λ z. goes_on true true z) (h refl) ∙ sym (ap (λ z. not z && goes_on true true true) (h refl))
-given_up true true false true h = refl
-given_up true true false false h = refl
-given_up true false before true h = refl
-given_up true false before false h = refl
-given_up false none true after h = ap (λ z. goes_on false none z) (h refl) ∙ sym (ap (λ z. not z && goes_on false none true) (h refl))
-given_up false none false true h = refl
-given_up false none false false h = refl
+given_up : (f before after : Bool) → (before ≡ true → after ≡ true) → (f && not after) ≡ (not after && (f && not before))
+given_up f before true h = and-false f
+given_up f false false h = refl
+given_up f true false h = clash (h refl) refl
 
 -- who is closed goes on where it has no equation, and else has failed
 closing : (it closed none over done : Bool) → (it ≡ true → none ≡ done) → goes_on (it || closed) none over ≡ (cond done true (not it) && goes_on closed none over)
@@ -198,7 +192,7 @@ module _ (b : Plain) (x : Proposed) (r : Reason) (h : IsActing b x (Some r)) whe
   works_limited : working limited limited.asleep ≡ filter (λ p. not (is_over limited p)) (working b b.asleep)
   works_limited = same_names (working limited limited.asleep) (filter (λ p. not (is_over limited p)) (working b b.asleep)) (working_ordered limited h.in_order b.asleep) (ordered-filter (λ p. not (is_over limited p)) (working b b.asleep) (working_ordered b h.labelled.alive b.asleep)) (λ q.
       in_working limited b.asleep q
-      ∙ for_living (is_active limited q) (not (is_over limited q) && is_active b q) (not (has b.asleep q)) (has b.living q) (λ lives. active_as limited q h.rests lives ∙ given_up (has b.closed q) (no_members (equations_of b q)) (is_over b q) (is_over limited q) (more_over q) ∙ sym (ap (λ z. not (is_over limited q) && z) (active_as b q h.rest lives)))
+      ∙ for_living (is_active limited q) (not (is_over limited q) && is_active b q) (not (has b.asleep q)) (has b.living q) (λ lives. active_as limited q h.rests lives ∙ given_up (not (has b.closed q && not (no_members (equations_of b q)))) (is_over b q) (is_over limited q) (more_over q) ∙ sym (ap (λ z. not (is_over limited q) && z) (active_as b q h.rest lives)))
       ∙ sym (and_assoc (not (is_over limited q)) (is_active b q) (not (has b.asleep q) && has b.living q))
       ∙ sym (has-filter (λ p. not (is_over limited p)) (working b b.asleep) q ∙ ap (λ z. not (is_over limited q) && z) (in_working b b.asleep q)))
 
@@ -208,7 +202,7 @@ module _ (b : Plain) (x : Proposed) (h : IsActing b x None) where
   abbrev made : Plain
   made = acted_at b x None
 
-  -- a process that is closed or not as it was, and gave up or not, is active or not as it was
+  -- who is closed or not as before, and gave up or not as before, is active or not as before
   active_so : (q : Name) → has made.living q ≡ true → has b.living q ≡ true → has made.closed q ≡ has b.closed q → is_over made q ≡ is_over b q → is_active made q ≡ is_active b q
   active_so q lives before closed over =
       active_as made q h.rests lives
@@ -415,29 +409,8 @@ pairs_at : (b : Plain) (x : Proposed) (o : Option Reason) → KeepsPairs b.nodes
 pairs_at b x None = pairs-applied b x
 pairs_at b x (Some r) = λ m q e. e
 
-unforked_grounded : (b : Plain) (f : List Ticket) (x : Proposed) → ¬ IsForkOfClosed (record b { flight = f }) x → ¬ IsForkOfClosed b x
-unforked_grounded b f (Both q n c0 c1) h k = h k
-unforked_grounded b f (Facts fs) h k = k
-unforked_grounded b f (Rewrite n w at a found t) h k = k
-unforked_grounded b f (One q n d c) h k = k
-unforked_grounded b f (Refuse q n) h k = k
-unforked_grounded b f (Deduce a c pairs) h k = k
-unforked_grounded b f (Unjoined q pairs) h k = k
-unforked_grounded b f (Closed q) h k = k
-unforked_grounded b f (Limit j cause) h k = k
-
-lives_grounded : (b : Plain) (f : List Ticket) (x : Proposed) → ActorLives (record b { flight = f }) x → ActorLives b x
-lives_grounded b f (Both q n c0 c1) h = h
-lives_grounded b f (Facts fs) h = h
-lives_grounded b f (Rewrite n w at a found t) h = h
-lives_grounded b f (One q n d c) h = h
-lives_grounded b f (Refuse q n) h = h
-lives_grounded b f (Deduce a c pairs) h = h
-lives_grounded b f (Unjoined q pairs) h = h
-lives_grounded b f (Closed q) h = h
-lives_grounded b f (Limit j cause) h = h
-
 module _ (state : Plain) (flight : List Ticket) (J : List Entry) (t : Ticket) (x : Proposed) (legal : IsLegalBoard (seen state flight J)) (none : verdict (record state { flight = flight }) ≡ None) (flying : Contains flight t) (proposal : IsProposalOf (seen state flight J) t x) (acts : IsFalse (is_dropped (record state { flight = flight }) x)) where
+  -- the board with what flies
   abbrev board : Plain
   board = record state { flight = flight }
 
@@ -478,9 +451,9 @@ module _ (state : Plain) (flight : List Ticket) (J : List Entry) (t : Ticket) (x
     labelled = labels;
     in_order = (acted_labels state flight J t x legal none flying proposal acts).alive;
     apart = stands.apart;
-    lives = lives_grounded state flight x (actor_lives finished.before board t x finished.proposed stands.owners flying);
+    lives = actor_lives finished.before board t x finished.proposed stands.owners flying;
     acts = sym (dropped_flying state flight x) ∙ acts;
-    unforked = unforked_grounded state flight x (not_forked finished.before board t.worker t.number t.job x finished.proposed free keeps flying acts stands resting x finished.proposed);
+    unforked = not_forked finished.before board t.worker t.number t.job x finished.proposed free keeps flying acts stands resting x finished.proposed;
     stays = λ q k. same_equations state (acted state x) q (roles_stay q k) (pairs_at state x (limit_of state x));
     incomplete = unmapped Complete (find (is_complete board) board.living)
         (nones (option_map Complete (find (is_complete board) board.living)) (some_if (list_all (is_failed board) board.living) AllFailed) (some_if (board.commits == board.settings.budget) (IsSpent Commits)) (cond (list_all (λ p. is_failed board p || is_over board p) board.living) (option_map (λ r. IsSpent (Over r)) (option_and_then (over_reason board) (first_over board))) None) none).0;
