@@ -9,6 +9,7 @@
 --   normal                    Irreducible
 --   settling                  Sleepers, Going, AtRest
 --   shelf, snapshots          Kept, Viewed, Open
+--   working                   StillWorking
 --   law held_tickets_stay     Held, Others
 pub mod Asleep
 pub mod Better
@@ -39,3 +40,4 @@ pub mod Ordered
 pub mod Having
 pub mod NodeJobs
 pub mod Kept
+pub mod StillWorking
