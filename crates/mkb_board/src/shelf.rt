@@ -6,7 +6,7 @@ ghost use Rattle.mkb_board.specs.Shelf.{AreRulesAt, HoldsRules, place_of};
 
 use crate::normal::are_same;
 use crate::snapshots::named::pair_at;
-use kb_jobs::{NamedRules, SharedRules};
+use kb_jobs::{NamedRules, SharedPair, SharedRules};
 use kb_node::NodeId;
 use kb_term::{Memory, Rule, RuleRef, rule_from};
 use mkb_rules::State;
@@ -21,6 +21,7 @@ pub(crate) struct Shelf {
     alloc: Global,
     rules: Vec<Option<Rule>>,
     last: Option<NamedRules>,
+    pairs: Vec<Option<SharedPair>>,
 }
 
 impl Shelf {
@@ -32,6 +33,7 @@ impl Shelf {
             alloc,
             rules: Vec::new(alloc),
             last: None,
+            pairs: Vec::new(alloc),
         }
     }
 
@@ -52,6 +54,32 @@ impl Shelf {
         let rule = new_rule(self.alloc, state, a)?;
         self.keep(a, &rule).ok();
         Ok(rule)
+    }
+
+    /// The pair of the node: the one that is kept, else a new one, which is kept from here on where memory allows.
+    ///
+    /// # Errors
+    ///
+    /// Want of memory for the pair.
+    pub(crate) fn pair_at(&mut self, state: &State, n: NodeId) -> Result<SharedPair, Memory> {
+        if let Some(Some(pair)) = self.pairs.get(n.0 as usize) {
+            let copy = pair.clone()?;
+            return Ok(copy);
+        }
+        let pair = pair_at(state, n)?;
+        let pair = SharedPair::new(self.alloc, pair)?;
+        self.keep_pair(n, &pair).ok();
+        Ok(pair)
+    }
+
+    // Keeps a copy of the pair of the node.
+    fn keep_pair(&mut self, n: NodeId, pair: &SharedPair) -> Result<(), AllocError> {
+        let copy = pair.clone()?;
+        for _ in self.pairs.len()..n.0 as usize + 1 {
+            self.pairs.push(None)?;
+        }
+        self.pairs[n.0 as usize] = Some(copy);
+        Ok(())
     }
 
     /// The list that was read last, where these are its names.

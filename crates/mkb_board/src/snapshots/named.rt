@@ -36,11 +36,27 @@ pub(crate) fn rules_at(
     ensures rules { IfOk result (λ rules. rules.items ≡ rules_at state.now names.now) }
     ensures as_many { IfOk result (λ rules. length rules.items ≡ length names.now) }
 {
-    let mut rules = Vec::new(alloc);
+    let mut rules = Vec::with_capacity(alloc, names.len())?;
+    push_rules_at(state, shelf, &mut rules, names)?;
+    Ok(rules)
+}
+
+/// Adds the rules with the names.
+pub(crate) fn push_rules_at(
+    state: &State,
+    shelf: &mut Shelf,
+    rules: &mut Vec<Rule>,
+    names: &[RuleRef],
+) -> Result<(), Memory>
+    requires there { All (IsRuleThere state.now) names.now }
+    requires shelf { HoldsRules state.now shelf.old }
+    ensures shelf { HoldsRules state.now shelf.new }
+    ensures rules { OnOk result (rules.new.items ≡ rules.old.items ++ rules_at state.now names.now) }
+{
     for i in 0..names.len() {
         rules.push(shelf.rule_at(state, names[i])?)?;
     }
-    Ok(rules)
+    Ok(())
 }
 
 /// The rules with the names, and their names. Where the list before has the same names, both share its rules.

@@ -5,7 +5,7 @@ ghost use Rattle.kb_jobs.specs.Taken.{IsTakenOrient};
 ghost use Rattle.mkb_rules.specs.Named.{IsRuleThere, Lives};
 ghost use Rattle.mkb_board.specs.Shelf.{HoldsRules};
 
-use super::named::rules_at;
+use super::named::push_rules_at;
 use crate::choosing::node_count;
 use crate::shelf::Shelf;
 use kb_jobs::OrientSnapshot;
@@ -15,7 +15,7 @@ use kb_term::{Memory, Rule, RuleRef};
 use mkb_rules::State;
 use std::alloc::{AllocError, Global};
 
-/// The run's family of orders, the signature, the order in force, and the constraints of the process with the rule of each direction of the node behind them.
+/// The run's family of orders, the signature, the order in force, and the rule of each direction of the node with the constraints of the process behind it.
 #[tactic(auto, using(crate::proofs::Viewed::constraints_there))]
 pub(crate) fn orient_snapshot(
     alloc: Global,
@@ -103,22 +103,23 @@ fn push_constraint(
     Ok(())
 }
 
-// The rules with the names, and one more behind them.
+// A rule, and the rules with the names behind it.
 #[tactic(auto, using(crate::proofs::Viewed::rules_behind))]
 fn rules_towards(
     alloc: Global,
     state: &State,
     shelf: &mut Shelf,
     names: &[RuleRef],
-    last: RuleRef,
+    first: RuleRef,
 ) -> Result<Vec<Rule>, Memory>
     requires names { All (IsRuleThere state.now) names.now }
-    requires last { IsRuleThere state.now last }
+    requires first { IsRuleThere state.now first }
     requires shelf { HoldsRules state.now shelf.old }
     ensures shelf { HoldsRules state.now shelf.new }
-    ensures rules { IfOk result (λ rules. rules.items ≡ rules_at state.now (names.now ++ last ∷ [])) }
+    ensures rules { IfOk result (λ rules. rules.items ≡ rules_at state.now (first ∷ names.now)) }
 {
-    let mut rules = rules_at(alloc, state, shelf, names)?;
-    rules.push(shelf.rule_at(state, last)?)?;
+    let mut rules = Vec::with_capacity(alloc, names.len() + 1)?;
+    rules.push(shelf.rule_at(state, first)?)?;
+    push_rules_at(state, shelf, &mut rules, names)?;
     Ok(rules)
 }

@@ -8,7 +8,7 @@ ghost use Rattle.mkb_board.specs.Normal.{AreNormal};
 ghost use Rattle.mkb_board.specs.Shelf.{HoldsRules};
 ghost use Rattle.mkb_board.specs.Snapshots.{AreWithin, IsWholeReduce, open_rules, unknown_on, with_names};
 
-use super::named::{named_rules, pair_at, rules_of};
+use super::named::{named_rules, rules_of};
 use crate::choosing::{is_equation, is_rule};
 use crate::normal::{Normal, roles_by};
 use crate::shelf::Shelf;
@@ -39,7 +39,7 @@ pub(crate) fn reduce_snapshot(
     ensures taken { IfOk result (IsTakenReduce state.now) }
     ensures whole { IfOk result IsWholeReduce }
 {
-    let pair = pair_at(state, node)?;
+    let pair = shelf.pair_at(state, node)?;
     let names = open_rules(alloc, state, normal, &process, node)?;
     let unknown = unknown(alloc, state, node, names.as_slice())?;
     let rules = named_rules(alloc, state, shelf, names)?;
