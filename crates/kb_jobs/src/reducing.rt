@@ -36,21 +36,17 @@ pub fn reduce(alloc: Global, s: &ReduceSnapshot) -> Result<Proposed, Memory>
     requires { IsReducible s.now }
     ensures { IfOk result (ProposesReduce s.now) }
 {
-    if let Some(redex) = first_redex(
-        alloc,
-        s.rules.rules.as_slice(),
-        s.pair.as_pair().first(),
-        !s.any_first,
-    )? {
-        return rewrite(alloc, s, 0, s.pair.as_pair().first(), redex);
+    let pair = s.pair.as_pair();
+    if let Some(redex) = first_redex(alloc, s.rules.rules.as_slice(), pair.first(), !s.any_first)? {
+        return rewrite(alloc, s, 0, pair.first(), redex);
     }
     if let Some(redex) = first_redex(
         alloc,
         s.rules.rules.as_slice(),
-        s.pair.as_pair().second(),
+        pair.second(),
         !s.any_second,
     )? {
-        return rewrite(alloc, s, 1, s.pair.as_pair().second(), redex);
+        return rewrite(alloc, s, 1, pair.second(), redex);
     }
     let facts = facts(alloc, s)?;
     Ok(Proposed::Facts(FactList::new(facts)))
@@ -138,10 +134,11 @@ fn left_on(s: &ReduceSnapshot, w: u8, rule: &Rule) -> Found
     requires second { HasNoRedex s.now.rules.rules (not (is_any s.now 1)) (side s.now.pair 1) }
     ensures { (i : ℕ) → slice_get s.now.rules.rules i ≡ Some rule.now → IsFound (side s.now.pair w) rule.now result }
 {
+    let pair = s.pair.as_pair();
     if w == 0 {
-        left_for(rule, s.pair.as_pair().first(), s.any_first)
+        left_for(rule, pair.first(), s.any_first)
     } else {
-        left_for(rule, s.pair.as_pair().second(), s.any_second)
+        left_for(rule, pair.second(), s.any_second)
     }
 }
 
