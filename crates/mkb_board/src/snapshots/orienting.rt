@@ -3,7 +3,7 @@ ghost use Rattle.std.specs.Prelude.{◌≡◌, ◌<◌, ◌++◌, ◌∷◌, [],
 ghost use Rattle.mkb_model.specs.Plain.{certificate_of, constraints_of, is_constraint, rules_at};
 ghost use Rattle.kb_jobs.specs.Taken.{IsTakenOrient};
 ghost use Rattle.mkb_rules.specs.Named.{IsRuleThere, Lives};
-ghost use Rattle.mkb_board.specs.Shelf.{HoldsRules};
+ghost use Rattle.mkb_board.specs.Shelf.{HoldsRead};
 
 use super::named::push_rules_at;
 use crate::choosing::node_count;
@@ -27,8 +27,8 @@ pub(crate) fn orient_snapshot(
     requires there { node.0 < length state.now.nodes }
     requires lives { Lives state.now process }
     requires ordered { IsSome (certificate_of state.now process) }
-    requires shelf { HoldsRules state.now shelf.old }
-    ensures shelf { HoldsRules state.now shelf.new }
+    requires shelf { HoldsRead state.now shelf.old }
+    ensures shelf { HoldsRead state.now shelf.new }
     ensures process { IfOk result (λ s. s.process ≡ process) }
     ensures node { IfOk result (λ s. s.node ≡ node) }
     ensures taken { IfOk result (IsTakenOrient state.now) }
@@ -104,7 +104,7 @@ fn push_constraint(
 }
 
 // A rule, and the rules with the names behind it.
-#[tactic(auto, using(crate::proofs::Viewed::rules_behind))]
+#[tactic(auto, using(crate::proofs::Viewed::rules_before))]
 fn rules_towards(
     alloc: Global,
     state: &State,
@@ -114,8 +114,8 @@ fn rules_towards(
 ) -> Result<Vec<Rule>, Memory>
     requires names { All (IsRuleThere state.now) names.now }
     requires first { IsRuleThere state.now first }
-    requires shelf { HoldsRules state.now shelf.old }
-    ensures shelf { HoldsRules state.now shelf.new }
+    requires shelf { HoldsRead state.now shelf.old }
+    ensures shelf { HoldsRead state.now shelf.new }
     ensures rules { IfOk result (λ rules. rules.items ≡ rules_at state.now (first ∷ names.now)) }
 {
     let mut rules = Vec::with_capacity(alloc, names.len() + 1)?;

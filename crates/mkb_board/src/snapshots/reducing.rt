@@ -5,7 +5,7 @@ ghost use Rattle.kb_jobs.specs.Taken.{IsTakenReduce};
 ghost use Rattle.mkb_model.specs.Plain.{is_equation, is_rule};
 ghost use Rattle.mkb_model.specs.Invariants.{FactsHold};
 ghost use Rattle.mkb_board.specs.Normal.{AreNormal};
-ghost use Rattle.mkb_board.specs.Shelf.{HoldsRules};
+ghost use Rattle.mkb_board.specs.Shelf.{HoldsRead};
 ghost use Rattle.mkb_board.specs.Snapshots.{AreWithin, IsWholeReduce, open_rules, unknown_on, with_names};
 
 use super::named::{named_rules, rules_of};
@@ -32,8 +32,8 @@ pub(crate) fn reduce_snapshot(
     requires there { node.0 < length state.now.nodes }
     requires normal { AreNormal state.now normal.now }
     requires facts { FactsHold state.now }
-    requires shelf { HoldsRules state.now shelf.old }
-    ensures shelf { HoldsRules state.now shelf.new }
+    requires shelf { HoldsRead state.now shelf.old }
+    ensures shelf { HoldsRead state.now shelf.new }
     ensures process { IfOk result (λ s. s.process ≡ process) }
     ensures node { IfOk result (λ s. s.node ≡ node) }
     ensures taken { IfOk result (IsTakenReduce state.now) }
