@@ -2,7 +2,7 @@
 ghost use Rattle.std.specs.Prelude.{IfOk};
 ghost use Rattle.kb_jobs.specs.Rules.{AreNamed};
 
-use kb_jobs::{NamedRules, ReduceSnapshot, SharedRules, reduce};
+use kb_jobs::{NamedRules, ReduceSnapshot, SharedPair, SharedRules, reduce};
 use kb_label::Process;
 use kb_node::NodeId;
 use kb_term::{
@@ -52,7 +52,7 @@ fn reduced(alloc: Global, pair: Pair, rules: NamedRules) -> Result<Proposed, Mem
                 let s = ReduceSnapshot {
                     process: Process::root(),
                     node: NodeId(0),
-                    pair,
+                    pair: SharedPair::new(alloc, pair)?,
                     rules,
                     any_first: true,
                     any_second: true,

@@ -1,5 +1,5 @@
 -- What jobs propose by snapshots is what they propose on the board.
-use Rattle.std.proofs.Common.{ℕ, zero, suc, ◌≡◌, ◌∙◌, ◌⊎◌, inl, inr, refl, sym, ap, subst, ⊎_elim, List, [], ◌∷◌, ◌++◌, Bool, Option, Some, None}
+use Rattle.std.proofs.Common.{ℕ, zero, suc, ◌≡◌, ◌∙◌, ◌⊎◌, inl, inr, refl, sym, ap, subst, ⊎_elim, List, ◌∷◌, Bool, Option, Some, None}
 use Rattle.kb_term.specs.Rule.{Rule}
 use Rattle.kb_term.specs.View.{tree_of}
 use Rattle.kb_term.specs.declared.origin.RuleRef.{RuleRef}
@@ -29,6 +29,7 @@ use Rattle.kb_term.specs.Tree.{Tree}
 use Rattle.kb_jobs.specs.declared.reducing.ReduceSnapshot.{ReduceSnapshot}
 use Rattle.kb_jobs.specs.declared.orienting.OrientSnapshot.{OrientSnapshot}
 use Rattle.kb_jobs.specs.declared.overlapping.OverlapSnapshot.{OverlapSnapshot}
+use Rattle.kb_jobs.proofs.Swapped.{first_behind}
 
 usable_at : (b : Plain) (s : ReduceSnapshot) → IsTakenReduce b s → (w : ℕ) (k : Found) → usable s w k ≡ is_usable b s.process s.node.0 w k
 usable_at b s t w No = refl
@@ -73,17 +74,19 @@ reduce_taken b s (Limit j cause) t h =
     (h.0, (s.pair, t.pair, record { side = l.side; at = l.at; rule = l.rule; kind = l.kind; result = l.result; limit = l.limit; first = first_on b s t l.side l.at l.rule l.kind l.result l.first; passes = l.passes; redex_is = l.redex_is; reason_is = l.reason_is }))
 reduce_taken b s x t h = absurd h
 
--- the first order by what the snapshot has is the first on the board
-taken_order : (b : Plain) (s : OrientSnapshot) (rules there : List Rule) (o : Option Certificate) → IsTakenOrient b s → rules ≡ there → IsFirstOrder s.family s.signature rules o → IsFirstOrder b.settings.family b.problem.signature there o
-taken_order b s rules there o t e h = subst (λ z. z) (λ i. IsFirstOrder (t.family i) (t.signature i) (e i) o) h
+-- the first order by what the snapshot has is the first on the board, where the rule of the node stands behind the constraints
+board_order : (b : Plain) (s : OrientSnapshot) (rules : List Rule) (d : ℕ) (o : Option Certificate) → IsTakenOrient b s → rules ≡ rules_at b (record { node = s.node.0; dir = d } ∷ constraints_of b s.process) → IsFirstOrder s.family s.signature rules o → OrientsBy b s.process s.node.0 d o
+board_order b s rules d o t e h =
+    first_behind b b.settings.family b.problem.signature (record { node = s.node.0; dir = d }) (constraints_of b s.process) o
+    (subst (λ z. z) (λ i. IsFirstOrder (t.family i) (t.signature i) (e i) o) h)
 
 towards_taken : (b : Plain) (s : OrientSnapshot) → IsTakenOrient b s → (d : ℕ) (o : Option Certificate) → (d ≡ 0) ⊎ (d ≡ 1) → OrientsTowards s d o → OrientsBy b s.process s.node.0 d o
 towards_taken b s t d o (inl e) h =
     subst {A = ℕ} (λ z. OrientsBy b s.process s.node.0 z o) (sym e)
-    (taken_order b s s.forth.items (rules_at b (constraints_of b s.process ++ record { node = s.node.0; dir = 0 } ∷ [])) o t t.forth (subst {A = ℕ} (λ z. OrientsTowards s z o) e h))
+    (board_order b s s.forth.items 0 o t t.forth (subst {A = ℕ} (λ z. OrientsTowards s z o) e h))
 towards_taken b s t d o (inr e) h =
     subst {A = ℕ} (λ z. OrientsBy b s.process s.node.0 z o) (sym e)
-    (taken_order b s s.back.items (rules_at b (constraints_of b s.process ++ record { node = s.node.0; dir = 1 } ∷ [])) o t t.back (subst {A = ℕ} (λ z. OrientsTowards s z o) e h))
+    (board_order b s s.back.items 1 o t t.back (subst {A = ℕ} (λ z. OrientsTowards s z o) e h))
 
 other_way : (d : ℕ) → (d ≡ 0) ⊎ (d ≡ 1) → (other d ≡ 0) ⊎ (other d ≡ 1)
 other_way d (inl e) = inr (ap other e)

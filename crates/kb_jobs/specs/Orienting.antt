@@ -1,5 +1,5 @@
 -- What an Orient proposes, by what it reads.
-use Rattle.std.specs.Prelude.{ℕ, zero, suc, ◌≡◌, ◌≤◌, ◌⊎◌, List, [], ◌∷◌, ◌++◌, length, Option, Some, None}
+use Rattle.std.specs.Prelude.{ℕ, zero, suc, ◌≡◌, ◌≤◌, ◌⊎◌, List, ◌∷◌, length, Option, Some, None}
 use Rattle.kb_term.specs.Rule.{Rule}
 use Rattle.kb_linear.specs.Limits.{AreMeasurable}
 use Rattle.kb_cert.specs.Family.{IsFirstOrder, IsLowerBound}
@@ -12,20 +12,20 @@ use Rattle.kb_jobs.specs.declared.orienting.Start.{Start}
 use Rattle.kb_jobs.specs.declared.orienting.Start.TheVariants.{Answer, Bound}
 use Rattle.kb_term.specs.declared.limits.TheConstants.{MAX_SYMBOLS}
 
--- the constraints with the rule of the direction
+-- the rule of the direction with the constraints behind it
 abbrev pub rules_towards : OrientSnapshot → ℕ → List Rule
 rules_towards s zero = s.forth.items
 rules_towards s (suc d) = s.back.items
 
--- the first member of the family that orders the constraints with the rule of the direction
+-- the first member of the family that orders the rule of the direction and the constraints
 abbrev pub OrientsTowards : OrientSnapshot → ℕ → Option Certificate → Type 0
 OrientsTowards s d = IsFirstOrder s.family s.signature (rules_towards s d)
 
--- the rules are some and one more, and the order in force is the first of the family for those
+-- the rules are one more in front of some, and the order in force is the first of the family for those
 abbrev pub AreOneMore : OrientSnapshot → List Rule → Type 0
-AreOneMore s rules = (some : List Rule) × (rule : Rule) × (rules ≡ some ++ rule ∷ []) × IsFirstOrder s.family s.signature some (Some s.in_force)
+AreOneMore s rules = (some : List Rule) × (rule : Rule) × (rules ≡ rule ∷ some) × IsFirstOrder s.family s.signature some (Some s.in_force)
 
--- what an Orient may read: at most 24 symbols, terms within the limits, and the first order for all rules but the last
+-- what an Orient may read: at most 24 symbols, terms within the limits, and the first order for all rules but the first
 pub record IsOrientable (s : OrientSnapshot) : Type 0 where
   pub few : length s.signature ≤ MAX_SYMBOLS
   pub forth : AreMeasurable s.forth.items

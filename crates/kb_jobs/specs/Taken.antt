@@ -1,5 +1,5 @@
 -- Snapshots that are taken from a board.
-use Rattle.std.specs.Prelude.{ℕ, ◌≡◌, ◌⊎◌, ◌||◌, [], ◌∷◌, ◌++◌, Some, Contains, IsFalse}
+use Rattle.std.specs.Prelude.{ℕ, ◌≡◌, ◌⊎◌, ◌||◌, ◌∷◌, Some, Contains, IsFalse}
 use Rattle.kb_term.specs.Rule.{Rule}
 use Rattle.kb_term.specs.declared.origin.Found.{Found}
 use Rattle.kb_overlap.specs.Trace.{side}
@@ -28,13 +28,13 @@ pub record IsTakenReduce (b : Plain) (s : ReduceSnapshot) : Type 0 where
   pub any_second : s.any_second ≡ (is_equation b s.process s.node.0 || is_rule b s.process (record { node = s.node.0; dir = 0 }))
   pub unknown : unknown_of s ≡ unknown b s.process s.node.0
 
--- the snapshot has the run's family, the board's signature, the order in force, and the process's constraints with the rule of each direction of the node behind them
+-- the snapshot has the run's family, the board's signature, the order in force, and the rule of each direction of the node with the process's constraints behind it
 pub record IsTakenOrient (b : Plain) (s : OrientSnapshot) : Type 0 where
   pub family : s.family ≡ b.settings.family
   pub signature : s.signature ≡ b.problem.signature
   pub in_force : certificate_of b s.process ≡ Some s.in_force
-  pub forth : s.forth.items ≡ rules_at b (constraints_of b s.process ++ record { node = s.node.0; dir = 0 } ∷ [])
-  pub back : s.back.items ≡ rules_at b (constraints_of b s.process ++ record { node = s.node.0; dir = 1 } ∷ [])
+  pub forth : s.forth.items ≡ rules_at b (record { node = s.node.0; dir = 0 } ∷ constraints_of b s.process)
+  pub back : s.back.items ≡ rules_at b (record { node = s.node.0; dir = 1 } ∷ constraints_of b s.process)
 
 -- the snapshot has the two rules that its names name
 pub record IsTakenOverlap (b : Plain) (s : OverlapSnapshot) : Type 0 where

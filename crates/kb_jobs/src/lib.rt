@@ -16,6 +16,6 @@ pub use laws::work_is_as_on_the_board;
 pub use orienting::{OrientSnapshot, orient};
 pub use overlapping::{OverlapSnapshot, overlap};
 pub use reducing::{ReduceSnapshot, reduce};
-pub use rules::{NamedRules, SharedRules};
+pub use rules::{NamedRules, SharedPair, SharedRules};
 pub use searching::{FamilySearcher, Searcher};
 pub use working::{Snapshot, work, work_by};

@@ -13,8 +13,8 @@ use mkb_model::Proposed;
 use std::alloc::Global;
 use std::sync::Wait;
 
-/// What an Orient reads: the orders to search, the one in force, and the process's constraints with the rule of its node behind
-/// them, once for each direction of the node.
+/// What an Orient reads: the orders to search, the one in force, and the rule of its node with the process's constraints behind
+/// it, once for each direction of the node. The new rule comes first, since it is the one that a search fails on soonest.
 #[derive(Drop)]
 pub struct OrientSnapshot {
     pub process: Process,
@@ -69,7 +69,7 @@ fn start_for(s: &OrientSnapshot, rules: &[Rule]) -> Result<Start, Memory>
 {
     more_rules_are_never_earlier();
     let order = s.in_force.clone()?;
-    match rules.last() {
+    match rules.first() {
         Some(rule) if is_greater(&order, rule) => Ok(Start::Answer(order)),
         _ => Ok(Start::Bound(order)),
     }

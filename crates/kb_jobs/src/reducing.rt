@@ -9,11 +9,11 @@ ghost use Rattle.kb_rewrite.specs.Search.{IsRedexAnswer};
 ghost use Rattle.kb_jobs.specs.Reducing.{is_any, IsReducible, IsFactAt, AreFactsAt, ProposesReduce};
 
 use crate::groups::reason_of;
-use crate::rules::NamedRules;
+use crate::rules::{NamedRules, SharedPair};
 use kb_label::Process;
 use kb_node::{Fact, Job, LimitCause, NodeId};
 use kb_rewrite::{Redex, first_redex, step};
-use kb_term::{Found, Memory, Pair, Rule, Term, TermFault, is_variant};
+use kb_term::{Found, Memory, Rule, Term, TermFault, is_variant};
 use mkb_model::{FactList, Proposed};
 use std::alloc::Global;
 
@@ -23,7 +23,7 @@ use std::alloc::Global;
 pub struct ReduceSnapshot {
     pub process: Process,
     pub node: NodeId,
-    pub pair: Pair,
+    pub pair: SharedPair,
     pub rules: NamedRules,
     pub any_first: bool,
     pub any_second: bool,
@@ -36,21 +36,17 @@ pub fn reduce(alloc: Global, s: &ReduceSnapshot) -> Result<Proposed, Memory>
     requires { IsReducible s.now }
     ensures { IfOk result (ProposesReduce s.now) }
 {
-    if let Some(redex) = first_redex(
-        alloc,
-        s.rules.rules.as_slice(),
-        s.pair.first(),
-        !s.any_first,
-    )? {
-        return rewrite(alloc, s, 0, s.pair.first(), redex);
+    let pair = s.pair.as_pair();
+    if let Some(redex) = first_redex(alloc, s.rules.rules.as_slice(), pair.first(), !s.any_first)? {
+        return rewrite(alloc, s, 0, pair.first(), redex);
     }
     if let Some(redex) = first_redex(
         alloc,
         s.rules.rules.as_slice(),
-        s.pair.second(),
+        pair.second(),
         !s.any_second,
     )? {
-        return rewrite(alloc, s, 1, s.pair.second(), redex);
+        return rewrite(alloc, s, 1, pair.second(), redex);
     }
     let facts = facts(alloc, s)?;
     Ok(Proposed::Facts(FactList::new(facts)))
@@ -138,10 +134,11 @@ fn left_on(s: &ReduceSnapshot, w: u8, rule: &Rule) -> Found
     requires second { HasNoRedex s.now.rules.rules (not (is_any s.now 1)) (side s.now.pair 1) }
     ensures { (i : ℕ) → slice_get s.now.rules.rules i ≡ Some rule.now → IsFound (side s.now.pair w) rule.now result }
 {
+    let pair = s.pair.as_pair();
     if w == 0 {
-        left_for(rule, s.pair.first(), s.any_first)
+        left_for(rule, pair.first(), s.any_first)
     } else {
-        left_for(rule, s.pair.second(), s.any_second)
+        left_for(rule, pair.second(), s.any_second)
     }
 }
 

@@ -1,7 +1,7 @@
-// Rules with their names.
+// Rules with their names, and pairs, as snapshots hold them.
 ghost use Rattle.std.specs.Prelude.{◌≡◌, IfOk};
 
-use kb_term::{Rule, RuleRef};
+use kb_term::{Pair, Rule, RuleRef};
 use std::alloc::{AllocError, Global};
 use std::marker::Model;
 use std::sync::Arc;
@@ -54,6 +54,55 @@ impl Clone for SharedRules {
     fn clone(&self) -> Result<SharedRules, AllocError> {
         let rules = self.rules.clone()?;
         Ok(SharedRules { rules })
+    }
+}
+
+/// A pair that several snapshots may hold at once. Contracts see it as the pair. A copy holds the same pair.
+#[derive(Drop)]
+pub struct SharedPair {
+    pair: Arc<Pair>,
+}
+
+impl Model for SharedPair {
+    ghost use Rattle.kb_term.specs.Pair.{Pair};
+    ghost use Rattle.kb_term.specs.Coding.{coded_pair};
+
+    ghost Value = { Pair };
+
+    ghost coded = { coded_pair };
+
+    ghost view = { λ s. s.pair.value };
+}
+
+impl SharedPair {
+    /// This pair.
+    ///
+    /// # Errors
+    ///
+    /// Want of memory.
+    pub fn new(alloc: Global, pair: Pair) -> Result<SharedPair, AllocError>
+        ensures { IfOk result (λ shared. shared ≡ pair) }
+    {
+        match Arc::new(alloc, pair) {
+            Ok(pair) => Ok(SharedPair { pair }),
+            Err(_) => Err(AllocError),
+        }
+    }
+
+    /// The pair.
+    pub fn as_pair(&self) -> &Pair
+        ensures { result.now ≡ self.now }
+    {
+        &self.pair
+    }
+}
+
+impl Clone for SharedPair {
+    ghost is_clone = { λ a b. b ≡ a };
+
+    fn clone(&self) -> Result<SharedPair, AllocError> {
+        let pair = self.pair.clone()?;
+        Ok(SharedPair { pair })
     }
 }
 

@@ -1,4 +1,4 @@
--- Rules that are kept under their names.
+-- What is kept of what jobs read: rules under their names, pairs under the numbers of their nodes.
 use Rattle.std.proofs.Common.{ℕ, zero, suc, ⊎_elim, ◌⊎◌, inl, inr, ◌≤◌, ◌≡◌, ◌∙◌, refl, sym, ap, ap₂, subst, arith, length, set, All, List, [], ◌∷◌, ◌++◌, Option, Some, None}
 use Rattle.std.specs.Prelude.{option_map, slice_get, IfSome}
 use Rattle.std.specs.List.{cons_option}
@@ -12,14 +12,14 @@ use Rattle.kb_term.specs.declared.origin.RuleRef.{RuleRef}
 use Rattle.kb_label.specs.declared.verdict.Reason.{Reason}
 use Rattle.kb_jobs.specs.Rules.{named}
 use Rattle.kb_jobs.specs.declared.rules.NamedRules.{NamedRules}
-use Rattle.mkb_model.specs.Plain.{Plain, pair_in, rule_at, rules_at}
+use Rattle.mkb_model.specs.Plain.{Plain, pair_at, pair_in, rule_at, rules_at}
 use Rattle.mkb_model.specs.Proposals.{NamedRule, named_rules}
 use Rattle.mkb_model.specs.Ready.{KeepsPairs}
 use Rattle.mkb_model.specs.Effects.{applied, effect, effect_label, give_up, limit_of}
 use Rattle.mkb_model.specs.declared.proposed.Proposed.{Proposed}
 use Rattle.mkb_model.proofs.commits.Commits.{pairs-applied}
 use Rattle.mkb_rules.specs.Named.{IsRuleThere}
-use Rattle.mkb_board.specs.Shelf.{AreRulesAt, HoldsRules, place_of}
+use Rattle.mkb_board.specs.Shelf.{AreRulesAt, HoldsRead, IsPutAt, place_of}
 use Rattle.mkb_board.specs.declared.shelf.Shelf.{Shelf}
 use Rattle.mkb_board.proofs.Viewed.{rule_there}
 
@@ -30,49 +30,52 @@ one_name a c h k e =
     let d : c.dir ≡ a.dir = omega (arith, h, k, e) in
     ap₂ (λ x y. record { node = x; dir = y }) n d
 
--- ---- what is kept
+-- ---- putting values
 
-before : (xs : List (Option Rule)) (i : ℕ) (r : Rule) → slice_get (xs ++ None ∷ []) i ≡ Some (Some r) → slice_get xs i ≡ Some (Some r)
-before [] zero r e = none_some (some_is e)
-before [] (suc i) r e = none_some e
-before (x ∷ xs) zero r e = e
-before (x ∷ xs) (suc i) r e = before xs i r e
+before : {X : Type 0} (xs : List (Option X)) (i : ℕ) (x : X) → slice_get (xs ++ None ∷ []) i ≡ Some (Some x) → slice_get xs i ≡ Some (Some x)
+before [] zero x e = none_some (some_is e)
+before [] (suc i) x e = none_some e
+before (y ∷ xs) zero x e = e
+before (y ∷ xs) (suc i) x e = before xs i x e
+
+-- one place more, with nothing there
+pub put_none : {X : Type 0} (place : ℕ) (value : X) (xs ys zs : List (Option X)) → zs ≡ ys ++ None ∷ [] → IsPutAt place value xs ys → IsPutAt place value xs zs
+put_none {X} place value xs ys zs e h = λ i x k. h i x (before ys i x (subst {A = List (Option X)} (λ l. slice_get l i ≡ Some (Some x)) e k))
+
+set_cases : {X : Type 0} (xs : List (Option X)) (i j : ℕ) (q r : X) → slice_get (set xs i (Some q)) j ≡ Some (Some r) → (slice_get xs j ≡ Some (Some r)) ⊎ ((j ≡ i) × (q ≡ r))
+set_cases [] i j q r e = inl e
+set_cases (x ∷ xs) zero zero q r e = inr (refl, some_is (some_is e))
+set_cases (x ∷ xs) zero (suc j) q r e = inl e
+set_cases (x ∷ xs) (suc i) zero q r e = inl e
+set_cases (x ∷ xs) (suc i) (suc j) q r e = ⊎_elim (λ h. inl h) (λ h. inr (ap suc h.0, h.1)) (set_cases xs i j q r e)
+
+-- the value at its place
+pub put_there : {X : Type 0} (place : ℕ) (value : X) (xs ys zs : List (Option X)) → zs ≡ set ys place (Some value) → IsPutAt place value xs ys → IsPutAt place value xs zs
+put_there {X} place value xs ys zs e h = λ i x k. ⊎_elim (h i x) (λ j. inr j) (set_cases ys place i value x (subst {A = List (Option X)} (λ l. slice_get l i ≡ Some (Some x)) e k))
+
+-- ---- what is kept
 
 -- the last list is that of its names
 abbrev HasLast : Plain → Option NamedRules → Type 0
 HasLast b o = IfSome o (λ l. AreRulesAt b l.names.items l.rules)
 
 -- nothing is kept
-pub holds_none : (b : Plain) (k : Shelf) → k.rules.items ≡ [] → k.last ≡ None → HoldsRules b k
-holds_none b k e l = record {
+pub holds_none : (b : Plain) (k : Shelf) → k.rules.items ≡ [] → k.last ≡ None → k.pairs.items ≡ [] → HoldsRead b k
+holds_none b k e l p = record {
   each = λ a r d i. none_some (subst {A = List (Option Rule)} (λ z. slice_get z (place_of a) ≡ Some (Some r)) e i);
   last = subst {A = Option NamedRules} (HasLast b) (sym l) tt;
+  pairs = λ n q i. none_some (subst {A = List (Option Pair)} (λ z. slice_get z n ≡ Some (Some q)) p i);
 }
-
--- one place more, with no rule
-pub holds_more : (b : Plain) (k m : Shelf) → m.rules.items ≡ k.rules.items ++ None ∷ [] → m.last ≡ k.last → HoldsRules b k → HoldsRules b m
-holds_more b k m e l h = record {
-  each = λ a r d i. h.each a r d (before k.rules.items (place_of a) r (subst {A = List (Option Rule)} (λ z. slice_get z (place_of a) ≡ Some (Some r)) e i));
-  last = subst {A = Option NamedRules} (HasLast b) (sym l) h.last;
-}
-
-set_cases : (xs : List (Option Rule)) (i j : ℕ) (q r : Rule) → slice_get (set xs i (Some q)) j ≡ Some (Some r) → ((j ≡ i) × (q ≡ r)) ⊎ (slice_get xs j ≡ Some (Some r))
-set_cases [] i j q r e = inr e
-set_cases (x ∷ xs) zero zero q r e = inl (refl, some_is (some_is e))
-set_cases (x ∷ xs) zero (suc j) q r e = inr e
-set_cases (x ∷ xs) (suc i) zero q r e = inr e
-set_cases (x ∷ xs) (suc i) (suc j) q r e = ⊎_elim (λ h. inl (ap suc h.0, h.1)) (λ h. inr h) (set_cases xs i j q r e)
 
 -- one rule more, at its place
-pub holds_with : (b : Plain) (k m : Shelf) (a : RuleRef) (q : Rule) → a.dir ≤ 1 → m.rules.items ≡ set k.rules.items (place_of a) (Some q) → m.last ≡ k.last → rule_at b a ≡ Some q → HoldsRules b k → HoldsRules b m
-holds_with b k m a q l e n f h = record {
-  each = λ c r d i. go c r d (set_cases k.rules.items (place_of a) (place_of c) q r (subst {A = List (Option Rule)} (λ z. slice_get z (place_of c) ≡ Some (Some r)) e i));
-  last = subst {A = Option NamedRules} (HasLast b) (sym n) h.last;
-}
-  where
-    go : (c : RuleRef) (r : Rule) → c.dir ≤ 1 → ((place_of c ≡ place_of a) × (q ≡ r)) ⊎ (slice_get k.rules.items (place_of c) ≡ Some (Some r)) → rule_at b c ≡ Some r
-    go c r d (inl g) = ap (rule_at b) (one_name a c l d g.0) ∙ f ∙ ap Some g.1
-    go c r d (inr g) = h.each c r d g
+pub holds_with : (b : Plain) (k : Shelf) (a : RuleRef) (q : Rule) (rules : List (Option Rule)) → a.dir ≤ 1 → IsPutAt (place_of a) q k.rules.items rules → rule_at b a ≡ Some q → HoldsRead b k
+    → (c : RuleRef) (r : Rule) → c.dir ≤ 1 → slice_get rules (place_of c) ≡ Some (Some r) → rule_at b c ≡ Some r
+holds_with b k a q rules l put f h c r d i = ⊎_elim (h.each c r d) (λ g. ap (rule_at b) (one_name a c l d g.0) ∙ f ∙ ap Some g.1) (put (place_of c) r i)
+
+-- one pair more, at its place
+pub holds_pair : (b : Plain) (k : Shelf) (n : ℕ) (p : Pair) (pairs : List (Option Pair)) → IsPutAt n p k.pairs.items pairs → pair_at b n ≡ Some p → HoldsRead b k
+    → (m : ℕ) (q : Pair) → slice_get pairs m ≡ Some (Some q) → pair_at b m ≡ Some q
+holds_pair b k n p pairs put f h m q i = ⊎_elim (h.pairs m q) (λ g. ap (pair_at b) g.0 ∙ f ∙ ap Some g.1) (put m q i)
 
 -- ---- the last list
 
@@ -129,8 +132,9 @@ effect_pairs b x = go (limit_of b x)
     go None = pairs-applied b x
 
 -- what is kept is kept on each later board
-pub holds_after : (b : Plain) (x : Proposed) (k : Shelf) → HoldsRules b k → HoldsRules (effect b x) k
+pub holds_after : (b : Plain) (x : Proposed) (k : Shelf) → HoldsRead b k → HoldsRead (effect b x) k
 holds_after b x k h = record {
   each = λ a r d e. rule_stays b (effect b x) (effect_pairs b x) a r (h.each a r d e);
   last = last_stays b (effect b x) (effect_pairs b x) k.last h.last;
+  pairs = λ n q e. effect_pairs b x n q (h.pairs n q e);
 }

@@ -56,7 +56,7 @@ use Rattle.kb_jobs.proofs.Settling.{as_listed}
 use Rattle.mkb_board.specs.Boards.{seen, IsLegalBoard}
 use Rattle.mkb_board.specs.Snapshots.{HasJobNodes, HasOrder, IsWhole}
 use Rattle.mkb_board.proofs.Flying.{taken_flying}
-use Rattle.mkb_board.proofs.Viewed.{passing_there, rules_behind}
+use Rattle.mkb_board.proofs.Viewed.{passing_there, rules_before}
 use Rattle.mkb_model.specs.declared.settings.Settings.{Settings}
 
 -- ---- rules of pairs within the limits
@@ -136,13 +136,13 @@ module _ (P : Problem) (n : Settings) (ms : List Moment) (b : Plain) (within : I
       let same : k.certificate ≡ s.in_force = some_is (sym k.there ∙ h.in_force) in
       subst (λ z. z) (λ i. IsFirstOrder (sym h.family i) (sym h.signature i) (rules_at b (constraints_of b s.process)) (Some (same i))) k.first
 
-  -- the constraints with the rule of a direction of the node behind them
-  one_more : (s : OrientSnapshot) → IsTakenOrient b s → has b.living s.process ≡ true → s.node.0 < length b.nodes → (rules : List Rule) (d : ℕ) → rules ≡ rules_at b (constraints_of b s.process ++ record { node = s.node.0; dir = d } ∷ []) → AreOneMore s rules
+  -- the rule of a direction of the node with the constraints behind it
+  one_more : (s : OrientSnapshot) → IsTakenOrient b s → has b.living s.process ≡ true → s.node.0 < length b.nodes → (rules : List Rule) (d : ℕ) → rules ≡ rules_at b (record { node = s.node.0; dir = d } ∷ constraints_of b s.process) → AreOneMore s rules
   one_more s h lives there rules d e =
       let q = there_pair b.nodes s.node.0 there in
       let a : RuleRef = record { node = s.node.0; dir = d } in
       let r : rule_at b a ≡ Some (rule_of q.0 d) = ap (option_map (λ (z : Pair). rule_of z d)) q.1 in
-      (rules_at b (constraints_of b s.process), rule_of q.0 d, e ∙ rules_behind b (constraints_of b s.process) a (rule_of q.0 d) r, first_taken s h lives)
+      (rules_at b (constraints_of b s.process), rule_of q.0 d, e ∙ rules_before b (constraints_of b s.process) a (rule_of q.0 d) r, first_taken s h lives)
 
   -- a whole snapshot of the board may be read
   pub readable : (s : Snapshot) → IsTaken b s → IsWhole s → has b.living (process_of (job_of s)) ≡ true → HasJobNodes b (job_of s) → IsReadable s
@@ -153,8 +153,8 @@ module _ (P : Problem) (n : Settings) (ms : List Moment) (b : Plain) (within : I
       let of_problem : b.problem ≡ P = (within_budget IsFreeJob P n ms b run).problem in
       record {
         few = omega (arith, ap length h.signature, ap (λ (z : Problem). length z.signature) of_problem, within.symbols);
-        forth = subst {A = List Rule} AreMeasurable (sym h.forth) (measurable _);
-        back = subst {A = List Rule} AreMeasurable (sym h.back) (measurable _);
+        forth = subst {A = List Rule} AreMeasurable (sym h.forth) (measurable (record { node = s.node.0; dir = 0 } ∷ constraints_of b s.process));
+        back = subst {A = List Rule} AreMeasurable (sym h.back) (measurable (record { node = s.node.0; dir = 1 } ∷ constraints_of b s.process));
         forth_more = one_more s h lives there s.forth.items 0 h.forth;
         back_more = one_more s h lives there s.back.items 1 h.back;
       }

@@ -27,7 +27,7 @@ use Rattle.kb_jobs.specs.Reducing.{no_name}
 use Rattle.mkb_rules.specs.Named.{IsRuleThere}
 use Rattle.mkb_rules.proofs.Costs.{numbers_next}
 use Rattle.mkb_board.specs.Snapshots.{AreWithin, with_names, unknown_on}
-pub use Rattle.mkb_rules.proofs.Viewed.{in_directions, passing_there, rules_there, constraints_there, others_there, equations_there, rules_behind, rules_next}
+pub use Rattle.mkb_rules.proofs.Viewed.{in_directions, passing_there, rules_there, constraints_there, others_there, equations_there, rules_next}
 
 -- ---- how many
 
@@ -95,6 +95,15 @@ named_there b (a ∷ names) h =
     go (Some q) r e ih = ap (λ (l : List NamedRule). record { ref = a; rule = q } ∷ l) ih
 
 -- ---- one more
+
+-- the rule of one name more, behind some that were there before
+pub rules_more : (b : Plain) (names : List RuleRef) (i : ℕ) (d : RuleRef) (r : Rule) (old mid new : List Rule) → i < length names → rule_at b (get_or names i d) ≡ Some r → mid ≡ old ++ rules_at b (take i names) → new ≡ mid ++ r ∷ [] → new ≡ old ++ rules_at b (take (i + 1) names)
+rules_more b names i d r old mid new l there h e =
+    e ∙ ap (λ (rs : List Rule). rs ++ r ∷ []) h ∙ append_assoc old (rules_at b (take i names)) (r ∷ []) ∙ ap (λ (rs : List Rule). old ++ rs) (sym (rules_next b names i d r l there))
+
+-- a rule in front of those with the names
+pub rules_before : (b : Plain) (names : List RuleRef) (a : RuleRef) (r : Rule) → rule_at b a ≡ Some r → rules_at b (a ∷ names) ≡ r ∷ rules_at b names
+rules_before b names a r e = ap (λ (o : Option Rule). cons_option o (rules_at b names)) e
 
 -- the equation of one node more
 pub equations_next : (b : Plain) (ns : List NodeId) (i : ℕ) (d : NodeId) (q : Pair) → i < length ns → pair_at b (get_or ns i d).0 ≡ Some q

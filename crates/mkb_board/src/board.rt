@@ -51,7 +51,7 @@ impl Model for Board {
     ghost use Rattle.mkb_model.specs.Verdicts.{verdict as verdict_on};
     ghost use Rattle.mkb_board.specs.Boards.{Seen, seen, IsBoard, owed};
     ghost use Rattle.mkb_board.specs.Normal.{AreAllNormal};
-    ghost use Rattle.mkb_board.specs.Shelf.{HoldsRules};
+    ghost use Rattle.mkb_board.specs.Shelf.{HoldsRead};
 
     ghost Value = { Seen };
 
@@ -59,7 +59,7 @@ impl Model for Board {
 
     ghost view = { λ b. seen b.state b.flight.items b.journal.items };
 
-    ghost invariant = { λ b. IsBoard (seen b.state b.flight.items b.journal.items) b.taken b.dropped b.halted × (vec_len b.journal + owed (vec_len b.flight) b.halted ≤ vec_capacity b.journal) × (b.verdict ≡ verdict_on b.state) × AreAllNormal b.state b.normals.items × HoldsRules b.state b.shelf };
+    ghost invariant = { λ b. IsBoard (seen b.state b.flight.items b.journal.items) b.taken b.dropped b.halted × (vec_len b.journal + owed (vec_len b.flight) b.halted ≤ vec_capacity b.journal) × (b.verdict ≡ verdict_on b.state) × AreAllNormal b.state b.normals.items × HoldsRead b.state b.shelf };
 }
 
 impl Board {

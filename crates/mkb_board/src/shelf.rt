@@ -1,37 +1,40 @@
-// Rules that jobs read before.
-ghost use Rattle.std.specs.Prelude.{◌≡◌, ◌≤◌, Some, IfOk, IfSome, OnOk, length};
-ghost use Rattle.mkb_model.specs.Plain.{Plain, rule_at};
+// Rules and pairs that jobs read before.
+ghost use Rattle.std.specs.Prelude.{◌≡◌, ◌<◌, ◌≤◌, ◌^◌, Some, IfOk, IfSome, length};
+ghost use Rattle.mkb_model.specs.Plain.{Plain, pair_at, rule_at};
 ghost use Rattle.mkb_rules.specs.Named.{IsRuleThere};
-ghost use Rattle.mkb_board.specs.Shelf.{AreRulesAt, HoldsRules, place_of};
+ghost use Rattle.mkb_board.specs.Shelf.{AreRulesAt, HoldsRead, IsPutAt, place_of};
 
 use crate::normal::are_same;
 use crate::snapshots::named::pair_at;
-use kb_jobs::{NamedRules, SharedRules};
+use kb_jobs::{NamedRules, SharedPair, SharedRules};
 use kb_node::NodeId;
 use kb_term::{Memory, Rule, RuleRef, rule_from};
 use mkb_rules::State;
 use std::alloc::{AllocError, Global};
 
-/// The rules that jobs read before, each under its name. Who reads one again gets a copy that shares its sides. The list that
-/// was read last is kept whole: who reads the same names next shares it.
+/// The rules that jobs read before, each under its name, and the pairs, each under the number of its node. Who reads a rule again
+/// gets a copy that shares its sides, who reads a pair again shares it. The list of rules that was read last is kept whole: who
+/// reads the same names next shares it.
 ///
-/// A node keeps its pair, so a rule that is kept is the rule of its name on each later board.
+/// A node keeps its pair, so what is kept is right on each later board.
 #[derive(Drop)]
 pub(crate) struct Shelf {
     alloc: Global,
     rules: Vec<Option<Rule>>,
     last: Option<NamedRules>,
+    pairs: Vec<Option<SharedPair>>,
 }
 
 impl Shelf {
-    /// No rules. It takes no memory.
+    /// Nothing is kept. It takes no memory.
     pub(crate) fn new(alloc: Global) -> Shelf
-        ensures { (b : Plain) → HoldsRules b result }
+        ensures { (b : Plain) → HoldsRead b result }
     {
         Shelf {
             alloc,
             rules: Vec::new(alloc),
             last: None,
+            pairs: Vec::new(alloc),
         }
     }
 
@@ -42,8 +45,8 @@ impl Shelf {
     /// Want of memory for the rule.
     pub(crate) fn rule_at(&mut self, state: &State, a: RuleRef) -> Result<Rule, Memory>
         requires there { IsRuleThere state.now a }
-        requires holds { HoldsRules state.now self.old }
-        ensures holds { HoldsRules state.now self.new }
+        requires holds { HoldsRead state.now self.old }
+        ensures holds { HoldsRead state.now self.new }
         ensures rule { IfOk result (λ rule. rule_at state.now a ≡ Some rule) }
     {
         if let Some(rule) = self.copy_of(a)? {
@@ -54,13 +57,32 @@ impl Shelf {
         Ok(rule)
     }
 
+    /// The pair of the node: the one that is kept, else a new one, which is kept from here on where memory allows.
+    ///
+    /// # Errors
+    ///
+    /// Want of memory for the pair.
+    pub(crate) fn pair_at(&mut self, state: &State, n: NodeId) -> Result<SharedPair, Memory>
+        requires there { n.0 < length state.now.nodes }
+        requires holds { HoldsRead state.now self.old }
+        ensures holds { HoldsRead state.now self.new }
+        ensures pair { IfOk result (λ pair. pair_at state.now n.0 ≡ Some pair) }
+    {
+        if let Some(pair) = self.kept_pair(n)? {
+            return Ok(pair);
+        }
+        let pair = new_pair(self.alloc, state, n)?;
+        self.keep_pair(n, &pair).ok();
+        Ok(pair)
+    }
+
     /// The list that was read last, where these are its names.
     ///
     /// # Errors
     ///
     /// Want of memory.
     pub(crate) fn last_of(&self, names: &[RuleRef]) -> Result<Option<SharedRules>, AllocError>
-        ensures { (b : Plain) → HoldsRules b self.now → IfOk result (λ o. IfSome o (AreRulesAt b names.now)) }
+        ensures { (b : Plain) → HoldsRead b self.now → IfOk result (λ o. IfSome o (AreRulesAt b names.now)) }
     {
         match &self.last {
             Some(last) if are_same(last.names.as_slice(), names) => {
@@ -81,7 +103,7 @@ impl Shelf {
         names: &[RuleRef],
         rules: &SharedRules,
     ) -> Result<(), AllocError>
-        ensures { (b : Plain) → HoldsRules b self.old → AreRulesAt b names.now rules.now → HoldsRules b self.new }
+        ensures { (b : Plain) → HoldsRead b self.old → AreRulesAt b names.now rules.now → HoldsRead b self.new }
     {
         let names = Vec::from_slice(self.alloc, names)?;
         let rules = rules.clone()?;
@@ -92,7 +114,7 @@ impl Shelf {
     // A copy of the rule with the name, where it is kept.
     fn copy_of(&self, a: RuleRef) -> Result<Option<Rule>, AllocError>
         requires { a.dir ≤ 1 }
-        ensures { (b : Plain) → HoldsRules b self.now → IfOk result (λ o. IfSome o (λ rule. rule_at b a ≡ Some rule)) }
+        ensures { (b : Plain) → HoldsRead b self.now → IfOk result (λ o. IfSome o (λ rule. rule_at b a ≡ Some rule)) }
     {
         match self.rules.get(place_of(a)) {
             Some(Some(rule)) => {
@@ -106,25 +128,44 @@ impl Shelf {
     // Keeps a copy of the rule under the name. What is kept holds also where memory is wanting.
     fn keep(&mut self, a: RuleRef, rule: &Rule) -> Result<(), AllocError>
         requires { a.dir ≤ 1 }
-        ensures { (b : Plain) → HoldsRules b self.old → rule_at b a ≡ Some rule.now → HoldsRules b self.new }
+        ensures { (b : Plain) → HoldsRead b self.old → rule_at b a ≡ Some rule.now → HoldsRead b self.new }
     {
         let copy = rule.clone()?;
-        let place = place_of(a);
-        self.make_room(place + 1)?;
-        self.rules[place] = Some(copy);
-        Ok(())
+        put(&mut self.rules, place_of(a), copy)
     }
 
-    // Makes room for so many rules.
-    fn make_room(&mut self, count: usize) -> Result<(), AllocError>
-        ensures holds { (b : Plain) → HoldsRules b self.old → HoldsRules b self.new }
-        ensures room { OnOk result (count ≤ length self.new.rules.items) }
+    // The pair of the node, where it is kept.
+    fn kept_pair(&self, n: NodeId) -> Result<Option<SharedPair>, AllocError>
+        ensures { (b : Plain) → HoldsRead b self.now → IfOk result (λ o. IfSome o (λ pair. pair_at b n.0 ≡ Some pair)) }
     {
-        for _ in self.rules.len()..count {
-            self.rules.push(None)?;
+        match self.pairs.get(n.0 as usize) {
+            Some(Some(pair)) => {
+                let copy = pair.clone()?;
+                Ok(Some(copy))
+            }
+            _ => Ok(None),
         }
-        Ok(())
     }
+
+    // Keeps the pair of the node. What is kept holds also where memory is wanting.
+    fn keep_pair(&mut self, n: NodeId, pair: &SharedPair) -> Result<(), AllocError>
+        ensures { (b : Plain) → HoldsRead b self.old → pair_at b n.0 ≡ Some pair.now → HoldsRead b self.new }
+    {
+        let copy = pair.clone()?;
+        put(&mut self.pairs, n.0 as usize, copy)
+    }
+}
+
+// Puts the value at the place, with room made for it. Where memory is wanting nothing is put.
+fn put<T: Drop>(kept: &mut Vec<Option<T>>, place: usize, value: T) -> Result<(), AllocError>
+    requires { place < 2 ^ 32 }
+    ensures { IsPutAt place value kept.old.items kept.new.items }
+{
+    for _ in kept.len()..place + 1 {
+        kept.push(None)?;
+    }
+    kept[place] = Some(value);
+    Ok(())
 }
 
 // Where the rule with the name is kept.
@@ -143,4 +184,13 @@ fn new_rule(alloc: Global, state: &State, a: RuleRef) -> Result<Rule, Memory>
     let rule = rule_from(alloc, pair, a.dir)?;
     let rule = rule.shared(alloc)?;
     Ok(rule)
+}
+
+// The pair of the node, to be shared.
+fn new_pair(alloc: Global, state: &State, n: NodeId) -> Result<SharedPair, Memory>
+    requires { n.0 < length state.now.nodes }
+    ensures { IfOk result (λ pair. pair_at state.now n.0 ≡ Some pair) }
+{
+    let pair = pair_at(state, n)?;
+    Ok(SharedPair::new(alloc, pair)?)
 }

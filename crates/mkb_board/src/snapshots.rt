@@ -9,7 +9,7 @@ ghost use Rattle.std.specs.Prelude.{◌≡◌, IfOk};
 ghost use Rattle.kb_jobs.specs.Working.{IsTaken, job_of};
 ghost use Rattle.mkb_model.specs.Invariants.{FactsHold};
 ghost use Rattle.mkb_board.specs.Normal.{AreAllNormal};
-ghost use Rattle.mkb_board.specs.Shelf.{HoldsRules};
+ghost use Rattle.mkb_board.specs.Shelf.{HoldsRead};
 ghost use Rattle.mkb_board.specs.Snapshots.{HasJobNodes, HasOrder, IsWhole};
 
 use crate::cost::place_of;
@@ -25,7 +25,7 @@ use overlapping::overlap_snapshot;
 use reducing::reduce_snapshot;
 use std::alloc::Global;
 
-/// What a job reads of the board. The rules that it reads are kept for later jobs.
+/// What a job reads of the board. The rules and the pair that it reads are kept for later jobs.
 ///
 /// # Errors
 ///
@@ -41,8 +41,8 @@ pub(crate) fn snapshot(
     requires ordered { HasOrder state.now job.now }
     requires facts { FactsHold state.now }
     requires normals { AreAllNormal state.now normals.now.items }
-    requires shelf { HoldsRules state.now shelf.old }
-    ensures shelf { HoldsRules state.now shelf.new }
+    requires shelf { HoldsRead state.now shelf.old }
+    ensures shelf { HoldsRead state.now shelf.new }
     ensures job { IfOk result (λ s. job_of s ≡ job.now) }
     ensures taken { IfOk result (IsTaken state.now) }
     ensures whole { IfOk result IsWhole }

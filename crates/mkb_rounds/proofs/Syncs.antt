@@ -7,13 +7,14 @@ use Rattle.kb_term.proofs.term.Terms.TheLaws.TheKnot.{crosses as term_crosses}
 use Rattle.kb_term.proofs.Crossing.{rule_send, rule_sync}
 use Rattle.kb_term.proofs.origin.RuleRef.TheSendSync as rule_ref
 use Rattle.kb_term.proofs.signature.Signature.TheSendSync as signature
-use Rattle.kb_term.specs.contracts.pair.Pair as Pair
 use Rattle.kb_label.proofs.process.Process.TheSendSync as process
 use Rattle.kb_cert.proofs.certificate.Certificate.TheSendSync as certificate
 use Rattle.kb_cert.proofs.family.Family.TheSendSync as family
 use Rattle.kb_node.proofs.node.NodeId.TheSendSync as node_id
 use Rattle.kb_io.proofs.gate.Moment.TheSendSync as moment
 use Rattle.kb_jobs.specs.contracts.rules.NamedRules as NamedRules
+use Rattle.kb_jobs.specs.contracts.rules.SharedPair as SharedPair
+use Rattle.kb_jobs.specs.contracts.rules.SharedPair.TheInside as PairInside
 use Rattle.kb_jobs.specs.contracts.rules.SharedRules as SharedRules
 use Rattle.kb_jobs.specs.contracts.rules.SharedRules.TheInside as SharedInside
 use Rattle.kb_jobs.specs.contracts.reducing.ReduceSnapshot as ReduceSnapshot
@@ -23,11 +24,8 @@ use Rattle.kb_jobs.specs.contracts.closing.CloseSnapshot as CloseSnapshot
 use Rattle.kb_jobs.specs.contracts.working.Snapshot as Snapshot
 use Rattle.mkb_model.proofs.entry.Ticket.TheSendSync as ticket
 use Rattle.work_crew.specs.contracts.shared.Assignment as Assignment
-use Rattle.work_crew.proofs.Sends.{proposed_field}
+use Rattle.work_crew.proofs.Sends.{pair_send, pair_sync, proposed_field}
 use Rattle.mkb_rounds.specs.contracts.stealing.Outcome as Outcome
-
-pair_sync : IsSync Pair.the_row
-pair_sync = search (sendable, crosses, term_crosses) depth 20
 
 shared_rules_sync : IsSync SharedRules.the_row
 shared_rules_sync = view_sync SharedInside.the_row _ _ _ _ (recorded_sync (SharedInside.the_field).row _ _ (SharedInside.the_type).to_one (struct_sync (S.shape SharedInside.the_type) (search (sendable, crosses, rule_send, rule_sync) depth 20 fits 100000, tt)))
@@ -35,9 +33,12 @@ shared_rules_sync = view_sync SharedInside.the_row _ _ _ _ (recorded_sync (Share
 named_field : IsSync (NamedRules.the_field).row
 named_field = struct_sync (S.shape NamedRules.the_type) (search (sendable, crosses, rule_ref.the_sync) depth 20, (shared_rules_sync, tt))
 
+shared_pair_sync : IsSync SharedPair.the_row
+shared_pair_sync = view_sync PairInside.the_row _ _ _ _ (recorded_sync (PairInside.the_field).row _ _ (PairInside.the_type).to_one (struct_sync (S.shape PairInside.the_type) (search (sendable, crosses, pair_send, pair_sync) depth 20 fits 100000, tt)))
+
 reduce_field : IsSync (ReduceSnapshot.the_field).row
 reduce_field =
-    struct_sync (S.shape ReduceSnapshot.the_type) (process.the_sync, (node_id.the_field_sync, (pair_sync, (named_field, (search sendable, (search sendable, (search (sendable, crosses) depth 20, tt)))))))
+    struct_sync (S.shape ReduceSnapshot.the_type) (process.the_sync, (node_id.the_field_sync, (shared_pair_sync, (named_field, (search sendable, (search sendable, (search (sendable, crosses) depth 20, tt)))))))
 
 orient_field : IsSync (OrientSnapshot.the_field).row
 orient_field =

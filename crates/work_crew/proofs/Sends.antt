@@ -61,6 +61,8 @@ use Rattle.mkb_model.specs.contracts.entry.Effect as Effect
 use Rattle.mkb_model.specs.contracts.entry.Entry as Entry
 use Rattle.mkb_rules.specs.contracts.state.State as State
 use Rattle.kb_jobs.specs.contracts.rules.NamedRules as NamedRules
+use Rattle.kb_jobs.specs.contracts.rules.SharedPair as SharedPair
+use Rattle.kb_jobs.specs.contracts.rules.SharedPair.TheInside as PairInside
 use Rattle.kb_jobs.specs.contracts.rules.SharedRules as SharedRules
 use Rattle.kb_jobs.specs.contracts.rules.SharedRules.TheInside as SharedInside
 use Rattle.mkb_board.specs.contracts.board.Board as Board
@@ -73,6 +75,9 @@ use Rattle.work_crew.specs.contracts.together.Workplace as Workplace
 
 pub pair_send : IsSend Pair.the_row
 pair_send = search (sendable, crosses, term_crosses) depth 20
+
+pub pair_sync : IsSync Pair.the_row
+pair_sync = search (sendable, crosses, term_crosses) depth 20
 
 pub problem_send : IsSend Problem.the_row
 problem_send = search (sendable, crosses, term_crosses) depth 20
@@ -152,9 +157,12 @@ shared_rules_send = view_send SharedInside.the_row _ _ _ _ (recorded_send (Share
 named_send : IsSend NamedRules.the_row
 named_send = recorded_send (NamedRules.the_field).row _ _ (NamedRules.the_type).to_one (struct_send (S.shape NamedRules.the_type) (search (sendable, crosses, rule_ref.the_send) depth 20, (shared_rules_send, tt)))
 
+shared_pair_send : IsSend SharedPair.the_row
+shared_pair_send = view_send PairInside.the_row _ _ _ _ (recorded_send (PairInside.the_field).row _ _ (PairInside.the_type).to_one (struct_send (S.shape PairInside.the_type) (search (sendable, crosses, pair_send, pair_sync) depth 20 fits 100000, tt)))
+
 shelf_field : IsSend (Shelf.the_field).row
 shelf_field =
-    struct_send (S.shape Shelf.the_type) (search (sendable, crosses, global.the_send) depth 20, (search (sendable, crosses, rule_send) depth 20, (search (sendable, crosses, named_send) depth 20, tt)))
+    struct_send (S.shape Shelf.the_type) (search (sendable, crosses, global.the_send) depth 20, (search (sendable, crosses, rule_send) depth 20, (search (sendable, crosses, named_send) depth 20, (search (sendable, crosses, shared_pair_send) depth 20, tt))))
 
 pub board_send : IsSend Board.the_row
 board_send = view_send BoardInside.the_row _ _ _ _ (recorded_send (BoardInside.the_field).row _ _ (BoardInside.the_type).to_one (struct_send (S.shape BoardInside.the_type) (

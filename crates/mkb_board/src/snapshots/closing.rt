@@ -5,7 +5,7 @@ ghost use Rattle.kb_term.specs.View.{equations_of_list};
 ghost use Rattle.mkb_model.specs.Plain.{equations_at};
 ghost use Rattle.kb_jobs.specs.Closing.{equations_of};
 ghost use Rattle.kb_jobs.specs.Taken.{IsTakenClose};
-ghost use Rattle.mkb_board.specs.Shelf.{HoldsRules};
+ghost use Rattle.mkb_board.specs.Shelf.{HoldsRead};
 
 use super::named::{named_rules, pair_at};
 use crate::shelf::Shelf;
@@ -24,8 +24,8 @@ pub(crate) fn close_snapshot(
     shelf: &mut Shelf,
     process: Process,
 ) -> Result<CloseSnapshot, Memory>
-    requires shelf { HoldsRules state.now shelf.old }
-    ensures shelf { HoldsRules state.now shelf.new }
+    requires shelf { HoldsRead state.now shelf.old }
+    ensures shelf { HoldsRead state.now shelf.new }
     ensures process { IfOk result (λ s. s.process ≡ process) }
     ensures taken { IfOk result (IsTakenClose state.now) }
     ensures as_many { IfOk result (λ s. length s.rules.names.items ≡ length s.rules.rules) }

@@ -1,9 +1,9 @@
 // Copies of the rules that a process has on the board.
-ghost use Rattle.std.specs.Prelude.{◌≡◌, ◌<◌, Some, All, IfOk, length, map};
+ghost use Rattle.std.specs.Prelude.{◌≡◌, ◌<◌, ◌++◌, Some, All, IfOk, OnOk, length, map};
 ghost use Rattle.mkb_model.specs.Plain.{pair_at, rules_at, rules_of};
 ghost use Rattle.mkb_model.specs.Proposals.{named_rules};
 ghost use Rattle.kb_jobs.specs.Rules.{listed};
-ghost use Rattle.mkb_board.specs.Shelf.{HoldsRules};
+ghost use Rattle.mkb_board.specs.Shelf.{HoldsRead};
 ghost use Rattle.mkb_rules.specs.Named.{IsRuleThere};
 
 use crate::holding::{held_nodes, rules_among};
@@ -24,23 +24,39 @@ pub(crate) fn pair_at(state: &State, n: NodeId) -> Result<Pair, Memory>
 }
 
 /// The rules with the names.
-pub(crate) fn rules_at(
+fn rules_at(
     alloc: Global,
     state: &State,
     shelf: &mut Shelf,
     names: &[RuleRef],
 ) -> Result<Vec<Rule>, Memory>
     requires there { All (IsRuleThere state.now) names.now }
-    requires shelf { HoldsRules state.now shelf.old }
-    ensures shelf { HoldsRules state.now shelf.new }
+    requires shelf { HoldsRead state.now shelf.old }
+    ensures shelf { HoldsRead state.now shelf.new }
     ensures rules { IfOk result (λ rules. rules.items ≡ rules_at state.now names.now) }
     ensures as_many { IfOk result (λ rules. length rules.items ≡ length names.now) }
 {
-    let mut rules = Vec::new(alloc);
+    let mut rules = Vec::with_capacity(alloc, names.len())?;
+    push_rules_at(state, shelf, &mut rules, names)?;
+    Ok(rules)
+}
+
+/// Adds the rules with the names.
+pub(crate) fn push_rules_at(
+    state: &State,
+    shelf: &mut Shelf,
+    rules: &mut Vec<Rule>,
+    names: &[RuleRef],
+) -> Result<(), Memory>
+    requires there { All (IsRuleThere state.now) names.now }
+    requires shelf { HoldsRead state.now shelf.old }
+    ensures shelf { HoldsRead state.now shelf.new }
+    ensures rules { OnOk result (rules.new.items ≡ rules.old.items ++ rules_at state.now names.now) }
+{
     for i in 0..names.len() {
         rules.push(shelf.rule_at(state, names[i])?)?;
     }
-    Ok(rules)
+    Ok(())
 }
 
 /// The rules with the names, and their names. Where the list before has the same names, both share its rules.
@@ -52,8 +68,8 @@ pub(crate) fn named_rules(
     names: Vec<RuleRef>,
 ) -> Result<NamedRules, Memory>
     requires there { All (IsRuleThere state.now) names.items }
-    requires shelf { HoldsRules state.now shelf.old }
-    ensures shelf { HoldsRules state.now shelf.new }
+    requires shelf { HoldsRead state.now shelf.old }
+    ensures shelf { HoldsRead state.now shelf.new }
     ensures names { IfOk result (λ rules. rules.names.items ≡ names.items) }
     ensures rules { IfOk result (λ rules. listed rules ≡ named_rules state.now names.items) }
     ensures as_many { IfOk result (λ rules. length rules.names.items ≡ length rules.rules) }

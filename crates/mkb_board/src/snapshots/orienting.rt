@@ -3,9 +3,9 @@ ghost use Rattle.std.specs.Prelude.{◌≡◌, ◌<◌, ◌++◌, ◌∷◌, [],
 ghost use Rattle.mkb_model.specs.Plain.{certificate_of, constraints_of, is_constraint, rules_at};
 ghost use Rattle.kb_jobs.specs.Taken.{IsTakenOrient};
 ghost use Rattle.mkb_rules.specs.Named.{IsRuleThere, Lives};
-ghost use Rattle.mkb_board.specs.Shelf.{HoldsRules};
+ghost use Rattle.mkb_board.specs.Shelf.{HoldsRead};
 
-use super::named::rules_at;
+use super::named::push_rules_at;
 use crate::choosing::node_count;
 use crate::shelf::Shelf;
 use kb_jobs::OrientSnapshot;
@@ -15,7 +15,7 @@ use kb_term::{Memory, Rule, RuleRef};
 use mkb_rules::State;
 use std::alloc::{AllocError, Global};
 
-/// The run's family of orders, the signature, the order in force, and the constraints of the process with the rule of each direction of the node behind them.
+/// The run's family of orders, the signature, the order in force, and the rule of each direction of the node with the constraints of the process behind it.
 #[tactic(auto, using(crate::proofs::Viewed::constraints_there))]
 pub(crate) fn orient_snapshot(
     alloc: Global,
@@ -27,8 +27,8 @@ pub(crate) fn orient_snapshot(
     requires there { node.0 < length state.now.nodes }
     requires lives { Lives state.now process }
     requires ordered { IsSome (certificate_of state.now process) }
-    requires shelf { HoldsRules state.now shelf.old }
-    ensures shelf { HoldsRules state.now shelf.new }
+    requires shelf { HoldsRead state.now shelf.old }
+    ensures shelf { HoldsRead state.now shelf.new }
     ensures process { IfOk result (λ s. s.process ≡ process) }
     ensures node { IfOk result (λ s. s.node ≡ node) }
     ensures taken { IfOk result (IsTakenOrient state.now) }
@@ -103,22 +103,23 @@ fn push_constraint(
     Ok(())
 }
 
-// The rules with the names, and one more behind them.
-#[tactic(auto, using(crate::proofs::Viewed::rules_behind))]
+// A rule, and the rules with the names behind it.
+#[tactic(auto, using(crate::proofs::Viewed::rules_before))]
 fn rules_towards(
     alloc: Global,
     state: &State,
     shelf: &mut Shelf,
     names: &[RuleRef],
-    last: RuleRef,
+    first: RuleRef,
 ) -> Result<Vec<Rule>, Memory>
     requires names { All (IsRuleThere state.now) names.now }
-    requires last { IsRuleThere state.now last }
-    requires shelf { HoldsRules state.now shelf.old }
-    ensures shelf { HoldsRules state.now shelf.new }
-    ensures rules { IfOk result (λ rules. rules.items ≡ rules_at state.now (names.now ++ last ∷ [])) }
+    requires first { IsRuleThere state.now first }
+    requires shelf { HoldsRead state.now shelf.old }
+    ensures shelf { HoldsRead state.now shelf.new }
+    ensures rules { IfOk result (λ rules. rules.items ≡ rules_at state.now (first ∷ names.now)) }
 {
-    let mut rules = rules_at(alloc, state, shelf, names)?;
-    rules.push(shelf.rule_at(state, last)?)?;
+    let mut rules = Vec::with_capacity(alloc, names.len() + 1)?;
+    rules.push(shelf.rule_at(state, first)?)?;
+    push_rules_at(state, shelf, &mut rules, names)?;
     Ok(rules)
 }

@@ -2,7 +2,7 @@
 ghost use Rattle.std.specs.Prelude.{◌≡◌, IfOk};
 ghost use Rattle.kb_jobs.specs.Taken.{IsTakenOverlap};
 ghost use Rattle.mkb_rules.specs.Named.{IsRuleThere};
-ghost use Rattle.mkb_board.specs.Shelf.{HoldsRules};
+ghost use Rattle.mkb_board.specs.Shelf.{HoldsRead};
 
 use crate::shelf::Shelf;
 use kb_jobs::OverlapSnapshot;
@@ -20,8 +20,8 @@ pub(crate) fn overlap_snapshot(
 ) -> Result<OverlapSnapshot, Memory>
     requires first { IsRuleThere state.now first }
     requires second { IsRuleThere state.now second }
-    requires shelf { HoldsRules state.now shelf.old }
-    ensures shelf { HoldsRules state.now shelf.new }
+    requires shelf { HoldsRead state.now shelf.old }
+    ensures shelf { HoldsRead state.now shelf.new }
     ensures process { IfOk result (λ s. s.process ≡ process) }
     ensures first { IfOk result (λ s. s.first ≡ first) }
     ensures second { IfOk result (λ s. s.second ≡ second) }

@@ -5,10 +5,10 @@ ghost use Rattle.kb_jobs.specs.Taken.{IsTakenReduce};
 ghost use Rattle.mkb_model.specs.Plain.{is_equation, is_rule};
 ghost use Rattle.mkb_model.specs.Invariants.{FactsHold};
 ghost use Rattle.mkb_board.specs.Normal.{AreNormal, is_open_to};
-ghost use Rattle.mkb_board.specs.Shelf.{HoldsRules};
+ghost use Rattle.mkb_board.specs.Shelf.{HoldsRead};
 ghost use Rattle.mkb_board.specs.Snapshots.{AreWithin, IsWholeReduce, open_rules, unknown_on, with_names};
 
-use super::named::{named_rules, pair_at, rules_of};
+use super::named::{named_rules, rules_of};
 use crate::choosing::{is_equation, is_rule};
 use crate::normal::{Normal, is_open_to, roles_by};
 use crate::shelf::Shelf;
@@ -32,14 +32,14 @@ pub(crate) fn reduce_snapshot(
     requires there { node.0 < length state.now.nodes }
     requires normal { AreNormal state.now normal.now }
     requires facts { FactsHold state.now }
-    requires shelf { HoldsRules state.now shelf.old }
-    ensures shelf { HoldsRules state.now shelf.new }
+    requires shelf { HoldsRead state.now shelf.old }
+    ensures shelf { HoldsRead state.now shelf.new }
     ensures process { IfOk result (λ s. s.process ≡ process) }
     ensures node { IfOk result (λ s. s.node ≡ node) }
     ensures taken { IfOk result (IsTakenReduce state.now) }
     ensures whole { IfOk result IsWholeReduce }
 {
-    let pair = pair_at(state, node)?;
+    let pair = shelf.pair_at(state, node)?;
     let names = open_rules(alloc, state, normal, &process, node)?;
     let unknown = unknown(alloc, state, node, names.as_slice())?;
     let rules = named_rules(alloc, state, shelf, names)?;

@@ -17,7 +17,7 @@ use Rattle.mkb_board.proofs.Growing.{after_push, owed_less, owed_fewer}
 use Rattle.mkb_board.proofs.Ends.{commit_board, entry_flying, limit_flying, lands}
 use Rattle.mkb_board.specs.Choosing.{ClosedRest}
 use Rattle.mkb_board.specs.Normal.{AreAllNormal}
-use Rattle.mkb_board.specs.Shelf.{HoldsRules}
+use Rattle.mkb_board.specs.Shelf.{HoldsRead}
 use Rattle.mkb_board.proofs.Kept.{holds_after}
 use Rattle.mkb_board.proofs.Ready.{state_applicable, state_budget, acted_labels, acted_limited, acted_rest, effect_rest}
 use Rattle.mkb_board.proofs.board.Board.commit.Goals as goal
@@ -103,7 +103,7 @@ invariant_of-self-2 c =
       omega (arith, c.push.ensures.capacity, len, c.self.invariant.1, owed_fewer (vec_len c.land.new.flight) (vec_len c.self.inside.flight) c.self.inside.halted fewer),
       c.verdict-self-inside.ensures,
       subst {A = Plain} (λ z. AreAllNormal z c.turn_away.new.normals.items) (sym (c.settle.ensures ∙ ap settle c.in-Ok.ensures.ok.0)) (c.turn_away.ensures c.self.inside.state c.self.invariant.3),
-      subst {A = Plain} (λ z. HoldsRules z c.self.inside.shelf) (sym (c.settle.ensures ∙ ap settle c.in-Ok.ensures.ok.0)) (holds_after c.self.inside.state c.args.proposal c.self.inside.shelf c.self.invariant.4),
+      subst {A = Plain} (λ z. HoldsRead z c.self.inside.shelf) (sym (c.settle.ensures ∙ ap settle c.in-Ok.ensures.ok.0)) (holds_after c.self.inside.state c.args.proposal c.self.inside.shelf c.self.invariant.4),
     )
 
 pub returns-clause-ok : goal.returns-clause-ok
