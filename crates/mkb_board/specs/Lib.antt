@@ -1,7 +1,8 @@
-pub mod Choosing
 pub mod Boards
+pub mod Choosing
 pub mod Held
-pub mod Takes
-pub mod Snapshots
 pub mod Normal
 pub mod Shelf
+pub mod Snapshots
+pub mod Takes
+pub mod Working

@@ -18,6 +18,7 @@ use crate::cost::{cost, place_of};
 use crate::finishing::process_of;
 use crate::normal::{Normal, nothing_noted};
 use crate::shelf::Shelf;
+use crate::working::{Placed, first_alone};
 use kb_cert::Certificate;
 use kb_label::{Labels, ListLabels, Living, NameLog, Process, Verdict};
 use kb_node::{Job, NodeTable, View};
@@ -42,6 +43,7 @@ pub struct Board {
     pub(crate) halted: bool,
     pub(crate) normals: Vec<Normal>,
     pub(crate) shelf: Shelf,
+    pub(crate) working: Vec<Placed>,
 }
 
 impl Model for Board {
@@ -76,7 +78,8 @@ impl Board {
         let normals = nothing_noted(alloc)?;
         let journal = Vec::with_capacity(alloc, 1)?;
         let state = State::start(alloc, problem, settings)?;
-        let verdict = choosing::verdict(&state);
+        let verdict = choosing::first_verdict(&state);
+        let working = first_alone(alloc)?;
         Ok(Board {
             state,
             verdict,
@@ -87,6 +90,7 @@ impl Board {
             halted: false,
             normals,
             shelf: Shelf::new(alloc),
+            working,
         })
     }
 

@@ -9,13 +9,37 @@ ghost use Rattle.mkb_model.specs.Verdicts.{verdict, is_complete, first_over};
 ghost use Rattle.mkb_model.specs.Sleeping.{is_active, is_failed, no_members};
 ghost use Rattle.mkb_board.specs.Choosing.{ClosedRest};
 
+use crate::cost::place_of;
+use crate::working::Placed;
 use kb_label::{Process, Reason, Spent, Verdict};
 use kb_node::{LabelKind, NodeId};
 use kb_term::{MAX_NODES, RuleRef};
+use mkb_model::Proposed;
 use mkb_rules::State;
 
+/// The verdict after a commit, if one stands: the process that was closed may be complete; while some process is worked on not all
+/// have failed or given up.
+pub(crate) fn verdict(state: &State, working: &[Placed], proposal: &Proposed) -> Option<Verdict> {
+    if let Proposed::Closed { process } = proposal {
+        if state.is_closed(process) && !has_equation(state, place_of(state, process), process) {
+            return Some(Verdict::Complete(*process));
+        }
+    }
+    if !working.is_empty() {
+        return spent_commits(state);
+    }
+    first_verdict(state)
+}
+
+fn spent_commits(state: &State) -> Option<Verdict> {
+    if state.commits() == state.settings().budget {
+        return Some(Verdict::Spent(Spent::Commits));
+    }
+    None
+}
+
 /// The verdict, if one stands. It takes no memory.
-pub(crate) fn verdict(state: &State) -> Option<Verdict>
+pub(crate) fn first_verdict(state: &State) -> Option<Verdict>
     requires rest { ClosedRest state.now }
     ensures { result ≡ verdict state.now }
 {
@@ -126,7 +150,7 @@ fn is_complete(state: &State, place: usize, p: &Process, closed: &mut usize) -> 
 
 // Whether the process at this place among the living has an equation. It goes over the nodes only where the state doesn't keep it
 // at the place.
-fn has_equation(state: &State, place: usize, p: &Process) -> bool
+pub(crate) fn has_equation(state: &State, place: usize, p: &Process) -> bool
     ensures { result ≡ not (no_members (equations_of state.now p.now)) }
 {
     match state.has_equation(place, p) {

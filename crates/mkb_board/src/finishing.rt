@@ -14,6 +14,7 @@ use crate::answers::Finished;
 use crate::board::{Board, land};
 use crate::choosing;
 use crate::settling::settle;
+use crate::working::follow;
 use kb_label::Process;
 use kb_node::Job;
 use mkb_model::{Effect, Entry, Proposed, Ticket};
@@ -95,8 +96,9 @@ impl Board {
             Ok(applied) => applied,
             Err(_) => return Err((ticket, proposal)),
         };
-        settle(&mut self.state);
-        self.verdict = choosing::verdict(&self.state);
+        follow(&self.state, &mut self.working, &proposal, applied);
+        settle(&mut self.state, &mut self.working);
+        self.verdict = choosing::verdict(&self.state, &self.working, &proposal);
         land(&mut self.flight, ticket.number);
         let entry = Entry::Commit {
             worker: ticket.worker,

@@ -17,6 +17,7 @@ use crate::holding::{held_nodes, rules_among};
 use crate::lightest::lightest_work;
 use crate::normal::Normal;
 use crate::settling::{Costed, least_working};
+use crate::working::Placed;
 use kb_label::Process;
 use kb_node::Job;
 use kb_term::{Memory, RuleRef};
@@ -42,6 +43,7 @@ pub(crate) fn first_job(
     state: &State,
     flight: &[Ticket],
     normals: &mut Vec<Normal>,
+    noted: &[Placed],
 ) -> Result<Option<Job>, Memory>
     requires limited { AreLimited state.now.problem.signature state.now.nodes }
     requires rest { ClosedRest state.now }
@@ -50,7 +52,7 @@ pub(crate) fn first_job(
     ensures first { IfOk result (λ o. o ≡ first_job (record state.now { flight = flight.now })) }
     ensures normals { AreAllNormal state.now normals.new.items }
 {
-    if let Some(process) = least_working(state) {
+    if let Some(process) = least_working(state, noted) {
         let place = place_of(state, &process) % normals.len();
         if let Some(job) = first_choice(state, flight, &mut normals[place], &process)? {
             return Ok(Some(job));

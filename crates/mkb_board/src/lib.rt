@@ -16,6 +16,7 @@ mod settling;
 mod shelf;
 mod snapshots;
 mod taking;
+mod working;
 
 pub use answers::{Finished, Taken};
 pub use board::Board;
