@@ -39,3 +39,6 @@ pub mod Ordered
 pub mod Having
 pub mod NodeJobs
 pub mod Kept
+pub mod StillWorking
+pub mod Placing
+pub mod Verdicts

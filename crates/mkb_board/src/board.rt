@@ -54,6 +54,7 @@ impl Model for Board {
     ghost use Rattle.mkb_board.specs.Boards.{Seen, seen, IsBoard, owed};
     ghost use Rattle.mkb_board.specs.Normal.{AreAllNormal};
     ghost use Rattle.mkb_board.specs.Shelf.{HoldsRules};
+    ghost use Rattle.mkb_board.specs.Working.{IsWorking};
 
     ghost Value = { Seen };
 
@@ -61,7 +62,7 @@ impl Model for Board {
 
     ghost view = { λ b. seen b.state b.flight.items b.journal.items };
 
-    ghost invariant = { λ b. IsBoard (seen b.state b.flight.items b.journal.items) b.taken b.dropped b.halted × (vec_len b.journal + owed (vec_len b.flight) b.halted ≤ vec_capacity b.journal) × (b.verdict ≡ verdict_on b.state) × AreAllNormal b.state b.normals.items × HoldsRules b.state b.shelf };
+    ghost invariant = { λ b. IsBoard (seen b.state b.flight.items b.journal.items) b.taken b.dropped b.halted × (vec_len b.journal + owed (vec_len b.flight) b.halted ≤ vec_capacity b.journal) × (b.verdict ≡ verdict_on b.state) × AreAllNormal b.state b.normals.items × HoldsRules b.state b.shelf × IsWorking b.state b.working };
 }
 
 impl Board {
@@ -78,8 +79,8 @@ impl Board {
         let normals = nothing_noted(alloc)?;
         let journal = Vec::with_capacity(alloc, 1)?;
         let state = State::start(alloc, problem, settings)?;
-        let verdict = choosing::first_verdict(&state);
         let working = first_alone(alloc)?;
+        let verdict = choosing::verdict(&state, working.as_slice(), None);
         Ok(Board {
             state,
             verdict,

@@ -1,16 +1,15 @@
 // Which processes fall asleep, and which wake, after a commit.
-ghost use Rattle.std.specs.Prelude.{◌≡◌, ◌-◌, ◌&&◌, [], false, nat_lt, not, length, option_map, Some, IsTrue};
+ghost use Rattle.std.specs.Prelude.{◌≡◌, ◌+◌, ◌-◌, ◌≤◌, [], false, length, option_map, Some, vec_len};
 ghost use Rattle.std.specs.Fn.{iterate};
-ghost use Rattle.std.specs.Option.{option_map_or};
 ghost use Rattle.std.specs.Ordering.{is_le};
-ghost use Rattle.kb_label.specs.Names.{has, IsInNameOrder};
+ghost use Rattle.kb_label.specs.Names.{IsInNameOrder};
 ghost use Rattle.mkb_model.specs.Jobs.{greatest, least};
 ghost use Rattle.mkb_model.specs.Limits.{AreLimited};
 ghost use Rattle.mkb_model.specs.Plain.{cost};
 ghost use Rattle.mkb_model.specs.Invariants.{IsLabel};
-ghost use Rattle.mkb_model.specs.Sleeping.{is_active, most_awake, process_cmp, rested, settle, waiting, with_one_asleep, with_one_awake, working};
+ghost use Rattle.mkb_model.specs.Sleeping.{most_awake, process_cmp, rested, settle, waiting, with_one_asleep, with_one_awake, working as working_on};
 ghost use Rattle.mkb_board.specs.Choosing.{costed_cmp, merged, ClosedRest};
-ghost use Rattle.mkb_board.specs.declared.settling.Costed.{Costed};
+ghost use Rattle.mkb_board.specs.Working.{processes_in, IsWorking};
 
 use crate::choosing::is_active;
 use crate::cost::{cost, place_from, place_of};
@@ -27,59 +26,117 @@ pub(crate) struct Costed {
 
 /// While more than 64 processes are active and awake the one that costs most falls asleep; then, while fewer are, the active
 /// sleeper that costs least wakes. It takes no memory.
-pub(crate) fn settle(state: &mut State, working: &mut Vec<Placed>) {
-    for _ in MOST_AWAKE..working.len() {
-        rest_one(state, working);
-    }
-    if state.sleepers().is_empty() {
-        return;
-    }
+pub(crate) fn settle(state: &mut State, working: &mut Vec<Placed>)
+    requires rest { ClosedRest state.old }
+    requires limited { AreLimited state.old.problem.signature state.old.nodes }
+    requires in_order { IsInNameOrder state.old.living }
+    requires sleepers { IsLabel state.old state.old.asleep }
+    requires works { IsWorking state.old working.old }
+    ensures settled { state.new ≡ settle state.old }
+    ensures works { IsWorking state.new working.new }
+{
+    rest(state, working);
     wake(state, working);
 }
 
+// The working process that costs most falls asleep, until at most 64 work.
+fn rest(state: &mut State, working: &mut Vec<Placed>)
+    requires limited { AreLimited state.old.problem.signature state.old.nodes }
+    requires in_order { IsInNameOrder state.old.living }
+    requires sleepers { IsLabel state.old state.old.asleep }
+    requires works { IsWorking state.old working.old }
+    ensures rested { state.new ≡ record state.old { asleep = rested state.old } }
+    ensures works { IsWorking state.new working.new }
+{
+    for _ in MOST_AWAKE..working.len() {
+        rest_one(state, working);
+    }
+}
+
 // The working process that costs most falls asleep, if there is one.
-fn rest_one(state: &mut State, working: &mut Vec<Placed>) {
-    if let Some(process) = greatest_working(state, working) {
+fn rest_one(state: &mut State, working: &mut Vec<Placed>)
+    requires limited { AreLimited state.old.problem.signature state.old.nodes }
+    requires in_order { IsInNameOrder state.old.living }
+    requires sleepers { IsLabel state.old state.old.asleep }
+    requires works { IsWorking state.old working.old }
+    ensures rests { state.new ≡ record state.old { asleep = with_one_asleep state.old state.old.asleep } }
+    ensures works { IsWorking state.new working.new }
+{
+    state.log().are_forked();
+    if let Some(process) = greatest_working(state, working.as_slice()) {
         state.put_to_sleep(&process);
         take_out(working, &process);
     }
 }
 
 // The waiting process that costs least wakes, while fewer than 64 work.
-fn wake(state: &mut State, working: &mut Vec<Placed>) {
+fn wake(state: &mut State, working: &mut Vec<Placed>)
+    requires rest { ClosedRest state.old }
+    requires limited { AreLimited state.old.problem.signature state.old.nodes }
+    requires in_order { IsInNameOrder state.old.living }
+    requires sleepers { IsLabel state.old state.old.asleep }
+    requires works { IsWorking state.old working.old }
+    ensures awake { state.new ≡ record state.old { asleep = iterate (with_one_awake state.old) (most_awake - length (working_on state.old state.old.asleep)) state.old.asleep } }
+    ensures works { IsWorking state.new working.new }
+{
     for _ in working.len()..MOST_AWAKE {
-        match least_waiting(state) {
-            Some(placed) => {
-                state.wake(&placed.process);
-                put_in(working, placed);
-            }
-            None => return,
+        if !wake_one(state, working) {
+            return;
         }
     }
 }
 
-// The working process that costs most, and of equal costs the last by name.
-fn greatest_working(state: &State, working: &[Placed]) -> Option<Process> {
+// The waiting process that costs least wakes, if there is one; whether there is.
+fn wake_one(state: &mut State, working: &mut Vec<Placed>) -> bool
+    requires rest { ClosedRest state.old }
+    requires limited { AreLimited state.old.problem.signature state.old.nodes }
+    requires in_order { IsInNameOrder state.old.living }
+    requires sleepers { IsLabel state.old state.old.asleep }
+    requires works { IsWorking state.old working.old }
+    requires few { vec_len working.old ≤ MOST_AWAKE }
+    ensures wakes { state.new ≡ record state.old { asleep = with_one_awake state.old state.old.asleep } }
+    ensures works { IsWorking state.new working.new }
+    ensures len { vec_len working.new ≤ vec_len working.old + 1 }
+    ensures none { result ≡ false → waiting state.old state.old.asleep ≡ [] }
+{
+    match least_waiting(state) {
+        Some(process) => {
+            state.wake(&process);
+            put_in(working, process, place_of(state, &process));
+            true
+        }
+        None => false,
+    }
+}
+
+// The process that costs most among these, and of equal costs the last by name.
+fn greatest_working(state: &State, working: &[Placed]) -> Option<Process>
+    requires { AreLimited state.now.problem.signature state.now.nodes }
+    ensures { result ≡ greatest (process_cmp state.now) (processes_in working.now) }
+{
     let mut best = None;
     for i in 0..working.len() {
-        let Placed { place, process } = working[i];
-        best = Some(greater(best, with_cost(state, place, &process)));
+        let placed = working[i];
+        best = Some(greater(best, with_cost(state, placed.place, &placed.process)));
     }
     process_in(&best)
 }
 
-/// The working process that costs least, and of equal costs the first by name. It takes no memory.
-pub(crate) fn least_working(state: &State, working: &[Placed]) -> Option<Process> {
+/// The process that costs least among these, and of equal costs the first by name. It takes no memory.
+pub(crate) fn least_working(state: &State, working: &[Placed]) -> Option<Process>
+    requires { AreLimited state.now.problem.signature state.now.nodes }
+    ensures { result ≡ least (process_cmp state.now) (processes_in working.now) }
+{
     let mut best = None;
     for i in 0..working.len() {
-        let Placed { place, process } = working[i];
-        best = Some(lesser(best, with_cost(state, place, &process)));
+        let placed = working[i];
+        best = Some(lesser(best, with_cost(state, placed.place, &placed.process)));
     }
     process_in(&best)
 }
 
 // The active sleeper that costs least, and of equal costs the first by name.
-fn least_waiting(state: &State) -> Option<Placed>
+fn least_waiting(state: &State) -> Option<Process>
     requires rest { ClosedRest state.now }
     requires limited { AreLimited state.now.problem.signature state.now.nodes }
     requires sleepers { IsLabel state.now state.now.asleep }
@@ -97,11 +154,7 @@ fn least_waiting(state: &State) -> Option<Placed>
         }
         place = place.saturating_add(1);
     }
-    let process = process_in(&best)?;
-    Some(Placed {
-        place: place_of(state, &process),
-        process,
-    })
+    process_in(&best)
 }
 
 // The process at this place among the living with its cost.
@@ -112,16 +165,6 @@ fn with_cost(state: &State, place: usize, p: &Process) -> Costed
     Costed {
         cost: cost(state, place, p),
         process: *p,
-    }
-}
-
-// Whether the process costs more than the best, if there is one.
-fn is_dearer(next: &Costed, best: &Option<Costed>) -> bool
-    ensures { result ≡ option_map_or (λ (c : Costed). nat_lt c.cost next.now.cost) best.now false }
-{
-    match best {
-        Some(best) => best.cost < next.cost,
-        None => false,
     }
 }
 
