@@ -42,3 +42,4 @@ pub mod Kept
 pub mod StillWorking
 pub mod Placing
 pub mod Verdicts
+pub mod Following

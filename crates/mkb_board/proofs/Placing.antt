@@ -5,7 +5,8 @@ use Rattle.std.specs.List.Sorted.{IsBinarySearchResult, IsNonDecreasingBy, IsSea
 use Rattle.std.specs.Ordering.{ordering_index}
 use Rattle.std.proofs.Math.ListN.{get_or-map}
 use Rattle.std.proofs.lemmas.List.{drop-map, length-map, map-append, take-map}
-use Rattle.kb_label.specs.Names.{Name, add, minus, name_cmp}
+use Rattle.kb_label.specs.Names.{Name, add, minus, name_cmp, IsInNameOrder}
+use Rattle.kb_label.proofs.Ordered.{ordered-without}
 use Rattle.mkb_board.specs.Working.{processes_in}
 use Rattle.mkb_board.specs.declared.working.Placed.{Placed}
 use Rattle.mkb_board.proofs.Better.{drop_at}
@@ -68,3 +69,6 @@ absent_names p l (Err k) h = λ place. map-insert (λ (it : Placed). it.process)
 pub names_from : (l : List Placed) (n : ℕ) (it : Placed) → n < length l → it ≡ get_or l n it → drop n (processes_in l) ≡ it.process ∷ drop (n + 1) (processes_in l)
 names_from l n it h e =
     drop_at (processes_in l) n it.process it.process (subst {A = ℕ} (λ m. n < m) (sym (length-map l (λ (at : Placed). at.process))) h) (ap (λ (at : Placed). at.process) e ∙ sym (get_or-map (λ (at : Placed). at.process) l n it))
+
+pub left_ordered : (p : Name) (l m : List Placed) (k : ℕ) → IsInNameOrder (processes_in l) → m ≡ remove l k → processes_in (remove l k) ≡ minus (processes_in l) (p ∷ []) → IsInNameOrder (processes_in m)
+left_ordered p l m k o e f = subst {A = List Name} IsInNameOrder (sym (ap (λ (z : List Placed). processes_in z) e ∙ f)) (ordered-without p (processes_in l) o)

@@ -30,7 +30,7 @@ use Rattle.mkb_model.proofs.runs.Endings.{has_in}
 use Rattle.mkb_model.proofs.runs.Selections.{least-in}
 use Rattle.mkb_board.specs.Working.{processes_in, IsWorking}
 use Rattle.mkb_board.specs.declared.working.Placed.{Placed}
-use Rattle.mkb_model.proofs.labels.Sleepers.{in_waiting, in_working, label_asleep, label_awake, label_rested, settled_same, working_few}
+use Rattle.mkb_model.proofs.labels.Sleepers.{in_waiting, in_working, label_asleep, label_awake, label_rested, working_ordered}
 use Rattle.mkb_board.specs.Choosing.{costed_cmp, merged}
 use Rattle.mkb_board.specs.declared.settling.Costed.{Costed}
 use Rattle.mkb_board.proofs.Asleep.{asleep_at, awake_at}
@@ -122,11 +122,8 @@ pub how_many : (b : Plain) (l : Vec Placed Global) → IsWorking b l → vec_len
 how_many b l h = l.ok.0 ∙ sym (length-map l.items (λ (it : Placed). it.process)) ∙ ap length h.all
 
 module _ (b : Plain) (alive : IsInNameOrder b.living) where
-  pub working_ordered : (l : List Name) → IsInNameOrder (working b l)
-  working_ordered l = ordered-filter (is_active b) (minus b.living l) (ordered-filter (λ p. not (has l p)) b.living alive)
-
   pub listed_ordered : (l : Vec Placed Global) → IsWorking b l → IsInNameOrder (processes_in l.items)
-  listed_ordered l h = subst {A = List Name} IsInNameOrder (sym h.all) (working_ordered b.asleep)
+  listed_ordered l h = subst {A = List Name} IsInNameOrder (sym h.all) (working_ordered b alive b.asleep)
 
   -- without one who falls asleep
   pub one_rests : (s : Plain) (p : Name) (l m : Vec Placed Global) → s ≡ record b { asleep = add p b.asleep } → IsWorking b l → processes_in m.items ≡ minus (processes_in l.items) (p ∷ []) → vec_capacity l ≤ vec_capacity m → IsWorking s m
@@ -138,7 +135,7 @@ module _ (b : Plain) (alive : IsInNameOrder b.living) where
       without a false y v = refl
 
       less : working b (add p b.asleep) ≡ minus (working b b.asleep) (p ∷ [])
-      less = same_names (working b (add p b.asleep)) (minus (working b b.asleep) (p ∷ [])) (working_ordered (add p b.asleep)) (ordered-filter (λ q. not (has (p ∷ []) q)) (working b b.asleep) (working_ordered b.asleep))
+      less = same_names (working b (add p b.asleep)) (minus (working b b.asleep) (p ∷ [])) (working_ordered b alive (add p b.asleep)) (ordered-filter (λ q. not (has (p ∷ []) q)) (working b b.asleep) (working_ordered b alive b.asleep))
           (λ q. in_working b (add p b.asleep) q ∙ ap (λ x. is_active b q && (not x && has b.living q)) (has-add p b.asleep q) ∙ without (is_active b q) (name_eq q p) (has b.asleep q) (has b.living q)
           ∙ sym (has-minus (working b b.asleep) (p ∷ []) q ∙ ap (λ x. not (name_eq q p || false) && x) (in_working b b.asleep q)))
 
@@ -155,7 +152,7 @@ module _ (b : Plain) (alive : IsInNameOrder b.living) where
       at q false k = refl
 
       more : working b (minus b.asleep (p ∷ [])) ≡ add p (working b b.asleep)
-      more = same_names (working b (minus b.asleep (p ∷ []))) (add p (working b b.asleep)) (working_ordered (minus b.asleep (p ∷ []))) (ordered-add p (working b b.asleep) (working_ordered b.asleep))
+      more = same_names (working b (minus b.asleep (p ∷ []))) (add p (working b b.asleep)) (working_ordered b alive (minus b.asleep (p ∷ []))) (ordered-add p (working b b.asleep) (working_ordered b alive b.asleep))
           (λ q. in_working b (minus b.asleep (p ∷ [])) q ∙ ap (λ x. is_active b q && (not x && has b.living q)) (has-minus b.asleep (p ∷ []) q) ∙ at q (name_eq q p) refl
           ∙ sym (has-add p (working b b.asleep) q ∙ ap (λ x. name_eq q p || x) (in_working b b.asleep q)))
 

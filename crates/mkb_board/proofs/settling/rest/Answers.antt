@@ -1,4 +1,4 @@
-use Rattle.std.proofs.Common.{refl, subst, ap, sym, ◌∙◌, ◌≡◌, ◌+◌, ◌-◌, List, vec_len}
+use Rattle.std.proofs.Common.{refl, subst, ap, sym, ◌∙◌, ◌≡◌, ◌+◌, ◌-◌, ◌<◌, ◌≤◌, arith, List, vec_len}
 use Rattle.std.specs.Fn.{iterate}
 use Rattle.kb_label.specs.Names.{Name}
 use Rattle.mkb_model.specs.Plain.{Plain}
@@ -27,16 +27,18 @@ loop-preserved c =
     let s = c.loop.state in
     let d = c.loop.invariant.differs in
     let n = vec_len c.args.working.now in
+    let more : c.loop.counter < n = omega (arith, c.loop-test.true, c.len-end.ensures) in
     let now : c.rest_one.new.state.asleep ≡ with_one_asleep b s.asleep = ap (λ (z : Plain). z.asleep) c.rest_one.ensures.rests ∙ asleep_same b s d in
     record {
       differs = with_sleepers b s c.rest_one.new.state (with_one_asleep s s.asleep) d c.rest_one.ensures.rests;
       label = subst {A = List Name} (IsLabel b) (sym now) (label_rests b s.asleep c.requires.in_order c.loop.invariant.label);
       works = c.rest_one.ensures.works;
-      left = ap (iterate (with_one_asleep b) (n - (c.loop.counter + 1))) now ∙ sym (one_less (with_one_asleep b) n c.loop.counter s.asleep c.loop-test.true) ∙ c.loop.invariant.left;
+      left = ap (iterate (with_one_asleep b) (n - (c.loop.counter + 1))) now ∙ sym (one_less (with_one_asleep b) n c.loop.counter s.asleep more) ∙ c.loop.invariant.left;
     }
 
 pub returns-clause-rested : goal.returns-clause-rested
 returns-clause-rested c =
     let b = c.args.state.now in
+    let none : vec_len c.args.working.now ≤ c.loop.counter = omega (arith, c.loop-test.false, c.len-end.ensures) in
     c.loop.invariant.differs
-    ∙ ap (λ (l : List Name). record b { asleep = l }) (none_left (with_one_asleep b) (vec_len c.args.working.now) c.loop.counter c.loop.state.asleep c.loop-test.false ∙ c.loop.invariant.left)
+    ∙ ap (λ (l : List Name). record b { asleep = l }) (none_left (with_one_asleep b) (vec_len c.args.working.now) c.loop.counter c.loop.state.asleep none ∙ c.loop.invariant.left)

@@ -11,7 +11,7 @@ use Rattle.mkb_board.proofs.settling.wake.Goals as goal
 pub loop-init : goal.loop-init
 loop-init c =
     let b = c.args.state.now in
-    record { differs = refl; label = c.requires.sleepers; works = c.requires.works; few = omega (arith, c.len.ensures); left = ap (λ n. iterate (with_one_awake b) (most_awake - n) b.asleep) (c.len.ensures ∙ how_many b c.args.working.now c.requires.works) }
+    record { differs = refl; label = c.requires.sleepers; works = c.requires.works; few = omega (arith, c.len-counter.ensures); left = ap (λ n. iterate (with_one_awake b) (most_awake - n) b.asleep) (c.len-counter.ensures ∙ how_many b c.args.working.now c.requires.works) }
 
 pub wake_one-requires-clause-rest : goal.wake_one-requires-clause-rest
 wake_one-requires-clause-rest c = same_rest c.args.state.now c.loop.state c.loop.invariant.differs c.requires.rest
