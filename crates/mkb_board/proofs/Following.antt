@@ -1,5 +1,5 @@
 -- Who works on a board that starts or that a commit leaves.
-use Rattle.std.proofs.Common.{ℕ, ◌<◌, ◌≤◌, ◌≡◌, refl, sym, ap, ◌∙◌, subst, arith, List, [], ◌∷◌, length, Contains, Bool, true, false, not, Option, Some, None}
+use Rattle.std.proofs.Common.{◌<◌, ◌≤◌, ◌≡◌, refl, sym, ap, ◌∙◌, arith, List, [], ◌∷◌, length, Contains, Bool, true, false, not, Option, Some, None}
 use Rattle.std.specs.Prelude.{nat_le, IsFalse, Vec, vec_capacity}
 use Rattle.std.specs.List.{find}
 use Rattle.std.specs.declared.alloc.Global.{Global}
@@ -7,21 +7,19 @@ use Rattle.std.proofs.lemmas.Bool.{leb-false}
 use Rattle.kb_lemmas.proofs.Options.{none_some}
 use Rattle.kb_term.specs.Signature.{Problem}
 use Rattle.kb_label.specs.Names.{Name, has, is_empty, root}
-use Rattle.kb_label.specs.declared.process.TheConstants.{MAX_BITS}
 use Rattle.kb_label.specs.declared.verdict.Reason.{Reason}
 use Rattle.kb_label.specs.declared.verdict.Reason.TheVariants.{Processes, Nodes}
 use Rattle.kb_label.proofs.Forked.{leaves-forked}
 use Rattle.mkb_model.specs.Plain.{Plain}
 use Rattle.mkb_model.specs.Effects.{first_some, is_dropped, is_full, limit_of, most_living, some_if, acted}
 use Rattle.mkb_model.specs.Journals.{opening, IsFreeJob}
-use Rattle.mkb_model.specs.Sleeping.{most_awake, settle, working}
+use Rattle.mkb_model.specs.Sleeping.{settle, working}
 use Rattle.mkb_model.specs.Verdicts.{is_complete, verdict}
 use Rattle.mkb_model.specs.declared.entry.Entry.{Entry}
 use Rattle.mkb_model.specs.declared.entry.Ticket.{Ticket}
 use Rattle.mkb_model.specs.declared.proposed.Proposed.{Proposed}
 use Rattle.mkb_model.specs.declared.proposed.Proposed.TheVariants.{Facts, Rewrite, One, Both, Refuse, Deduce, Unjoined, Closed, Limit}
 use Rattle.mkb_model.specs.declared.settings.Settings.{Settings}
-use Rattle.mkb_model.proofs.Lists.{clash}
 use Rattle.mkb_model.proofs.labels.LivingNames.{living_forked}
 use Rattle.mkb_model.proofs.runs.Selections.{legal-possible}
 use Rattle.mkb_rules.specs.Named.{HasNamed}

@@ -1,7 +1,7 @@
 -- Lists of processes with places: what is done to the list is done to its names.
 use Rattle.std.proofs.Common.{ℕ, suc, ◌+◌, ◌≡◌, ◌≤◌, ◌<◌, ap, ap₂, subst, sym, ◌∙◌, List, [], ◌∷◌, ◌++◌, length, map, filter, take, drop, get_or, cond, Bool, true, false, refl}
 use Rattle.std.specs.Prelude.{insert, remove, Result, Ok, Err, IfOk, IfErr, IsTrue, is_ok}
-use Rattle.std.specs.List.Sorted.{IsBinarySearchResult, IsNonDecreasingBy, IsSearchInRange}
+use Rattle.std.specs.List.Sorted.{IsBinarySearchResult, IsNonDecreasingBy}
 use Rattle.std.specs.Ordering.{ordering_index}
 use Rattle.std.proofs.Math.ListN.{get_or-map}
 use Rattle.std.proofs.lemmas.List.{drop-map, length-map, map-append, take-map}

@@ -1,16 +1,15 @@
 -- Processes that fall asleep or wake, one after another.
 use Rattle.std.proofs.Common.{ℕ, zero, suc, ◌+◌, ◌-◌, ◌≤◌, ◌<◌, ◌≡◌, refl, sym, ap, ◌∙◌, subst, arith, List, [], ◌∷◌, filter, drop, length, get_or, Bool, true, false, cond, not, ◌&&◌, ◌||◌, Option, Some, None}
-use Rattle.std.specs.Prelude.{IfSome, nat_lt, option_map}
+use Rattle.std.specs.Prelude.{IfSome, option_map}
 use Rattle.std.specs.Fn.{iterate}
 use Rattle.std.specs.Option.{option_map_or}
 use Rattle.std.specs.Cmp.{IsTotalOrder}
 use Rattle.std.specs.Ordering.{ordering_then, is_le, nat_cmp}
 use Rattle.std.specs.declared.cmp.Ordering.{Ordering}
 use Rattle.std.proofs.lemmas.Cmp.{alike_right, on_total, then_total, nat_cmp_total}
-use Rattle.std.proofs.lemmas.Bool.{and_from, ltb-true, or_left, or_right}
+use Rattle.std.proofs.lemmas.Bool.{and_from, or_left, or_right}
 use Rattle.kb_lemmas.proofs.Booleans.{and_gives_left, and_gives_right}
 use Rattle.kb_lemmas.proofs.Options.{some_is}
-use Rattle.kb_jobs.proofs.Preorder.{nat_less}
 use Rattle.kb_label.specs.Names.{Name, name_cmp, name_eq, has, add, minus, IsInNameOrder}
 use Rattle.kb_label.specs.NameOrder.{name_cmp-total}
 use Rattle.kb_label.proofs.Members.{name_eq-eq, name_eq-refl, has-add, has-minus}
@@ -18,7 +17,7 @@ use Rattle.kb_label.proofs.Ordered.{rest, before-absent, ordered-add, ordered-fi
 use Rattle.mkb_model.specs.Jobs.{least}
 use Rattle.mkb_model.specs.Limits.{AreLimited}
 use Rattle.mkb_model.specs.Plain.{Plain, cost}
-use Rattle.mkb_model.specs.Invariants.{IsLabel, SleepersWait}
+use Rattle.mkb_model.specs.Invariants.{IsLabel}
 use Rattle.mkb_model.specs.Sleeping.{is_active, most_awake, process_cmp, rested, settle, waiting, with_one_asleep, with_one_awake, working}
 use Rattle.mkb_model.proofs.Lists.{clash, not_true}
 use Rattle.mkb_model.proofs.labels.NameLists.{label-add}
@@ -35,7 +34,6 @@ use Rattle.mkb_board.specs.Choosing.{costed_cmp, merged}
 use Rattle.mkb_board.specs.declared.settling.Costed.{Costed}
 use Rattle.mkb_board.proofs.Asleep.{asleep_at, awake_at}
 use Rattle.mkb_board.proofs.Better.{drop_at}
-use Rattle.mkb_board.proofs.Firsts.{filter_both}
 use Rattle.mkb_board.proofs.Least.{merged_both}
 
 -- ---- how many names a label has

@@ -31,7 +31,7 @@ use std::marker::Model;
 /// The board that workers share. Contracts see the plain board and the journal that led to it.
 ///
 /// The room for the end of each ticket in flight and for a halt is kept, so neither takes memory. The verdict is found once
-/// for each commit.
+/// for each commit, and who is worked on is kept from commit to commit.
 #[derive(Drop)]
 pub struct Board {
     pub(crate) state: State,

@@ -18,7 +18,11 @@ use mkb_rules::State;
 
 /// The verdict, if one stands, given who works and the first process that is complete. It takes no memory, and goes over the
 /// processes only where nobody works.
-pub(crate) fn verdict(state: &State, working: &[Placed], completed: Option<Process>) -> Option<Verdict>
+pub(crate) fn verdict(
+    state: &State,
+    working: &[Placed],
+    completed: Option<Process>,
+) -> Option<Verdict>
     requires rest { ClosedRest state.now }
     requires works { processes_in working.now ≡ working_on state.now state.now.asleep }
     requires completes { completed ≡ find (is_complete state.now) state.now.living }

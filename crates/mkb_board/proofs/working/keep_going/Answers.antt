@@ -1,5 +1,4 @@
-use Rattle.std.proofs.Common.{◌≡◌, ◌∙◌, rules, ap, List, Bool, not}
-use Rattle.std.specs.Prelude.{filter}
+use Rattle.std.proofs.Common.{◌∙◌, rules, ap, List, Bool, not}
 use Rattle.std.proofs.lemmas.Fn.{filter_same}
 use Rattle.mkb_model.specs.Plain.{Plain, is_over}
 use Rattle.mkb_board.specs.Working.{processes_in}

@@ -1,5 +1,4 @@
-use Rattle.std.proofs.Common.{ℕ, ◌≡◌, ◌∙◌, ap, sym, subst, rules, length}
-use Rattle.std.specs.Prelude.{Result, Ok, Err, IfOk, remove}
+use Rattle.std.proofs.Common.{ℕ, sym, subst, rules, length}
 use Rattle.std.specs.List.Sorted.{IsBinarySearchResult, IsSearchInRange}
 use Rattle.std.proofs.lemmas.Fn.{always_returns_same}
 use Rattle.std.proofs.lemmas.List.{length-map}
