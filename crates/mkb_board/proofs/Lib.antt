@@ -1,15 +1,15 @@
 -- Which lemma files show which part of the code; what they stand on themselves is in their imports.
 --   board::Board::take        Readable, Flying, Growing, Kept, Irreducible
---   board::Board::finish      Ready (by There), Ends, AtRest, Sleepers (by Asleep), Costs
---   choosing (verdicts)       Going, Idle, Picking
+--   board::Board::finish      Ready (by There), Ends, AtRest, Sleepers (by Asleep), Costs, Following (by StillWorking)
+--   choosing (verdicts)       Verdicts, StillWorking, Going, Idle, Picking
 --   cost                      Costs
 --   first                     Firsts (by Least), Choices, Better, Cheapest, Sleepers, Irreducible
 --   due                       Ordered, Picking, Having
 --   lightest                  Rising, Weighing, NodeJobs, Having, Picking
 --   normal                    Irreducible
---   settling                  Sleepers, Going, AtRest
+--   settling                  Sleepers, Placing, AtRest
+--   working                   Placing
 --   shelf, snapshots          Kept, Viewed, Open
---   working                   StillWorking
 --   law held_tickets_stay     Held, Others
 pub mod Asleep
 pub mod Better
@@ -41,3 +41,6 @@ pub mod Having
 pub mod NodeJobs
 pub mod Kept
 pub mod StillWorking
+pub mod Placing
+pub mod Verdicts
+pub mod Following

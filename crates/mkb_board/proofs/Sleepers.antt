@@ -1,33 +1,39 @@
 -- Processes that fall asleep or wake, one after another.
 use Rattle.std.proofs.Common.{ℕ, zero, suc, ◌+◌, ◌-◌, ◌≤◌, ◌<◌, ◌≡◌, refl, sym, ap, ◌∙◌, subst, arith, List, [], ◌∷◌, filter, drop, length, get_or, Bool, true, false, cond, not, ◌&&◌, ◌||◌, Option, Some, None}
-use Rattle.std.specs.Prelude.{IfSome, nat_lt, option_map}
+use Rattle.std.specs.Prelude.{IfSome, option_map}
 use Rattle.std.specs.Fn.{iterate}
 use Rattle.std.specs.Option.{option_map_or}
 use Rattle.std.specs.Cmp.{IsTotalOrder}
 use Rattle.std.specs.Ordering.{ordering_then, is_le, nat_cmp}
 use Rattle.std.specs.declared.cmp.Ordering.{Ordering}
 use Rattle.std.proofs.lemmas.Cmp.{alike_right, on_total, then_total, nat_cmp_total}
-use Rattle.std.proofs.lemmas.Bool.{and_from, ltb-true, or_left, or_right}
+use Rattle.std.proofs.lemmas.Bool.{and_from, or_left, or_right}
 use Rattle.kb_lemmas.proofs.Booleans.{and_gives_left, and_gives_right}
 use Rattle.kb_lemmas.proofs.Options.{some_is}
-use Rattle.kb_jobs.proofs.Preorder.{nat_less}
 use Rattle.kb_label.specs.Names.{Name, name_cmp, name_eq, has, add, minus, IsInNameOrder}
 use Rattle.kb_label.specs.NameOrder.{name_cmp-total}
-use Rattle.kb_label.proofs.Members.{name_eq-eq, name_eq-refl, has-minus}
-use Rattle.kb_label.proofs.Ordered.{rest, before-absent, ordered-filter, length-add, length-without}
+use Rattle.kb_label.proofs.Members.{name_eq-eq, name_eq-refl, has-add, has-minus}
+use Rattle.kb_label.proofs.Ordered.{rest, before-absent, ordered-add, ordered-filter, length-add, length-without}
 use Rattle.mkb_model.specs.Jobs.{least}
 use Rattle.mkb_model.specs.Limits.{AreLimited}
 use Rattle.mkb_model.specs.Plain.{Plain, cost}
-use Rattle.mkb_model.specs.Invariants.{IsLabel, SleepersWait}
+use Rattle.mkb_model.specs.Invariants.{IsLabel}
 use Rattle.mkb_model.specs.Sleeping.{is_active, most_awake, process_cmp, rested, settle, waiting, with_one_asleep, with_one_awake, working}
 use Rattle.mkb_model.proofs.Lists.{clash, not_true}
 use Rattle.mkb_model.proofs.labels.NameLists.{label-add}
-use Rattle.mkb_model.proofs.labels.Sleepers.{in_working, label_asleep, label_awake, label_rested, settled_same, working_few}
+use Rattle.std.specs.Prelude.{Vec, vec_len, vec_capacity}
+use Rattle.std.specs.declared.alloc.Global.{Global}
+use Rattle.std.proofs.lemmas.List.{length-map}
+use Rattle.kb_label.proofs.Sets.{same_names}
+use Rattle.mkb_model.proofs.runs.Endings.{has_in}
+use Rattle.mkb_model.proofs.runs.Selections.{least-in}
+use Rattle.mkb_board.specs.Working.{processes_in, IsWorking}
+use Rattle.mkb_board.specs.declared.working.Placed.{Placed}
+use Rattle.mkb_model.proofs.labels.Sleepers.{in_waiting, in_working, label_asleep, label_awake, label_rested, working_ordered}
 use Rattle.mkb_board.specs.Choosing.{costed_cmp, merged}
 use Rattle.mkb_board.specs.declared.settling.Costed.{Costed}
 use Rattle.mkb_board.proofs.Asleep.{asleep_at, awake_at}
 use Rattle.mkb_board.proofs.Better.{drop_at}
-use Rattle.mkb_board.proofs.Firsts.{filter_both}
 use Rattle.mkb_board.proofs.Least.{merged_both}
 
 -- ---- how many names a label has
@@ -67,6 +73,12 @@ DiffersInSleepers b s = s ≡ record b { asleep = s.asleep }
 pub same_limits : (b s : Plain) → DiffersInSleepers b s → AreLimited b.problem.signature b.nodes → AreLimited s.problem.signature s.nodes
 same_limits b s e h = subst {A = Plain} (λ z. AreLimited z.problem.signature z.nodes) (sym e) h
 
+pub same_order : (b s : Plain) → DiffersInSleepers b s → IsInNameOrder b.living → IsInNameOrder s.living
+same_order b s e h = subst {A = Plain} (λ z. IsInNameOrder z.living) (sym e) h
+
+pub same_label : (b s : Plain) (l : List Name) → DiffersInSleepers b s → IsLabel b l → IsLabel s l
+same_label b s l e h = subst {A = Plain} (λ z. IsLabel z l) (sym e) (record { ordered = h.ordered; living = h.living })
+
 pub with_sleepers : (b s t : Plain) (a : List Name) → DiffersInSleepers b s → t ≡ record s { asleep = a } → DiffersInSleepers b t
 with_sleepers b s t a e f = f ∙ ap (λ (z : Plain). record z { asleep = a }) e ∙ sym (ap (λ l. record b { asleep = l }) (ap (λ (z : Plain). z.asleep) f))
 
@@ -91,6 +103,10 @@ pub iterate_fixed : (f : List Name → List Name) (n : ℕ) (l : List Name) → 
 iterate_fixed f zero l e = refl
 iterate_fixed f (suc n) l e = ap (iterate f n) e ∙ iterate_fixed f n l e
 
+-- in the end
+pub none_left : (f : List Name → List Name) (n i : ℕ) (l : List Name) → n ≤ i → l ≡ iterate f (n - i) l
+none_left f n i l h = let e : 0 ≡ n - i = omega (arith, h) in ap (λ k. iterate f k l) e
+
 -- where none waits, none wakes
 pub none_wakes : (b : Plain) (l : List Name) → waiting b l ≡ [] → with_one_awake b l ≡ l
 none_wakes b l h = ap (λ w. option_map_or (λ p. minus l (p ∷ [])) (least (process_cmp b) w) l) h
@@ -98,14 +114,47 @@ none_wakes b l h = ap (λ w. option_map_or (λ p. minus l (p ∷ [])) (least (pr
 pub none_waits : (b s : Plain) → DiffersInSleepers b s → waiting s s.asleep ≡ [] → waiting b s.asleep ≡ []
 none_waits b s e h = subst {A = Plain} (λ z. waiting z s.asleep ≡ []) e h
 
--- ---- the whole
+-- ---- who works
 
--- where at most 64 live and none sleeps nothing changes
-pub settles_at_once : (b : Plain) → length b.living ≤ most_awake → b.asleep ≡ [] → b ≡ settle b
-settles_at_once b few none = sym (ap (λ l. record b { asleep = l }) (settled_same b waits))
-  where
-    waits : SleepersWait b
-    waits = record { few = let h = working_few b b.asleep in omega (arith, h, few); none_waits = λ l p s. clash (sym (ap (λ l. has l p) none) ∙ s) refl }
+pub how_many : (b : Plain) (l : Vec Placed Global) → IsWorking b l → vec_len l ≡ length (working b b.asleep)
+how_many b l h = l.ok.0 ∙ sym (length-map l.items (λ (it : Placed). it.process)) ∙ ap length h.all
+
+module _ (b : Plain) (alive : IsInNameOrder b.living) where
+  pub listed_ordered : (l : Vec Placed Global) → IsWorking b l → IsInNameOrder (processes_in l.items)
+  listed_ordered l h = subst {A = List Name} IsInNameOrder (sym h.all) (working_ordered b alive b.asleep)
+
+  -- without one who falls asleep
+  pub one_rests : (s : Plain) (p : Name) (l m : Vec Placed Global) → s ≡ record b { asleep = add p b.asleep } → IsWorking b l → processes_in m.items ≡ minus (processes_in l.items) (p ∷ []) → vec_capacity l ≤ vec_capacity m → IsWorking s m
+  one_rests s p l m e h names room = subst {A = Plain} (λ z. IsWorking z m) (sym e) (record { all = names ∙ ap (λ k. minus k (p ∷ [])) h.all ∙ sym less; room = let k = h.room in omega (arith, k, room) })
+    where
+      without : (a x y v : Bool) → (a && (not (x || y) && v)) ≡ (not (x || false) && (a && (not y && v)))
+      without true true y v = refl
+      without false true y v = refl
+      without a false y v = refl
+
+      less : working b (add p b.asleep) ≡ minus (working b b.asleep) (p ∷ [])
+      less = same_names (working b (add p b.asleep)) (minus (working b b.asleep) (p ∷ [])) (working_ordered b alive (add p b.asleep)) (ordered-filter (λ q. not (has (p ∷ []) q)) (working b b.asleep) (working_ordered b alive b.asleep))
+          (λ q. in_working b (add p b.asleep) q ∙ ap (λ x. is_active b q && (not x && has b.living q)) (has-add p b.asleep q) ∙ without (is_active b q) (name_eq q p) (has b.asleep q) (has b.living q)
+          ∙ sym (has-minus (working b b.asleep) (p ∷ []) q ∙ ap (λ x. not (name_eq q p || false) && x) (in_working b b.asleep q)))
+
+  -- with one who wakes
+  pub one_wakes : IsLabel b b.asleep → (s : Plain) (p : Name) (l m : Vec Placed Global) → least (process_cmp b) (waiting b b.asleep) ≡ Some p → s ≡ record b { asleep = minus b.asleep (p ∷ []) } → IsWorking b l
+      → processes_in m.items ≡ add p (processes_in l.items) → vec_capacity l ≤ vec_capacity m → IsWorking s m
+  one_wakes label s p l m first e h names room = subst {A = Plain} (λ z. IsWorking z m) (sym e) (record { all = names ∙ ap (add p) h.all ∙ sym more; room = let k = h.room in omega (arith, k, room) })
+    where
+      waits : (is_active b p && has b.asleep p) ≡ true
+      waits = sym (in_waiting b b.asleep p) ∙ has_in (waiting b b.asleep) p (least-in (process_cmp b) (waiting b b.asleep) p first)
+
+      at : (q : Name) (x : Bool) → name_eq q p ≡ x → (is_active b q && (not (not (x || false) && has b.asleep q) && has b.living q)) ≡ (x || (is_active b q && (not (has b.asleep q) && has b.living q)))
+      at q true k = subst {A = Name} (λ z. (is_active b z && (true && has b.living z)) ≡ true) (sym (name_eq-eq q p k)) (and_from (is_active b p) (has b.living p) (and_gives_left (is_active b p) (has b.asleep p) waits) (label.living p (and_gives_right (is_active b p) (has b.asleep p) waits)))
+      at q false k = refl
+
+      more : working b (minus b.asleep (p ∷ [])) ≡ add p (working b b.asleep)
+      more = same_names (working b (minus b.asleep (p ∷ []))) (add p (working b b.asleep)) (working_ordered b alive (minus b.asleep (p ∷ []))) (ordered-add p (working b b.asleep) (working_ordered b alive b.asleep))
+          (λ q. in_working b (minus b.asleep (p ∷ [])) q ∙ ap (λ x. is_active b q && (not x && has b.living q)) (has-minus b.asleep (p ∷ []) q) ∙ at q (name_eq q p) refl
+          ∙ sym (has-add p (working b b.asleep) q ∙ ap (λ x. name_eq q p || x) (in_working b b.asleep q)))
+
+-- ---- the whole
 
 pub settles : (b s t : Plain) → s ≡ record b { asleep = rested b } → t ≡ record s { asleep = iterate (with_one_awake s) (most_awake - length (working s s.asleep)) s.asleep } → t ≡ settle b
 settles b s t e f =
@@ -121,13 +170,6 @@ rested_label b s e alive h =
     subst {A = Plain} (λ z. IsLabel z z.asleep) (sym e) (record { ordered = k.ordered; living = k.lives })
 
 -- ---- the processes one after another
-
--- the process is active and awake
-abbrev pub works : Plain → Name → Bool
-works b p = not (has b.asleep p) && is_active b p
-
-pub working_as : (b : Plain) → working b b.asleep ≡ filter (works b) b.living
-working_as b = filter_both (is_active b) (λ p. not (has b.asleep p)) b.living
 
 pub filter_at : (t : Name → Bool) (l : List Name) (n : ℕ) (p : Name) (x : Bool) → n < length l → p ≡ get_or l n p → t p ≡ x → filter t (drop n l) ≡ cond x (p ∷ filter t (drop (n + 1) l)) (filter t (drop (n + 1) l))
 filter_at t l n p x h e k = ap (filter t) (drop_at l n p p h e) ∙ ap (λ y. cond y (p ∷ filter t (drop (n + 1) l)) (filter t (drop (n + 1) l))) k
@@ -157,16 +199,13 @@ IsPriced b c = c.cost ≡ cost b c.process
 abbrev pub process_in : Option Costed → Option Name
 process_in o = option_map (λ (c : Costed). c.process) o
 
--- the best so far and those left that pass the test give the same after one more
-pub record IsStep (b : Plain) (R : Name → Name → Ordering) (t : Name → Bool) (l : List Name) (n : ℕ) (best new : Option Costed) : Type 0 where
-  pub pick : merged R (process_in new) (least R (filter t (drop (n + 1) l))) ≡ merged R (process_in best) (least R (filter t (drop n l)))
+-- the best so far and those left give the same after one more
+pub record IsStep (b : Plain) (R : Name → Name → Ordering) (left others : List Name) (best new : Option Costed) : Type 0 where
+  pub pick : merged R (process_in new) (least R others) ≡ merged R (process_in best) (least R left)
   pub priced : IfSome new (IsPriced b)
 
-pub passed : (b : Plain) (R : Name → Name → Ordering) (t : Name → Bool) (l : List Name) (n : ℕ) (p : Name) → n < length l → p ≡ get_or l n p → t p ≡ false → (best new : Option Costed) → IfSome best (IsPriced b) → new ≡ best → IsStep b R t l n best new
-passed b R t l n p there is fails best new priced same = subst {A = Option Costed} (IsStep b R t l n best) (sym same) (record {
-  pick = sym (ap (λ (ps : List Name). merged R (process_in best) (least R ps)) (filter_at t l n p false there is fails));
-  priced = priced;
-})
+pub passed : (b : Plain) (R : Name → Name → Ordering) (left others : List Name) → left ≡ others → (best new : Option Costed) → IfSome best (IsPriced b) → new ≡ best → IsStep b R left others best new
+passed b R left others e best new priced same = subst {A = Option Costed} (IsStep b R left others best) (sym same) (record { pick = sym (ap (λ (ps : List Name). merged R (process_in best) (least R ps)) e); priced = priced })
 
 module _ (b : Plain) (order : Costed → Costed → Ordering) (R : Name → Name → Ordering) (agrees : (c d : Costed) → IsPriced b c → IsPriced b d → order c d ≡ R c.process d.process) where
   -- the better of the best so far and the next one
@@ -182,55 +221,26 @@ module _ (b : Plain) (order : Costed → Costed → Ordering) (R : Name → Name
       go : (x : Bool) → is_le (order c next) ≡ x → (Some r.process ≡ merged R (Some c.process) (Some next.process)) × IsPriced b r
       go x f = by x (e ∙ ap (λ y. Some (cond y c next)) f) (sym (ap is_le (agrees c next k h)) ∙ f)
 
-  taken : IsTotalOrder R → (t : Name → Bool) (l : List Name) (n : ℕ) (p : Name) → n < length l → p ≡ get_or l n p → t p ≡ true → (best new : Option Costed) (next r : Costed) → IfSome best (IsPriced b)
-      → next ≡ record { cost = cost b p; process = p } → Some r ≡ merged order best (Some next) → new ≡ Some r → IsStep b R t l n best new
-  taken o t l n p there is passes best new next r priced costs e same =
-      let left = filter t (drop (n + 1) l) in
+  taken : IsTotalOrder R → (p : Name) (left others : List Name) → left ≡ p ∷ others → (best new : Option Costed) (next r : Costed) → IfSome best (IsPriced b)
+      → next ≡ record { cost = cost b p; process = p } → Some r ≡ merged order best (Some next) → new ≡ Some r → IsStep b R left others best new
+  taken o p left others there best new next r priced costs e same =
       let m = better best next r priced (subst {A = Costed} (IsPriced b) (sym costs) refl) e in
-      subst {A = Option Costed} (IsStep b R t l n best) (sym same) (record {
+      subst {A = Option Costed} (IsStep b R left others best) (sym same) (record {
         pick =
-            ap (λ z. merged R z (least R left)) m.0
-            ∙ merged_both R o (process_in best) (Some next.process) (least R left)
-            ∙ ap (λ (z : Costed). merged R (process_in best) (least R (z.process ∷ left))) costs
-            ∙ sym (ap (λ (ps : List Name). merged R (process_in best) (least R ps)) (filter_at t l n p true there is passes));
+            ap (λ z. merged R z (least R others)) m.0
+            ∙ merged_both R o (process_in best) (Some next.process) (least R others)
+            ∙ ap (λ (z : Costed). merged R (process_in best) (least R (z.process ∷ others))) costs
+            ∙ sym (ap (λ (ps : List Name). merged R (process_in best) (least R ps)) there);
         priced = m.1;
       })
 
 pub costed_agrees : (b : Plain) (c d : Costed) → IsPriced b c → IsPriced b d → costed_cmp c d ≡ process_cmp b c.process d.process
 costed_agrees b c d h k = ap (λ n. ordering_then (nat_cmp n d.cost) (name_cmp c.process d.process)) h ∙ ap (λ n. ordering_then (nat_cmp (cost b c.process) n) (name_cmp c.process d.process)) k
 
-pub lesser_taken : (b : Plain) (t : Name → Bool) (l : List Name) (n : ℕ) (p : Name) → n < length l → p ≡ get_or l n p → t p ≡ true → (best new : Option Costed) (next r : Costed) → IfSome best (IsPriced b)
-    → next ≡ record { cost = cost b p; process = p } → Some r ≡ merged costed_cmp best (Some next) → new ≡ Some r → IsStep b (process_cmp b) t l n best new
+pub lesser_taken : (b : Plain) (p : Name) (left others : List Name) → left ≡ p ∷ others → (best new : Option Costed) (next r : Costed) → IfSome best (IsPriced b)
+    → next ≡ record { cost = cost b p; process = p } → Some r ≡ merged costed_cmp best (Some next) → new ≡ Some r → IsStep b (process_cmp b) left others best new
 lesser_taken b = taken b costed_cmp (process_cmp b) (costed_agrees b) (process_cmp-total b)
 
-pub greater_taken : (b : Plain) (t : Name → Bool) (l : List Name) (n : ℕ) (p : Name) → n < length l → p ≡ get_or l n p → t p ≡ true → (best new : Option Costed) (next r : Costed) → IfSome best (IsPriced b)
-    → next ≡ record { cost = cost b p; process = p } → Some r ≡ merged (λ c d. costed_cmp d c) best (Some next) → new ≡ Some r → IsStep b (turned_cmp b) t l n best new
+pub greater_taken : (b : Plain) (p : Name) (left others : List Name) → left ≡ p ∷ others → (best new : Option Costed) (next r : Costed) → IfSome best (IsPriced b)
+    → next ≡ record { cost = cost b p; process = p } → Some r ≡ merged (λ c d. costed_cmp d c) best (Some next) → new ≡ Some r → IsStep b (turned_cmp b) left others best new
 greater_taken b = taken b (λ c d. costed_cmp d c) (turned_cmp b) (λ c d h k. costed_agrees b d c k h) (turned_cmp-total b)
-
--- one that costs more than the best so far is passed over, whether it passes the test or not
-pub dearer_passed : (b : Plain) (t : Name → Bool) (l : List Name) (n : ℕ) (p : Name) → n < length l → p ≡ get_or l n p → (best new : Option Costed) (next : Costed) → IfSome best (IsPriced b)
-    → next ≡ record { cost = cost b p; process = p } → option_map_or (λ (c : Costed). nat_lt c.cost next.cost) best false ≡ true → new ≡ best → IsStep b (process_cmp b) t l n best new
-dearer_passed b t l n p there is None new next priced costs dearer same = clash dearer refl
-dearer_passed b t l n p there is (Some c) new next priced costs dearer same = go (t p) refl
-  where
-    R : Name → Name → Ordering
-    R = process_cmp b
-
-    left : List Name
-    left = filter t (drop (n + 1) l)
-
-    less : cost b c.process < cost b p
-    less = omega (arith, ltb-true c.cost next.cost dearer, priced, ap (λ (z : Costed). z.cost) costs)
-
-    stays : merged R (Some c.process) (Some p) ≡ Some c.process
-    stays = ap (λ o. Some (cond (is_le (ordering_then o (name_cmp c.process p))) c.process p)) (nat_less (cost b c.process) (cost b p) (omega (arith, less)))
-
-    go : (x : Bool) → t p ≡ x → IsStep b R t l n (Some c) new
-    go false e = passed b R t l n p there is e (Some c) new priced same
-    go true e = subst {A = Option Costed} (IsStep b R t l n (Some c)) (sym same) (record {
-      pick =
-          sym (ap (λ o. merged R o (least R left)) stays)
-          ∙ merged_both R (process_cmp-total b) (Some c.process) (Some p) (least R left)
-          ∙ sym (ap (λ (ps : List Name). merged R (Some c.process) (least R ps)) (filter_at t l n p true there is e));
-      priced = priced;
-    })

@@ -1,11 +1,14 @@
 -- Who is worked on, and how a commit changes that.
-use Rattle.std.specs.Prelude.{◌∷◌, [], List, map, filter, not, if◌then◌else◌, Option, Some, None}
+use Rattle.std.specs.Prelude.{◌∷◌, [], List, map, filter, not, if◌then◌else◌, Option, Some, None, ◌≡◌, ◌+◌, ◌≤◌, ◌<◌, length, Vec, vec_capacity}
 use Rattle.kb_label.specs.Names.{Name, minus, relabel}
 use Rattle.kb_label.specs.declared.verdict.Reason.{Reason}
 use Rattle.mkb_model.specs.Plain.{Plain, equations_of, is_over}
 use Rattle.mkb_model.specs.Sleeping.{no_members}
 use Rattle.mkb_model.specs.declared.proposed.Proposed.{Proposed}
 use Rattle.mkb_model.specs.declared.proposed.Proposed.TheVariants.{Both, Closed}
+use Rattle.kb_label.specs.declared.process.TheConstants.{MAX_BITS}
+use Rattle.mkb_model.specs.Sleeping.{working, most_awake}
+use Rattle.std.specs.declared.alloc.Global.{Global}
 use Rattle.mkb_board.specs.declared.working.Placed.{Placed}
 
 -- the processes, without their places
@@ -23,3 +26,13 @@ still_working after None x l = l
 abbrev pub completed_by : Plain → Option Reason → Proposed → Option Name
 completed_by after None (Closed p) = if no_members (equations_of after p) then Some p else None
 completed_by after limit x = None
+
+-- these are all who work, and there is room for one more than may
+pub record IsWorking (b : Plain) (l : Vec Placed Global) : Type 0 where
+  pub all : processes_in l.items ≡ working b b.asleep
+  pub room : most_awake + 1 ≤ vec_capacity l
+
+-- of a fork: the name of the process has room for one bit more
+abbrev pub IsShort : Proposed → Type 0
+IsShort (Both p n c0 c1) = length p < MAX_BITS
+IsShort x = Unit {0}

@@ -18,6 +18,7 @@ use crate::cost::{cost, place_of};
 use crate::finishing::process_of;
 use crate::normal::{Normal, nothing_noted};
 use crate::shelf::Shelf;
+use crate::working::{Placed, first_alone};
 use kb_cert::Certificate;
 use kb_label::{Labels, ListLabels, Living, NameLog, Process, Verdict};
 use kb_node::{Job, NodeTable, View};
@@ -30,7 +31,7 @@ use std::marker::Model;
 /// The board that workers share. Contracts see the plain board and the journal that led to it.
 ///
 /// The room for the end of each ticket in flight and for a halt is kept, so neither takes memory. The verdict is found once
-/// for each commit.
+/// for each commit, and who is worked on is kept from commit to commit.
 #[derive(Drop)]
 pub struct Board {
     pub(crate) state: State,
@@ -42,6 +43,7 @@ pub struct Board {
     pub(crate) halted: bool,
     pub(crate) normals: Vec<Normal>,
     pub(crate) shelf: Shelf,
+    pub(crate) working: Vec<Placed>,
 }
 
 impl Model for Board {
@@ -52,6 +54,7 @@ impl Model for Board {
     ghost use Rattle.mkb_board.specs.Boards.{Seen, seen, IsBoard, owed};
     ghost use Rattle.mkb_board.specs.Normal.{AreAllNormal};
     ghost use Rattle.mkb_board.specs.Shelf.{HoldsRead};
+    ghost use Rattle.mkb_board.specs.Working.{IsWorking};
 
     ghost Value = { Seen };
 
@@ -59,7 +62,7 @@ impl Model for Board {
 
     ghost view = { λ b. seen b.state b.flight.items b.journal.items };
 
-    ghost invariant = { λ b. IsBoard (seen b.state b.flight.items b.journal.items) b.taken b.dropped b.halted × (vec_len b.journal + owed (vec_len b.flight) b.halted ≤ vec_capacity b.journal) × (b.verdict ≡ verdict_on b.state) × AreAllNormal b.state b.normals.items × HoldsRead b.state b.shelf };
+    ghost invariant = { λ b. IsBoard (seen b.state b.flight.items b.journal.items) b.taken b.dropped b.halted × (vec_len b.journal + owed (vec_len b.flight) b.halted ≤ vec_capacity b.journal) × (b.verdict ≡ verdict_on b.state) × AreAllNormal b.state b.normals.items × HoldsRead b.state b.shelf × IsWorking b.state b.working };
 }
 
 impl Board {
@@ -76,7 +79,8 @@ impl Board {
         let normals = nothing_noted(alloc)?;
         let journal = Vec::with_capacity(alloc, 1)?;
         let state = State::start(alloc, problem, settings)?;
-        let verdict = choosing::verdict(&state);
+        let working = first_alone(alloc)?;
+        let verdict = choosing::verdict(&state, working.as_slice(), None);
         Ok(Board {
             state,
             verdict,
@@ -87,6 +91,7 @@ impl Board {
             halted: false,
             normals,
             shelf: Shelf::new(alloc),
+            working,
         })
     }
 

@@ -6,52 +6,44 @@ ghost use Rattle.kb_label.specs.Names.{Name, has};
 ghost use Rattle.kb_node.specs.declared.node.LabelKind.TheVariants.{E};
 ghost use Rattle.mkb_model.specs.Plain.{is_equation, is_rule, is_over, over_reason, equations_of, rule_kind};
 ghost use Rattle.mkb_model.specs.Verdicts.{verdict, is_complete, first_over};
-ghost use Rattle.mkb_model.specs.Sleeping.{is_active, is_failed, no_members};
+ghost use Rattle.mkb_model.specs.Sleeping.{is_active, is_failed, no_members, working as working_on};
 ghost use Rattle.mkb_board.specs.Choosing.{ClosedRest};
+ghost use Rattle.mkb_board.specs.Working.{processes_in};
 
+use crate::working::Placed;
 use kb_label::{Process, Reason, Spent, Verdict};
 use kb_node::{LabelKind, NodeId};
 use kb_term::{MAX_NODES, RuleRef};
 use mkb_rules::State;
 
-/// The verdict, if one stands. It takes no memory.
-pub(crate) fn verdict(state: &State) -> Option<Verdict>
+/// The verdict, if one stands, given who works and the first process that is complete. It takes no memory, and goes over the
+/// processes only where nobody works.
+pub(crate) fn verdict(
+    state: &State,
+    working: &[Placed],
+    completed: Option<Process>,
+) -> Option<Verdict>
     requires rest { ClosedRest state.now }
+    requires works { processes_in working.now ≡ working_on state.now state.now.asleep }
+    requires completes { completed ≡ find (is_complete state.now) state.now.living }
     ensures { result ≡ verdict state.now }
 {
-    if let Some(process) = first_complete(state) {
+    if let Some(process) = completed {
         return Some(Verdict::Complete(process));
     }
-    if have_all_failed(state) {
+    if working.is_empty() && have_all_failed(state) {
         return Some(Verdict::AllFailed);
     }
     if state.commits() == state.settings().budget {
         return Some(Verdict::Spent(Spent::Commits));
     }
-    if !have_all_stopped(state) {
+    if !working.is_empty() || !have_all_stopped(state) {
         return None;
     }
     match first_reason(state) {
         Some(reason) => Some(Verdict::Spent(Spent::Over(reason))),
         None => None,
     }
-}
-
-// The first process by name that is complete; it goes over the processes only where one is closed.
-fn first_complete(state: &State) -> Option<Process>
-    ensures { result ≡ find (is_complete state.now) state.now.living }
-{
-    if !state.has_closed() {
-        return None;
-    }
-    let living = state.log().processes();
-    let mut closed = 0;
-    for i in 0..living.len() {
-        if is_complete(state, i, &living[i], &mut closed) {
-            return Some(living[i]);
-        }
-    }
-    None
 }
 
 // Whether each process has failed. The last one by name, which is mostly the last to fail, is asked before all others.
@@ -117,16 +109,9 @@ fn first_reason(state: &State) -> Option<Reason>
     None
 }
 
-// Whether the process at this place among the living has no equation and is closed. Who is closed is searched for from a place on.
-fn is_complete(state: &State, place: usize, p: &Process, closed: &mut usize) -> bool
-    ensures { result ≡ is_complete state.now p.now }
-{
-    !has_equation(state, place, p) && state.is_closed_from(p, closed)
-}
-
-// Whether the process at this place among the living has an equation. It goes over the nodes only where the state doesn't keep it
-// at the place.
-fn has_equation(state: &State, place: usize, p: &Process) -> bool
+/// Whether the process at this place among the living has an equation. It goes over the nodes only where the state doesn't keep it
+/// at the place.
+pub(crate) fn has_equation(state: &State, place: usize, p: &Process) -> bool
     ensures { result ≡ not (no_members (equations_of state.now p.now)) }
 {
     match state.has_equation(place, p) {

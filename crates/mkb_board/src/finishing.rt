@@ -15,6 +15,7 @@ use crate::board::{Board, land};
 use crate::choosing;
 use crate::normal::turn_away;
 use crate::settling::settle;
+use crate::working::{completed_by, follow};
 use kb_label::Process;
 use kb_node::Job;
 use mkb_model::{Effect, Entry, Proposed, Ticket};
@@ -97,8 +98,10 @@ impl Board {
             Err(_) => return Err((ticket, proposal)),
         };
         turn_away(&mut self.normals, &proposal);
-        settle(&mut self.state);
-        self.verdict = choosing::verdict(&self.state);
+        follow(&self.state, &mut self.working, &proposal, applied);
+        let completed = completed_by(&self.state, &proposal, applied);
+        settle(&mut self.state, &mut self.working);
+        self.verdict = choosing::verdict(&self.state, self.working.as_slice(), completed);
         land(&mut self.flight, ticket.number);
         let entry = Entry::Commit {
             worker: ticket.worker,

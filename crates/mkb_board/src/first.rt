@@ -6,9 +6,11 @@ ghost use Rattle.mkb_model.specs.Limits.{AreLimited};
 ghost use Rattle.kb_node.specs.declared.job.Job.TheVariants.{Close};
 ghost use Rattle.mkb_model.specs.Jobs.{process_of, job_cmp, is_free};
 ghost use Rattle.mkb_model.specs.Plain.{cost, is_over, weight};
+ghost use Rattle.mkb_model.specs.Sleeping.{working as working_on};
 ghost use Rattle.mkb_model.specs.DueJobs.{first_job, work_of};
 ghost use Rattle.mkb_board.specs.Choosing.{jobs_of, first_choice, least_choice, merged, ClosedRest, IsCosted};
 ghost use Rattle.mkb_board.specs.Normal.{AreAllNormal, AreNormal, IsSearch, Serves};
+ghost use Rattle.mkb_board.specs.Working.{processes_in};
 ghost use Rattle.mkb_board.specs.declared.first.Choice.{Choice};
 
 use crate::cost::{cost, place_of};
@@ -17,6 +19,7 @@ use crate::holding::{Search, held_nodes, rules_among};
 use crate::lightest::lightest_work;
 use crate::normal::Normal;
 use crate::settling::{Costed, least_working};
+use crate::working::Placed;
 use kb_label::Process;
 use kb_node::Job;
 use kb_term::Memory;
@@ -42,15 +45,17 @@ pub(crate) fn first_job(
     state: &State,
     flight: &[Ticket],
     normals: &mut Vec<Normal>,
+    working: &[Placed],
 ) -> Result<Option<Job>, Memory>
     requires limited { AreLimited state.now.problem.signature state.now.nodes }
     requires rest { ClosedRest state.now }
     requires in_order { IsInNameOrder state.now.living }
     requires normals { AreAllNormal state.now normals.old.items }
+    requires works { processes_in working.now ≡ working_on state.now state.now.asleep }
     ensures first { IfOk result (λ o. o ≡ first_job (record state.now { flight = flight.now })) }
     ensures normals { AreAllNormal state.now normals.new.items }
 {
-    if let Some(process) = least_working(state) {
+    if let Some(process) = least_working(state, working) {
         let place = place_of(state, &process) % normals.len();
         if let Some(job) = first_choice(state, flight, &mut normals[place], &process)? {
             return Ok(Some(job));

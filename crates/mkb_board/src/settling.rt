@@ -1,24 +1,21 @@
 // Which processes fall asleep, and which wake, after a commit.
-ghost use Rattle.std.specs.Prelude.{◌≡◌, ◌-◌, ◌&&◌, [], false, nat_lt, not, length, option_map, Some, IsTrue};
+ghost use Rattle.std.specs.Prelude.{◌≡◌, ◌+◌, ◌-◌, ◌≤◌, [], false, length, option_map, Some, vec_len};
 ghost use Rattle.std.specs.Fn.{iterate};
-ghost use Rattle.std.specs.Option.{option_map_or};
 ghost use Rattle.std.specs.Ordering.{is_le};
-ghost use Rattle.kb_label.specs.Names.{has, IsInNameOrder};
+ghost use Rattle.kb_label.specs.Names.{IsInNameOrder};
 ghost use Rattle.mkb_model.specs.Jobs.{greatest, least};
 ghost use Rattle.mkb_model.specs.Limits.{AreLimited};
 ghost use Rattle.mkb_model.specs.Plain.{cost};
 ghost use Rattle.mkb_model.specs.Invariants.{IsLabel};
-ghost use Rattle.mkb_model.specs.Sleeping.{is_active, most_awake, process_cmp, rested, settle, waiting, with_one_asleep, with_one_awake, working};
+ghost use Rattle.mkb_model.specs.Sleeping.{most_awake, process_cmp, rested, settle, waiting, with_one_asleep, with_one_awake, working as working_on};
 ghost use Rattle.mkb_board.specs.Choosing.{costed_cmp, merged, ClosedRest};
-ghost use Rattle.mkb_board.specs.declared.settling.Costed.{Costed};
+ghost use Rattle.mkb_board.specs.Working.{processes_in, IsWorking};
 
 use crate::choosing::is_active;
-use crate::cost::{cost, place_from};
+use crate::cost::{cost, place_from, place_of};
+use crate::working::{MOST_AWAKE, Placed, put_in, take_out};
 use kb_label::{Living, Process};
 use mkb_rules::State;
-
-// The most processes that are active and awake.
-const MOST_AWAKE: usize = 64;
 
 /// A process with its cost.
 #[derive(Clone, Copy)]
@@ -29,180 +26,111 @@ pub(crate) struct Costed {
 
 /// While more than 64 processes are active and awake the one that costs most falls asleep; then, while fewer are, the active
 /// sleeper that costs least wakes. It takes no memory.
-///
-/// Where at most 64 processes live and none sleeps nothing is to be done.
-pub(crate) fn settle(state: &mut State)
+pub(crate) fn settle(state: &mut State, working: &mut Vec<Placed>)
     requires rest { ClosedRest state.old }
     requires limited { AreLimited state.old.problem.signature state.old.nodes }
     requires in_order { IsInNameOrder state.old.living }
     requires sleepers { IsLabel state.old state.old.asleep }
-    ensures { state.new ≡ settle state.old }
+    requires works { IsWorking state.old working.old }
+    ensures settled { state.new ≡ settle state.old }
+    ensures works { IsWorking state.new working.new }
 {
-    if state.log().processes().len() <= MOST_AWAKE && state.sleepers().is_empty() {
-        return;
-    }
-    let count = working(state);
-    if count <= MOST_AWAKE {
-        wake(state, count);
-        return;
-    }
-    rest(state, count);
-    let count = working(state);
-    wake(state, count);
+    rest(state, working);
+    wake(state, working);
 }
 
-// The working process that costs most falls asleep, until at most 64 of so many work.
-fn rest(state: &mut State, count: usize)
-    requires count { count ≡ length (working state.old state.old.asleep) }
-    requires rest { ClosedRest state.old }
+// The working process that costs most falls asleep, until at most 64 work.
+fn rest(state: &mut State, working: &mut Vec<Placed>)
     requires limited { AreLimited state.old.problem.signature state.old.nodes }
     requires in_order { IsInNameOrder state.old.living }
     requires sleepers { IsLabel state.old state.old.asleep }
-    ensures { state.new ≡ record state.old { asleep = rested state.old } }
+    requires works { IsWorking state.old working.old }
+    ensures rested { state.new ≡ record state.old { asleep = rested state.old } }
+    ensures works { IsWorking state.new working.new }
 {
-    for _ in MOST_AWAKE..count {
-        rest_one(state);
+    for _ in MOST_AWAKE..working.len() {
+        rest_one(state, working);
     }
 }
 
 // The working process that costs most falls asleep, if there is one.
-fn rest_one(state: &mut State)
-    requires rest { ClosedRest state.old }
+fn rest_one(state: &mut State, working: &mut Vec<Placed>)
     requires limited { AreLimited state.old.problem.signature state.old.nodes }
     requires in_order { IsInNameOrder state.old.living }
     requires sleepers { IsLabel state.old state.old.asleep }
-    ensures { state.new ≡ record state.old { asleep = with_one_asleep state.old state.old.asleep } }
+    requires works { IsWorking state.old working.old }
+    ensures rests { state.new ≡ record state.old { asleep = with_one_asleep state.old state.old.asleep } }
+    ensures works { IsWorking state.new working.new }
 {
     state.log().are_forked();
-    if let Some(process) = greatest_working(state) {
+    if let Some(process) = greatest_working(state, working.as_slice()) {
         state.put_to_sleep(&process);
+        take_out(working, &process);
     }
 }
 
-// The waiting process that costs least wakes, while fewer than 64 work, where so many do.
-fn wake(state: &mut State, count: usize)
-    requires count { count ≡ length (working state.old state.old.asleep) }
+// The waiting process that costs least wakes, while fewer than 64 work.
+fn wake(state: &mut State, working: &mut Vec<Placed>)
     requires rest { ClosedRest state.old }
     requires limited { AreLimited state.old.problem.signature state.old.nodes }
     requires in_order { IsInNameOrder state.old.living }
     requires sleepers { IsLabel state.old state.old.asleep }
-    ensures { state.new ≡ record state.old { asleep = iterate (with_one_awake state.old) (most_awake - length (working state.old state.old.asleep)) state.old.asleep } }
+    requires works { IsWorking state.old working.old }
+    ensures awake { state.new ≡ record state.old { asleep = iterate (with_one_awake state.old) (most_awake - length (working_on state.old state.old.asleep)) state.old.asleep } }
+    ensures works { IsWorking state.new working.new }
 {
-    for _ in count..MOST_AWAKE {
-        if !wake_one(state) {
+    for _ in working.len()..MOST_AWAKE {
+        if !wake_one(state, working) {
             return;
         }
     }
 }
 
 // The waiting process that costs least wakes, if there is one; whether there is.
-fn wake_one(state: &mut State) -> bool
+fn wake_one(state: &mut State, working: &mut Vec<Placed>) -> bool
     requires rest { ClosedRest state.old }
     requires limited { AreLimited state.old.problem.signature state.old.nodes }
+    requires in_order { IsInNameOrder state.old.living }
     requires sleepers { IsLabel state.old state.old.asleep }
-    ensures state { state.new ≡ record state.old { asleep = with_one_awake state.old state.old.asleep } }
+    requires works { IsWorking state.old working.old }
+    requires few { vec_len working.old ≤ MOST_AWAKE }
+    ensures wakes { state.new ≡ record state.old { asleep = with_one_awake state.old state.old.asleep } }
+    ensures works { IsWorking state.new working.new }
+    ensures len { vec_len working.new ≤ vec_len working.old + 1 }
     ensures none { result ≡ false → waiting state.old state.old.asleep ≡ [] }
 {
     match least_waiting(state) {
         Some(process) => {
             state.wake(&process);
+            put_in(working, process, place_of(state, &process));
             true
         }
         None => false,
     }
 }
 
-// How many processes are active and awake. Where none is closed and none gave up it takes constant time.
-fn working(state: &State) -> usize
-    requires rest { ClosedRest state.now }
-    requires in_order { IsInNameOrder state.now.living }
-    requires sleepers { IsLabel state.now state.now.asleep }
-    ensures { result ≡ length (working state.now state.now.asleep) }
+// The process that costs most among these, and of equal costs the last by name.
+fn greatest_working(state: &State, working: &[Placed]) -> Option<Process>
+    requires { AreLimited state.now.problem.signature state.now.nodes }
+    ensures { result ≡ greatest (process_cmp state.now) (processes_in working.now) }
 {
-    if !state.has_closed() && !state.has_over() {
-        return state.log().processes().len() - state.sleepers().len();
-    }
-    count_working(state)
-}
-
-// How many processes are active and awake, by asking each.
-fn count_working(state: &State) -> usize
-    requires rest { ClosedRest state.now }
-    ensures { result ≡ length (working state.now state.now.asleep) }
-{
-    let living = state.log().processes();
-    let mut count = 0;
-    let mut from = Places::first();
-    for i in 0..living.len() {
-        if is_working(state, i, &living[i], &mut from) {
-            count += 1;
-        }
-    }
-    count
-}
-
-/// Where a pass over processes in their order goes on to search for those that are closed and those that sleep.
-#[derive(Drop)]
-struct Places {
-    closed: usize,
-    asleep: usize,
-}
-
-impl Places {
-    // Before all of them.
-    fn first() -> Places {
-        Places {
-            closed: 0,
-            asleep: 0,
-        }
-    }
-}
-
-// Whether the process at this place among the living is active and awake. In a pass over them none is searched for.
-fn is_working(state: &State, place: usize, p: &Process, from: &mut Places) -> bool
-    requires rest { ClosedRest state.now }
-    requires lives { IsTrue (has state.now.living p.now) }
-    ensures { result ≡ (not (has state.now.asleep p.now) && is_active state.now p.now) }
-{
-    !state.is_asleep_from(p, &mut from.asleep) && is_active(state, place, p, &mut from.closed)
-}
-
-// The active and awake process that costs most, and of equal costs the last by name.
-fn greatest_working(state: &State) -> Option<Process>
-    requires rest { ClosedRest state.now }
-    requires limited { AreLimited state.now.problem.signature state.now.nodes }
-    ensures { result ≡ greatest (process_cmp state.now) (working state.now state.now.asleep) }
-{
-    let living = state.log().processes();
     let mut best = None;
-    let mut from = Places::first();
-    for i in 0..living.len() {
-        let process = &living[i];
-        if is_working(state, i, process, &mut from) {
-            best = Some(greater(best, with_cost(state, i, process)));
-        }
+    for i in 0..working.len() {
+        let placed = working[i];
+        best = Some(greater(best, with_cost(state, placed.place, &placed.process)));
     }
     process_in(&best)
 }
 
-/// The active and awake process that costs least, and of equal costs the first by name.
-///
-/// A process is asked whether it works only where it costs no more than the best so far. It takes no memory.
-pub(crate) fn least_working(state: &State) -> Option<Process>
-    requires rest { ClosedRest state.now }
-    requires limited { AreLimited state.now.problem.signature state.now.nodes }
-    ensures { result ≡ least (process_cmp state.now) (working state.now state.now.asleep) }
+/// The process that costs least among these, and of equal costs the first by name. It takes no memory.
+pub(crate) fn least_working(state: &State, working: &[Placed]) -> Option<Process>
+    requires { AreLimited state.now.problem.signature state.now.nodes }
+    ensures { result ≡ least (process_cmp state.now) (processes_in working.now) }
 {
-    let living = state.log().processes();
     let mut best = None;
-    let mut from = Places::first();
-    for i in 0..living.len() {
-        let process = &living[i];
-        let next = with_cost(state, i, process);
-        if is_dearer(&next, &best) || !is_working(state, i, process, &mut from) {
-            continue;
-        }
-        best = Some(lesser(best, next));
+    for i in 0..working.len() {
+        let placed = working[i];
+        best = Some(lesser(best, with_cost(state, placed.place, &placed.process)));
     }
     process_in(&best)
 }
@@ -237,16 +165,6 @@ fn with_cost(state: &State, place: usize, p: &Process) -> Costed
     Costed {
         cost: cost(state, place, p),
         process: *p,
-    }
-}
-
-// Whether the process costs more than the best, if there is one.
-fn is_dearer(next: &Costed, best: &Option<Costed>) -> bool
-    ensures { result ≡ option_map_or (λ (c : Costed). nat_lt c.cost next.now.cost) best.now false }
-{
-    match best {
-        Some(best) => best.cost < next.cost,
-        None => false,
     }
 }
 

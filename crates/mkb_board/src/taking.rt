@@ -39,7 +39,12 @@ impl Board {
         if self.halted {
             return Ok(Taken::Halted);
         }
-        match first_job(&self.state, self.flight.as_slice(), &mut self.normals)? {
+        match first_job(
+            &self.state,
+            self.flight.as_slice(),
+            &mut self.normals,
+            self.working.as_slice(),
+        )? {
             None => Ok(Taken::Idle(self.flight.len())),
             Some(job) => self.take_job(alloc, worker, &job),
         }

@@ -1,10 +1,15 @@
-use Rattle.std.proofs.Common.{◌∙◌, sym}
+use Rattle.std.proofs.Common.{◌≡◌, ◌∙◌, ap, sym, Some}
+use Rattle.mkb_model.specs.Jobs.{least}
+use Rattle.mkb_model.specs.Sleeping.{process_cmp}
 use Rattle.mkb_board.proofs.Cheapest.{first_of_least, least_lives}
 use Rattle.mkb_board.proofs.first.first_job.Goals as goal
 
 pub first_choice-requires-clause-lives : goal.first_choice-requires-clause-lives
-first_choice-requires-clause-lives c = least_lives c.args.state.now c.in-Some.process (sym c.least_working.ensures ∙ c.in-Some.is)
+first_choice-requires-clause-lives c =
+    let b = c.args.state.now in
+    least_lives b c.in-Some.process (ap (least (process_cmp b)) (sym c.requires.works) ∙ sym c.least_working.ensures ∙ c.in-Some.is)
 
 pub returns-in-Some-2-clause-first : goal.returns-in-Some-2-clause-first
 returns-in-Some-2-clause-first c =
-    first_of_least c.args.state.now c.args.flight.now c.in-Some.process c.in-Some-2.job (sym c.least_working.ensures ∙ c.in-Some.is) (sym c.in_ok-job.ensures.first ∙ c.in-Some-2.is)
+    let b = c.args.state.now in
+    first_of_least b c.args.flight.now c.in-Some.process c.in-Some-2.job (ap (least (process_cmp b)) (sym c.requires.works) ∙ sym c.least_working.ensures ∙ c.in-Some.is) (sym c.in_ok-job.ensures.first ∙ c.in-Some-2.is)

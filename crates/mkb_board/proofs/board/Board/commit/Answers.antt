@@ -2,7 +2,7 @@ use Rattle.kb_label.specs.Names.{IsInNameOrder}
 use Rattle.mkb_model.specs.Limits.{AreLimited}
 use Rattle.mkb_model.specs.Invariants.{IsLabel}
 use Rattle.mkb_model.specs.Sleeping.{settle}
-use Rattle.std.proofs.Common.{◌≡◌, ◌∙◌, ◌++◌, ◌∷◌, [], arith, subst, ap, refl, sym, vec_len, Contains, None}
+use Rattle.std.proofs.Common.{◌≡◌, ◌∙◌, ◌++◌, ◌∷◌, [], arith, subst, ap, refl, sym, vec_len, Contains, List, None}
 use Rattle.std.specs.Prelude.{IsFalse}
 use Rattle.mkb_model.specs.Plain.{Plain}
 use Rattle.mkb_model.specs.Effects.{is_dropped, effect_entry, limit_of}
@@ -20,6 +20,12 @@ use Rattle.mkb_board.specs.Normal.{AreAllNormal}
 use Rattle.mkb_board.specs.Shelf.{HoldsRead}
 use Rattle.mkb_board.proofs.Kept.{holds_after}
 use Rattle.mkb_board.proofs.Ready.{state_applicable, state_budget, acted_labels, acted_limited, acted_rest, effect_rest}
+use Rattle.mkb_board.specs.Working.{processes_in}
+use Rattle.mkb_board.specs.declared.working.Placed.{Placed}
+use Rattle.mkb_board.proofs.Following.{completes_on, short_fork, works_on}
+use Rattle.mkb_board.proofs.Readable.{ordered_on}
+use Rattle.mkb_board.proofs.Sleepers.{how_many, listed_ordered}
+use Rattle.mkb_board.proofs.StillWorking.{few_work}
 use Rattle.mkb_board.proofs.board.Board.commit.Goals as goal
 
 pub apply-requires-clause-budget : goal.apply-requires-clause-budget
@@ -74,17 +80,55 @@ settle-requires-clause-rest c =
     (subst {A = Seen} (λ z. IsProposalOf z c.args.ticket c.args.proposal) (sym c.self.view_is) c.requires.proposed)
     (subst {A = Seen} (λ z. IsFalse (is_dropped z.plain c.args.proposal)) (sym c.self.view_is) c.requires.acts))
 
-pub verdict-self-inside-requires : goal.verdict-self-inside-requires
-verdict-self-inside-requires c =
-    record {
-      rest =
-          subst {A = Plain} ClosedRest (sym (c.settle.ensures ∙ ap settle c.in-Ok.ensures.ok.0))
-          (effect_rest c.self.inside.state c.self.inside.flight.items c.self.inside.journal.items c.args.ticket c.args.proposal c.self.invariant.0.legal
-          (subst {A = Seen} (λ z. verdict z.plain ≡ None) (sym c.self.view_is) c.requires.no_verdict)
-          (subst {A = Seen} (λ z. Contains z.plain.flight c.args.ticket) (sym c.self.view_is) c.requires.flying)
-          (subst {A = Seen} (λ z. IsProposalOf z c.args.ticket c.args.proposal) (sym c.self.view_is) c.requires.proposed)
-          (subst {A = Seen} (λ z. IsFalse (is_dropped z.plain c.args.proposal)) (sym c.self.view_is) c.requires.acts));
-    }
+pub follow-requires-clause-in_order : goal.follow-requires-clause-in_order
+follow-requires-clause-in_order c =
+    listed_ordered c.self.inside.state (ordered_on c.self.inside.state c.self.inside.flight.items c.self.inside.journal.items c.self.invariant.0.legal) c.self.inside.working c.self.invariant.5
+
+pub follow-requires-clause-few : goal.follow-requires-clause-few
+follow-requires-clause-few c =
+    let most = few_work c.self.inside.state c.self.inside.flight.items c.self.inside.journal.items c.self.invariant.0.legal in
+    omega (arith, how_many c.self.inside.state c.self.inside.working c.self.invariant.5, most)
+
+pub follow-requires-clause-room : goal.follow-requires-clause-room
+follow-requires-clause-room c = c.self.invariant.5.room
+
+pub follow-requires-clause-short : goal.follow-requires-clause-short
+follow-requires-clause-short c =
+    short_fork c.self.inside.state c.self.inside.flight.items c.self.inside.journal.items c.args.ticket c.args.proposal c.self.invariant.0.legal
+    (subst {A = Seen} (λ z. verdict z.plain ≡ None) (sym c.self.view_is) c.requires.no_verdict)
+    (subst {A = Seen} (λ z. Contains z.plain.flight c.args.ticket) (sym c.self.view_is) c.requires.flying)
+    (subst {A = Seen} (λ z. IsProposalOf z c.args.ticket c.args.proposal) (sym c.self.view_is) c.requires.proposed)
+    c.in-Ok.applied c.in-Ok.ensures.ok.1
+
+pub settle-requires-clause-works : goal.settle-requires-clause-works
+settle-requires-clause-works c =
+    works_on c.self.inside.state c.self.inside.flight.items c.self.inside.journal.items c.args.ticket c.args.proposal c.self.invariant.0.legal
+    (subst {A = Seen} (λ z. verdict z.plain ≡ None) (sym c.self.view_is) c.requires.no_verdict)
+    (subst {A = Seen} (λ z. Contains z.plain.flight c.args.ticket) (sym c.self.view_is) c.requires.flying)
+    (subst {A = Seen} (λ z. IsProposalOf z c.args.ticket c.args.proposal) (sym c.self.view_is) c.requires.proposed)
+    (subst {A = Seen} (λ z. IsFalse (is_dropped z.plain c.args.proposal)) (sym c.self.view_is) c.requires.acts)
+    c.apply.new.self c.self.inside.working c.follow.new.working c.in-Ok.ensures.ok.0 c.self.invariant.5 (c.follow.ensures.items (limit_of c.self.inside.state c.args.proposal) c.in-Ok.ensures.ok.1) c.follow.ensures.room
+
+pub verdict-self-inside-requires-clause-rest : goal.verdict-self-inside-requires-clause-rest
+verdict-self-inside-requires-clause-rest c =
+    subst {A = Plain} ClosedRest (sym (c.settle.ensures.settled ∙ ap settle c.in-Ok.ensures.ok.0))
+    (effect_rest c.self.inside.state c.self.inside.flight.items c.self.inside.journal.items c.args.ticket c.args.proposal c.self.invariant.0.legal
+    (subst {A = Seen} (λ z. verdict z.plain ≡ None) (sym c.self.view_is) c.requires.no_verdict)
+    (subst {A = Seen} (λ z. Contains z.plain.flight c.args.ticket) (sym c.self.view_is) c.requires.flying)
+    (subst {A = Seen} (λ z. IsProposalOf z c.args.ticket c.args.proposal) (sym c.self.view_is) c.requires.proposed)
+    (subst {A = Seen} (λ z. IsFalse (is_dropped z.plain c.args.proposal)) (sym c.self.view_is) c.requires.acts))
+
+pub verdict-self-inside-requires-clause-works : goal.verdict-self-inside-requires-clause-works
+verdict-self-inside-requires-clause-works c = ap (λ (l : List Placed). processes_in l) c.as_slice.ensures.value ∙ c.settle.ensures.works.all
+
+pub verdict-self-inside-requires-clause-completes : goal.verdict-self-inside-requires-clause-completes
+verdict-self-inside-requires-clause-completes c =
+    completes_on c.self.inside.state c.self.inside.flight.items c.self.inside.journal.items c.args.ticket c.args.proposal c.self.invariant.0.legal
+    (subst {A = Seen} (λ z. verdict z.plain ≡ None) (sym c.self.view_is) c.requires.no_verdict)
+    (subst {A = Seen} (λ z. Contains z.plain.flight c.args.ticket) (sym c.self.view_is) c.requires.flying)
+    (subst {A = Seen} (λ z. IsProposalOf z c.args.ticket c.args.proposal) (sym c.self.view_is) c.requires.proposed)
+    (subst {A = Seen} (λ z. IsFalse (is_dropped z.plain c.args.proposal)) (sym c.self.view_is) c.requires.acts)
+    c.apply.new.self c.settle.new.state c.completed_by-completed.result c.in-Ok.ensures.ok.0 c.settle.ensures.settled (c.completed_by-completed.ensures (limit_of c.self.inside.state c.args.proposal) c.in-Ok.ensures.ok.1)
 
 pub invariant_of-self-2 : goal.invariant_of-self-2
 invariant_of-self-2 c =
@@ -99,11 +143,12 @@ invariant_of-self-2 c =
     let effects : c.effect_of.result ≡ effect_entry (record c.self.inside.state { flight = c.self.inside.flight.items }) c.args.proposal = c.effect_of.ensures (limit_of c.self.inside.state c.args.proposal) c.in-Ok.ensures.ok.1 ∙ sym (entry_flying c.self.inside.state c.self.inside.flight.items c.args.proposal) in
     let entry = items ∙ ap (λ (z : Effect). c.self.inside.journal.items ++ Commit c.args.ticket.worker c.args.ticket.number z ∷ []) effects in (
       commit_board c.self.inside.state c.settle.new.state c.self.inside.flight.items c.land.new.flight.items c.self.inside.journal.items c.push.new.self.items c.self.inside.taken c.self.inside.dropped c.self.inside.halted c.args.ticket c.args.proposal c.self.invariant.0 none flying proposal acts
-          (lands c.self.inside.state c.settle.new.state c.self.inside.flight.items c.land.new.flight.items c.args.proposal c.args.ticket.number (c.settle.ensures ∙ ap settle c.in-Ok.ensures.ok.0) c.land.ensures.items) entry,
+          (lands c.self.inside.state c.settle.new.state c.self.inside.flight.items c.land.new.flight.items c.args.proposal c.args.ticket.number (c.settle.ensures.settled ∙ ap settle c.in-Ok.ensures.ok.0) c.land.ensures.items) entry,
       omega (arith, c.push.ensures.capacity, len, c.self.invariant.1, owed_fewer (vec_len c.land.new.flight) (vec_len c.self.inside.flight) c.self.inside.halted fewer),
       c.verdict-self-inside.ensures,
-      subst {A = Plain} (λ z. AreAllNormal z c.turn_away.new.normals.items) (sym (c.settle.ensures ∙ ap settle c.in-Ok.ensures.ok.0)) (c.turn_away.ensures c.self.inside.state c.self.invariant.3),
-      subst {A = Plain} (λ z. HoldsRead z c.self.inside.shelf) (sym (c.settle.ensures ∙ ap settle c.in-Ok.ensures.ok.0)) (holds_after c.self.inside.state c.args.proposal c.self.inside.shelf c.self.invariant.4),
+      subst {A = Plain} (λ z. AreAllNormal z c.turn_away.new.normals.items) (sym (c.settle.ensures.settled ∙ ap settle c.in-Ok.ensures.ok.0)) (c.turn_away.ensures c.self.inside.state c.self.invariant.3),
+      subst {A = Plain} (λ z. HoldsRead z c.self.inside.shelf) (sym (c.settle.ensures.settled ∙ ap settle c.in-Ok.ensures.ok.0)) (holds_after c.self.inside.state c.args.proposal c.self.inside.shelf c.self.invariant.4),
+      c.settle.ensures.works,
     )
 
 pub returns-clause-ok : goal.returns-clause-ok
@@ -118,6 +163,6 @@ returns-clause-ok c =
       subst {A = Seen} (λ z. verdict z.plain ≡ None) (sym c.self.view_is) c.requires.no_verdict,
       subst {A = Seen} (λ z. IsFalse (is_dropped z.plain c.args.proposal)) (sym c.self.view_is) c.requires.acts,
       c.in-Ok.ensures.ok.1 ∙ ap applied_as (sym (limit_flying c.self.inside.state c.self.inside.flight.items c.args.proposal)),
-      lands c.self.inside.state c.settle.new.state c.self.inside.flight.items c.land.new.flight.items c.args.proposal c.args.ticket.number (c.settle.ensures ∙ ap settle c.in-Ok.ensures.ok.0) c.land.ensures.items,
+      lands c.self.inside.state c.settle.new.state c.self.inside.flight.items c.land.new.flight.items c.args.proposal c.args.ticket.number (c.settle.ensures.settled ∙ ap settle c.in-Ok.ensures.ok.0) c.land.ensures.items,
       items ∙ ap (λ (z : Effect). c.self.inside.journal.items ++ Commit c.args.ticket.worker c.args.ticket.number z ∷ []) effects,
     )

@@ -1,11 +1,14 @@
-use Rattle.std.proofs.Common.{◌≡◌, List, [], refl, sym, subst, arith, false}
+use Rattle.std.proofs.Common.{◌≡◌, ◌∙◌, ap, List, [], refl, sym, subst, arith, false}
 use Rattle.kb_term.specs.Signature.{Problem, IsWithinLimits}
 use Rattle.mkb_model.specs.Plain.{Plain}
 use Rattle.mkb_model.specs.Journals.{opening}
 use Rattle.mkb_model.specs.declared.entry.Ticket.{Ticket}
 use Rattle.mkb_model.specs.declared.entry.Entry.{Entry}
 use Rattle.mkb_board.specs.Boards.{seen, IsBoard}
+use Rattle.mkb_board.specs.Working.{processes_in}
+use Rattle.mkb_board.specs.declared.working.Placed.{Placed}
 use Rattle.mkb_board.proofs.AtRest.{opening_rest}
+use Rattle.mkb_board.proofs.Following.{first_works, nobody_complete}
 use Rattle.mkb_board.proofs.board.Board.start.Goals as goal
 use Rattle.mkb_model.specs.declared.settings.Settings.{Settings}
 
@@ -24,7 +27,14 @@ invariant_of-result c = (
   c.verdict-verdict.ensures,
   c.in_ok-normals.ensures c.in_ok-state.state,
   c.new-2.ensures c.in_ok-state.state,
+  record { all = first_works c.args.problem c.args.settings c.in_ok-state.state c.in_ok-state.ensures c.in_ok-working.working.items c.in_ok-working.ensures.items; room = c.in_ok-working.ensures.room },
 )
 
 pub verdict-verdict-requires : goal.verdict-verdict-requires
-verdict-verdict-requires c = record { rest = opening_rest c.args.problem c.args.settings c.in_ok-state.state c.in_ok-state.ensures }
+verdict-verdict-requires c =
+    let b = c.in_ok-state.state in
+    record {
+      rest = opening_rest c.args.problem c.args.settings b c.in_ok-state.ensures;
+      works = first_works c.args.problem c.args.settings b c.in_ok-state.ensures c.as_slice.result.now (ap (λ (l : List Placed). processes_in l) c.as_slice.ensures.value ∙ c.in_ok-working.ensures.items);
+      completes = nobody_complete c.args.problem c.args.settings b c.in_ok-state.ensures;
+    }

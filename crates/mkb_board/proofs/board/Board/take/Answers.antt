@@ -5,6 +5,8 @@ use Rattle.mkb_model.specs.Verdicts.{verdict}
 use Rattle.mkb_model.specs.declared.entry.Ticket.{Ticket}
 use Rattle.mkb_model.proofs.runs.LawsStated.{none_first}
 use Rattle.mkb_board.specs.Boards.{Seen, has_halt}
+use Rattle.mkb_board.specs.Working.{processes_in}
+use Rattle.mkb_board.specs.declared.working.Placed.{Placed}
 use Rattle.mkb_board.proofs.AtRest.{legal_rest}
 use Rattle.mkb_board.proofs.Readable.{limited_on, ordered_on, waits_on}
 use Rattle.mkb_board.proofs.board.Board.take.Goals as goal
@@ -54,3 +56,6 @@ returns-in-None-clause-ok c =
     some_left : (ts : List Ticket) (n : ℕ) → n ≡ length ts → ts ≢ [] → 0 < n
     some_left [] n e h = absurd (h refl)
     some_left (t ∷ ts) n e h = omega (arith, e)
+
+pub first_job-requires-clause-works : goal.first_job-requires-clause-works
+first_job-requires-clause-works c = ap (λ (l : List Placed). processes_in l) c.as_slice-2.ensures.value ∙ c.self.invariant.5.all
