@@ -2,8 +2,7 @@
 ghost use Rattle.std.specs.Prelude.{◌≡◌, ◌+◌, ◌<◌, ◌≤◌, [], ◌∷◌, length, insert, remove, filter, not, Option, IfOk, IfErr, IsTrue, vec_len, vec_capacity, None, false, ℕ};
 ghost use Rattle.kb_label.specs.Names.{root, has, add, minus, relabel, IsInNameOrder};
 ghost use Rattle.kb_label.specs.declared.verdict.Reason.{Reason};
-ghost use Rattle.mkb_model.specs.Plain.{is_over, equations_of};
-ghost use Rattle.mkb_model.specs.Sleeping.{no_members};
+ghost use Rattle.mkb_model.specs.Plain.{is_over};
 ghost use Rattle.mkb_rules.specs.Applying.{applied_as};
 ghost use Rattle.mkb_board.specs.Working.{processes_in, still_working, completed_by, IsShort};
 

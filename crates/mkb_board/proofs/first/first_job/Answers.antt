@@ -1,4 +1,4 @@
-use Rattle.std.proofs.Common.{◌≡◌, ◌∙◌, ap, sym, Some}
+use Rattle.std.proofs.Common.{◌∙◌, ap, sym}
 use Rattle.mkb_model.specs.Jobs.{least}
 use Rattle.mkb_model.specs.Sleeping.{process_cmp}
 use Rattle.mkb_board.proofs.Cheapest.{first_of_least, least_lives}
