@@ -1,7 +1,7 @@
 -- Where nothing is due for a process.
 use Rattle.std.proofs.Common.{◌≡◌, refl, sym, ap, ◌∙◌, List, [], ◌∷◌, ◌++◌, map, filter, flat_map, Contains, Bool, true, false, cond, not, ◌&&◌, ◌||◌, Some, ⊎_elim, subst}
 use Rattle.std.specs.List.{find, list_any}
-use Rattle.std.specs.Option.{is_some, is_none}
+use Rattle.std.specs.Option.{is_none}
 use Rattle.std.proofs.lemmas.List.Elements.{Contains-append_cases}
 use Rattle.std.proofs.Math.Bool.{and-true}
 use Rattle.kb_lemmas.proofs.Membership.{contains_first, contains_behind, contains_mapped, contains_flat_map_back}
@@ -9,7 +9,7 @@ use Rattle.kb_term.specs.declared.origin.RuleRef.{RuleRef}
 use Rattle.kb_label.specs.Names.{Name, has}
 use Rattle.kb_node.specs.declared.job.Job.{Job}
 use Rattle.kb_node.specs.declared.job.Job.TheVariants.{Reduce, Orient, Overlap, Close}
-use Rattle.mkb_model.specs.Plain.{Plain, GivenUp, equations_of, node_numbers, rules_of, is_over}
+use Rattle.mkb_model.specs.Plain.{Plain, equations_of, node_numbers, rules_of, is_over}
 use Rattle.mkb_model.specs.DueJobs.{is_due, is_working, is_work_due, is_close_due, work_of, due_jobs_of}
 use Rattle.mkb_model.specs.Sleeping.{is_failed, no_members}
 use Rattle.mkb_model.proofs.Lists.{clash, false_unless, none_any}

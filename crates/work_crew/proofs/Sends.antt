@@ -69,6 +69,7 @@ use Rattle.mkb_board.specs.contracts.board.Board as Board
 use Rattle.mkb_board.specs.contracts.board.Board.TheInside as BoardInside
 use Rattle.mkb_board.specs.contracts.normal.Normal as Normal
 use Rattle.mkb_board.specs.contracts.shelf.Shelf as Shelf
+use Rattle.mkb_board.specs.contracts.working.Placed as Placed
 use Rattle.turn_lock.proofs.lock.Turns.TheSendSync as turns
 use Rattle.work_crew.specs.contracts.shared.Shared as Shared
 use Rattle.work_crew.specs.contracts.together.Workplace as Workplace
@@ -149,7 +150,10 @@ state_send = view_send StateInside.the_row _ _ _ _ (recorded_send (StateInside.t
 )))
 
 normal_send : IsSend Normal.the_row
-normal_send = search (sendable, crosses, rule_ref.the_send, roles.the_send, global.the_send) depth 40 fits 100000
+normal_send = search (sendable, crosses, process.the_send, rule_ref.the_send, roles.the_send, global.the_send) depth 40 fits 100000
+
+placed_send : IsSend Placed.the_row
+placed_send = search (sendable, crosses, process.the_send) depth 20
 
 shared_rules_send : IsSend SharedRules.the_row
 shared_rules_send = view_send SharedInside.the_row _ _ _ _ (recorded_send (SharedInside.the_field).row _ _ (SharedInside.the_type).to_one (struct_send (S.shape SharedInside.the_type) (search (sendable, crosses, rule_send, rule_sync) depth 20 fits 100000, tt)))
@@ -167,7 +171,7 @@ shelf_field =
 pub board_send : IsSend Board.the_row
 board_send = view_send BoardInside.the_row _ _ _ _ (recorded_send (BoardInside.the_field).row _ _ (BoardInside.the_type).to_one (struct_send (S.shape BoardInside.the_type) (
   state_send,
-  (search (sendable, crosses, verdict.the_send) depth 20, (search (sendable, crosses, ticket.the_send) depth 20, (search (sendable, crosses, entry_send) depth 20, (plain_send _ _ _ _ _, (plain_send _ _ _ _ _, (plain_send _ _ _ _ _, (search (sendable, crosses, normal_send) depth 20 fits 100000, (shelf_field, tt)))))))),
+  (search (sendable, crosses, verdict.the_send) depth 20, (search (sendable, crosses, ticket.the_send) depth 20, (search (sendable, crosses, entry_send) depth 20, (plain_send _ _ _ _ _, (plain_send _ _ _ _ _, (plain_send _ _ _ _ _, (search (sendable, crosses, normal_send) depth 20 fits 100000, (shelf_field, (search (sendable, crosses, placed_send) depth 20, tt))))))))),
 )))
 
 pub shared_send : IsSend Shared.the_row

@@ -8,7 +8,6 @@ use Rattle.kb_node.specs.declared.job.Job.TheVariants.{Reduce}
 use Rattle.kb_node.specs.declared.node.NodeId.{NodeId}
 use Rattle.mkb_model.specs.Jobs.{is_free}
 use Rattle.mkb_model.specs.Plain.{Plain}
-use Rattle.mkb_rules.specs.Roles.{held_of}
 use Rattle.mkb_board.specs.Choosing.{is_choice, jobs_of}
 use Rattle.mkb_board.specs.Normal.{may_reduce, Serves}
 use Rattle.mkb_board.specs.declared.normal.Normal.{Normal}
@@ -71,15 +70,15 @@ loop-i-preserved c =
     let there : i < length l = omega (arith, c.loop-i-test.true) in
     elim c.if-not-is_reduce_due.branch [
       | then-not-is_reduce_due w ↦
-        let undue : may_reduce b p (get_or l i (record { 0 = 0 })).0 ≡ false = sym c.is_reduce_due.ensures.due ∙ w.if-not-is_reduce_due.true in
-        record {
-          none = next b flight p l i false there (not_chosen b flight p (get_or l i (record { 0 = 0 })) undue) c.loop-i.invariant.none;
-          serves = subst {A = Normal} (Serves b p) (sym w.normal-is) (w.pass_by.ensures.serves b p (ap (may_reduce b p) (sym (held_number b p l l i refl c.requires.search.nodes)) ∙ undue) c.is_reduce_due.ensures.serves);
-        }
+          let undue : may_reduce b p (get_or l i (record { 0 = 0 })).0 ≡ false = sym c.is_reduce_due.ensures.due ∙ w.if-not-is_reduce_due.true in
+          record {
+            none = next b flight p l i false there (not_chosen b flight p (get_or l i (record { 0 = 0 })) undue) c.loop-i.invariant.none;
+            serves = subst {A = Normal} (Serves b p) (sym w.normal-is) (w.pass_by.ensures.serves b p (ap (may_reduce b p) (sym (held_number b p l l i refl c.requires.search.nodes)) ∙ undue) c.is_reduce_due.ensures.serves);
+          }
       | else-not-is_reduce_due+else-is_free w ↦ record {
-          none = next b flight p l i false there (ap₂ (λ x y. x && y) (sym c.is_reduce_due.ensures.due ∙ w.if-not-is_reduce_due.false) (sym w.is_free.ensures ∙ w.if-is_free.false)) c.loop-i.invariant.none;
-          serves = subst {A = Normal} (Serves b p) (sym w.normal-is) c.is_reduce_due.ensures.serves;
-        }
+        none = next b flight p l i false there (ap₂ (λ x y. x && y) (sym c.is_reduce_due.ensures.due ∙ w.if-not-is_reduce_due.false) (sym w.is_free.ensures ∙ w.if-is_free.false)) c.loop-i.invariant.none;
+        serves = subst {A = Normal} (Serves b p) (sym w.normal-is) c.is_reduce_due.ensures.serves;
+      }
     ]
 
 pub returns-clause-first : goal.returns-clause-first

@@ -1,4 +1,4 @@
-use Rattle.std.proofs.Common.{◌≡◌, ◌∙◌, [], List, ap₂, subst, sym}
+use Rattle.std.proofs.Common.{◌∙◌, List, ap₂, subst, sym}
 use Rattle.std.specs.List.{find}
 use Rattle.kb_label.specs.Names.{Name}
 use Rattle.mkb_model.specs.DueJobs.{work_of}

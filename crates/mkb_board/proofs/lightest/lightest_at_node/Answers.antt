@@ -1,6 +1,5 @@
-use Rattle.std.proofs.Common.{ℕ, ◌+◌, ◌<◌, ◌≤◌, ◌≡◌, ◌∙◌, ◌∷◌, List, length, map, drop, get_or, ap, refl, sym, subst, arith, IfSome}
+use Rattle.std.proofs.Common.{ℕ, ◌+◌, ◌<◌, ◌≤◌, ◌∙◌, ◌∷◌, length, map, drop, get_or, ap, refl, sym, subst, arith, IfSome}
 use Rattle.kb_lemmas.proofs.Membership.{contains_first}
-use Rattle.kb_label.specs.Names.{Name}
 use Rattle.kb_node.specs.declared.job.Job.{Job}
 use Rattle.kb_node.specs.declared.node.NodeId.{NodeId}
 use Rattle.mkb_model.specs.Jobs.{process_of}
@@ -8,7 +7,6 @@ use Rattle.mkb_model.specs.Plain.{node_numbers, weight_by}
 use Rattle.mkb_model.specs.declared.settings.Selection.TheVariants.{Size}
 use Rattle.mkb_rules.specs.Roles.{held_of}
 use Rattle.mkb_board.specs.Choosing.{jobs_of, node_job, HasNodes, StandsEarlier}
-use Rattle.mkb_board.specs.Normal.{Serves}
 use Rattle.mkb_board.specs.declared.lightest.Weighed.{Weighed}
 use Rattle.mkb_board.proofs.Having.{held_length, held_number, held_there}
 use Rattle.mkb_board.proofs.NodeJobs.{held_rise, node_there, node_weight, nodes_rise, of_process, unused_job}

@@ -1,4 +1,4 @@
-use Rattle.std.proofs.Common.{◌<◌, ◌≤◌, ◌≡◌, ◌∙◌, List, ap, arith, length, map, subst, sym, take}
+use Rattle.std.proofs.Common.{◌<◌, ◌≤◌, ◌≡◌, ◌∙◌, List, ap, arith, length, map, subst, sym}
 use Rattle.std.proofs.lemmas.List.{length-set, take_all}
 use Rattle.mkb_model.specs.Effects.{effect}
 use Rattle.mkb_model.specs.declared.proposed.Proposed.{Proposed}

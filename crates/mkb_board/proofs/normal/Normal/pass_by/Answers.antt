@@ -1,1 +1,0 @@
-use Rattle.mkb_board.proofs.normal.Normal.pass_by.Goals as goal
