@@ -2,6 +2,7 @@
 #![tactic(auto)]
 
 mod alone;
+mod bell;
 mod gates;
 mod moments;
 mod shared;

@@ -8,6 +8,7 @@ ghost use Rattle.work_crew.specs.Alone.{IsSameRun};
 ghost use Rattle.work_crew.specs.Together.{EndsTogether, HasJoined, Holds, HoldsNext, IsSameSeat, Rests, is_leaving as leaves};
 
 use crate::alone::Crew;
+use crate::bell::Bell;
 use crate::gates::ask;
 use crate::shared::{Assignment, Next, Shared, Then};
 use crate::timing::has_taken;
@@ -19,7 +20,7 @@ use mkb_board::Board;
 use mkb_model::{Entry, Proposed};
 use std::alloc::Global;
 use std::sync::Wait;
-use std::thread::{Threads, join, sleep};
+use std::thread::{Threads, join};
 use std::time::{Clock, Duration, Instant};
 use turn_lock::{Backoff, Seat, Turns};
 
@@ -46,10 +47,11 @@ const SHORT: u64 = 50;
 /// The most naps of a worker between two of its tickets.
 const NAPS: u32 = 8;
 
-// What the workers share: the lock of the board, and where memory comes from.
+// What the workers share: the lock of the board, what wakes them at the end, and where memory comes from.
 struct Workplace {
     alloc: Global,
     turns: Turns<Shared>,
+    bell: Bell,
 }
 
 // What a worker made of its ticket.
@@ -152,8 +154,9 @@ fn wait_for_more<R: Wait>(
     }
 }
 
-// Leaves the board to others, without the turn: for a nap, and for more and longer ones as long as the others make entries fast.
-fn leave_to_others<R: Clock>(rt: &R, place: &Workplace, seat: &mut Seat<Shared>)
+// Leaves the board to others, without the turn: for a nap, and for more and longer ones as long as the others make entries fast. The
+// end of the run ends a nap.
+fn leave_to_others<R: Wait>(rt: &R, place: &Workplace, seat: &mut Seat<Shared>)
     requires { Rests place.now.turns seat.old }
     ensures rests { Rests place.now.turns seat.new }
     ensures same { IsSameSeat seat.old seat.new }
@@ -161,7 +164,9 @@ fn leave_to_others<R: Clock>(rt: &R, place: &Workplace, seat: &mut Seat<Shared>)
     let mut entries = place.turns.seen(seat);
     for nap in 0..NAPS {
         let doublings = nap.min(NAP_DOUBLINGS);
-        sleep(rt, Duration::from_micros(NAP << doublings));
+        if !place.bell.nap(rt, Duration::from_micros(NAP << doublings)) {
+            return;
+        }
         let before = entries;
         entries = place.turns.seen(seat);
         if entries.saturating_sub(before) < CROWD << doublings {
@@ -204,6 +209,7 @@ fn serve<G: Gate, S: Searcher, R: Wait + Clock>(
             Next::End => break,
         }
     }
+    place.bell.ring();
     seat
 }
 
@@ -268,9 +274,17 @@ fn worked_on<G: Gate, S: Searcher, R: Threads + Wait + Clock + Sync>(
         Ok(made) => made,
         Err(shared) => return shared.into_board(),
     };
-    let place = Workplace { alloc, turns };
+    let place = Workplace {
+        alloc,
+        turns,
+        bell: Bell::new(),
+    };
     let first = serve_all(rt, &place, gate, by, first, workers - 1);
-    let Workplace { alloc: _, turns } = place;
+    let Workplace {
+        alloc: _,
+        turns,
+        bell: _,
+    } = place;
     turns.close(first).into_board()
 }
 
