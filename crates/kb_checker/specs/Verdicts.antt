@@ -82,6 +82,10 @@ IsProved rules e = HaveOneNormalForm rules e.0 e.1
 abbrev pub FailsToProve : List Rule → Failure → Tree × Tree → Type 0
 FailsToProve rules failure e = FailToJoin rules e.0 e.1 failure
 
+-- the equation with the number n, from 1, is the first that isn't proved, for this reason
+abbrev pub FirstUnproved : List Rule → Failure → List (Tree × Tree) → ℕ → Type 0
+FirstUnproved rules failure equations n = FailsFirst (IsProved rules) (FailsToProve rules failure) equations n
+
 -- ---- the whole
 
 -- each trace step is right
@@ -129,9 +133,9 @@ IsRejected a NotOriented n = PassesConstraints a × FailsFirst (IsOriented a.cer
 IsRejected a PairLarge n = PassesOrder a × FirstUnclosed (rules_of a.rules) Large n
 IsRejected a PairSteps n = PassesOrder a × FirstUnclosed (rules_of a.rules) Steps n
 IsRejected a NotJoined n = PassesOrder a × FirstUnclosed (rules_of a.rules) Different n
-IsRejected a EquationLarge n = PassesOverlaps a × FailsFirst (IsProved (rules_of a.rules)) (FailsToProve (rules_of a.rules) Large) a.problem.equations n
-IsRejected a EquationSteps n = PassesOverlaps a × FailsFirst (IsProved (rules_of a.rules)) (FailsToProve (rules_of a.rules) Steps) a.problem.equations n
-IsRejected a NotProved n = PassesOverlaps a × FailsFirst (IsProved (rules_of a.rules)) (FailsToProve (rules_of a.rules) Different) a.problem.equations n
+IsRejected a EquationLarge n = PassesOverlaps a × FirstUnproved (rules_of a.rules) Large a.problem.equations n
+IsRejected a EquationSteps n = PassesOverlaps a × FirstUnproved (rules_of a.rules) Steps a.problem.equations n
+IsRejected a NotProved n = PassesOverlaps a × FirstUnproved (rules_of a.rules) Different a.problem.equations n
 
 -- no item fails
 pub record IsAccepted (a : Answer) : Type 0 where

@@ -4,7 +4,7 @@ ghost use Rattle.kb_linear.specs.Limits.{AreMeasurable};
 ghost use Rattle.kb_term.specs.Pair.{variables_of_pair};
 ghost use Rattle.kb_term.specs.View.{equations_of_list, pair_of};
 ghost use Rattle.kb_checker.specs.Answers.{IsAnswer, IsGoodAnswer, IsTraced, IsOriented, rules_of};
-ghost use Rattle.kb_checker.specs.Verdicts.{FailsFirst, IsProved, FailsToProve, pair_reason, equation_reason, IsVerdict};
+ghost use Rattle.kb_checker.specs.Verdicts.{FailsFirst, FirstUnproved, IsProved, pair_reason, equation_reason, IsVerdict};
 
 use crate::answer::Answer;
 use crate::closing::first_unclosed;
@@ -151,7 +151,7 @@ fn first_unproved(
     system: &System<'_>,
     equations: &[(Term, Term)],
 ) -> Result<Option<(Failure, u64)>, Memory>
-    ensures { IfOk result (λ o. MatchOption o (All (IsProved system.now) (equations_of_list equations.now)) (λ f. FailsFirst (IsProved system.now) (FailsToProve system.now f.0) (equations_of_list equations.now) f.1)) }
+    ensures { IfOk result (λ o. MatchOption o (All (IsProved system.now) (equations_of_list equations.now)) (λ f. FirstUnproved system.now f.0 (equations_of_list equations.now) f.1)) }
 {
     for k in 0..equations.len() {
         let equation = &equations[k];

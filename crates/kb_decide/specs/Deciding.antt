@@ -6,6 +6,7 @@ use Rattle.kb_term.specs.Rule.{Rule}
 use Rattle.kb_term.specs.Signature.{Signature, SymbolEntry, IsWellFormed, IsRuleOver}
 use Rattle.kb_term.specs.Proving.{RewritesAt, Proves, IsConfluent, equations_of}
 use Rattle.kb_term.specs.View.{tree_of}
+use Rattle.kb_term.specs.declared.term.Term.{Term}
 use Rattle.kb_term.specs.declared.limit.Limit.{Limit}
 use Rattle.kb_term.specs.declared.limit.Limit.TheVariants as limits
 use Rattle.kb_rewrite.specs.NormalForm.{IsFirstRedex, Normalised, NormalisesTo, form, long, large}
@@ -109,3 +110,7 @@ pub record IsDecidable (signature : Signature) (rules : List Rule) (left right :
   pub confluent : IsConfluent signature rules
   pub left_over : IsWellFormed signature left
   pub right_over : IsWellFormed signature right
+
+-- a no with these two normal forms is right: where the goal can be decided, the rules don't prove it
+abbrev pub IsRightNo : Signature → List Rule → Tree → Tree → Term → Term → Type 0
+IsRightNo signature rules left right s t = IsDecidable signature rules left right → IsDecision rules left right (No s t) → ¬ ProvesGoal rules left right

@@ -5,9 +5,8 @@ ghost use Rattle.kb_term.specs.Rule.{Rule};
 ghost use Rattle.kb_term.specs.Signature.{Signature};
 ghost use Rattle.kb_term.specs.View.{tree_of};
 ghost use Rattle.kb_term.specs.declared.term.Term.{Term};
-ghost use Rattle.kb_decide.specs.Deciding.{IsDecision, IsDecidable, IsYes, ProvesGoal, Replays};
+ghost use Rattle.kb_decide.specs.Deciding.{IsDecision, IsRightNo, IsYes, ProvesGoal, Replays};
 ghost use Rattle.kb_decide.specs.declared.decision.Decision.{Decision};
-ghost use Rattle.kb_decide.specs.declared.decision.Decision.TheVariants.{No};
 
 /// Whatever the rules are: where the lines of a decision replay, the rules prove the goal.
 pub fn replayed_goals_are_proved()
@@ -18,5 +17,5 @@ pub fn replayed_goals_are_proved()
 /// that they don't prove it.
 pub fn decisions_are_right()
     ensures yes { (rules : List Rule) (left right : Tree) (d : Decision) → IsDecision rules left right d → IsYes d → Replays rules left right d }
-    ensures no { (signature : Signature) (rules : List Rule) (left right : Tree) (s t : Term) → IsDecidable signature rules left right → IsDecision rules left right (No s t) → ¬ ProvesGoal rules left right }
+    ensures no { (signature : Signature) (rules : List Rule) (left right : Tree) (s t : Term) → IsRightNo signature rules left right s t }
 {}

@@ -4,7 +4,7 @@ use Rattle.std.specs.declared.alloc.Global.{Global}
 use Rattle.kb_term.specs.Tree.{Tree}
 use Rattle.kb_lpo.specs.PathOrder.{IsAbove}
 use Rattle.kb_linear.specs.Forms.{weighted}
-use Rattle.kb_kbo.specs.KnuthBendix.{KboOrder, KboGreater, symbol_weight}
+use Rattle.kb_kbo.specs.KnuthBendix.{KboOrder, KboGreater, weight, symbol_weight}
 use Rattle.kb_kbo.specs.declared.level.Tally.{Tally}
 use Rattle.kb_kbo.specs.declared.level.Level.{Level}
 use Rattle.kb_kbo.specs.declared.level.Tie.{Tie}
@@ -13,6 +13,11 @@ use Rattle.kb_kbo.specs.declared.level.Tie.TheVariants.{Refused, Above, Next}
 -- what the occurrences weigh where a gives the symbols their weights, and all else weighs 1
 abbrev pub value_of : Tally → (ℕ → ℕ) → ℕ
 value_of tally a = tally.rest + weighted tally.symbols a
+
+-- by each order of at most 8 weights, the left side weighs as much more than the right side as s does than t
+abbrev pub ComparesWeights : Level → Tree → Tree → Type 0
+ComparesWeights level s t =
+    (order : KboOrder) → length order.weights ≤ 8 → value_of level.left (symbol_weight order) + weight order t ≡ value_of level.right (symbol_weight order) + weight order s
 
 -- what a comparison asks at equal weights
 abbrev pub AsksAtTie : KboOrder → Tie → Type 0 → Type 0

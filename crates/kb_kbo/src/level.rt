@@ -5,7 +5,7 @@ ghost use Rattle.kb_term.specs.Tree.{tree_size};
 ghost use Rattle.kb_term.specs.View.{tree_of};
 ghost use Rattle.kb_linear.specs.Limits.{IsMeasurable};
 ghost use Rattle.kb_kbo.specs.KnuthBendix.{KboOrder, weight, symbol_weight};
-ghost use Rattle.kb_kbo.specs.Asking.{value_of, AreAsked};
+ghost use Rattle.kb_kbo.specs.Asking.{value_of, ComparesWeights, AreAsked};
 ghost use Rattle.kb_kbo.specs.declared.level.Tie.{Tie};
 
 use crate::order::holds_variables;
@@ -101,7 +101,7 @@ impl Level {
     fn new(s: &Term, t: &Term, tie: Tie) -> Level
         requires left { tree_size (tree_of s.now) ≤ MAX_SIZE }
         requires right { tree_size (tree_of t.now) ≤ MAX_SIZE }
-        ensures weights { (order : KboOrder) → length order.weights ≤ 8 → value_of result.left (symbol_weight order) + weight order (tree_of t.now) ≡ value_of result.right (symbol_weight order) + weight order (tree_of s.now) }
+        ensures weights { ComparesWeights result (tree_of s.now) (tree_of t.now) }
         ensures tie { result.tie ≡ tie }
     {
         let mut left = Tally::new();

@@ -15,13 +15,17 @@ module _ {K L : Type 0} (names : K → L → List Name) (log : K) (p : Name) whe
   abbrev pub equation_at : ℕ × Node L → List NodeId
   equation_at (n, node) = when (has (names log node.equation) p) (record { 0 = n })
 
+  -- the directions of the node with this number, of the two labels those that have the process
+  abbrev pub directions_at : ℕ → L → L → List RuleRef
+  directions_at n forth back = when (has (names log forth) p) (record { node = n; dir = 0 }) ++ when (has (names log back) p) (record { node = n; dir = 1 })
+
   -- the directions in which the process has a node as a rule
   abbrev pub rules_at : ℕ × Node L → List RuleRef
-  rules_at (n, node) = when (has (names log node.rule0) p) (record { node = n; dir = 0 }) ++ when (has (names log node.rule1) p) (record { node = n; dir = 1 })
+  rules_at (n, node) = directions_at n node.rule0 node.rule1
 
   -- the directions in which the process has a node as a constraint
   abbrev pub constraints_at : ℕ × Node L → List RuleRef
-  constraints_at (n, node) = when (has (names log node.constraint0) p) (record { node = n; dir = 0 }) ++ when (has (names log node.constraint1) p) (record { node = n; dir = 1 })
+  constraints_at (n, node) = directions_at n node.constraint0 node.constraint1
 
   -- the equations of the process, by number
   abbrev pub equations_of : List (Node L) → List NodeId

@@ -5,7 +5,7 @@ ghost use Rattle.kb_term.specs.Tree.{tree_size};
 ghost use Rattle.kb_term.specs.Pair.{IsCanonicalPair};
 ghost use Rattle.kb_node.specs.Banked.{IsPairWithin};
 ghost use Rattle.kb_node.specs.Labelled.{label_in, with_label_at, pairs_of, is_dead_under, HasPair, LacksPair, AreDistinct, AddsNode};
-ghost use Rattle.kb_node.specs.Views.{when, equations_of, rules_of, constraints_of};
+ghost use Rattle.kb_node.specs.Views.{when, directions_at, equations_of, rules_of, constraints_of};
 
 use crate::fault::NodeFault;
 use crate::node::{Entry, LabelKind, NodeId};
@@ -271,7 +271,7 @@ fn push_directions<L: Labels>(
     forth: &L,
     back: &L,
 ) -> Result<(), AllocError>
-    ensures { OnOk result (rules.new ≡ rules.old ++ (when (has (L.names_under log.now forth.now) p.now) (record { node = node; dir = 0 }) ++ when (has (L.names_under log.now back.now) p.now) (record { node = node; dir = 1 }))) }
+    ensures { OnOk result (rules.new ≡ rules.old ++ directions_at L.names_under log.now p.now node forth.now back.now) }
 {
     if forth.has(log, p) {
         rules.push(RuleRef { node, dir: 0 })?;

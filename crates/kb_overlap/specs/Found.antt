@@ -1,6 +1,6 @@
 -- What is found at one position.
 use Rattle.std.specs.Prelude.{ℕ, ◌+◌, ◌≡◌, ◌||◌, false, nat_lt, List, [], ◌∷◌, Option, Some, None, Result, Ok, Err, ⊤}
-use Rattle.kb_term.specs.Tree.{Tree, HasVariablesBelow}
+use Rattle.kb_term.specs.Tree.{Tree, HasVariablesBelow, tree_size}
 use Rattle.kb_term.specs.Position.{subtree_at, replace_at}
 use Rattle.kb_term.specs.Pair.{first_limit, limit_if, is_too_large, term_limit, pair_limit}
 use Rattle.kb_term.specs.Rule.{Rule}
@@ -14,6 +14,10 @@ use Rattle.kb_term.specs.declared.term.Term.{Term}
 use Rattle.kb_term.specs.declared.fault.TermFault.{TermFault}
 use Rattle.kb_term.specs.declared.fault.TermFault.TheVariants.{Large, Memory}
 use Rattle.kb_overlap.specs.Overlap.{Overlap, IsRenamedApart, IsOverlapOrLimit}
+
+-- n is the size of the instance of t without that of its subterm at the position
+abbrev pub IsSizeWithout : (ℕ → Tree) → Tree → List ℕ → ℕ → Type 0
+IsSizeWithout m t p n = (u : Tree) → subtree_at t p ≡ Some u → n + tree_size (instance m u) ≡ tree_size (instance m t)
 
 -- the limit by the extents of the first term and of what is put into the second one, the rest of which has the size
 abbrev pub parts_limit : Extent → Extent → ℕ → Option Limit
@@ -35,6 +39,11 @@ abbrev pub IsPairAnswer : Option Limit → Tree → Tree → Result (Term × Ter
 IsPairAnswer limit s t (Ok e) = (limit ≡ None) × (tree_of e.0 ≡ s) × (tree_of e.1 ≡ t)
 IsPairAnswer limit s t (Err (Large l)) = limit ≡ Some l
 IsPairAnswer limit s t (Err Memory) = ⊤
+
+-- the critical pair at the position, the two terms to which the peak rewrites; or the limit that the peak or the pair passes
+abbrev pub IsPairMade : Rule → Rule → List ℕ → (ℕ → Tree) → Result (Term × Term) TermFault → Type 0
+IsPairMade outer renamed p m answer =
+    (t : Tree) → replace_at (instance m outer.left) p (instance m renamed.right) ≡ Some t → IsPairAnswer (built_limit outer m t) (instance m outer.right) t answer
 
 -- each variable of the rule is below the bound
 abbrev pub AreVariablesBelow : ℕ → Rule → Type 0

@@ -79,3 +79,11 @@ canonical_sides (Err l) = Err l
 -- what of an overlap doesn't: its position, and its canonical pair or the limit
 abbrev pub canonical_overlap : Overlap → List ℕ × Result (Option Pair) Limit
 canonical_overlap o = (o.position, canonical_sides o.sides)
+
+-- the overlaps have the same canonical pair, or pass the same limit
+abbrev pub SidesAgree : Overlap → Overlap → Type 0
+SidesAgree x y = canonical_sides x.sides ≡ canonical_sides y.sides
+
+-- the lists have the same positions, each with the same canonical pair or limit, in the same order
+abbrev pub ListsAgree : List Overlap → List Overlap → Type 0
+ListsAgree xs ys = map canonical_overlap xs ≡ map canonical_overlap ys

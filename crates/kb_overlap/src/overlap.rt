@@ -1,14 +1,13 @@
 // Overlaps of two rules.
 ghost use Rattle.std.specs.Prelude.{ℕ, List, Option, Result, map, ◌≡◌, ◌+◌, ◌<◌, ◌≤◌, ◌^◌, Some, None, IfOk, IsSome, IsTrue, Contains, option_map};
-ghost use Rattle.kb_term.specs.Tree.{Tree, tree_size};
 ghost use Rattle.kb_term.specs.View.{tree_of};
-ghost use Rattle.kb_term.specs.Position.{replace_at, subtree_at, function_positions_of};
+ghost use Rattle.kb_term.specs.Position.{subtree_at, function_positions_of};
 ghost use Rattle.kb_term.specs.Substitution.{instance};
 ghost use Rattle.kb_term.specs.Substitution.{substitution_of};
 ghost use Rattle.kb_unify.specs.Extent.{IsExtent};
 ghost use Rattle.kb_overlap.specs.Instance.{IsSmall};
 ghost use Rattle.kb_overlap.specs.Overlap.{IsOverlapList};
-ghost use Rattle.kb_overlap.specs.Found.{parts_limit, built_limit, IsPairAnswer, IsPeakLimit, IsFoundAt, AreVariablesBelow};
+ghost use Rattle.kb_overlap.specs.Found.{parts_limit, IsSizeWithout, IsPairMade, IsPeakLimit, IsFoundAt, AreVariablesBelow};
 ghost use Rattle.kb_term.specs.FewArguments.{HasFewArguments};
 ghost use Rattle.kb_overlap.specs.View.{overlap_of};
 
@@ -50,7 +49,7 @@ fn size_without(m: &Subst, whole: Extent, t: &Term, position: &Position) -> u32
     requires small { IsSmall (substitution_of m.now) }
     requires whole { IsExtent whole (instance (substitution_of m.now) (tree_of t.now)) }
     requires within { whole.size ≤ MAX_SIZE }
-    ensures rest { (u : Tree) → subtree_at (tree_of t.now) position.now ≡ Some u → result + tree_size (instance (substitution_of m.now) u) ≡ tree_size (instance (substitution_of m.now) (tree_of t.now)) }
+    ensures rest { IsSizeWithout (substitution_of m.now) (tree_of t.now) position.now result }
     ensures small { result ≤ MAX_SIZE }
 {
     match subterm(t, position) {
@@ -88,7 +87,7 @@ fn critical_pair(
 ) -> Result<(Term, Term), TermFault>
     requires small { IsSmall (substitution_of m.now) }
     requires there { IsSome (subtree_at outer.now.left position.now) }
-    ensures { (t : Tree) → replace_at (instance (substitution_of m.now) outer.now.left) position.now (instance (substitution_of m.now) renamed.now.right) ≡ Some t → IsPairAnswer (built_limit outer.now (substitution_of m.now) t) (instance (substitution_of m.now) outer.now.right) t result }
+    ensures { IsPairMade outer.now renamed.now position.now (substitution_of m.now) result }
 {
     if let Some(limit) = peak_limit(outer, renamed, position, m) {
         return Err(TermFault::Large(limit));

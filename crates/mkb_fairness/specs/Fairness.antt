@@ -80,3 +80,7 @@ HasPairsUpTo signature size all = (q r : Pair) → IsPairOver signature q → Is
 -- the jobs are no more than the members of any such list
 abbrev pub AreNoMoreThanPairs : Signature → ℕ → List Job → Type 0
 AreNoMoreThanPairs signature size jobs = (all : List (Pair × Pair)) → HasPairsUpTo signature size all → length jobs ≤ length all
+
+-- the jobs are no more than the pairs of pairs over the signature that weigh by sizes at most what this job does
+abbrev pub AreNoMoreThanLighter : Signature → Plain → Job → List Job → Type 0
+AreNoMoreThanLighter signature b j jobs = AreNoMoreThanPairs signature (weight_by Size b j) jobs

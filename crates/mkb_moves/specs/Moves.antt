@@ -16,6 +16,9 @@ use Rattle.kb_node.specs.declared.node.LabelKind.TheVariants.{X}
 use Rattle.kb_node.specs.declared.job.Deduced.{Deduced}
 use Rattle.mkb_model.specs.Plain.{Plain, label, other, view, equations_of, rules_of, constraints_of, done_of, is_over, over_reason, pair_at}
 use Rattle.mkb_model.specs.Effects.{direction, overlap_label, rewrite_label}
+use Rattle.mkb_model.specs.Runs.{OfEachLimitedCommit}
+use Rattle.mkb_model.specs.declared.entry.Effect.TheVariants.{Made}
+use Rattle.mkb_model.specs.declared.proposed.Proposed.TheVariants.{Rewrite}
 
 -- ---- who is not moved
 
@@ -104,6 +107,10 @@ pub record Rewrites (b c : Plain) (p : Name) (n w : ℕ) (a : RuleRef) (found : 
 abbrev pub RewritesLabel : Plain → Plain → NodeId → ℕ → RuleRef → Found → Term → Type 0
 RewritesLabel b c n w a found result =
     (pair : Pair) × (pair_at b n.0 ≡ Some pair) × ((p : Name) → IsTrue (has (rewrite_label b n.0 w a found) p) → Rewrites b c p n.0 w a found pair (tree_of result))
+
+-- in each possible run of a problem within the limits, each commit of this rewriting rewrites its label
+abbrev pub MovesItsLabel : NodeId → ℕ → List ℕ → RuleRef → Found → Term → Type 0
+MovesItsLabel n w at a found result = OfEachLimitedCommit (Made (Rewrite n w at a found result)) (λ board next _. RewritesLabel board next n w a found result)
 
 -- ---- giving up
 

@@ -18,11 +18,11 @@ ghost use Rattle.mkb_model.specs.DueJobs.{first_job, free_jobs};
 ghost use Rattle.mkb_model.specs.Sleeping.{is_failed};
 ghost use Rattle.mkb_model.specs.Effects.{effect_label};
 ghost use Rattle.mkb_model.specs.Verdicts.{verdict};
-ghost use Rattle.mkb_model.specs.Runs.{OfEachRun, OfEachLimitedRun, OfAnyCommit, OfEachCommit, OfEachLimitedCommit};
+ghost use Rattle.mkb_model.specs.Runs.{OfEachRun, OfEachLimitedRun, OfAnyCommit, OfEachCommit};
 ghost use Rattle.mkb_model.specs.declared.entry.Effect.{Effect};
 ghost use Rattle.mkb_model.specs.declared.entry.Effect.TheVariants.{Over, Made};
-ghost use Rattle.mkb_model.specs.declared.proposed.Proposed.TheVariants.{Facts, Rewrite, One, Both, Refuse, Deduce, Unjoined, Closed};
-ghost use Rattle.mkb_moves.specs.Moves.{IsLeftAlone, Orients, Forks, Deduces, DeducesByBoth, RewritesLabel, GivesUp};
+ghost use Rattle.mkb_model.specs.declared.proposed.Proposed.TheVariants.{Facts, One, Both, Refuse, Deduce, Unjoined, Closed};
+ghost use Rattle.mkb_moves.specs.Moves.{IsLeftAlone, Orients, Forks, Deduces, DeducesByBoth, MovesItsLabel, GivesUp};
 ghost use Rattle.mkb_moves.specs.Order.{IsLeastFree, MayBeTaken, IsFirstOver};
 ghost use Rattle.mkb_moves.specs.Stuck.{IsUnorientable, IsStuck};
 
@@ -54,7 +54,7 @@ pub fn deducing_adds_equations()
 /// and its equation of the node is simplified, its rule with the side on the right is composed, or its rule with the side on the
 /// left, where the redex is strict, is collapsed. Its other equations and rules stay, and so do its constraints.
 pub fn rewriting_moves_its_label()
-    ensures { (n : NodeId) (w : ℕ) (at : List ℕ) (a : RuleRef) (found : Found) (t : Term) → OfEachLimitedCommit (Made (Rewrite n w at a found t)) (λ board next _. RewritesLabel board next n w a found t) }
+    ensures { (n : NodeId) (w : ℕ) (at : List ℕ) (a : RuleRef) (found : Found) (t : Term) → MovesItsLabel n w at a found t }
 {}
 
 /// Where a closing has its effect, the process is closed, and has the equations, rules and constraints that it had. Facts are noted

@@ -133,7 +133,9 @@ impl<T: Turned> Turns<T> {
     fn try_enter(&self, seat: &mut Seat<T>) -> Option<T>
         requires lock { IsSeatOf self.now seat.old }
         requires rests { seat.old.view.holds ≡ false }
-        ensures some { IfSome result (λ x. (T.problem x ≡ self.now.problem) × (T.budget x ≡ self.now.budget) × IsLater T.worker seat.old (T.entries x) × (seat.new ≡ sees seat.old (T.entries x) true)) }
+        ensures fits { IfSome result (λ x. (T.problem x ≡ self.now.problem) × (T.budget x ≡ self.now.budget)) }
+        ensures later { IfSome result (λ x. IsLater T.worker seat.old (T.entries x)) }
+        ensures seat { IfSome result (λ x. seat.new ≡ sees seat.old (T.entries x) true) }
         ensures none { IfNone result (seat.new ≡ seat.old) }
     {
         let shared = &self.table.shared;
