@@ -16,6 +16,7 @@ use runs::{Case, case_named, checksum};
 use sets::print_sets;
 use std::alloc::Global;
 use std::env;
+use std::mem::drop;
 use std::process::ExitCode;
 
 // What the words ask for.
@@ -49,25 +50,30 @@ fn words(rt: &HostRuntime, alloc: Global) -> Result<Vec<String>, Memory> {
     Ok(words)
 }
 
-fn main(rt: HostRuntime) -> ExitCode {
-    let alloc = rt.alloc();
-    let Ok(words) = words(&rt, alloc) else {
-        return ExitCode::from(3);
-    };
-    let Some(request) = requested(&words) else {
-        return ExitCode::from(2);
-    };
+fn perform(rt: &HostRuntime, request: Request) -> ExitCode {
     match request {
-        Request::Repeat(case, repetitions) => match checksum(alloc, case, repetitions) {
+        Request::Repeat(case, repetitions) => match checksum(rt.alloc(), case, repetitions) {
             Ok(sum) => match println!(rt; "{sum}") {
                 Ok(()) => ExitCode::from(0),
                 Err(_) => ExitCode::from(1),
             },
             Err(_) => ExitCode::from(3),
         },
-        Request::Sets(sets) => match print_sets(&rt, sets) {
+        Request::Sets(sets) => match print_sets(rt, sets) {
             Ok(()) => ExitCode::from(0),
             Err(_) => ExitCode::from(1),
         },
+    }
+}
+
+fn main(rt: HostRuntime) -> ExitCode {
+    let Ok(words) = words(&rt, rt.alloc()) else {
+        return ExitCode::from(3);
+    };
+    let request = requested(&words);
+    drop(words);
+    match request {
+        Some(request) => perform(&rt, request),
+        None => ExitCode::from(2),
     }
 }

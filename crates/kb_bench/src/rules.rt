@@ -248,8 +248,17 @@ fn push_axioms(alloc: Global, rules: &mut Vec<Rule>) -> Result<(), Memory>
         product(alloc, inverse(alloc, x())?, x())?,
         unit(alloc),
     )?;
+    push_associativity(alloc, rules)
+}
+
+fn push_associativity(alloc: Global, rules: &mut Vec<Rule>) -> Result<(), Memory>
+    requires { AreMeasurable rules.old.items }
+    ensures { IfOk result (λ _. AreMeasurable rules.new.items) }
+{
+    let rest = product(alloc, y(), z())?;
+    let right = product(alloc, x(), rest)?;
     let left = product(alloc, product(alloc, x(), y())?, z())?;
-    push_rule(rules, left, product(alloc, x(), product(alloc, y(), z())?)?)
+    push_rule(rules, left, right)
 }
 
 // What follows of the unit, and the product of an inverse with a product.
@@ -291,14 +300,22 @@ fn push_product_laws(alloc: Global, rules: &mut Vec<Rule>) -> Result<(), Memory>
     )
 }
 
+// The rules of the completed axioms of groups.
+fn push_group_rules(alloc: Global, rules: &mut Vec<Rule>) -> Result<(), Memory>
+    requires { AreMeasurable rules.old.items }
+    ensures { IfOk result (λ _. AreMeasurable rules.new.items) }
+{
+    push_axioms(alloc, rules)?;
+    push_unit_laws(alloc, rules)?;
+    push_inverse_laws(alloc, rules)?;
+    push_product_laws(alloc, rules)
+}
+
 /// The ten rules of the completed axioms of groups: symbol 0 is the product, 1 the inverse, 2 the unit.
 pub fn group_rules(alloc: Global) -> Result<Vec<Rule>, Memory>
     ensures { IfOk result (λ rules. AreMeasurable rules.items) }
 {
     let mut rules = Vec::new(alloc);
-    push_axioms(alloc, &mut rules)?;
-    push_unit_laws(alloc, &mut rules)?;
-    push_inverse_laws(alloc, &mut rules)?;
-    push_product_laws(alloc, &mut rules)?;
+    push_group_rules(alloc, &mut rules)?;
     Ok(rules)
 }

@@ -256,49 +256,64 @@ fn weighted_case(
     repeat_kbo(alloc, &sig, &rules, repetitions)
 }
 
+fn path_group_case(alloc: Global, repetitions: u32) -> Result<u64, Memory> {
+    let sig = signature(alloc, &GROUP)?;
+    repeat_lpo(alloc, &sig, &group_rules(alloc)?, repetitions)
+}
+
+fn linear_group_case(alloc: Global, repetitions: u32) -> Result<u64, Memory> {
+    let sig = signature(alloc, &GROUP)?;
+    repeat_linear(alloc, &sig, &group_rules(alloc)?, repetitions)
+}
+
+fn weighted_group_case(alloc: Global, repetitions: u32) -> Result<u64, Memory> {
+    let sig = signature(alloc, &GROUP)?;
+    repeat_kbo(alloc, &sig, &group_rules(alloc)?, repetitions)
+}
+
+// Two full trees, each under one more symbol.
+fn tree_pair_case(alloc: Global, repetitions: u32) -> Result<u64, Memory> {
+    let s = unary(alloc, 2, full_tree(alloc, 8, 0, 1, 0)?)?;
+    let t = unary(alloc, 2, full_tree(alloc, 8, 0, 5, 1)?)?;
+    repeat_unify(alloc, &s, &t, repetitions)
+}
+
+// Two combs, each under one more symbol.
+fn comb_pair_case(alloc: Global, repetitions: u32) -> Result<u64, Memory> {
+    let s = unary(alloc, 2, comb(alloc, 255, 1, 0)?)?;
+    let t = unary(alloc, 2, comb(alloc, 255, 5, 1)?)?;
+    repeat_unify(alloc, &s, &t, repetitions)
+}
+
+// Eight variables, each of which gets twice the term of the one before.
+fn doubling_case(alloc: Global, repetitions: u32) -> Result<u64, Memory> {
+    let s = eight_variables(alloc)?;
+    let t = eight_doubles(alloc)?;
+    repeat_unify(alloc, &s, &t, repetitions)
+}
+
 /// The answers of so many runs of the case in one number.
 pub(crate) fn checksum(alloc: Global, case: Case, repetitions: u32) -> Result<u64, Memory> {
     match case {
-        Case::LpoGroup => {
-            let sig = signature(alloc, &GROUP)?;
-            repeat_lpo(alloc, &sig, &group_rules(alloc)?, repetitions)
-        }
+        Case::LpoGroup => path_group_case(alloc, repetitions),
         Case::LpoUnary => path_case(alloc, &UNARY, 20, false, repetitions),
         Case::LpoWide => path_case(alloc, &WIDE, 60, false, repetitions),
         Case::LpoWideNone => path_case(alloc, &WIDE, 60, true, repetitions),
         Case::LpoSelectors => selector_case(alloc, &FOURTEEN, 6, repetitions),
         Case::LpoSelectorsWide => selector_case(alloc, &TWENTY_FOUR, 11, repetitions),
-        Case::LinearGroup => {
-            let sig = signature(alloc, &GROUP)?;
-            repeat_linear(alloc, &sig, &group_rules(alloc)?, repetitions)
-        }
+        Case::LinearGroup => linear_group_case(alloc, repetitions),
         Case::LinearUnary => linear_case(alloc, &FIVE, false, repetitions),
         Case::LinearUnaryNone => linear_case(alloc, &FIVE, true, repetitions),
         Case::LinearUnaryEight => linear_case(alloc, &EIGHT, false, repetitions),
         Case::LinearUnaryEightNone => linear_case(alloc, &EIGHT, true, repetitions),
-        Case::KboGroup => {
-            let sig = signature(alloc, &GROUP)?;
-            repeat_kbo(alloc, &sig, &group_rules(alloc)?, repetitions)
-        }
+        Case::KboGroup => weighted_group_case(alloc, repetitions),
         Case::KboEight => weighted_case(alloc, &MIXED, 4, false, repetitions),
         Case::KboEightNone => weighted_case(alloc, &MIXED, 4, true, repetitions),
         Case::KboWords => weighted_case(alloc, &EIGHT, 5, false, repetitions),
         Case::KboWordsNone => weighted_case(alloc, &EIGHT, 5, true, repetitions),
-        Case::UnifyTree => {
-            let s = unary(alloc, 2, full_tree(alloc, 8, 0, 1, 0)?)?;
-            let t = unary(alloc, 2, full_tree(alloc, 8, 0, 5, 1)?)?;
-            repeat_unify(alloc, &s, &t, repetitions)
-        }
-        Case::UnifyComb => {
-            let s = unary(alloc, 2, comb(alloc, 255, 1, 0)?)?;
-            let t = unary(alloc, 2, comb(alloc, 255, 5, 1)?)?;
-            repeat_unify(alloc, &s, &t, repetitions)
-        }
-        Case::UnifyDoubling => {
-            let s = eight_variables(alloc)?;
-            let t = eight_doubles(alloc)?;
-            repeat_unify(alloc, &s, &t, repetitions)
-        }
+        Case::UnifyTree => tree_pair_case(alloc, repetitions),
+        Case::UnifyComb => comb_pair_case(alloc, repetitions),
+        Case::UnifyDoubling => doubling_case(alloc, repetitions),
         Case::RewriteProduct => product_case(alloc, repetitions),
         Case::RewriteTree => tree_case(alloc, repetitions),
         Case::RewriteWordsByIndex => words_case(alloc, Redexes::ByIndex, repetitions),

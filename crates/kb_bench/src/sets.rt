@@ -74,6 +74,38 @@ fn some_rules(
     Ok(rules)
 }
 
+// The precedences that orient the rules of a set, one of them alone where asked.
+fn some_guides(
+    alloc: Global,
+    seed: &mut u32,
+    count: usize,
+    is_one: bool,
+) -> Result<(Precedence, Precedence), Memory>
+    requires { count ≤ 24 }
+{
+    let first = shuffled(alloc, seed, count)?;
+    let second = if is_one {
+        first.clone()?
+    } else {
+        shuffled(alloc, seed, count)?
+    };
+    Ok((first, second))
+}
+
+// From 5 to 60 rules over symbols of these arities, oriented by one precedence where asked.
+fn oriented_rules(
+    alloc: Global,
+    seed: &mut u32,
+    arities: &[u8],
+    is_one: bool,
+) -> Result<Vec<Rule>, Memory>
+    requires { length arities.now ≤ 24 }
+{
+    let guides = some_guides(alloc, seed, arities.len(), is_one)?;
+    let count = 5 + next(seed, 56) as usize;
+    some_rules(alloc, seed, arities, count, &guides)
+}
+
 // The arities and the rules of the set of this number: from 5 to 60 rules over 3 to 24 symbols. Every third set has an
 // answer; in the others each eighth rule is oriented by a precedence of its own.
 fn random_set(alloc: Global, number: u32) -> Result<(Vec<u8>, Vec<Rule>), Memory>
@@ -81,14 +113,7 @@ fn random_set(alloc: Global, number: u32) -> Result<(Vec<u8>, Vec<Rule>), Memory
 {
     let mut seed = number;
     let arities = some_arities(alloc, &mut seed)?;
-    let first = shuffled(alloc, &mut seed, arities.len())?;
-    let second = if number % 3 == 0 {
-        first.clone()?
-    } else {
-        shuffled(alloc, &mut seed, arities.len())?
-    };
-    let count = 5 + next(&mut seed, 56) as usize;
-    let rules = some_rules(alloc, &mut seed, &arities, count, &(first, second))?;
+    let rules = oriented_rules(alloc, &mut seed, &arities, number % 3 == 0)?;
     Ok((arities, rules))
 }
 
