@@ -1,5 +1,5 @@
--- What processes pay, and which nodes are in use, after a label is put and a node comes.
-use Rattle.std.proofs.Common.{ℕ, zero, suc, ◌+◌, ◌<◌, ◌≡◌, refl, sym, ap, ap₂, ◌∙◌, subst, arith, List, [], ◌∷◌, ◌++◌, length, take, set, get_or, Bool, true, false, Some}
+-- What processes pay, and which nodes are in use and have constraints, after a label is put and a node comes.
+use Rattle.std.proofs.Common.{ℕ, zero, suc, ◌+◌, ◌<◌, ◌≡◌, refl, sym, ap, ap₂, ◌∙◌, subst, arith, List, [], ◌∷◌, ◌++◌, length, take, set, get_or, cond, Bool, true, false, Some}
 use Rattle.std.specs.Prelude.{◌&&◌, ◌==◌, ◌≢◌, sum_by, slice_get, option_map}
 use Rattle.std.specs.Option.{option_map_or}
 use Rattle.std.proofs.lemmas.Bool.Decides.{nat_tests}
@@ -15,8 +15,9 @@ use Rattle.kb_node.specs.Labelled.{Node, is_dead_under}
 use Rattle.mkb_model.specs.Plain.{PlainNode, label_in, label_at, pair_size}
 use Rattle.mkb_model.specs.Effects.{with_label_in, with_label}
 use Rattle.mkb_rules.specs.Accounts.{IsBare}
+use Rattle.mkb_rules.specs.Constrained.{is_constraint_kind, is_free_at, is_free_node, AreConstraintsMarked}
 use Rattle.mkb_rules.specs.Parts.{plain_nodes}
-use Rattle.mkb_rules.specs.Sizes.{size_if, open_share, rule_share, size_at, open_share_at, rule_share_at, open_sizes, rule_sizes, is_open_kind, is_rule_kind, is_dead_node, is_dead_at, AreMarked, AreSizesOf}
+use Rattle.mkb_rules.specs.Sizes.{size_if, open_share, rule_share, size_at, open_share_at, rule_share_at, open_sizes, rule_sizes, is_open_kind, is_rule_kind, is_dead_node, is_dead_at, AreSizesOf}
 use Rattle.mkb_rules.specs.declared.sizes.Sizes.{Sizes}
 
 -- ---- a label is put
@@ -86,44 +87,78 @@ rule_parts (x ∷ xs) (suc n) p = rule_parts xs n p
 
 -- ---- marks
 
--- another label changes one node alone
-other_dead : (xs : List PlainNode) (n m : ℕ) (k : LabelKind) (l : List Name) → (m ≡ n → ⊥) → is_dead_at (with_label n k l xs) m ≡ is_dead_at xs m
-other_dead [] n m k l d = refl
-other_dead (x ∷ xs) zero zero k l d = absurd (d refl)
-other_dead (x ∷ xs) zero (suc m) k l d = refl
-other_dead (x ∷ xs) (suc n) zero k l d = refl
-other_dead (x ∷ xs) (suc n) (suc m) k l d = other_dead xs n m k l (λ e. d (ap suc e))
-
 flag_here : (used : List Bool) (n : ℕ) (t : Bool) → get_or (set used n t) n true ≡ false → t ≡ false
 flag_here [] n t h = absurd (true≢false h)
 flag_here (u ∷ used) zero t h = h
 flag_here (u ∷ used) (suc n) t h = flag_here used n t h
 
--- the mark of a node tells of it as it is, the others are as before
-pub marked : (xs : List PlainNode) (used : List Bool) (n : ℕ) (k : LabelKind) (l : List Name) (t : Bool) → AreMarked xs used → (t ≡ false → is_dead_at (with_label n k l xs) n ≡ true) → AreMarked (with_label n k l xs) (set used n t)
-marked xs used n k l t before now m h = go (m == n) refl
-  where
-    go : (b : Bool) → (m == n) ≡ b → is_dead_at (with_label n k l xs) m ≡ true
-    go true e =
-        let same : m ≡ n = grind (arith, nat_tests) in
-        ap (is_dead_at (with_label n k l xs)) same ∙ now (flag_here used n t (ap (λ i. get_or (set used n t) i true) (sym same) ∙ h))
-    go false e =
-        let apart : m ≢ n = λ same. absurd (true≢false (sym (test same) ∙ e)) in
-        other_dead xs n m k l apart ∙ before m (sym (get_or-set_other used n m t true apart) ∙ h)
-      where
-        test : m ≡ n → (m == n) ≡ true
-        test same = grind (arith, nat_tests)
+module _ (test : PlainNode → Bool) where
+  -- the node of this number passes, where it is there
+  abbrev pub passes_at : List PlainNode → ℕ → Bool
+  passes_at xs n = option_map_or test (slice_get xs n) true
 
--- the first nodes are marked as all were
-pub marked_first : (xs : List PlainNode) (used : List Bool) (len : ℕ) → AreMarked xs used → AreMarked (take len xs) used
-marked_first xs used len before m h = go xs len m (before m h)
-  where
-    go : (ys : List PlainNode) (k i : ℕ) → is_dead_at ys i ≡ true → is_dead_at (take k ys) i ≡ true
-    go [] zero i e = refl
-    go [] (suc k) i e = refl
-    go (y ∷ ys) zero i e = refl
-    go (y ∷ ys) (suc k) zero e = e
-    go (y ∷ ys) (suc k) (suc i) e = go ys k i e
+  -- each node that is marked as out of use passes
+  abbrev pub AreMarkedBy : List PlainNode → List Bool → Type 0
+  AreMarkedBy xs used = (n : ℕ) → get_or used n true ≡ false → passes_at xs n ≡ true
+
+  -- another label changes one node alone
+  other_passes : (xs : List PlainNode) (n m : ℕ) (k : LabelKind) (l : List Name) → (m ≡ n → ⊥) → passes_at (with_label n k l xs) m ≡ passes_at xs m
+  other_passes [] n m k l d = refl
+  other_passes (x ∷ xs) zero zero k l d = absurd (d refl)
+  other_passes (x ∷ xs) zero (suc m) k l d = refl
+  other_passes (x ∷ xs) (suc n) zero k l d = refl
+  other_passes (x ∷ xs) (suc n) (suc m) k l d = other_passes xs n m k l (λ e. d (ap suc e))
+
+  -- the mark of a node tells of it as it is, the others are as before
+  pub marked : (xs : List PlainNode) (used : List Bool) (n : ℕ) (k : LabelKind) (l : List Name) (t : Bool) → AreMarkedBy xs used → (t ≡ false → passes_at (with_label n k l xs) n ≡ true) → AreMarkedBy (with_label n k l xs) (set used n t)
+  marked xs used n k l t before now m h = go (m == n) refl
+    where
+      go : (b : Bool) → (m == n) ≡ b → passes_at (with_label n k l xs) m ≡ true
+      go true e =
+          let same : m ≡ n = grind (arith, nat_tests) in
+          ap (passes_at (with_label n k l xs)) same ∙ now (flag_here used n t (ap (λ i. get_or (set used n t) i true) (sym same) ∙ h))
+      go false e =
+          let apart : m ≢ n = λ same. absurd (true≢false (sym (is_so same) ∙ e)) in
+          other_passes xs n m k l apart ∙ before m (sym (get_or-set_other used n m t true apart) ∙ h)
+        where
+          is_so : m ≡ n → (m == n) ≡ true
+          is_so same = grind (arith, nat_tests)
+
+  -- the first nodes are marked as all were
+  pub marked_first : (xs : List PlainNode) (used : List Bool) (len : ℕ) → AreMarkedBy xs used → AreMarkedBy (take len xs) used
+  marked_first xs used len before m h = go xs len m (before m h)
+    where
+      go : (ys : List PlainNode) (k i : ℕ) → passes_at ys i ≡ true → passes_at (take k ys) i ≡ true
+      go [] zero i e = refl
+      go [] (suc k) i e = refl
+      go (y ∷ ys) zero i e = refl
+      go (y ∷ ys) (suc k) zero e = e
+      go (y ∷ ys) (suc k) (suc i) e = go ys k i e
+
+  -- a node comes that passes: the others are marked as before
+  module _ (xs : List PlainNode) (x : PlainNode) (passes : test x ≡ true) where
+    passes_before : (ys : List PlainNode) (i : ℕ) → passes_at ys i ≡ true → passes_at (ys ++ x ∷ []) i ≡ true
+    passes_before [] zero e = passes
+    passes_before [] (suc i) e = refl
+    passes_before (y ∷ ys) zero e = e
+    passes_before (y ∷ ys) (suc i) e = passes_before ys i e
+
+    passes_new : (ys : List PlainNode) → passes_at (ys ++ x ∷ []) (length ys) ≡ true
+    passes_new [] = passes
+    passes_new (y ∷ ys) = passes_new ys
+
+    pub marked_new : (used new : List Bool) → ((m : ℕ) → m ≢ length xs → get_or new m true ≡ get_or used m true) → AreMarkedBy xs used → AreMarkedBy (xs ++ x ∷ []) new
+    marked_new used new others before m h = go (m == length xs) refl
+      where
+        go : (b : Bool) → (m == length xs) ≡ b → passes_at (xs ++ x ∷ []) m ≡ true
+        go true e = let same : m ≡ length xs = grind (arith, nat_tests) in ap (passes_at (xs ++ x ∷ [])) same ∙ passes_new xs
+        go false e = passes_before xs m (before m (sym (others m apart) ∙ h))
+          where
+            is_so : m ≡ length xs → (m == length xs) ≡ true
+            is_so same = grind (arith, nat_tests)
+
+            apart : m ≢ length xs
+            apart same = absurd (true≢false (sym (is_so same) ∙ e))
 
 -- what the table tells of a dead node
 pub dead_plain : (xs : List (Node (List Name))) (n : ℕ) (t : Bool) → option_map (is_dead_under {L = List Name} {K = List Name} (λ log l. l) []) (slice_get xs n) ≡ Some t → is_dead_at (plain_nodes xs) n ≡ t
@@ -149,32 +184,13 @@ module _ (xs : List PlainNode) (x : PlainNode) (bare : IsBare x) where
     rules_is = omega (arith, right.rules_is, sum_by_push (rule_share s.process) xs x, rules_none s.process);
   }
 
-  bare_dead : is_dead_node x ≡ true
+  -- nobody has it
+  pub bare_dead : is_dead_node x ≡ true
   bare_dead = ap (λ l. is_empty l && (is_empty x.rule1 && is_empty x.equation)) bare.rule0 ∙ ap₂ (λ l m. is_empty l && is_empty m) bare.rule1 bare.equation
 
-  dead_before : (ys : List PlainNode) (i : ℕ) → is_dead_at ys i ≡ true → is_dead_at (ys ++ x ∷ []) i ≡ true
-  dead_before [] zero e = bare_dead
-  dead_before [] (suc i) e = refl
-  dead_before (y ∷ ys) zero e = e
-  dead_before (y ∷ ys) (suc i) e = dead_before ys i e
-
-  dead_new : (ys : List PlainNode) → is_dead_at (ys ++ x ∷ []) (length ys) ≡ true
-  dead_new [] = bare_dead
-  dead_new (y ∷ ys) = dead_new ys
-
-  -- it is dead, and the others are marked as before
-  pub marked_new : (used new : List Bool) → ((m : ℕ) → m ≢ length xs → get_or new m true ≡ get_or used m true) → AreMarked xs used → AreMarked (xs ++ x ∷ []) new
-  marked_new used new others before m h = go (m == length xs) refl
-    where
-      go : (b : Bool) → (m == length xs) ≡ b → is_dead_at (xs ++ x ∷ []) m ≡ true
-      go true e = let same : m ≡ length xs = grind (arith, nat_tests) in ap (is_dead_at (xs ++ x ∷ [])) same ∙ dead_new xs
-      go false e = dead_before xs m (before m (sym (others m apart) ∙ h))
-        where
-          test : m ≡ length xs → (m == length xs) ≡ true
-          test same = grind (arith, nat_tests)
-
-          apart : m ≢ length xs
-          apart same = absurd (true≢false (sym (test same) ∙ e))
+  -- nor a constraint in it
+  pub bare_free : is_free_node x ≡ true
+  bare_free = ap₂ (λ l m. is_empty l && is_empty m) bare.constraint0 bare.constraint1
 
 -- ---- numbers
 
@@ -204,3 +220,32 @@ dead_labels (x ∷ xs) zero p e =
     let two = and_parts (is_empty x.rule1) (is_empty x.equation) one.1 in
     (nobody_in x.equation p two.1, (nobody_in x.rule0 p one.0, nobody_in x.rule1 p two.0))
 dead_labels (x ∷ xs) (suc n) p e = dead_labels xs n p e
+
+-- ---- constraints
+
+-- a label of another kind leaves in which nodes there are constraints
+free_kept : (xs : List PlainNode) (n m : ℕ) (k : LabelKind) (l : List Name) → is_constraint_kind k ≡ false → is_free_at (with_label n k l xs) m ≡ is_free_at xs m
+free_kept [] n m k l e = refl
+free_kept (x ∷ xs) zero zero R0 l e = refl
+free_kept (x ∷ xs) zero zero R1 l e = refl
+free_kept (x ∷ xs) zero zero E l e = refl
+free_kept (x ∷ xs) zero zero X l e = refl
+free_kept (x ∷ xs) zero zero C0 l e = absurd (true≢false e)
+free_kept (x ∷ xs) zero zero C1 l e = absurd (true≢false e)
+free_kept (x ∷ xs) zero (suc m) k l e = refl
+free_kept (x ∷ xs) (suc n) zero k l e = refl
+free_kept (x ∷ xs) (suc n) (suc m) k l e = free_kept xs n m k l e
+
+-- the marks that note a label of constraints tell of the nodes with it
+pub constraints_marked : (xs : List PlainNode) (used new : List Bool) (n : ℕ) (k : LabelKind) (l : List Name) → AreConstraintsMarked xs used → new ≡ cond (is_constraint_kind k) (set used n true) used → AreConstraintsMarked (with_label n k l xs) new
+constraints_marked xs used new n k l before e = go (is_constraint_kind k) refl e
+  where
+    go : (t : Bool) → is_constraint_kind k ≡ t → new ≡ cond t (set used n true) used → AreConstraintsMarked (with_label n k l xs) new
+    go true f g = subst {A = List Bool} (AreConstraintsMarked (with_label n k l xs)) (sym g) (marked is_free_node xs used n k l true before (λ z. absurd (true≢false z)))
+    go false f g = subst {A = List Bool} (AreConstraintsMarked (with_label n k l xs)) (sym g) (λ m h. free_kept xs n m k l f ∙ before m h)
+
+-- in a node without constraints nobody has one
+pub free_labels : (xs : List PlainNode) (n : ℕ) (p : Name) → is_free_at xs n ≡ true → (has (label_at xs n C0) p ≡ false) × (has (label_at xs n C1) p ≡ false)
+free_labels [] n p e = (refl, refl)
+free_labels (x ∷ xs) zero p e = let both = and_parts (is_empty x.constraint0) (is_empty x.constraint1) e in (nobody_in x.constraint0 p both.0, nobody_in x.constraint1 p both.1)
+free_labels (x ∷ xs) (suc n) p e = free_labels xs n p e

@@ -11,6 +11,7 @@ pub mod Named
 pub mod Rewriting
 pub mod Applicable
 pub mod Sizes
+pub mod Constrained
 pub mod Roles
 pub mod Accounts
 pub mod Overlapped

@@ -5,6 +5,7 @@ ghost use Rattle.mkb_model.specs.Effects.{with_label, with_node, node_of, is_pre
 ghost use Rattle.kb_label.specs.Names.{child, has, minus, relabel};
 ghost use Rattle.mkb_rules.specs.Parts.{plain_nodes};
 ghost use Rattle.mkb_rules.specs.Accounts.{DiffersFor, IsAccountOf};
+ghost use Rattle.mkb_rules.specs.Constrained.{AreConstrained};
 ghost use Rattle.mkb_rules.specs.Nodes.{put_back, put_one_back};
 ghost use Rattle.mkb_rules.specs.Roles.{AreRolesOf};
 ghost use Rattle.mkb_rules.specs.SetAside.{AreSetAside};
@@ -99,6 +100,14 @@ impl Nodes {
         self.table.alive()
     }
 
+    /// The nodes in which some process has a constraint, in their order, and perhaps some in which nobody has one; none where that
+    /// isn't kept.
+    pub(crate) fn constrained(&self) -> Option<&[NodeId]>
+        ensures { IfSome result (λ l. AreConstrained self.now.now l.now) }
+    {
+        self.table.constrained()
+    }
+
     /// Keeps of each living process what it pays and how it has the nodes, where memory allows.
     pub(crate) fn keep_accounts(&mut self, log: &NameLog)
         ensures { self.new ≡ self.old }
@@ -132,9 +141,9 @@ impl Nodes {
     }
 
     /// What the process pays, where that is kept at this place.
-    pub(crate) fn sizes(&self, place: usize, p: &Process) -> Option<Sizes>
-        ensures process { IfSome result (λ s. s.process ≡ p.now) }
-        ensures right { IfSome result (AreSizesOf self.now.now) }
+    pub(crate) fn sizes(&self, place: usize, p: &Process) -> Option<&Sizes>
+        ensures process { IfSome result (λ s. s.now.process ≡ p.now) }
+        ensures right { IfSome result (λ s. AreSizesOf self.now.now s.now) }
     {
         self.table.sizes(place, p)
     }

@@ -8,6 +8,7 @@ ghost use Rattle.mkb_model.specs.Jobs.{ref_le};
 ghost use Rattle.mkb_model.specs.Plain.{GivenUp as OverFor, cost, equations_of, known, done_of, label, over_reason, is_over, certificate_of, constraints_of, rules_of};
 ghost use Rattle.mkb_model.specs.Sleeping.{no_members};
 ghost use Rattle.mkb_rules.specs.Parts.{plain_nodes};
+ghost use Rattle.mkb_rules.specs.Constrained.{AreConstrained};
 ghost use Rattle.mkb_rules.specs.Overlapped.{is_overlapped};
 ghost use Rattle.mkb_rules.specs.Roles.{AreRolesOf, held_by, held_of, rules_by};
 ghost use Rattle.mkb_rules.specs.Sizes.{is_dead_at, AreAlive};
@@ -167,6 +168,14 @@ impl State {
         ensures { IfSome result (λ l. AreAlive self.now.nodes l.now) }
     {
         self.nodes.alive()
+    }
+
+    /// The nodes in which some process has a constraint, in their order, and perhaps some in which nobody has one; none where that
+    /// isn't kept. It is kept where memory allows, and takes constant time.
+    pub fn constrained(&self) -> Option<&[NodeId]>
+        ensures { IfSome result (λ l. AreConstrained self.now.nodes l.now) }
+    {
+        self.nodes.constrained()
     }
 
     /// What the process at this place among the living costs, where that is kept. It is for each living process, where memory

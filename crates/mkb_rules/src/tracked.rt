@@ -1,11 +1,12 @@
 // The table of nodes, with what is kept beside it.
-ghost use Rattle.std.specs.Prelude.{◌≡◌, ℕ, List, [], Some, ◌+◌, ◌<◌, ◌≤◌, ◌↔◌, length, take, set, get_or, true, slice_get, option_map, All, IfOk, IfSome, IsTrue, OnErr, OnOk};
+ghost use Rattle.std.specs.Prelude.{◌≡◌, ℕ, List, [], Some, ◌+◌, ◌<◌, ◌≤◌, ◌↔◌, length, take, set, get_or, true, slice_get, option_map, if◌then◌else◌, All, IfOk, IfSome, IsTrue, OnErr, OnOk};
 ghost use Rattle.kb_node.specs.Labelled.{label_in, with_label_at, HasPair, LacksPair, AddsNode};
 ghost use Rattle.kb_label.specs.Names.{relabel, united, IsTakenBack, Name};
 ghost use Rattle.mkb_rules.specs.Parts.{plain_nodes};
 ghost use Rattle.mkb_model.specs.Effects.{with_label};
 ghost use Rattle.mkb_model.specs.Plain.{label_at};
 ghost use Rattle.mkb_rules.specs.Accounts.{DiffersFor, IsAccountOf};
+ghost use Rattle.mkb_rules.specs.Constrained.{is_constraint_kind, AreConstrained};
 ghost use Rattle.mkb_rules.specs.Roles.{AreRolesOf};
 ghost use Rattle.mkb_rules.specs.SetAside.{AreSetAside};
 ghost use Rattle.mkb_rules.specs.Sizes.{is_dead_at, AreAlive, AreSizesOf};
@@ -24,12 +25,14 @@ use std::mem::replace;
 
 /// The table of nodes. Contracts see the nodes alone.
 ///
-/// Beside it stands which nodes no process has as an equation or as a rule, with a list of the others, and an account for each process of what it pays for
-/// its nodes and how it has them; both follow each label that is put. Where memory is short they say less, and nothing false.
+/// Beside it stands which nodes no process has as an equation or as a rule, and which none has as a constraint, with lists of the others, and an account
+/// for each process of what it pays for its nodes and how it has them; all follow each label that is put. Where memory is short they say less, and nothing
+/// false.
 #[derive(Drop)]
 pub(crate) struct Tracked {
     table: NodeTable<ListLabels>,
     used: Marks,
+    constrained: Marks,
     accounts: Vec<Account>,
 }
 
@@ -41,6 +44,7 @@ impl Model for Tracked {
     ghost use Rattle.kb_node.specs.Labelled.{Node};
     ghost use Rattle.mkb_rules.specs.Parts.{plain_nodes};
     ghost use Rattle.mkb_rules.specs.Accounts.{IsAccountOf};
+    ghost use Rattle.mkb_rules.specs.Constrained.{AreConstraintsMarked};
     ghost use Rattle.mkb_rules.specs.Sizes.{AreMarked};
 
     ghost Value = { List (Node (List Name)) };
@@ -49,7 +53,7 @@ impl Model for Tracked {
 
     ghost view = { λ t. t.table };
 
-    ghost invariant = { λ t. AreMarked (plain_nodes t.table) t.used × All (IsAccountOf (plain_nodes t.table)) t.accounts.items };
+    ghost invariant = { λ t. AreMarked (plain_nodes t.table) t.used × All (IsAccountOf (plain_nodes t.table)) t.accounts.items × AreConstraintsMarked (plain_nodes t.table) t.constrained };
 }
 
 impl Tracked {
@@ -60,6 +64,7 @@ impl Tracked {
         Tracked {
             table: NodeTable::new(alloc),
             used: Marks::new(alloc),
+            constrained: Marks::new(alloc),
             accounts: Vec::new(alloc),
         }
     }
@@ -103,6 +108,7 @@ impl Tracked {
         let replaced = self.table.set_label(change.node, change.kind, label);
         let is_dead = self.table.is_dead(log, change.node);
         self.used.set(change.node, !is_dead);
+        mark_constraint(&mut self.constrained, change.node, change.kind);
         replaced
     }
 
@@ -113,6 +119,7 @@ impl Tracked {
     {
         self.accounts.clear();
         self.used.set(n, true);
+        mark_constraint(&mut self.constrained, n, kind);
         let _replaced = self.table.set_label(n, kind, label);
     }
 
@@ -142,6 +149,7 @@ impl Tracked {
         self.accounts.clear();
         let is_dead = self.table.is_dead(log, n);
         self.used.set(n, !is_dead);
+        mark_constraint(&mut self.constrained, n, kind);
         outcome
     }
 
@@ -154,6 +162,7 @@ impl Tracked {
     {
         self.accounts.clear();
         self.used.set(n, true);
+        mark_constraint(&mut self.constrained, n, kind);
         let empty = ListLabels::new(*self.accounts.allocator());
         let mut label = self.table.set_label(n, kind, empty);
         label.unite(p);
@@ -185,6 +194,7 @@ impl Tracked {
         if count < self.table.len() {
             let new = NodeId(count as u16);
             self.used.push(new);
+            self.constrained.push(new);
             follow_new(&mut self.accounts, new);
         }
         Ok(n)
@@ -199,6 +209,17 @@ impl Tracked {
             return None;
         }
         self.used.list()
+    }
+
+    /// The nodes in which some process has a constraint, in their order, and perhaps some in which nobody has one; none where that
+    /// isn't kept. It takes constant time.
+    pub(crate) fn constrained(&self) -> Option<&[NodeId]>
+        ensures { IfSome result (λ l. AreConstrained (plain_nodes self.now) l.now) }
+    {
+        if self.constrained.len() != self.table.len() as usize {
+            return None;
+        }
+        self.constrained.list()
     }
 
     /// Keeps an account for each living process, where memory allows.
@@ -257,12 +278,12 @@ impl Tracked {
     }
 
     /// What the process pays, where that is kept at this place.
-    pub(crate) fn sizes(&self, place: usize, p: &Process) -> Option<Sizes>
-        ensures process { IfSome result (λ s. s.process ≡ p.now) }
-        ensures right { IfSome result (AreSizesOf (plain_nodes self.now)) }
+    pub(crate) fn sizes(&self, place: usize, p: &Process) -> Option<&Sizes>
+        ensures process { IfSome result (λ s. s.now.process ≡ p.now) }
+        ensures right { IfSome result (λ s. AreSizesOf (plain_nodes self.now) s.now) }
     {
         match self.account(place, p) {
-            Some(account) => Some(account.sizes),
+            Some(account) => Some(&account.sizes),
             None => None,
         }
     }
@@ -275,6 +296,16 @@ impl Tracked {
             Some(account) => Some(&account.roles),
             None => None,
         }
+    }
+}
+
+// Notes that somebody may have a constraint in the node, where a label of this kind is one of constraints.
+fn mark_constraint(constrained: &mut Marks, n: NodeId, kind: LabelKind)
+    ensures { constrained.new ≡ (if is_constraint_kind kind then set constrained.old n.0 true else constrained.old) }
+{
+    match kind {
+        LabelKind::C0 | LabelKind::C1 => constrained.set(n, true),
+        LabelKind::R0 | LabelKind::R1 | LabelKind::E | LabelKind::X => {}
     }
 }
 

@@ -12,6 +12,6 @@ same_if (Some x) m n h e = h ∙ e
 pub returns : goal.returns
 returns c =
     let b = c.args.self.now in
-    let s = c.in_ok-sizes.field-0 in
+    let s = c.in_ok-sizes.field-0.now in
     same_if c.cost.result (s.open_sizes + counted_sizes c.self.inside.settings.selection s.rule_sizes) (cost b c.args.p.now) c.cost.ensures
     (ap (λ (v : Plain). s.open_sizes + counted_sizes v.settings.selection s.rule_sizes) c.self.view_is ∙ cost_kept b s (subst {A = Plain} (λ v. AreSizesOf v.nodes s) c.self.view_is c.in_ok-sizes.ensures.right) ∙ ap (cost b) c.in_ok-sizes.ensures.process)

@@ -5,9 +5,10 @@ use Rattle.kb_label.specs.Names.{relabel, IsTakenBack, Name}
 use Rattle.mkb_model.specs.Plain.{PlainNode, label_at}
 use Rattle.mkb_model.specs.Effects.{with_label}
 use Rattle.mkb_rules.specs.Parts.{plain_nodes}
-use Rattle.mkb_rules.specs.Sizes.{is_dead_at, AreMarked}
+use Rattle.mkb_rules.specs.Constrained.{AreConstraintsMarked}
+use Rattle.mkb_rules.specs.Sizes.{is_dead_node, is_dead_at, AreMarked}
 use Rattle.mkb_rules.proofs.Forks.{put_itself}
-use Rattle.mkb_rules.proofs.Paying.{marked, dead_plain}
+use Rattle.mkb_rules.proofs.Paying.{constraints_marked, marked, dead_plain}
 use Rattle.mkb_rules.proofs.PutBack.{plain-label, plain-with_label, put-twice}
 use Rattle.mkb_rules.proofs.tracked.Tracked.relabel.Goals as goal
 
@@ -35,10 +36,12 @@ invariant_of-self c =
     let xs = plain_nodes c.self.inside.table in
     let new = with_label n c.args.kind c.relabel-outcome.new.self xs in
     let dead : not c.is_dead-is_dead.result ≡ false → is_dead_at new n ≡ true = λ e. ap (λ ys. is_dead_at ys n) (sym (nodes c)) ∙ dead_plain c.set_label-empty.new.self n c.is_dead-is_dead.result c.is_dead-is_dead.ensures ∙ used-or_dead c.is_dead-is_dead.result e in
-    let put = marked xs c.self.inside.used n c.args.kind c.relabel-outcome.new.self (not c.is_dead-is_dead.result) c.self.invariant.0 dead in (
+    let put = marked is_dead_node xs c.self.inside.used n c.args.kind c.relabel-outcome.new.self (not c.is_dead-is_dead.result) c.self.invariant.0 dead in (
       subst {A = List PlainNode} (λ ys. AreMarked ys c.set.new.self) (sym (nodes c))
           (subst {A = List Bool} (AreMarked new) (sym c.set.ensures) put),
       λ k d h. absurd (omega (arith, h, ap length c.clear.ensures.items)),
+      subst {A = List PlainNode} (λ ys. AreConstraintsMarked ys c.mark_constraint.new.constrained) (sym (nodes c))
+          (constraints_marked xs c.self.inside.constrained c.mark_constraint.new.constrained c.args.n.0 c.args.kind c.relabel-outcome.new.self c.self.invariant.2 c.mark_constraint.ensures),
     )
 
 pub returns-clause-ok : goal.returns-clause-ok

@@ -11,4 +11,5 @@ invariant_of-self c = (
   c.self.invariant.0,
   c.put_all_in.ensures (plain_nodes c.self.inside.table) c.self.invariant.1
       (subst {A = List (Node (List Name))} (λ t. All (IsAccountOf (plain_nodes t)) c.args.others.items) (sym c.self.view_is) c.requires),
+  c.self.invariant.2,
 )

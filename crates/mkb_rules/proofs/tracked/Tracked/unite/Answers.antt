@@ -4,8 +4,9 @@ use Rattle.kb_label.specs.Names.{united}
 use Rattle.mkb_model.specs.Plain.{PlainNode}
 use Rattle.mkb_model.specs.Effects.{with_label}
 use Rattle.mkb_rules.specs.Parts.{plain_nodes}
-use Rattle.mkb_rules.specs.Sizes.{AreMarked}
-use Rattle.mkb_rules.proofs.Paying.{marked}
+use Rattle.mkb_rules.specs.Constrained.{AreConstraintsMarked}
+use Rattle.mkb_rules.specs.Sizes.{is_dead_node, AreMarked}
+use Rattle.mkb_rules.proofs.Paying.{constraints_marked, marked}
 use Rattle.mkb_rules.proofs.PutBack.{plain-label, plain-with_label, put-twice}
 use Rattle.mkb_rules.proofs.tracked.Tracked.unite.Goals as goal
 
@@ -24,10 +25,12 @@ pub invariant_of-self : goal.invariant_of-self
 invariant_of-self c =
     let xs = plain_nodes c.self.inside.table in
     let new = with_label c.args.n.0 c.args.kind c.unite.new.self xs in
-    let put = marked xs c.self.inside.used c.args.n.0 c.args.kind c.unite.new.self true c.self.invariant.0 (λ e. absurd (true≢false e)) in (
+    let put = marked is_dead_node xs c.self.inside.used c.args.n.0 c.args.kind c.unite.new.self true c.self.invariant.0 (λ e. absurd (true≢false e)) in (
       subst {A = List PlainNode} (λ ys. AreMarked ys c.set.new.self) (sym (nodes c))
           (subst {A = List Bool} (AreMarked new) (sym c.set.ensures) put),
       λ k d h. absurd (omega (arith, h, ap length c.clear.ensures.items)),
+      subst {A = List PlainNode} (λ ys. AreConstraintsMarked ys c.mark_constraint.new.constrained) (sym (nodes c))
+          (constraints_marked xs c.self.inside.constrained c.mark_constraint.new.constrained c.args.n.0 c.args.kind c.unite.new.self c.self.invariant.2 c.mark_constraint.ensures),
     )
 
 pub returns-clause-new : goal.returns-clause-new
