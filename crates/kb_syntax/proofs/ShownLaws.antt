@@ -14,7 +14,7 @@ use Rattle.kb_text.specs.Refusals.{shown, back, or_else, side_of, last_alone, en
 use Rattle.kb_text.specs.Machine.{best, kinds}
 use Rattle.kb_syntax.specs.Looks.{Look, look_side, answer, end_row, mark_row}
 use Rattle.kb_syntax.specs.Sides.{token_at}
-use Rattle.kb_syntax.specs.Reader.{Stands, place_look, clash_row, applied_row, own_row}
+use Rattle.kb_syntax.specs.Reader.{Stands, place_look, clash_row, applied_row, own_row, shown_row}
 use Rattle.kb_text.specs.declared.kind.Kind.TheVariants.{VariableApplied, ArityClash}
 use Rattle.kb_text.specs.declared.lexer.Form.{Form}
 use Rattle.kb_text.specs.declared.lexer.Form.TheVariants.{Mark as MarkForm, Identifier, End}
@@ -145,7 +145,7 @@ same_applied n (Some u) End name = refl
 
 -- what a reader finds shown
 pub shown-known : (n : Notes) (p : Place) (f : Front) (form : Form) (name : List ℕ) → Stands n p f → Fine f
-    → answer (clash_row n (look_side (place_look p)) (token_at form [])) (back (applied_row n (look_side (place_look p)) (token_at form [])) 1) (own_row n (place_look p) (token_at form name)) ≡ best None kinds f (token_at form name)
+    → shown_row n (place_look p) form name ≡ best None kinds f (token_at form name)
 shown-known n p f form name st fine =
     (λ i. answer ((same_clash n (look_side (place_look p)) form name ∙ clash-known n p f (token_at form name) st fine) i) ((ap (λ (b : Bool). back b 1) (same_applied n (look_side (place_look p)) form name) ∙ applied-known n p f (token_at form name) st) i) (own-known n p f form name st i))
     ∙ sym (best-answer f (token_at form name) _ _ refl refl (are_back f (token_at form name)))

@@ -7,15 +7,16 @@ use Rattle.kb_text.specs.Tokens.{Token, arrow, equals, left_paren, right_paren, 
 use Rattle.kb_text.specs.Problems.{equations_of, arity_in, variables_among, symbols_among, is_rules, entry_of, equation_variables, equation_of as problem_equation}
 use Rattle.kb_text.specs.Fronts.{Front, TermFront, EquationFront, term_front_tokens}
 use Rattle.kb_text.specs.Machine.{whole_equation}
-use Rattle.kb_text.specs.Refusals.{front_variables, front_names, front_uses, has_other_arity, is_some_and, name_in, or_else, last_alone, ends_next, ended_alone, is_token}
+use Rattle.kb_text.specs.Refusals.{front_variables, front_names, front_uses, has_other_arity, is_some_and, name_in, or_else, last_alone, ends_next, ended_alone, is_token, back}
 use Rattle.kb_syntax.specs.Moves.{open_equations, equation_names_of, side_names_of}
-use Rattle.kb_syntax.specs.Looks.{Look, outside, at_word, at_variables, at_rules, at_equation, at_skipped, look_of, spot_at, Spot, end_row, mark_row, word_row, is_one_more, with_names, with_uses, added_uses, next_look, added_variables, added_equations, ends_rules}
-use Rattle.kb_syntax.specs.Sides.{equation_front}
+use Rattle.kb_syntax.specs.Looks.{Look, look_side, answer, outside, at_word, at_variables, at_rules, at_equation, at_skipped, look_of, spot_at, Spot, end_row, mark_row, word_row, is_one_more, with_names, with_uses, added_uses, next_look, added_variables, added_equations, ends_rules}
+use Rattle.kb_syntax.specs.Sides.{equation_front, token_at}
 use Rattle.kb_syntax.specs.Written.{equation_of}
 use Rattle.kb_syntax.specs.declared.reader.Place.{Place}
 use Rattle.kb_syntax.specs.declared.reader.Place.TheVariants.{Outside, Word, Variables, Rules, Equation, Skipped}
 use Rattle.kb_syntax.specs.declared.notes.Notes.{Notes}
 use Rattle.kb_syntax.specs.declared.reader.Reader.{Reader}
+use Rattle.kb_text.specs.declared.lexer.Form.{Form}
 use Rattle.kb_text.specs.declared.kind.Kind.{Kind}
 use Rattle.kb_text.specs.declared.kind.Kind.TheVariants.{DoubleVariable, Limit}
 use Rattle.kb_text.specs.declared.kind.Bound.TheVariants.{Name as NameLimit, Equations, Size, Depth, Symbols, Variables as VariablesLimit}
@@ -147,6 +148,11 @@ abbrev pub own_row : Notes → Look → Token → Option Kind
 own_row n look (identifier x) = name_row n look x
 own_row n look end_of_input = end_row look n.has_rules
 own_row n look t = mark_row look t
+
+-- what the token of this form shows, which has these bytes if it is an identifier: an answer by the rows of both kinds of clashes and by its own
+abbrev pub shown_row : Notes → Look → Form → Name → Option (Kind × ℕ)
+shown_row n look form name =
+    answer (clash_row n (look_side look) (token_at form [])) (back (applied_row n (look_side look) (token_at form [])) 1) (own_row n look (token_at form name))
 
 -- an answer, whether the name alone at the end of the side is a variable, where one stands there
 abbrev pub TellsLast : List Name → Option TermFront → Bool → Type 0

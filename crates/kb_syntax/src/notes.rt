@@ -1,5 +1,5 @@
 // What a reader keeps beside the place where it stands.
-ghost use Rattle.std.specs.Prelude.{◌≡◌, ◌+◌, ◌<◌, ◌^◌, ◌∷◌, ◌++◌, [], IfOk, OnOk, MatchOption, None, Option, Some, bytes_eq, cond, is_some, length, true};
+ghost use Rattle.std.specs.Prelude.{◌≡◌, ◌+◌, ◌<◌, ◌^◌, ◌∷◌, ◌++◌, [], IfOk, OnOk, MatchOption, None, Option, Some, cond, is_some, length, true};
 ghost use Rattle.kb_text.specs.Fronts.{term_front_tokens};
 ghost use Rattle.kb_text.specs.Names.{is_among};
 ghost use Rattle.kb_syntax.specs.Looks.{word_row, is_one_more, with_use, with_uses};
@@ -13,7 +13,7 @@ use crate::side::Side;
 use crate::variables::Variables;
 use crate::written::WrittenEquation;
 use kb_term::{MAX_DEPTH, MAX_EQUATIONS, MAX_SIZE, MAX_SYMBOLS, MAX_VARIABLES, Memory};
-use kb_text::{Bound, Form, Kind, Mark, Names, Uses};
+use kb_text::{Bound, Form, Kind, Mark, Names, Uses, is_word};
 use std::alloc::Global;
 
 /// What is known of the text that was read.
@@ -38,13 +38,6 @@ pub(crate) struct Notes<'a> {
 pub(crate) struct Spot {
     pub(crate) begins: bool,
     pub(crate) parens: usize,
-}
-
-/// Whether the name is this word.
-pub(crate) fn is_word(name: &[u8], word: &[u8]) -> bool
-    ensures { result ≡ bytes_eq name.now word.now }
-{
-    name == word
 }
 
 fn is_one_more(names: &Names, n: usize, name: &[u8]) -> bool

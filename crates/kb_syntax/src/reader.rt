@@ -1,8 +1,8 @@
 // A text, as far as it was read.
 ghost use Rattle.std.specs.Prelude.{◌≡◌, ◌+◌, ◌<◌, ◌^◌, ◌∷◌, ◌++◌, [], IfOk, IfSome, OnOk, MatchOption, None, Option, Some, cond, is_some, false, true, length, map, option_map, option_to_list};
-ghost use Rattle.kb_syntax.specs.Looks.{at_equation, at_skipped, look_side, spot_at, spot_in, end_row, mark_row, rules_row, next_look, added_variables, added_equations, ends_rules, word_look, at_rules, at_variables, at_word, outside, depth_of, answer};
+ghost use Rattle.kb_syntax.specs.Looks.{at_equation, at_skipped, look_side, spot_at, spot_in, end_row, mark_row, rules_row, next_look, added_variables, added_equations, ends_rules, word_look, at_rules, at_variables, at_word, outside, depth_of};
 ghost use Rattle.kb_text.specs.Machine.{whole_equation};
-ghost use Rattle.kb_syntax.specs.Reader.{TellsLast, place_look, count_at, is_sign, is_ended, stays, IsPassed, HasSameNotes, IsNextReader, IsShortSide, AreEmpty, use_notes, name_notes, name_row, own_name_row, at_a_spot, own_row, clash_row, applied_row};
+ghost use Rattle.kb_syntax.specs.Reader.{TellsLast, place_look, count_at, is_sign, is_ended, stays, IsPassed, HasSameNotes, IsNextReader, IsShortSide, AreEmpty, use_notes, name_notes, name_row, own_name_row, at_a_spot, own_row, clash_row, applied_row, shown_row};
 ghost use Rattle.kb_text.specs.Refusals.{back};
 ghost use Rattle.kb_syntax.specs.Sides.{equation_front, side_front, token_at, where_so};
 ghost use Rattle.kb_text.specs.Starts.{mark_token};
@@ -10,10 +10,10 @@ ghost use Rattle.kb_syntax.specs.Variables.{number_at, variable_number};
 ghost use Rattle.kb_syntax.specs.Written.{equation_of};
 
 use crate::equation::OpenEquation;
-use crate::notes::{Notes, Spot, is_word, shown_by_variable};
+use crate::notes::{Notes, Spot, shown_by_variable};
 use crate::side::Side;
 use kb_term::{MAX_ARITY, MAX_NAME_BYTES, Memory};
-use kb_text::{Bound, Form, Kind, Mark};
+use kb_text::{Bound, Form, Kind, Mark, is_word};
 use std::alloc::Global;
 
 /// Where a text ends, as far as it was read.
@@ -577,7 +577,7 @@ impl<'a> Reader<'a> {
         requires number { number ≡ number_at self.now.notes.variables.declared (token_at form name.now) }
         requires equations { length self.now.notes.equations.items < 2 ^ 63 }
         requires side { IsShortSide (look_side (place_look self.now.place)) }
-        ensures { result ≡ answer (clash_row self.now.notes (look_side (place_look self.now.place)) (token_at form [])) (back (applied_row self.now.notes (look_side (place_look self.now.place)) (token_at form [])) 1) (own_row self.now.notes (place_look self.now.place) (token_at form name.now)) }
+        ensures { result ≡ shown_row self.now.notes (place_look self.now.place) form name.now }
     {
         if let Some(back) = self.clash(form, last_is_variable) {
             return Some((Kind::ArityClash, back));
