@@ -265,7 +265,9 @@ impl Normal {
     fn forget(&mut self)
         ensures { self.new ≡ record self.old { turned = None } }
     {
-        self.turned = None;
+        if self.turned.is_some() {
+            self.turned = None;
+        }
     }
 
     /// Whether it is turned to the process.
