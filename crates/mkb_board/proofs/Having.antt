@@ -13,11 +13,12 @@ use Rattle.kb_node.specs.declared.job.Job.TheVariants.{Reduce, Orient}
 use Rattle.kb_node.specs.declared.node.LabelKind.TheVariants.{X}
 use Rattle.kb_node.specs.declared.node.NodeId.{NodeId}
 use Rattle.mkb_model.specs.Jobs.{is_free}
-use Rattle.mkb_model.specs.Plain.{Plain, directions, is_equation, is_rule, label, node_numbers, rules_of}
+use Rattle.mkb_model.specs.Plain.{Plain, constraints_of, directions, equations_of, is_constraint, is_equation, is_rule, label, node_numbers, rules_of}
 use Rattle.mkb_model.specs.DueJobs.{is_reducible}
 use Rattle.mkb_model.proofs.Lists.{filter_in, numbers_in}
 use Rattle.mkb_rules.specs.Sizes.{is_dead_at, AreAlive}
-use Rattle.mkb_rules.proofs.Paying.{dead_labels}
+use Rattle.mkb_rules.specs.Constrained.{is_free_at, AreConstrained}
+use Rattle.mkb_rules.proofs.Paying.{dead_labels, free_labels}
 use Rattle.mkb_board.specs.Choosing.{is_choice}
 use Rattle.mkb_rules.specs.Roles.{held_of, is_in_use, roles_of, rules_in}
 
@@ -49,6 +50,14 @@ unused_rules b p n e =
     let one = or_parts (is_equation b p n) (is_rule b p (record { node = n; dir = 0 }) || is_rule b p (record { node = n; dir = 1 })) e in
     let two = or_parts (is_rule b p (record { node = n; dir = 0 })) (is_rule b p (record { node = n; dir = 1 })) one.1 in
     sym (rules_of_roles b p n) ∙ ap₂ (λ (x y : Bool). cond x (record { node = n; dir = 0 } ∷ []) [] ++ cond y (record { node = n; dir = 1 } ∷ []) []) two.0 two.1
+
+-- in a node without constraints the process has none
+no_constraints : (b : Plain) (p : Name) (n : ℕ) → is_free_at b.nodes n ≡ true → filter (is_constraint b p) (directions n) ≡ []
+no_constraints b p n e =
+    let forth : RuleRef = record { node = n; dir = 0 } in
+    let back : RuleRef = record { node = n; dir = 1 } in
+    let d = free_labels b.nodes n p e in
+    ap₂ (λ (x y : Bool). cond x (forth ∷ cond y (back ∷ []) []) (cond y (back ∷ []) [])) d.0 d.1
 
 -- nothing is to be reduced there
 pub unused_reduce : (b : Plain) (flight : List Job) (p : Name) (n : ℕ) → is_in_use (roles_of b p n) ≡ false → is_choice b flight (Reduce p (record { 0 = n })) ≡ false
@@ -110,13 +119,21 @@ rules_held b p = rules_kept (λ n. is_in_use (roles_of b p n)) (is_rule b p) (un
 pub held_alive : (b : Plain) (p : Name) (l : List NodeId) → AreAlive b.nodes l → filter (λ n. is_in_use (roles_of b p n)) (map (λ (n : NodeId). n.0) l) ≡ held_of b p
 held_alive b p l a = ap (filter (λ n. is_in_use (roles_of b p n))) a.is ∙ filter_kept (λ n. is_in_use (roles_of b p n)) a.has (λ n e. dead_unused b p n (a.others n e)) (node_numbers b)
 
--- one node more
-pub held_next : (b : Plain) (p : Name) (held : List NodeId) (xs : List ℕ) (n : NodeId) → map (λ (k : NodeId). k.0) held ≡ filter (λ m. is_in_use (roles_of b p m)) xs
-    → map (λ (k : NodeId). k.0) (held ++ cond (is_in_use (roles_of b p n.0)) (n ∷ []) []) ≡ filter (λ m. is_in_use (roles_of b p m)) (xs ++ n.0 ∷ [])
-held_next b p held xs n e =
-    map-append (λ (k : NodeId). k.0) held (cond (is_in_use (roles_of b p n.0)) (n ∷ []) [])
-    ∙ ap₂ (λ (l m : List ℕ). l ++ m) e (go (is_in_use (roles_of b p n.0)))
-    ∙ sym (filter-append (λ m. is_in_use (roles_of b p m)) xs (n.0 ∷ []))
+-- its constraints are those in the nodes outside of which nobody has one
+pub constraints_listed : (b : Plain) (p : Name) (l : List NodeId) → AreConstrained b.nodes l → filter (is_constraint b p) (flat_map directions (map (λ (n : NodeId). n.0) l)) ≡ constraints_of b p
+constraints_listed b p l a = ap (λ (xs : List ℕ). filter (is_constraint b p) (flat_map directions xs)) a.is ∙ rules_kept a.has (is_constraint b p) (λ n e. no_constraints b p n (a.others n e)) (node_numbers b)
+
+-- its equations are those of the nodes that it has
+pub equations_held : (b : Plain) (p : Name) → filter (is_equation b p) (held_of b p) ≡ equations_of b p
+equations_held b p = filter_kept (is_equation b p) (λ n. is_in_use (roles_of b p n)) (λ n e. (or_parts (is_equation b p n) (is_rule b p (record { node = n; dir = 0 }) || is_rule b p (record { node = n; dir = 1 })) e).0) (node_numbers b)
+
+-- one node more, where it serves
+pub listed_next : (serves : ℕ → Bool) (held : List NodeId) (xs : List ℕ) (n : NodeId) → map (λ (k : NodeId). k.0) held ≡ filter serves xs
+    → map (λ (k : NodeId). k.0) (held ++ cond (serves n.0) (n ∷ []) []) ≡ filter serves (xs ++ n.0 ∷ [])
+listed_next serves held xs n e =
+    map-append (λ (k : NodeId). k.0) held (cond (serves n.0) (n ∷ []) [])
+    ∙ ap₂ (λ (l m : List ℕ). l ++ m) e (go (serves n.0))
+    ∙ sym (filter-append serves xs (n.0 ∷ []))
   where
     go : (t : Bool) → map (λ (k : NodeId). k.0) (cond t (n ∷ []) []) ≡ cond t (n.0 ∷ []) []
     go true = refl
@@ -138,6 +155,9 @@ listed_there b t l i d e h =
 
 pub alive_there : (b : Plain) (l : List NodeId) (i : ℕ) (d : NodeId) → AreAlive b.nodes l → i < length l → (get_or l i d).0 < length b.nodes
 alive_there b l i d a h = listed_there b a.has l i d a.is h
+
+pub constrained_there : (b : Plain) (l : List NodeId) (i : ℕ) (d : NodeId) → AreConstrained b.nodes l → i < length l → (get_or l i d).0 < length b.nodes
+constrained_there b l i d a h = listed_there b a.has l i d a.is h
 
 pub held_there : (b : Plain) (p : Name) (l : List NodeId) (i : ℕ) (d : NodeId) → map (λ (n : NodeId). n.0) l ≡ held_of b p → i < length l → (get_or l i d).0 < length b.nodes
 held_there b p l i d e h = listed_there b (λ n. is_in_use (roles_of b p n)) l i d e h

@@ -194,10 +194,10 @@ turned_cmp-total b =
 
 -- the cost that is kept beside the process is its own
 abbrev pub IsPriced : Plain → Costed → Type 0
-IsPriced b c = c.cost ≡ cost b c.process
+IsPriced b c = c.cost ≡ cost b c.process.now
 
 abbrev pub process_in : Option Costed → Option Name
-process_in o = option_map (λ (c : Costed). c.process) o
+process_in o = option_map (λ (c : Costed). c.process.now) o
 
 -- the best so far and those left give the same after one more
 pub record IsStep (b : Plain) (R : Name → Name → Ordering) (left others : List Name) (best new : Option Costed) : Type 0 where
@@ -207,40 +207,40 @@ pub record IsStep (b : Plain) (R : Name → Name → Ordering) (left others : Li
 pub passed : (b : Plain) (R : Name → Name → Ordering) (left others : List Name) → left ≡ others → (best new : Option Costed) → IfSome best (IsPriced b) → new ≡ best → IsStep b R left others best new
 passed b R left others e best new priced same = subst {A = Option Costed} (IsStep b R left others best) (sym same) (record { pick = sym (ap (λ (ps : List Name). merged R (process_in best) (least R ps)) e); priced = priced })
 
-module _ (b : Plain) (order : Costed → Costed → Ordering) (R : Name → Name → Ordering) (agrees : (c d : Costed) → IsPriced b c → IsPriced b d → order c d ≡ R c.process d.process) where
+module _ (b : Plain) (order : Costed → Costed → Ordering) (R : Name → Name → Ordering) (agrees : (c d : Costed) → IsPriced b c → IsPriced b d → order c d ≡ R c.process.now d.process.now) where
   -- the better of the best so far and the next one
   better : (best : Option Costed) (next r : Costed) → IfSome best (IsPriced b) → IsPriced b next → Some r ≡ merged order best (Some next)
-      → (Some r.process ≡ merged R (process_in best) (Some next.process)) × IsPriced b r
+      → (Some r.process.now ≡ merged R (process_in best) (Some next.process.now)) × IsPriced b r
   better None next r k h e = (ap process_in e, subst {A = Costed} (IsPriced b) (sym (some_is e)) h)
   better (Some c) next r k h e = go (is_le (order c next)) refl
     where
-      by : (x : Bool) → Some r ≡ Some (cond x c next) → is_le (R c.process next.process) ≡ x → (Some r.process ≡ merged R (Some c.process) (Some next.process)) × IsPriced b r
-      by true f g = (ap process_in f ∙ sym (ap (λ y. Some (cond y c.process next.process)) g), subst {A = Costed} (IsPriced b) (sym (some_is f)) k)
-      by false f g = (ap process_in f ∙ sym (ap (λ y. Some (cond y c.process next.process)) g), subst {A = Costed} (IsPriced b) (sym (some_is f)) h)
+      by : (x : Bool) → Some r ≡ Some (cond x c next) → is_le (R c.process.now next.process.now) ≡ x → (Some r.process.now ≡ merged R (Some c.process.now) (Some next.process.now)) × IsPriced b r
+      by true f g = (ap process_in f ∙ sym (ap (λ y. Some (cond y c.process.now next.process.now)) g), subst {A = Costed} (IsPriced b) (sym (some_is f)) k)
+      by false f g = (ap process_in f ∙ sym (ap (λ y. Some (cond y c.process.now next.process.now)) g), subst {A = Costed} (IsPriced b) (sym (some_is f)) h)
 
-      go : (x : Bool) → is_le (order c next) ≡ x → (Some r.process ≡ merged R (Some c.process) (Some next.process)) × IsPriced b r
+      go : (x : Bool) → is_le (order c next) ≡ x → (Some r.process.now ≡ merged R (Some c.process.now) (Some next.process.now)) × IsPriced b r
       go x f = by x (e ∙ ap (λ y. Some (cond y c next)) f) (sym (ap is_le (agrees c next k h)) ∙ f)
 
   taken : IsTotalOrder R → (p : Name) (left others : List Name) → left ≡ p ∷ others → (best new : Option Costed) (next r : Costed) → IfSome best (IsPriced b)
-      → next ≡ record { cost = cost b p; process = p } → Some r ≡ merged order best (Some next) → new ≡ Some r → IsStep b R left others best new
-  taken o p left others there best new next r priced costs e same =
-      let m = better best next r priced (subst {A = Costed} (IsPriced b) (sym costs) refl) e in
+      → next.cost ≡ cost b p → next.process.now ≡ p → Some r ≡ merged order best (Some next) → new ≡ Some r → IsStep b R left others best new
+  taken o p left others there best new next r priced costs named e same =
+      let m = better best next r priced (costs ∙ ap (cost b) (sym named)) e in
       subst {A = Option Costed} (IsStep b R left others best) (sym same) (record {
         pick =
             ap (λ z. merged R z (least R others)) m.0
-            ∙ merged_both R o (process_in best) (Some next.process) (least R others)
-            ∙ ap (λ (z : Costed). merged R (process_in best) (least R (z.process ∷ others))) costs
+            ∙ merged_both R o (process_in best) (Some next.process.now) (least R others)
+            ∙ ap (λ (q : Name). merged R (process_in best) (least R (q ∷ others))) named
             ∙ sym (ap (λ (ps : List Name). merged R (process_in best) (least R ps)) there);
         priced = m.1;
       })
 
-pub costed_agrees : (b : Plain) (c d : Costed) → IsPriced b c → IsPriced b d → costed_cmp c d ≡ process_cmp b c.process d.process
-costed_agrees b c d h k = ap (λ n. ordering_then (nat_cmp n d.cost) (name_cmp c.process d.process)) h ∙ ap (λ n. ordering_then (nat_cmp (cost b c.process) n) (name_cmp c.process d.process)) k
+pub costed_agrees : (b : Plain) (c d : Costed) → IsPriced b c → IsPriced b d → costed_cmp c d ≡ process_cmp b c.process.now d.process.now
+costed_agrees b c d h k = ap (λ n. ordering_then (nat_cmp n d.cost) (name_cmp c.process.now d.process.now)) h ∙ ap (λ n. ordering_then (nat_cmp (cost b c.process.now) n) (name_cmp c.process.now d.process.now)) k
 
 pub lesser_taken : (b : Plain) (p : Name) (left others : List Name) → left ≡ p ∷ others → (best new : Option Costed) (next r : Costed) → IfSome best (IsPriced b)
-    → next ≡ record { cost = cost b p; process = p } → Some r ≡ merged costed_cmp best (Some next) → new ≡ Some r → IsStep b (process_cmp b) left others best new
+    → next.cost ≡ cost b p → next.process.now ≡ p → Some r ≡ merged costed_cmp best (Some next) → new ≡ Some r → IsStep b (process_cmp b) left others best new
 lesser_taken b = taken b costed_cmp (process_cmp b) (costed_agrees b) (process_cmp-total b)
 
 pub greater_taken : (b : Plain) (p : Name) (left others : List Name) → left ≡ p ∷ others → (best new : Option Costed) (next r : Costed) → IfSome best (IsPriced b)
-    → next ≡ record { cost = cost b p; process = p } → Some r ≡ merged (λ c d. costed_cmp d c) best (Some next) → new ≡ Some r → IsStep b (turned_cmp b) left others best new
+    → next.cost ≡ cost b p → next.process.now ≡ p → Some r ≡ merged (λ c d. costed_cmp d c) best (Some next) → new ≡ Some r → IsStep b (turned_cmp b) left others best new
 greater_taken b = taken b (λ c d. costed_cmp d c) (turned_cmp b) (λ c d h k. costed_agrees b d c k h) (turned_cmp-total b)

@@ -25,7 +25,6 @@ use Rattle.kb_jobs.specs.Rules.{named, ComesBefore, AreInOrder}
 use Rattle.kb_jobs.proofs.Preorder.{nat_less, nat_same}
 use Rattle.kb_jobs.specs.Reducing.{no_name}
 use Rattle.mkb_rules.specs.Named.{IsRuleThere}
-use Rattle.mkb_rules.proofs.Costs.{numbers_next}
 use Rattle.mkb_board.specs.Snapshots.{AreWithin, with_names, unknown_on}
 pub use Rattle.mkb_rules.proofs.Viewed.{in_directions, passing_there, rules_there, constraints_there, others_there, equations_there, rules_next}
 
@@ -180,14 +179,16 @@ others_few b p F rules names e f l = omega (arith, ap length e, ap length f, fil
 
 -- ---- rules, node by node
 
--- the constraints of one node more
-pub directions_next : (F : RuleRef → Bool) (n : ℕ) (cs : List RuleRef) → cs ≡ filter F (flat_map directions (numbers_from 0 n))
-    → (cs ++ filter F (record { node = n; dir = 0 } ∷ [])) ++ filter F (record { node = n; dir = 1 } ∷ []) ≡ filter F (flat_map directions (numbers_from 0 (n + 1)))
-directions_next F n cs e =
+-- those of one node, in both directions
+pub directions_pushed : (F : RuleRef → Bool) (n : ℕ) (cs : List RuleRef) → (cs ++ filter F (record { node = n; dir = 0 } ∷ [])) ++ filter F (record { node = n; dir = 1 } ∷ []) ≡ cs ++ filter F (directions n)
+directions_pushed F n cs =
     let first : List RuleRef = record { node = n; dir = 0 } ∷ [] in
     let second : List RuleRef = record { node = n; dir = 1 } ∷ [] in
     append_assoc cs (filter F first) (filter F second) ∙ ap (λ (z : List RuleRef). cs ++ z) (sym (filter-append F first second))
-    ∙ ap (λ (z : List RuleRef). z ++ filter F (first ++ second)) e
-    ∙ sym (filter-append F (flat_map directions (numbers_from 0 n)) (first ++ second))
-    ∙ ap (filter F) (sym (flat_map-append directions (numbers_from 0 n) (n ∷ [])))
-    ∙ ap (λ (l : List ℕ). filter F (flat_map directions l)) (sym (numbers_next n))
+
+-- those of one node more
+pub directions_next : (F : RuleRef → Bool) (xs : List ℕ) (n : ℕ) (cs : List RuleRef) → cs ≡ filter F (flat_map directions xs) → cs ++ filter F (directions n) ≡ filter F (flat_map directions (xs ++ n ∷ []))
+directions_next F xs n cs e =
+    ap (λ (z : List RuleRef). z ++ filter F (directions n)) e
+    ∙ sym (filter-append F (flat_map directions xs) (directions n))
+    ∙ ap (filter F) (sym (flat_map-append directions xs (n ∷ [])))

@@ -99,7 +99,7 @@ StandsBefore p c = name_cmp (process_of c.job) p ≡ Less
 
 -- the order of processes by the costs that are kept beside them, then name
 abbrev pub costed_cmp : Costed → Costed → Ordering
-costed_cmp c d = ordering_then (nat_cmp c.cost d.cost) (name_cmp c.process d.process)
+costed_cmp c d = ordering_then (nat_cmp c.cost d.cost) (name_cmp c.process.now d.process.now)
 
 -- ---- who has nothing to do
 

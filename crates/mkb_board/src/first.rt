@@ -90,10 +90,7 @@ fn first_of_all(
         if state.is_asleep_from(process, &mut asleep) {
             continue;
         }
-        let next = Costed {
-            cost,
-            process: *process,
-        };
+        let next = Costed { cost, process };
         let place = i % normals.len();
         best = lesser_choice(state, flight, &mut normals[place], best, &next)?;
     }
@@ -114,16 +111,16 @@ fn lesser_choice(
     requires limited { AreLimited state.now.problem.signature state.now.nodes }
     requires rest { ClosedRest state.now }
     requires normal { AreNormal state.now normal.old }
-    requires lives { IsTrue (has state.now.living next.now.process) }
-    requires cost { next.now.cost ≡ cost state.now next.now.process }
+    requires lives { IsTrue (has state.now.living next.now.process.now) }
+    requires cost { next.now.cost ≡ cost state.now next.now.process.now }
     requires costed { IfSome best (IsCosted state.now) }
     requires below { IsTrue (option_map_or (λ (c : Choice). nat_lt next.now.cost c.cost) best true) }
-    ensures least { IfOk result (λ o. option_map (λ (c : Choice). c.job) o ≡ merged (job_cmp (cost state.now) (weight state.now)) (option_map (λ (c : Choice). c.job) best) (first_choice state.now (jobs_of flight.now) next.now.process)) }
+    ensures least { IfOk result (λ o. option_map (λ (c : Choice). c.job) o ≡ merged (job_cmp (cost state.now) (weight state.now)) (option_map (λ (c : Choice). c.job) best) (first_choice state.now (jobs_of flight.now) next.now.process.now)) }
     ensures costed { IfOk result (λ o. IfSome o (IsCosted state.now)) }
-    ensures of_either { IfOk result (λ o. (o ≡ best) ⊎ IfSome o (λ c. process_of c.job ≡ next.now.process)) }
+    ensures of_either { IfOk result (λ o. (o ≡ best) ⊎ IfSome o (λ c. process_of c.job ≡ next.now.process.now)) }
     ensures normal { AreNormal state.now normal.new }
 {
-    match first_choice(state, flight, normal, &next.process)? {
+    match first_choice(state, flight, normal, next.process)? {
         Some(job) => Ok(Some(Choice {
             cost: next.cost,
             job,

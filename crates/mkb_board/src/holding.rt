@@ -1,7 +1,7 @@
 // Which nodes a process has.
-ghost use Rattle.std.specs.Prelude.{◌≡◌, ◌<◌, [], length, map, IfOk};
+ghost use Rattle.std.specs.Prelude.{◌≡◌, ◌<◌, ◌++◌, ◌∷◌, [], length, map, if◌then◌else◌, IfOk, OnOk};
 ghost use Rattle.kb_node.specs.declared.node.NodeId.{NodeId as Numbered};
-ghost use Rattle.mkb_model.specs.Plain.{Plain, rules_of};
+ghost use Rattle.mkb_model.specs.Plain.{Plain, equations_of, rules_of};
 ghost use Rattle.mkb_rules.specs.Sizes.{AreAlive};
 ghost use Rattle.mkb_rules.specs.Roles.{held_of, roles_of};
 ghost use Rattle.mkb_board.specs.Normal.{IsSearch};
@@ -126,4 +126,33 @@ pub(crate) fn rules_among(
         push_rules(&mut rules, held[i].0, roles)?;
     }
     Ok(rules)
+}
+
+/// The equations of the process, in their order: those of the nodes that it has.
+pub(crate) fn equations_among(
+    alloc: Global,
+    state: &State,
+    p: &Process,
+    held: &[NodeId],
+) -> Result<Vec<NodeId>, AllocError>
+    requires { map (λ (n : Numbered). n.0) held.now ≡ held_of state.now p.now }
+    ensures { IfOk result (λ equations. map (λ (n : Numbered). n.0) equations.items ≡ equations_of state.now p.now) }
+{
+    let kept = state.roles(p);
+    let mut equations = Vec::new(alloc);
+    for i in 0..held.len() {
+        let roles = roles_by(state, kept, p, held[i]);
+        push_equation(&mut equations, held[i], roles)?;
+    }
+    Ok(equations)
+}
+
+// Adds the node, where whoever has it so has it as an equation.
+fn push_equation(equations: &mut Vec<NodeId>, n: NodeId, roles: Roles) -> Result<(), AllocError>
+    ensures { OnOk result (equations.new.items ≡ equations.old.items ++ (if roles.equation then n ∷ [] else [])) }
+{
+    if roles.equation {
+        equations.push(n)?;
+    }
+    Ok(())
 }

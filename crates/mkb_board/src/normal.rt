@@ -51,8 +51,8 @@ pub(crate) fn roles_of(state: &State, p: &Process, n: NodeId) -> Roles
     }
 }
 
-// Whether whoever has the node so has the rule with this side on the right.
-fn leads_to(roles: Roles, w: u8) -> bool
+/// Whether whoever has the node so has the rule with this side on the right.
+pub(crate) fn leads_to(roles: Roles, w: u8) -> bool
     ensures { result ≡ has_rule roles (other w) }
 {
     if w == 0 { roles.second } else { roles.first }
@@ -265,7 +265,9 @@ impl Normal {
     fn forget(&mut self)
         ensures { self.new ≡ record self.old { turned = None } }
     {
-        self.turned = None;
+        if self.turned.is_some() {
+            self.turned = None;
+        }
     }
 
     /// Whether it is turned to the process.

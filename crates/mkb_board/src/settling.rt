@@ -16,12 +16,13 @@ use crate::cost::{cost, place_from, place_of};
 use crate::working::{MOST_AWAKE, Placed, put_in, take_out};
 use kb_label::{Living, Process};
 use mkb_rules::State;
+use std::cmp::Ordering;
 
 /// A process with its cost.
 #[derive(Clone, Copy)]
-pub(crate) struct Costed {
+pub(crate) struct Costed<'a> {
     pub(crate) cost: u32,
-    pub(crate) process: Process,
+    pub(crate) process: &'a Process,
 }
 
 /// While more than 64 processes are active and awake the one that costs most falls asleep; then, while fewer are, the active
@@ -116,7 +117,7 @@ fn greatest_working(state: &State, working: &[Placed]) -> Option<Process>
 {
     let mut best = None;
     for i in 0..working.len() {
-        let placed = working[i];
+        let placed = &working[i];
         best = Some(greater(best, with_cost(state, placed.place, &placed.process)));
     }
     process_in(&best)
@@ -129,7 +130,7 @@ pub(crate) fn least_working(state: &State, working: &[Placed]) -> Option<Process
 {
     let mut best = None;
     for i in 0..working.len() {
-        let placed = working[i];
+        let placed = &working[i];
         best = Some(lesser(best, with_cost(state, placed.place, &placed.process)));
     }
     process_in(&best)
@@ -158,29 +159,30 @@ fn least_waiting(state: &State) -> Option<Process>
 }
 
 // The process at this place among the living with its cost.
-fn with_cost(state: &State, place: usize, p: &Process) -> Costed
+fn with_cost<'a>(state: &State, place: usize, p: &'a Process) -> Costed<'a>
     requires { AreLimited state.now.problem.signature state.now.nodes }
-    ensures { result ≡ record { cost = cost state.now p.now; process = p.now } }
+    ensures cost { result.cost ≡ cost state.now p.now }
+    ensures process { result.process.now ≡ p.now }
 {
     Costed {
         cost: cost(state, place, p),
-        process: *p,
+        process: p,
     }
 }
 
 // The process of the best, if there is one.
 fn process_in(best: &Option<Costed>) -> Option<Process>
-    ensures { result ≡ option_map (λ (c : Costed). c.process) best.now }
+    ensures { result ≡ option_map (λ (c : Costed). c.process.now) best.now }
 {
     match best {
-        Some(costed) => Some(costed.process),
+        Some(costed) => Some(*costed.process),
         None => None,
     }
 }
 
 // The lesser by cost, then name.
-fn lesser(best: Option<Costed>, next: Costed) -> Costed
-    ensures { Some result ≡ merged costed_cmp best (Some next) }
+fn lesser<'a>(best: Option<Costed<'a>>, next: Costed<'a>) -> Costed<'a>
+    ensures { Some result ≡ merged costed_cmp best.entry (Some next.entry) }
 {
     match best {
         None => next,
@@ -195,8 +197,8 @@ fn lesser(best: Option<Costed>, next: Costed) -> Costed
 }
 
 // The greater by cost, then name.
-fn greater(best: Option<Costed>, next: Costed) -> Costed
-    ensures { Some result ≡ merged (λ one other. costed_cmp other one) best (Some next) }
+fn greater<'a>(best: Option<Costed<'a>>, next: Costed<'a>) -> Costed<'a>
+    ensures { Some result ≡ merged (λ one other. costed_cmp other one) best.entry (Some next.entry) }
 {
     match best {
         None => next,
@@ -214,8 +216,9 @@ fn greater(best: Option<Costed>, next: Costed) -> Costed
 fn is_at_most(one: &Costed, other: &Costed) -> bool
     ensures { result ≡ is_le (costed_cmp one.now other.now) }
 {
-    one.cost
-        .cmp(&other.cost)
-        .then(one.process.cmp(&other.process))
-        .is_le()
+    match one.cost.cmp(&other.cost) {
+        Ordering::Less => true,
+        Ordering::Equal => one.process.cmp(other.process).is_le(),
+        Ordering::Greater => false,
+    }
 }

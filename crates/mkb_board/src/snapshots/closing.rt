@@ -8,11 +8,12 @@ ghost use Rattle.kb_jobs.specs.Taken.{IsTakenClose};
 ghost use Rattle.mkb_board.specs.Shelf.{HoldsRead};
 
 use super::named::{named_rules, pair_at};
+use crate::holding::{equations_among, held_nodes, rules_among};
 use crate::shelf::Shelf;
 use kb_jobs::CloseSnapshot;
 use kb_label::Process;
 use kb_node::NodeId;
-use kb_term::{Memory, Pair, RuleRef, Term};
+use kb_term::{Memory, Pair, Term};
 use mkb_rules::State;
 use std::alloc::{AllocError, Global};
 
@@ -30,10 +31,11 @@ pub(crate) fn close_snapshot(
     ensures taken { IfOk result (IsTakenClose state.now) }
     ensures as_many { IfOk result (λ s. length s.rules.names.items ≡ length s.rules.rules) }
 {
-    let view = state.view_of(&process)?;
-    let names = copied_names(alloc, view.rules.items())?;
+    let held = held_nodes(alloc, state, &process)?;
+    let names = rules_among(alloc, state, &process, held.as_slice())?;
+    let nodes = equations_among(alloc, state, &process, held.as_slice())?;
     let rules = named_rules(alloc, state, shelf, names)?;
-    let equations = equations_at(alloc, state, view.equations.items())?;
+    let equations = equations_at(alloc, state, nodes.as_slice())?;
     let inputs = copied(alloc, state.problem().equations())?;
     Ok(CloseSnapshot {
         process,
@@ -41,15 +43,6 @@ pub(crate) fn close_snapshot(
         equations,
         inputs,
     })
-}
-
-// The names once more.
-fn copied_names(alloc: Global, names: &[RuleRef]) -> Result<Vec<RuleRef>, AllocError>
-    ensures { IfOk result (λ copy. copy.items ≡ names.now) }
-{
-    let mut copy = Vec::new(alloc);
-    copy.extend_from_slice(names)?;
-    Ok(copy)
 }
 
 // The pairs of the nodes.

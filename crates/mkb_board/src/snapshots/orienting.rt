@@ -1,7 +1,8 @@
 // What an Orient reads.
 ghost use Rattle.std.specs.Prelude.{◌≡◌, ◌<◌, ◌++◌, ◌∷◌, [], All, IfOk, OnOk, IsSome, filter, length};
-ghost use Rattle.mkb_model.specs.Plain.{certificate_of, constraints_of, is_constraint, rules_at};
+ghost use Rattle.mkb_model.specs.Plain.{certificate_of, constraints_of, directions, is_constraint, rules_at};
 ghost use Rattle.kb_jobs.specs.Taken.{IsTakenOrient};
+ghost use Rattle.mkb_rules.specs.Constrained.{AreConstrained};
 ghost use Rattle.mkb_rules.specs.Named.{IsRuleThere, Lives};
 ghost use Rattle.mkb_board.specs.Shelf.{HoldsRead};
 
@@ -73,13 +74,52 @@ pub(crate) fn orient_snapshot(
 fn constraints_of(alloc: Global, state: &State, p: &Process) -> Result<Vec<RuleRef>, AllocError>
     ensures { IfOk result (λ constraints. constraints.items ≡ constraints_of state.now p.now) }
 {
+    match state.constrained() {
+        Some(constrained) => constraints_among(alloc, state, p, constrained),
+        None => constraints_of_all(alloc, state, p),
+    }
+}
+
+// Those in these nodes; in each other node nobody has one.
+fn constraints_among(
+    alloc: Global,
+    state: &State,
+    p: &Process,
+    constrained: &[NodeId],
+) -> Result<Vec<RuleRef>, AllocError>
+    requires { AreConstrained state.now.nodes constrained.now }
+    ensures { IfOk result (λ constraints. constraints.items ≡ constraints_of state.now p.now) }
+{
     let mut constraints = Vec::new(alloc);
-    for n in 0..node_count(state) {
-        let node = n as u16;
-        push_constraint(&mut constraints, state, p, RuleRef { node, dir: 0 })?;
-        push_constraint(&mut constraints, state, p, RuleRef { node, dir: 1 })?;
+    for i in 0..constrained.len() {
+        push_constraints(&mut constraints, state, p, constrained[i])?;
     }
     Ok(constraints)
+}
+
+// Those in all nodes.
+fn constraints_of_all(alloc: Global, state: &State, p: &Process) -> Result<Vec<RuleRef>, AllocError>
+    ensures { IfOk result (λ constraints. constraints.items ≡ constraints_of state.now p.now) }
+{
+    let mut constraints = Vec::new(alloc);
+    for n in 0..node_count(state) {
+        push_constraints(&mut constraints, state, p, NodeId(n as u16))?;
+    }
+    Ok(constraints)
+}
+
+// Adds the constraints of the process in the node, in both directions.
+fn push_constraints(
+    constraints: &mut Vec<RuleRef>,
+    state: &State,
+    p: &Process,
+    n: NodeId,
+) -> Result<(), AllocError>
+    requires { n.0 < length state.now.nodes }
+    ensures { OnOk result (constraints.new.items ≡ constraints.old.items ++ filter (is_constraint state.now p.now) (directions n.0)) }
+{
+    push_constraint(constraints, state, p, RuleRef { node: n.0, dir: 0 })?;
+    push_constraint(constraints, state, p, RuleRef { node: n.0, dir: 1 })
 }
 
 // Adds the rule, where it is a constraint of the process.

@@ -2,15 +2,15 @@
 ghost use Rattle.std.specs.Prelude.{◌≡◌, ◌<◌, ◌≤◌, ◌^◌, ◌++◌, ◌||◌, ◌∷◌, [], filter, IfOk, OnOk, length};
 ghost use Rattle.std.specs.List.{flat_map};
 ghost use Rattle.kb_jobs.specs.Taken.{IsTakenReduce};
-ghost use Rattle.mkb_model.specs.Plain.{is_equation, is_rule};
+ghost use Rattle.mkb_model.specs.Plain.{other};
 ghost use Rattle.mkb_model.specs.Invariants.{FactsHold};
+ghost use Rattle.mkb_rules.specs.Roles.{has_rule, roles_of};
 ghost use Rattle.mkb_board.specs.Normal.{AreNormal, is_open_to};
 ghost use Rattle.mkb_board.specs.Shelf.{HoldsRead};
 ghost use Rattle.mkb_board.specs.Snapshots.{AreWithin, IsWholeReduce, open_rules, unknown_on, with_names};
 
 use super::named::{named_rules, rules_of};
-use crate::choosing::{is_equation, is_rule};
-use crate::normal::{Normal, is_open_to, roles_by};
+use crate::normal::{Normal, is_open_to, leads_to, roles_by};
 use crate::shelf::Shelf;
 use kb_jobs::ReduceSnapshot;
 use kb_label::Process;
@@ -39,8 +39,9 @@ pub(crate) fn reduce_snapshot(
     ensures taken { IfOk result (IsTakenReduce state.now) }
     ensures whole { IfOk result IsWholeReduce }
 {
+    let roles = roles_by(state, state.roles(&process), &process, node);
     let pair = shelf.pair_at(state, node)?;
-    let names = open_rules(alloc, state, normal, &process, node)?;
+    let names = open_rules(state, normal, &process, roles, node)?;
     let unknown = unknown(alloc, state, node, names.as_slice())?;
     let rules = named_rules(alloc, state, shelf, names)?;
     Ok(ReduceSnapshot {
@@ -48,26 +49,26 @@ pub(crate) fn reduce_snapshot(
         node,
         pair,
         rules,
-        any_first: is_any(state, &process, node, 1),
-        any_second: is_any(state, &process, node, 0),
+        any_first: is_any(roles, 0),
+        any_second: is_any(roles, 1),
         unknown,
     })
 }
 
-// The rules of the process in other nodes to which some side of the node is open.
+// The rules of the process in other nodes to which some side of the node is open; the process has the node in these roles.
 fn open_rules(
-    alloc: Global,
     state: &State,
     normal: &Normal,
     p: &Process,
+    roles: Roles,
     n: NodeId,
 ) -> Result<Vec<RuleRef>, Memory>
-    requires there { n.0 < length state.now.nodes }
+    requires roles { roles ≡ roles_of state.now p.now n.0 }
     requires normal { AreNormal state.now normal.now }
     ensures names { IfOk result (λ names. names.items ≡ open_rules state.now p.now n.0) }
     ensures few { IfOk result (λ names. length names.items < 2 ^ 32) }
 {
-    let names = listed_open(alloc, state, normal, p, n)?;
+    let names = listed_open(state, normal, p, roles, n)?;
     // Each node gives at most two rules.
     let count = state.nodes().len();
     prove!(count <= MAX_NODES as u32);
@@ -76,20 +77,20 @@ fn open_rules(
 
 // The same, however many they are.
 fn listed_open(
-    alloc: Global,
     state: &State,
     normal: &Normal,
     p: &Process,
+    roles: Roles,
     n: NodeId,
 ) -> Result<Vec<RuleRef>, Memory>
-    requires there { n.0 < length state.now.nodes }
+    requires roles { roles ≡ roles_of state.now p.now n.0 }
     requires normal { AreNormal state.now normal.now }
     ensures { IfOk result (λ names. names.items ≡ open_rules state.now p.now n.0) }
 {
-    let roles = roles_by(state, state.roles(p), p, n);
     if let Some(open) = normal.open_rules(state, p, roles, n)? {
         return Ok(open);
     }
+    let alloc = normal.allocator();
     let rules = rules_of(alloc, state, p)?;
     Ok(open_among(alloc, state, roles, n, rules.as_slice())?)
 }
@@ -113,12 +114,11 @@ fn open_among(
     Ok(kept)
 }
 
-// Whether any redex may be rewritten on the side that the rule of the direction leads to.
-fn is_any(state: &State, p: &Process, n: NodeId, dir: u8) -> bool
-    requires { n.0 < length state.now.nodes }
-    ensures { result ≡ (is_equation state.now p.now n.0 || is_rule state.now p.now (record { node = n.0; dir = dir })) }
+// Whether any redex may be rewritten on the side, where a process has the node in these roles.
+fn is_any(roles: Roles, side: u8) -> bool
+    ensures { result ≡ (roles.equation || has_rule roles (other side)) }
 {
-    is_equation(state, p, n) || is_rule(state, p, RuleRef { node: n.0, dir })
+    roles.equation || leads_to(roles, side)
 }
 
 // Both sides with the numbers of the rules of which nothing is known on them.

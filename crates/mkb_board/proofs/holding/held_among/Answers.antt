@@ -3,7 +3,7 @@ use Rattle.std.proofs.lemmas.List.{map-append, take_all, take_more}
 use Rattle.kb_node.specs.declared.node.NodeId.{NodeId}
 use Rattle.mkb_rules.specs.declared.roles.Roles.{Roles}
 use Rattle.mkb_rules.specs.Roles.{is_in_use, roles_of}
-use Rattle.mkb_board.proofs.Having.{alive_there, held_alive, held_next}
+use Rattle.mkb_board.proofs.Having.{alive_there, held_alive, listed_next}
 use Rattle.mkb_board.proofs.holding.held_among.Goals as goal
 
 pub roles_by-roles-requires-clause-there : goal.roles_by-roles-requires-clause-there
@@ -19,7 +19,7 @@ loop-i-preserved c =
     let n : NodeId = get_or l i d in
     let there : i < length l = omega (arith, c.loop-i-test.true) in
     ap (map (λ (k : NodeId). k.0)) (c.in_ok-push_held.ensures ∙ ap (λ (r : Roles). c.loop-i.held.items ++ cond (is_in_use r) (n ∷ []) []) c.roles_by-roles.ensures)
-    ∙ held_next b p c.loop-i.held.items (map (λ (k : NodeId). k.0) (take i l)) n c.loop-i.invariant
+    ∙ listed_next (λ m. is_in_use (roles_of b p m)) c.loop-i.held.items (map (λ (k : NodeId). k.0) (take i l)) n c.loop-i.invariant
     ∙ ap (filter (λ m. is_in_use (roles_of b p m))) (sym (ap (map (λ (k : NodeId). k.0)) (take_more l i d there) ∙ map-append (λ (k : NodeId). k.0) (take i l) (n ∷ [])))
 
 pub returns : goal.returns

@@ -4,7 +4,7 @@ use Rattle.mkb_model.specs.Plain.{numbers_from}
 use Rattle.mkb_rules.specs.declared.roles.Roles.{Roles}
 use Rattle.mkb_rules.proofs.Costs.{numbers_next}
 use Rattle.mkb_rules.specs.Roles.{is_in_use, roles_of}
-use Rattle.mkb_board.proofs.Having.{held_next}
+use Rattle.mkb_board.proofs.Having.{listed_next}
 use Rattle.mkb_board.proofs.holding.held_of_all.Goals as goal
 
 pub loop-n-preserved : goal.loop-n-preserved
@@ -13,7 +13,7 @@ loop-n-preserved c =
     let p = c.args.p.now in
     let n : NodeId = record { 0 = c.loop-n.n } in
     ap (map (λ (k : NodeId). k.0)) (c.in_ok-push_held.ensures ∙ ap (λ (r : Roles). c.loop-n.held.items ++ cond (is_in_use r) (n ∷ []) []) c.roles_by-roles.ensures)
-    ∙ held_next b p c.loop-n.held.items (numbers_from 0 c.loop-n.n) n c.loop-n.invariant
+    ∙ listed_next (λ m. is_in_use (roles_of b p m)) c.loop-n.held.items (numbers_from 0 c.loop-n.n) n c.loop-n.invariant
     ∙ ap (filter (λ m. is_in_use (roles_of b p m))) (sym (numbers_next c.loop-n.n))
 
 pub returns : goal.returns

@@ -26,7 +26,7 @@ loop-i-preserved c =
     let others = filter (is_active b) (drop (c.loop-i.i + 1) b.asleep) in
     let step : IsStep b (process_cmp b) left others c.loop-i.best c.if-is_active.best =
     elim c.if-is_active.branch [
-      | then-is_active w ↦ lesser_taken b p left others (filter_at (is_active b) b.asleep c.loop-i.i p true there is (sym c.is_active.ensures ∙ w.if-is_active.true)) c.loop-i.best c.if-is_active.best w.with_cost.result w.lesser.result c.loop-i.invariant.priced w.with_cost.ensures w.lesser.ensures w.best-is
+      | then-is_active w ↦ lesser_taken b p left others (filter_at (is_active b) b.asleep c.loop-i.i p true there is (sym c.is_active.ensures ∙ w.if-is_active.true)) c.loop-i.best c.if-is_active.best w.with_cost.result w.lesser.result c.loop-i.invariant.priced w.with_cost.ensures.cost w.with_cost.ensures.process w.lesser.ensures w.best-is
       | else-is_active w ↦ passed b (process_cmp b) left others (filter_at (is_active b) b.asleep c.loop-i.i p false there is (sym c.is_active.ensures ∙ w.if-is_active.false)) c.loop-i.best c.if-is_active.best c.loop-i.invariant.priced w.best-is
     ] in
     record { pick = step.pick ∙ c.loop-i.invariant.pick; priced = step.priced }

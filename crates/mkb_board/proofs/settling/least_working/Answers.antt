@@ -13,5 +13,5 @@ loop-i-preserved c =
     let left = drop c.loop-i.i (processes_in l) in
     let others = drop (c.loop-i.i + 1) (processes_in l) in
     let step : IsStep b (process_cmp b) left others c.loop-i.best (Some c.lesser.result) =
-    lesser_taken b it.process left others (names_from l c.loop-i.i it c.loop-i-test.true c.index-working-i.is) c.loop-i.best (Some c.lesser.result) c.with_cost.result c.lesser.result c.loop-i.invariant.priced c.with_cost.ensures c.lesser.ensures refl in
+    lesser_taken b it.process left others (names_from l c.loop-i.i it c.loop-i-test.true c.index-working-i.is) c.loop-i.best (Some c.lesser.result) c.with_cost.result c.lesser.result c.loop-i.invariant.priced c.with_cost.ensures.cost c.with_cost.ensures.process c.lesser.ensures refl in
     record { pick = step.pick ∙ c.loop-i.invariant.pick; priced = step.priced }

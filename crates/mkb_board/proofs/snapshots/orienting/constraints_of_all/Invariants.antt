@@ -1,6 +1,6 @@
 use Rattle.std.proofs.Common.{◌≡◌, filter, flat_map}
 use Rattle.mkb_model.specs.Plain.{directions, is_constraint, numbers_from}
-use Rattle.mkb_board.proofs.snapshots.orienting.constraints_of.Given as goal
+use Rattle.mkb_board.proofs.snapshots.orienting.constraints_of_all.Given as goal
 
 -- those of the nodes so far
 abbrev pub invariant-loop-n : goal.invariant-loop-n
