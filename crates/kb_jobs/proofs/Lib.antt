@@ -5,3 +5,4 @@ pub mod Swapped
 pub mod InForce
 pub mod TakenLaws
 pub mod Settling
+pub mod Crossing

@@ -11,7 +11,7 @@ use crate::rules::NamedRules;
 use kb_label::{Process, Reason};
 use kb_node::{Deduced, Job, LimitCause};
 use kb_overlap::Overlap;
-use kb_rewrite::{Normal, normal_form};
+use kb_rewrite::Normal;
 use kb_term::{Memory, Pair, Rule, Term, canonical};
 use mkb_model::{DeducedList, Proposed};
 use std::alloc::Global;
@@ -232,10 +232,11 @@ fn normal_forms(
     requires { length rules.now.names.items ≡ length rules.now.rules }
     ensures { IfOk result (AreForms (listed rules.now) (tree_of first.now) (tree_of second.now)) }
 {
-    match normal_form(alloc, rules.rules.as_slice(), first)? {
+    let system = rules.rules.system();
+    match system.normal_form(alloc, first)? {
         Normal::Long(_) => Ok(Forms::Stop(Reason::Steps)),
         Normal::Large(limit) => Ok(Forms::Stop(reason_of(limit))),
-        Normal::Form(u, _) => match normal_form(alloc, rules.rules.as_slice(), second)? {
+        Normal::Form(u, _) => match system.normal_form(alloc, second)? {
             Normal::Long(_) => Ok(Forms::Stop(Reason::Steps)),
             Normal::Large(limit) => Ok(Forms::Stop(reason_of(limit))),
             Normal::Form(v, _) => Ok(Forms::Both(u, v)),

@@ -12,7 +12,7 @@ use crate::groups::reason_of;
 use crate::rules::{NamedRules, SharedPair};
 use kb_label::Process;
 use kb_node::{Fact, Job, LimitCause, NodeId};
-use kb_rewrite::{Redex, first_redex, step};
+use kb_rewrite::{Redex, step};
 use kb_term::{Found, Memory, Rule, Term, TermFault, is_variant};
 use mkb_model::{FactList, Proposed};
 use std::alloc::Global;
@@ -37,15 +37,11 @@ pub fn reduce(alloc: Global, s: &ReduceSnapshot) -> Result<Proposed, Memory>
     ensures { IfOk result (ProposesReduce s.now) }
 {
     let pair = s.pair.as_pair();
-    if let Some(redex) = first_redex(alloc, s.rules.rules.as_slice(), pair.first(), !s.any_first)? {
+    let system = s.rules.rules.system();
+    if let Some(redex) = system.first_redex(alloc, pair.first(), !s.any_first)? {
         return rewrite(alloc, s, 0, pair.first(), redex);
     }
-    if let Some(redex) = first_redex(
-        alloc,
-        s.rules.rules.as_slice(),
-        pair.second(),
-        !s.any_second,
-    )? {
+    if let Some(redex) = system.first_redex(alloc, pair.second(), !s.any_second)? {
         return rewrite(alloc, s, 1, pair.second(), redex);
     }
     let facts = facts(alloc, s)?;

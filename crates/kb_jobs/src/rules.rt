@@ -1,6 +1,7 @@
 // Rules with their names, and pairs, as snapshots hold them.
 ghost use Rattle.std.specs.Prelude.{◌≡◌, IfOk};
 
+use kb_rewrite::{RuleList, System};
 use kb_term::{Pair, Rule, RuleRef};
 use std::alloc::{AllocError, Global};
 use std::marker::Model;
@@ -9,7 +10,7 @@ use std::sync::Arc;
 /// Rules that several snapshots may hold at once. Contracts see them as their list. A copy holds the same rules.
 #[derive(Drop)]
 pub struct SharedRules {
-    rules: Arc<Vec<Rule>>,
+    rules: Arc<RuleList>,
 }
 
 impl Model for SharedRules {
@@ -22,7 +23,7 @@ impl Model for SharedRules {
 
     ghost coded = { coded_list coded_rule };
 
-    ghost view = { λ s. s.rules.value.items };
+    ghost view = { λ s. s.rules.value };
 }
 
 impl SharedRules {
@@ -34,6 +35,7 @@ impl SharedRules {
     pub fn new(alloc: Global, rules: Vec<Rule>) -> Result<SharedRules, AllocError>
         ensures { IfOk result (λ shared. shared ≡ rules.items) }
     {
+        let rules = RuleList::new(alloc, rules)?;
         match Arc::new(alloc, rules) {
             Ok(rules) => Ok(SharedRules { rules }),
             Err(_) => Err(AllocError),
@@ -45,6 +47,13 @@ impl SharedRules {
         ensures { result.now ≡ self.now }
     {
         self.rules.as_slice()
+    }
+
+    /// The rules, to rewrite with.
+    pub fn system(&self) -> System<'_>
+        ensures { result ≡ self.now }
+    {
+        System::listed(&self.rules)
     }
 }
 

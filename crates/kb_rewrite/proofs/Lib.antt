@@ -7,3 +7,4 @@ pub mod Strategy
 pub mod Runs
 pub mod Determined
 pub mod Indexing
+pub mod Tops

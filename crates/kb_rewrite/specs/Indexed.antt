@@ -1,5 +1,5 @@
--- Rules that are found by an index of their left sides, or by the roots of these.
-use Rattle.std.specs.Prelude.{ℕ, ◌≤◌, ◌<◌, ◌≡◌, List, length, All, Some, slice_get, ⊤}
+-- Rules that are found by their fingerprints or by an index of their left sides, and the roots of these.
+use Rattle.std.specs.Prelude.{ℕ, ◌≤◌, ◌<◌, ◌≡◌, List, length, All, Some, slice_get}
 use Rattle.kb_term.specs.Tree.{Tree}
 use Rattle.kb_term.specs.Rule.{Rule}
 use Rattle.rule_index.specs.declared.mark.Mark.{Mark}
@@ -10,6 +10,7 @@ use Rattle.kb_rewrite.specs.declared.system.Lookup.{Lookup}
 use Rattle.kb_rewrite.specs.declared.system.Lookup.TheVariants.{Scan, Index}
 use Rattle.kb_rewrite.specs.declared.roots.Roots.{Roots}
 use Rattle.kb_rewrite.specs.Roots.{IsNoted}
+use Rattle.kb_rewrite.specs.Fingerprints.{AreFingerprints}
 
 -- each key is the number of a rule, whose left side has the marks
 abbrev pub IsNumbered : List Rule → RuleIndex → Type 0
@@ -32,9 +33,9 @@ pub record IsIndexOf (n : ℕ) (rules : List Rule) (index : RuleIndex) : Type 0 
   pub below : (key : ℕ) (marks : List Mark) → Holds index key marks → key < n
   pub firsts : (i : ℕ) (rule : Rule) → i < n → slice_get rules i ≡ Some rule → (j : ℕ) × (j ≤ i) × IsHeld rules index rule.left j
 
--- a scan finds all rules; an index finds the first rule of each left side
+-- a scan has fingerprints of left sides; an index finds the first rule of each left side
 abbrev pub Finds : List Rule → Lookup → Type 0
-Finds rules Scan = ⊤
+Finds rules (Scan prints) = AreFingerprints rules prints.now
 Finds rules (Index index) = IsIndexOf (length rules) rules index
 
 -- the rules are found so, and the root of each left side is noted

@@ -2,11 +2,13 @@
 #![tactic(auto)]
 
 mod encompassing;
+mod fingerprint;
 mod laws;
 mod normalising;
 mod redex;
 mod rewriting;
 mod roots;
+mod rule_list;
 mod system;
 
 pub use encompassing::found;
@@ -14,4 +16,5 @@ pub use laws::{no_redex_is_normal, normal_forms_are_one, strategy_rewrites};
 pub use normalising::{MAX_STEPS, Normal, normal_form};
 pub use redex::{Redex, first_redex};
 pub use rewriting::step;
+pub use rule_list::RuleList;
 pub use system::System;

@@ -10,7 +10,7 @@ use kb_term::{Rule, Term};
 /// What the roots of the left sides of rules are: which symbols, by their remainders by 32, and whether one is a variable.
 ///
 /// At a term whose root isn't among them no rule has to be tried. They take no memory.
-#[derive(Drop)]
+#[derive(Clone, Copy)]
 pub(crate) struct Roots {
     symbols: [bool; 32],
     variable: bool,

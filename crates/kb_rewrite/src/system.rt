@@ -4,8 +4,10 @@ ghost use Rattle.kb_term.specs.View.{tree_of};
 ghost use Rattle.kb_rewrite.specs.Search.{Applies, IsFirstRule, IsRootRedex};
 ghost use Rattle.kb_rewrite.specs.Indexed.{IsNumbered, IsRepeated};
 
+use crate::fingerprint::{Fingerprint, may_fit, top_of};
 use crate::roots::Roots;
-use kb_match::{fits, matches};
+use crate::rule_list::RuleList;
+use kb_match::matches;
 use kb_term::{Memory, Rule, Term, is_variant};
 use rule_index::RuleIndex;
 use std::alloc::Global;
@@ -13,9 +15,9 @@ use std::marker::Model;
 
 /// How the rules that may apply to a term are found.
 #[derive(Drop)]
-pub(crate) enum Lookup {
-    /// Each rule is tried.
-    Scan,
+pub(crate) enum Lookup<'a> {
+    /// Each rule is tried whose fingerprint admits the term's, and each that has none in the list.
+    Scan(&'a [Fingerprint]),
     /// Those are tried whose left sides fit the term. A rule whose left side is an earlier rule's, and which is never the
     /// first to apply, isn't in the index.
     Index(RuleIndex),
@@ -23,13 +25,14 @@ pub(crate) enum Lookup {
 
 /// Rules in their order, and how the first of them that applies to a term is found.
 ///
-/// Both ways find the same rule. A scan tries each rule at each position and needs little preparation; the index is built once, and
-/// then a position costs what the term and the rules that fit it cost, so it is the one for systems of many rules. Either way no
-/// rule is tried at a position where the roots of the left sides say that none can match.
+/// Both ways find the same rule. A scan goes over all rules at each position and needs little preparation; where the rules are a
+/// [`RuleList`] it tries those alone whose left sides may fit by their tops. The index is built once, and then a position costs
+/// what the term and the rules that fit it cost, so it is the one for systems of many rules. Either way no rule is tried at a
+/// position where the roots of the left sides say that none can match.
 #[derive(Drop)]
 pub struct System<'a> {
     rules: &'a [Rule],
-    lookup: Lookup,
+    lookup: Lookup<'a>,
     roots: Roots,
 }
 
@@ -56,8 +59,19 @@ impl<'a> System<'a> {
     {
         System {
             rules,
-            lookup: Lookup::Scan,
+            lookup: Lookup::Scan(&[]),
             roots: Roots::of(rules),
+        }
+    }
+
+    /// The rules of the list, of which those are tried whose left sides may fit by their tops.
+    pub fn listed(list: &'a RuleList) -> System<'a>
+        ensures { result ≡ list.now }
+    {
+        System {
+            rules: list.as_slice(),
+            lookup: Lookup::Scan(list.prints()),
+            roots: list.roots(),
         }
     }
 
@@ -105,10 +119,12 @@ impl<'a> System<'a> {
             return Ok(None);
         }
         match &self.lookup {
-            Lookup::Scan => {
+            Lookup::Scan(prints) => {
+                let top = top_of(t);
                 for i in 0..self.rules.len() {
-                    let rule = &self.rules[i];
-                    if fits(rule.left(), t) && applies(alloc, rule, whole, strict_only, t)? {
+                    if may_fit(prints, i, top)
+                        && applies(alloc, &self.rules[i], whole, strict_only, t)?
+                    {
                         return Ok(Some(i));
                     }
                 }

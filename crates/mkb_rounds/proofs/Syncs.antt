@@ -4,7 +4,7 @@ use denote.Struct.Declared as S
 use denote.Param.Send.{IsSend, IsSync, sendable, enum_sync, recorded_sync, struct_sync, view_sync}
 use Rattle.std.proofs.Crossing.{crosses}
 use Rattle.kb_term.proofs.term.Terms.TheLaws.TheKnot.{crosses as term_crosses}
-use Rattle.kb_term.proofs.Crossing.{rule_send, rule_sync}
+use Rattle.kb_term.proofs.Crossing.{rule_sync}
 use Rattle.kb_term.proofs.origin.RuleRef.TheSendSync as rule_ref
 use Rattle.kb_term.proofs.signature.Signature.TheSendSync as signature
 use Rattle.kb_label.proofs.process.Process.TheSendSync as process
@@ -12,11 +12,10 @@ use Rattle.kb_cert.proofs.certificate.Certificate.TheSendSync as certificate
 use Rattle.kb_cert.proofs.family.Family.TheSendSync as family
 use Rattle.kb_node.proofs.node.NodeId.TheSendSync as node_id
 use Rattle.kb_io.proofs.gate.Moment.TheSendSync as moment
+use Rattle.kb_jobs.proofs.Crossing.{shared_rules_sync}
 use Rattle.kb_jobs.specs.contracts.rules.NamedRules as NamedRules
 use Rattle.kb_jobs.specs.contracts.rules.SharedPair as SharedPair
 use Rattle.kb_jobs.specs.contracts.rules.SharedPair.TheInside as PairInside
-use Rattle.kb_jobs.specs.contracts.rules.SharedRules as SharedRules
-use Rattle.kb_jobs.specs.contracts.rules.SharedRules.TheInside as SharedInside
 use Rattle.kb_jobs.specs.contracts.reducing.ReduceSnapshot as ReduceSnapshot
 use Rattle.kb_jobs.specs.contracts.orienting.OrientSnapshot as OrientSnapshot
 use Rattle.kb_jobs.specs.contracts.overlapping.OverlapSnapshot as OverlapSnapshot
@@ -26,9 +25,6 @@ use Rattle.mkb_model.proofs.entry.Ticket.TheSendSync as ticket
 use Rattle.work_crew.specs.contracts.shared.Assignment as Assignment
 use Rattle.work_crew.proofs.Sends.{pair_send, pair_sync, proposed_field}
 use Rattle.mkb_rounds.specs.contracts.stealing.Outcome as Outcome
-
-shared_rules_sync : IsSync SharedRules.the_row
-shared_rules_sync = view_sync SharedInside.the_row _ _ _ _ (recorded_sync (SharedInside.the_field).row _ _ (SharedInside.the_type).to_one (struct_sync (S.shape SharedInside.the_type) (search (sendable, crosses, rule_send, rule_sync) depth 20 fits 100000, tt)))
 
 named_field : IsSync (NamedRules.the_field).row
 named_field = struct_sync (S.shape NamedRules.the_type) (search (sendable, crosses, rule_ref.the_sync) depth 20, (shared_rules_sync, tt))

@@ -5,7 +5,7 @@ use denote.Struct.Declared as S
 use denote.Param.Send.{IsSend, IsSync, sendable, plain_send, recorded_send, enum_send, struct_send, view_send}
 use Rattle.std.proofs.Crossing.{crosses}
 use Rattle.kb_term.proofs.term.Terms.TheLaws.TheKnot.{crosses as term_crosses}
-use Rattle.kb_term.proofs.Crossing.{rule_send, rule_sync}
+use Rattle.kb_term.proofs.Crossing.{rule_send}
 use Rattle.kb_term.proofs.origin.RuleRef.TheSendSync as rule_ref
 use Rattle.kb_term.proofs.origin.Found.TheSendSync as found
 use Rattle.kb_term.proofs.origin.Origin.TheSendSync as origin
@@ -60,11 +60,10 @@ use Rattle.mkb_model.specs.contracts.proposed.Proposed as Proposed
 use Rattle.mkb_model.specs.contracts.entry.Effect as Effect
 use Rattle.mkb_model.specs.contracts.entry.Entry as Entry
 use Rattle.mkb_rules.specs.contracts.state.State as State
+use Rattle.kb_jobs.proofs.Crossing.{shared_rules_send}
 use Rattle.kb_jobs.specs.contracts.rules.NamedRules as NamedRules
 use Rattle.kb_jobs.specs.contracts.rules.SharedPair as SharedPair
 use Rattle.kb_jobs.specs.contracts.rules.SharedPair.TheInside as PairInside
-use Rattle.kb_jobs.specs.contracts.rules.SharedRules as SharedRules
-use Rattle.kb_jobs.specs.contracts.rules.SharedRules.TheInside as SharedInside
 use Rattle.mkb_board.specs.contracts.board.Board as Board
 use Rattle.mkb_board.specs.contracts.board.Board.TheInside as BoardInside
 use Rattle.mkb_board.specs.contracts.normal.Normal as Normal
@@ -154,9 +153,6 @@ normal_send = search (sendable, crosses, process.the_send, rule_ref.the_send, ro
 
 placed_send : IsSend Placed.the_row
 placed_send = search (sendable, crosses, process.the_send) depth 20
-
-shared_rules_send : IsSend SharedRules.the_row
-shared_rules_send = view_send SharedInside.the_row _ _ _ _ (recorded_send (SharedInside.the_field).row _ _ (SharedInside.the_type).to_one (struct_send (S.shape SharedInside.the_type) (search (sendable, crosses, rule_send, rule_sync) depth 20 fits 100000, tt)))
 
 named_send : IsSend NamedRules.the_row
 named_send = recorded_send (NamedRules.the_field).row _ _ (NamedRules.the_type).to_one (struct_send (S.shape NamedRules.the_type) (search (sendable, crosses, rule_ref.the_send) depth 20, (shared_rules_send, tt)))

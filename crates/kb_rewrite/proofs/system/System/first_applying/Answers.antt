@@ -1,17 +1,15 @@
 use Rattle.std.proofs.Common.{ℕ, ◌<◌, ◌≡◌, sym, ap, subst, arith, length, below_more, get_or, List}
 use Rattle.kb_term.specs.Rule.{Rule}
-use Rattle.kb_term.specs.Tree.{Tree}
 use Rattle.kb_term.specs.View.{tree_of}
-use Rattle.kb_match.specs.Fitting.{Fits}
 use Rattle.rule_index.specs.Index.{IsCandidate}
 use Rattle.kb_rewrite.specs.Indexed.{IsIndexOf, Finds}
 use Rattle.kb_rewrite.specs.Search.{IsRootRedex}
 use Rattle.kb_rewrite.proofs.FirstRedexes.{rule_inside}
 use Rattle.kb_rewrite.proofs.Positions.{false_true}
+use Rattle.kb_rewrite.proofs.Tops.{not_admitted_none}
 use Rattle.kb_rewrite.proofs.Indexing.{candidate_inside, key_at, number_at, found_before, first_rule_some, first_rule_none, none_before_candidate}
-use Rattle.kb_match.proofs.FittingLaws.{fits_from_match}
 use Rattle.kb_rewrite.proofs.system.System.first_applying.Goals as goal
-use Rattle.kb_rewrite.proofs.system.System.first_applying.Goals.{else-fits-via-then-fits+in_ok-applies-in-Scan+else-branch, else-fits-via-else-fits}
+use Rattle.kb_rewrite.proofs.system.System.first_applying.Goals.{else-may_fit-via-then-may_fit+in_ok-applies-in-Scan+else-branch, else-may_fit-via-else-may_fit}
 
 pub loop-i-init : goal.loop-i-init
 loop-i-init c = λ j h r. absurd (omega (arith, h))
@@ -21,9 +19,13 @@ returns-then-branch c = first_rule_some c.args.self.now c.self.inside.rules.now 
 
 pub loop-i-preserved : goal.loop-i-preserved
 loop-i-preserved c =
-    elim c.else-fits.branch [
-      | else-fits-via-then-fits+in_ok-applies-in-Scan+else-branch w ↦ below_more _ _ c.loop-i.invariant (first_rule_none c.args.self.now c.self.inside.rules.now c.args.strict_only (tree_of c.args.whole.now) (tree_of c.args.t.now) c.loop-i.i c.index-self-i.result c.self.view_is c.loop-i-test.true (λ h. false_true w.if-branch.false (w.in_ok-applies-in-Scan.ensures.1 h)))
-      | else-fits-via-else-fits w ↦ below_more _ _ c.loop-i.invariant (first_rule_none c.args.self.now c.self.inside.rules.now c.args.strict_only (tree_of c.args.whole.now) (tree_of c.args.t.now) c.loop-i.i c.index-self-i.result c.self.view_is c.loop-i-test.true (λ h. false_true w.if-fits.false (c.fits.ensures.1 (subst {A = Tree} (λ u. Fits u (tree_of c.args.t.now)) (sym c.left.ensures) (fits_from_match _ (tree_of c.args.t.now) h.0)))))
+    let rules = c.self.inside.rules.now in
+    let i = c.loop-i.i in
+    let t = tree_of c.args.t.now in
+    let whole = tree_of c.args.whole.now in
+    elim c.else-may_fit.branch [
+      | else-may_fit-via-then-may_fit+in_ok-applies-in-Scan+else-branch w ↦ below_more _ _ c.loop-i.invariant (first_rule_none c.args.self.now rules c.args.strict_only whole t i w.index-self-i.result c.self.view_is c.loop-i-test.true (λ h. false_true w.if-branch.false (w.in_ok-applies-in-Scan.ensures.1 h)))
+      | else-may_fit-via-else-may_fit w ↦ below_more _ _ c.loop-i.invariant (not_admitted_none c.args.self.now rules c.args.strict_only whole t c.in-Scan.prints.now i c.top_of-top.result c.self.view_is (subst (Finds rules) c.in-Scan.is c.self.invariant.found) c.top_of-top.ensures (λ h. false_true w.if-may_fit.false (c.may_fit.ensures.1 h)))
     ]
 
 pub bounds-self-inside-i-in-loop-k : goal.bounds-self-inside-i-in-loop-k
