@@ -1,6 +1,8 @@
 -- Lists of terms by the places of their members.
-use Rattle.std.specs.Prelude.{ℕ, zero, suc, ◌<◌, ◌≤◌, ◌≡◌, ◌⊎◌, List, [], ◌∷◌, length}
+use Rattle.std.specs.Prelude.{ℕ, zero, suc, ◌<◌, ◌≤◌, ◌≡◌, ◌⊎◌, List, [], ◌∷◌, length, map}
 use Rattle.kb_term.specs.Tree.{Tree}
+use Rattle.kb_term.specs.View.{tree_of}
+use Rattle.kb_term.specs.declared.term.Term.{Term}
 use Rattle.kb_lpo.specs.PathOrder.{LpoGreater}
 
 -- the member at place k is u
@@ -23,6 +25,10 @@ pub record IsAgreement (ss ts : List Tree) (n : ℕ) : Type 0 where
 -- the term is neither t nor greater than t
 abbrev pub IsNoWitness : List ℕ → Tree → Tree → Type 0
 IsNoWitness p t u = ¬ (u ≡ t) × ¬ (LpoGreater p u t)
+
+-- the term s is greater than each of the others from place n on
+abbrev pub IsAboveEach : List ℕ → Tree → List Term → ℕ → Type 0
+IsAboveEach p s ts n = Between (λ u. LpoGreater p s u) (map tree_of ts) n (length ts)
 
 -- some member from place n on is t or greater than t
 abbrev pub HasWitness : List ℕ → Tree → List Tree → ℕ → Type 0

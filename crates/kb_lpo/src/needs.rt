@@ -1,10 +1,10 @@
 // What rules need of a precedence.
-ghost use Rattle.std.specs.Prelude.{ℕ, List, ◌≡◌, map, ◌+◌, ◌<◌, ◌≤◌, length, IsSomeAnd};
+ghost use Rattle.std.specs.Prelude.{ℕ, List, ◌≡◌, map, ◌+◌, ◌<◌, ◌≤◌, IsSomeAnd};
 ghost use Rattle.kb_term.specs.View.{tree_of};
 ghost use Rattle.kb_term.specs.Tree.{Tree};
 ghost use Rattle.kb_term.specs.Pair.{place_in};
 ghost use Rattle.kb_lpo.specs.PathOrder.{LpoGreater};
-ghost use Rattle.kb_lpo.specs.Agreeing.{At, Between, HasWitness};
+ghost use Rattle.kb_lpo.specs.Agreeing.{At, HasWitness, IsAboveEach};
 ghost use Rattle.kb_lpo.specs.Search.{Fits};
 
 use crate::known::{Known, either};
@@ -68,7 +68,7 @@ fn force_each(
     from: usize,
     fuel: &mut u32,
 ) -> Option<Known>
-    ensures { (prec : List ℕ) → IsSomeAnd first (λ known. Fits known prec) → Between (λ u. LpoGreater prec (tree_of s.now) u) (map tree_of ts.now) from (length ts.now) → IsSomeAnd result (λ more. Fits more prec) }
+    ensures { (prec : List ℕ) → IsSomeAnd first (λ known. Fits known prec) → IsAboveEach prec (tree_of s.now) ts.now from → IsSomeAnd result (λ more. Fits more prec) }
 {
     let mut more = first?;
     for j in from..ts.len() {
@@ -118,7 +118,7 @@ fn force_above(
     ts: &[Term],
     fuel: &mut u32,
 ) -> Option<Known>
-    ensures { (prec : List ℕ) → Fits known.now prec → place_in prec f.0 ≤ place_in prec g.0 → Between (λ u. LpoGreater prec (tree_of s.now) u) (map tree_of ts.now) 0 (length ts.now) → IsSomeAnd result (λ more. Fits more prec) }
+    ensures { (prec : List ℕ) → Fits known.now prec → place_in prec f.0 ≤ place_in prec g.0 → IsAboveEach prec (tree_of s.now) ts.now 0 → IsSomeAnd result (λ more. Fits more prec) }
 {
     let mut more = *known;
     more.put(f, g);

@@ -1,10 +1,10 @@
 // The lexicographic path order under a given precedence.
-ghost use Rattle.std.specs.Prelude.{◌≡◌, ◌↔◌, IsTrue, map, Contains, ◌+◌, ◌<◌, ◌≤◌, length};
+ghost use Rattle.std.specs.Prelude.{◌≡◌, ◌↔◌, IsTrue, map, Contains, ◌+◌, ◌<◌, ◌≤◌};
 ghost use Rattle.kb_term.specs.Tree.{variables_of, symbols_of};
 ghost use Rattle.kb_term.specs.View.{tree_of};
 ghost use Rattle.kb_lpo.specs.PathOrder.{LpoGreater, IsAbove};
 ghost use Rattle.kb_term.specs.declared.term.Symbol.{Symbol};
-ghost use Rattle.kb_lpo.specs.Agreeing.{Between, HasWitness, IsAgreement};
+ghost use Rattle.kb_lpo.specs.Agreeing.{HasWitness, IsAboveEach, IsAgreement};
 ghost use Rattle.kb_lpo.specs.Search.{numbers};
 
 use crate::precedence::Precedence;
@@ -118,7 +118,7 @@ pub(crate) fn greater(symbols: &[Symbol], s: &Term, t: &Term) -> bool
 /// Whether `s` is above each of the terms from the place on.
 #[cycle(greater)]
 fn is_above_each(symbols: &[Symbol], s: &Term, ts: &[Term], from: usize) -> bool
-    ensures { IsTrue result ↔ Between (λ u. LpoGreater (numbers symbols.now) (tree_of s.now) u) (map tree_of ts.now) from (length ts.now) }
+    ensures { IsTrue result ↔ IsAboveEach (numbers symbols.now) (tree_of s.now) ts.now from }
 {
     for j in from..ts.len() {
         if !greater(symbols, s, &ts[j]) {

@@ -1,8 +1,8 @@
 // Whether rules may still be oriented.
-ghost use Rattle.std.specs.Prelude.{ℕ, List, ◌≡◌, IsTrue, map, ◌+◌, ◌<◌, ◌≤◌, length};
+ghost use Rattle.std.specs.Prelude.{ℕ, List, ◌≡◌, IsTrue, map, ◌+◌, ◌<◌, ◌≤◌};
 ghost use Rattle.kb_term.specs.View.{tree_of};
 ghost use Rattle.kb_lpo.specs.PathOrder.{LpoGreater};
-ghost use Rattle.kb_lpo.specs.Agreeing.{Between, IsNoWitness};
+ghost use Rattle.kb_lpo.specs.Agreeing.{Between, IsAboveEach, IsNoWitness};
 ghost use Rattle.kb_lpo.specs.Search.{Fits};
 
 use crate::known::Known;
@@ -41,7 +41,7 @@ pub(crate) fn possible(known: &Known, s: &Term, t: &Term) -> bool
 /// Whether `s` may be above each of the terms from the place on.
 #[cycle(possible)]
 fn possible_each(known: &Known, s: &Term, ts: &[Term], from: usize) -> bool
-    ensures { (prec : List ℕ) → Fits known.now prec → Between (λ u. LpoGreater prec (tree_of s.now) u) (map tree_of ts.now) from (length ts.now) → IsTrue result }
+    ensures { (prec : List ℕ) → Fits known.now prec → IsAboveEach prec (tree_of s.now) ts.now from → IsTrue result }
 {
     for j in from..ts.len() {
         if !possible(known, s, &ts[j]) {

@@ -85,3 +85,8 @@ pub record IsReduced (a b : Answer) : Type 0 where
 pub record IsReducedSystem (rules : List (Rule × ℕ)) : Type 0 where
   pub rights : All (λ (r : Rule × ℕ). IsNormal (rules_of rules) r.0.right) rules
   pub lefts : (before after : List (Rule × ℕ)) (r : Rule × ℕ) → rules ≡ before ++ r ∷ after → IsNormal (rules_of (before ++ after)) r.0.left
+
+-- the answer b has the problem, the certificate and the constraints of a, and goes on with its trace
+abbrev pub KeepsAllButRules : Answer → Answer → Type 0
+KeepsAllButRules a b =
+    (b.problem ≡ a.problem) × (b.cert ≡ a.cert) × (b.constraints ≡ a.constraints) × ((more : List TraceStep) × (b.trace ≡ a.trace ++ more))

@@ -1,8 +1,7 @@
 // The reduction of an answer.
-ghost use Rattle.std.specs.Prelude.{◌≡◌, ◌<◌, ◌++◌, List, IfOk};
-ghost use Rattle.kb_overlap.specs.Trace.{TraceStep};
+ghost use Rattle.std.specs.Prelude.{◌≡◌, ◌<◌, IfOk};
 ghost use Rattle.kb_checker.specs.Answers.{Answer as Answer_, IsAnswer, IsGoodAnswer};
-ghost use Rattle.kb_reduce.specs.Reducing.{IsReducedSystem};
+ghost use Rattle.kb_reduce.specs.Reducing.{IsReducedSystem, KeepsAllButRules};
 ghost use Rattle.kb_reduce.specs.Telling.{IsReduction};
 ghost use Rattle.kb_reduce.specs.declared.reduction.Reduction.{Reduction as Reduction_};
 
@@ -32,7 +31,7 @@ pub fn reduce(alloc: Global, a: &Answer) -> Result<Reduction, Memory>
     ensures reduction { IfOk result (IsReduction a.now) }
     ensures good { IfOk result (λ r. (b : Answer_) → r ≡ Reduction_.Reduced b → IsGoodAnswer b) }
     ensures reduced { IfOk result (λ r. (b : Answer_) → r ≡ Reduction_.Reduced b → IsReducedSystem b.rules) }
-    ensures kept { IfOk result (λ r. (b : Answer_) → r ≡ Reduction_.Reduced b → (b.problem ≡ a.now.problem) × (b.cert ≡ a.now.cert) × (b.constraints ≡ a.now.constraints) × ((more : List TraceStep) × (b.trace ≡ a.now.trace ++ more))) }
+    ensures kept { IfOk result (λ r. (b : Answer_) → r ≡ Reduction_.Reduced b → KeepsAllButRules a.now b) }
 {
     if let Checked::Rejected(reason, n) = check(alloc, a)? {
         return Ok(Reduction::Rejected(reason, n));

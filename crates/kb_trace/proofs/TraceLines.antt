@@ -16,7 +16,7 @@ use Rattle.kb_text.proofs.Cuts.{fields_cut, one_line}
 use Rattle.kb_text.proofs.LineFronts.{first_lines-none, first_lines-line, behind_front}
 use Rattle.kb_text.proofs.PlainTexts.{space_blank, feed_blank, join_without}
 use Rattle.kb_trace.specs.TraceText.{origin_fields, step_fields, step_line, step_lines, trace_text, IsStepForm, IsTraceForm, IsTraceText}
-use Rattle.kb_trace.specs.Reading.{BeginsWithStep}
+use Rattle.kb_trace.specs.Reading.{BeginsWithNoStep, BeginsWithStep}
 use Rattle.kb_trace.proofs.StepForms.{step_without, pair_fields}
 use Rattle.kb_trace.proofs.Lines.{step_lines-more}
 use Rattle.kb_trace.proofs.OneStep.{one_step}
@@ -135,7 +135,7 @@ front_goes_on signature i k (s ∷ ss) (u ∷ us) rest front f g h e d =
 -- ---- the first bad line
 
 pub bad_line : (signature : Signature) → IsSignature signature → (steps : List TraceStep) (rest lines : List ℕ) (n : ℕ) → IsTraceForm signature steps → 0 < length rest → lines ≡ step_lines (names_of signature) 1 steps ++ rest → n ≡ length steps + 1
-    → ((s : TraceStep) (back : List ℕ) → ¬ BeginsWithStep signature n rest s back) → IsBadLine (IsTraceText signature) lines n
+    → BeginsWithNoStep signature n rest → IsBadLine (IsTraceText signature) lines n
 bad_line signature i steps rest lines n f l e c refused = record {
   from_one = omega arith;
   before = (trace_text signature steps, step_lines names 1 steps, (steps, f, refl), at_before (step_lines names 1 steps) (ap (λ (x : List ℕ). first_lines x (length steps)) (sym (append-nil (step_lines names 1 steps))) ∙ front_of_steps signature i 1 steps [] f.steps small), at_before lines (ap (λ (x : List ℕ). first_lines x (length steps)) e ∙ front_of_steps signature i 1 steps rest f.steps small));
@@ -194,7 +194,7 @@ part_pushed signature lines rest at size number steps news step r e b h n =
       form = record { count = omega arith; steps = subst (All (IsStepForm signature)) (sym n) (All-push (IsStepForm signature) steps step r.form.steps b.form) };
     }
 
-pub part_bad : (signature : Signature) → IsSignature signature → (lines rest : List ℕ) (at number : ℕ) (steps : List TraceStep) → IsReadPart signature lines at number steps → rest ≡ drop at lines → at < length lines → ((s : TraceStep) (back : List ℕ) → ¬ BeginsWithStep signature number rest s back)
+pub part_bad : (signature : Signature) → IsSignature signature → (lines rest : List ℕ) (at number : ℕ) (steps : List TraceStep) → IsReadPart signature lines at number steps → rest ≡ drop at lines → at < length lines → BeginsWithNoStep signature number rest
     → IsBadLine (IsTraceText signature) lines number
 part_bad signature i lines rest at number steps r e h refused =
     let left : length rest ≡ length lines - at = ap length e ∙ length-drop at lines in

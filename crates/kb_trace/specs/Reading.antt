@@ -66,3 +66,7 @@ pub record BeginsWithStep (signature : Signature) (number : ℕ) (text : List �
   pub count : number ≤ MAX_NODES
   pub form : IsStepForm signature s
   pub spelling : text ≡ step_line (names_of signature) number s ++ rest
+
+-- the text begins with the line of no step with the number
+abbrev pub BeginsWithNoStep : Signature → ℕ → List ℕ → Type 0
+BeginsWithNoStep signature number text = (s : TraceStep) (rest : List ℕ) → ¬ BeginsWithStep signature number text s rest

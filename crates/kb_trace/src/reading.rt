@@ -1,10 +1,10 @@
 // Reading the text of a trace.
-ghost use Rattle.std.specs.Prelude.{◌≡◌, ◌<◌, ◌≤◌, List, ℕ, IfOk, IfErr, MatchOption, drop, length};
+ghost use Rattle.std.specs.Prelude.{◌≡◌, ◌<◌, ◌≤◌, List, IfOk, IfErr, MatchOption, drop, length};
 ghost use Rattle.kb_term.specs.Signature.{IsSignature};
 ghost use Rattle.kb_overlap.specs.Trace.{TraceStep};
 ghost use Rattle.kb_text.specs.Fields.{IsTextFault};
 ghost use Rattle.kb_trace.specs.TraceText.{IsTraceForm, IsTraceText, trace_text};
-ghost use Rattle.kb_trace.specs.Reading.{IsStepText, BeginsWithStep};
+ghost use Rattle.kb_trace.specs.Reading.{IsStepText, BeginsWithNoStep, BeginsWithStep};
 
 use crate::fields::{STEPS, step_of};
 use crate::trace::{Step, Trace};
@@ -34,7 +34,7 @@ fn next_step(
     text: &[u8],
 ) -> Result<Option<(Step, usize)>, Memory>
     requires { IsSignature signature.now }
-    ensures step { IfOk result (λ read. MatchOption read ((s : TraceStep) (rest : List ℕ) → ¬ BeginsWithStep signature.now number text.now s rest) (λ e. BeginsWithStep signature.now number text.now e.0 (drop e.1 text.now))) }
+    ensures step { IfOk result (λ read. MatchOption read (BeginsWithNoStep signature.now number text.now) (λ e. BeginsWithStep signature.now number text.now e.0 (drop e.1 text.now))) }
     ensures size { IfOk result (λ read. MatchOption read (◌≤◌ 0 0) (λ e. (0 < e.1) × (e.1 ≤ length text.now))) }
 {
     if number > STEPS as usize {

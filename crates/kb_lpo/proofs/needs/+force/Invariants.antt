@@ -1,9 +1,8 @@
-use Rattle.std.proofs.Common.{map, length, ◌+◌, ◌*◌, ◌≤◌, ◌⊎◌, ℕ, List}
+use Rattle.std.proofs.Common.{map, ◌+◌, ◌*◌, ◌≤◌, ◌⊎◌, ℕ, List}
 use Rattle.std.specs.Prelude.{IsSomeAnd}
 use Rattle.kb_term.specs.Tree.{tree_size, trees_size, trees_of}
 use Rattle.kb_term.specs.View.{tree_of}
-use Rattle.kb_lpo.specs.PathOrder.{LpoGreater}
-use Rattle.kb_lpo.specs.Agreeing.{Between, HasWitness}
+use Rattle.kb_lpo.specs.Agreeing.{HasWitness, IsAboveEach}
 use Rattle.kb_lpo.specs.Search.{Fits}
 use Rattle.kb_lpo.proofs.needs.+force.Given as goal
 
@@ -27,7 +26,7 @@ decreases-force_below l = 4 * (trees_size (trees_of (map tree_of l.ss.now)) + tr
 
 -- the precedences that have s above each and fitted still fit
 abbrev pub invariant-force_each-loop-j : goal.invariant-force_each-loop-j
-invariant-force_each-loop-j l = (prec : List ℕ) → IsSomeAnd l.fn.first (λ known. Fits known prec) → Between (λ u. LpoGreater prec (tree_of l.s) u) (map tree_of l.ts) l.from (length l.ts) → Fits l.more prec
+invariant-force_each-loop-j l = (prec : List ℕ) → IsSomeAnd l.fn.first (λ known. Fits known prec) → IsAboveEach prec (tree_of l.s) l.ts l.from → Fits l.more prec
 
 -- the precedences in which one of the terms is the other or greater fit what is shared so far, or have such a term behind
 abbrev pub invariant-force_witness-loop-k : goal.invariant-force_witness-loop-k
