@@ -10,11 +10,11 @@ use Rattle.kb_term.specs.declared.term.Term.{Term}
 use Rattle.kb_text.specs.Lines.{line}
 use Rattle.kb_text.specs.Names.{Name}
 use Rattle.kb_text.specs.Terms.{names_of, term_text}
-use Rattle.kb_rewrite.specs.NormalForm.{IsNormal, NormalisesTo, form}
+use Rattle.kb_rewrite.specs.NormalForm.{HoldVariables, IsNormal, NormalisesTo, form}
 use Rattle.kb_checker.specs.Answers.{Answer}
 use Rattle.kb_report.specs.Answers.{end_line}
 use Rattle.kb_report.specs.Sections.{IsLineOf}
-use Rattle.kb_decide.specs.Deciding.{IsStopped}
+use Rattle.kb_decide.specs.Deciding.{IsDecidable, IsStopped, ProvesGoal}
 use Rattle.kb_goals.specs.Asking.{IsAskedTextOf, IsAskedText}
 use Rattle.kb_goals.specs.Answering.{reason_word}
 use Rattle.kb_goals.specs.declared.simplifying.Simplified.{Simplified}
@@ -44,6 +44,16 @@ IsTermsText = IsAskedText (codes "TERMS ") IsNumberedTerm term_text
 abbrev pub IsSimplified : List Rule → Tree → Simplified → Type 0
 IsSimplified rules t (Normal steps u) = NormalisesTo rules t (form (tree_of u) steps)
 IsSimplified rules t (Unknown reason) = IsStopped rules t reason
+
+-- where the goal can be decided and the rules prove it, both sides have one normal form, if they have one
+abbrev pub EqualsHaveOneForm : Signature → List Rule → Tree → Tree → Type 0
+EqualsHaveOneForm signature rules s t =
+    (m n : ℕ) (u v : Term) → IsDecidable signature rules s t → ProvesGoal rules s t → IsSimplified rules s (Normal m u) → IsSimplified rules t (Normal n v) → tree_of u ≡ tree_of v
+
+-- where left sides hold the variables of right sides, the term has at most one normal form, and one number of steps to it
+abbrev pub HasOneForm : List Rule → Tree → Type 0
+HasOneForm rules t =
+    (m n : ℕ) (u v : Term) → HoldVariables rules → IsSimplified rules t (Normal m u) → IsSimplified rules t (Normal n v) → (m ≡ n) × (tree_of u ≡ tree_of v)
 
 -- what each term is simplified to, by the rules
 abbrev pub AreSimplified : List Rule → List Tree → List Simplified → Type 0

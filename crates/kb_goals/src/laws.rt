@@ -1,14 +1,14 @@
 // What simplified terms mean, as a contract of a function that does nothing.
-ghost use Rattle.std.specs.Prelude.{◌≡◌, List, ℕ};
+ghost use Rattle.std.specs.Prelude.{List, ℕ};
 ghost use Rattle.kb_term.specs.Tree.{Tree};
 ghost use Rattle.kb_term.specs.Rule.{Rule};
 ghost use Rattle.kb_term.specs.Signature.{Signature};
 ghost use Rattle.kb_term.specs.View.{tree_of};
 ghost use Rattle.kb_term.specs.declared.term.Term.{Term};
 ghost use Rattle.kb_rewrite.specs.NormalForm.{HoldVariables, IsNormal};
-ghost use Rattle.kb_decide.specs.Deciding.{IsDecidable, ProvesGoal};
+ghost use Rattle.kb_decide.specs.Deciding.{ProvesGoal};
 ghost use Rattle.kb_decide.specs.declared.decision.Reason.{Reason};
-ghost use Rattle.kb_goals.specs.Simplifying.{IsSimplified};
+ghost use Rattle.kb_goals.specs.Simplifying.{EqualsHaveOneForm, HasOneForm, IsSimplified};
 ghost use Rattle.kb_goals.specs.declared.simplifying.Simplified.TheVariants.{Normal, Unknown};
 
 /// No rule applies to a term's normal form, and the rules prove the two equal. Where rules are confluent over a signature, two
@@ -19,7 +19,7 @@ ghost use Rattle.kb_goals.specs.declared.simplifying.Simplified.TheVariants.{Nor
 pub fn simplified_terms_are_right()
     ensures normal { (rules : List Rule) (t : Tree) (n : ℕ) (u : Term) → IsSimplified rules t (Normal n u) → IsNormal rules (tree_of u) }
     ensures equal { (rules : List Rule) (t : Tree) (n : ℕ) (u : Term) → IsSimplified rules t (Normal n u) → ProvesGoal rules t (tree_of u) }
-    ensures one { (signature : Signature) (rules : List Rule) (s t : Tree) (m n : ℕ) (u v : Term) → IsDecidable signature rules s t → ProvesGoal rules s t → IsSimplified rules s (Normal m u) → IsSimplified rules t (Normal n v) → tree_of u ≡ tree_of v }
-    ensures same { (rules : List Rule) (t : Tree) (m n : ℕ) (u v : Term) → HoldVariables rules → IsSimplified rules t (Normal m u) → IsSimplified rules t (Normal n v) → (m ≡ n) × (tree_of u ≡ tree_of v) }
+    ensures one { (signature : Signature) (rules : List Rule) (s t : Tree) → EqualsHaveOneForm signature rules s t }
+    ensures same { (rules : List Rule) (t : Tree) → HasOneForm rules t }
     ensures known { (rules : List Rule) (t : Tree) (n : ℕ) (u : Term) (reason : Reason) → HoldVariables rules → IsSimplified rules t (Normal n u) → ¬ IsSimplified rules t (Unknown reason) }
 {}

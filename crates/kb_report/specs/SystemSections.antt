@@ -69,6 +69,10 @@ Order sig = OneLine (λ c. IsTrue (is_certificate sig c)) (order_body (names_of 
 abbrev pub Steps : Signature → ℕ → Section (List TraceStep)
 Steps sig = Items (IsStepForm sig) (step_body (names_of sig))
 
+-- a list behind the number of its members
+abbrev pub with_count : {X : Type 0} → List X → ℕ × List X
+with_count xs = (length xs, xs)
+
 -- how many there are, and then the items
 abbrev pub CountedEquations : Signature → Section (ℕ × List (Tree × Tree))
 CountedEquations sig = Both (Count (codes "EQUATIONS ") MAX_EQUATIONS) (Equations sig)
@@ -96,10 +100,30 @@ ConstraintPart version sig = Both (CountedConstraints version sig) (λ constrain
 abbrev pub PartValues : Type 0
 PartValues = (ℕ × List (Rule × ℕ)) × ((ℕ × List (Rule × ℕ)) × (Certificate × (ℕ × List TraceStep)))
 
+-- these rules, constraints, certificate and trace, each list behind the number of its members
+abbrev pub part_values : List (Rule × ℕ) → List (Rule × ℕ) → Certificate → List TraceStep → PartValues
+part_values rules constraints cert trace = (with_count rules, (with_count constraints, (cert, with_count trace)))
+
 abbrev pub RulePart : Version → Signature → Section PartValues
 RulePart version sig = Both (CountedRules sig) (λ rules. ConstraintPart version sig)
 
 -- ---- their fields
+
+-- the field is that of a symbol of at most 8 arguments
+abbrev pub IsEntry : List ℕ → SymbolEntry → Type 0
+IsEntry field f = (f.arity ≤ 8) × (entry_text f ≡ field)
+
+-- it is that of no such symbol
+abbrev pub IsNoEntry : List ℕ → Type 0
+IsNoEntry field = (f : SymbolEntry) → f.arity ≤ 8 → ¬ (entry_text f ≡ field)
+
+-- the fields are those of symbols of at most 8 arguments each
+abbrev pub AreEntries : List (List ℕ) → Signature → Type 0
+AreEntries fields sig = All (λ (f : SymbolEntry). f.arity ≤ 8) sig × (map entry_text sig ≡ fields)
+
+-- they are those of no such symbols
+abbrev pub AreNoEntries : List (List ℕ) → Type 0
+AreNoEntries fields = (sig : Signature) → All (λ (f : SymbolEntry). f.arity ≤ 8) sig → ¬ (map entry_text sig ≡ fields)
 
 -- the first three fields are a term, the sign and a term, numbered by first occurrence
 pub record AreSidesIn (sig : Signature) (fields : List (List ℕ)) (sign : List ℕ) (e : Tree × Tree) : Type 0 where

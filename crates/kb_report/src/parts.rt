@@ -4,7 +4,7 @@ ghost use Rattle.kb_term.specs.Signature.{IsSignature};
 ghost use Rattle.kb_term.specs.View.{equations_of_list};
 ghost use Rattle.kb_checker.specs.Answers.{IsAnswer};
 ghost use Rattle.kb_report.specs.Sections.{BeginsWith, IsEndFault, IsSectionFault, text_of};
-ghost use Rattle.kb_report.specs.SystemSections.{CountedConstraints, CountedEquations, CountedRules, CountedSteps, ProblemPart, RulePart};
+ghost use Rattle.kb_report.specs.SystemSections.{CountedConstraints, CountedEquations, CountedRules, CountedSteps, ProblemPart, RulePart, part_values, with_count};
 
 use crate::header::{LINES, read_count, read_word};
 use crate::order::read_order;
@@ -40,7 +40,7 @@ fn read_counted_equations(
 ) -> Result<(Vec<(Term, Term)>, u64, usize), TextFault>
     requires names { IsSignature sig.now }
     requires first { first ≤ 9000 }
-    ensures read { IfOk result (λ p. BeginsWith (CountedEquations sig.now) text.now (length (equations_of_list p.0.items), equations_of_list p.0.items) p.1 (drop p.2 text.now)) }
+    ensures read { IfOk result (λ p. BeginsWith (CountedEquations sig.now) text.now (with_count (equations_of_list p.0.items)) p.1 (drop p.2 text.now)) }
     ensures lines { IfOk result (λ p. p.1 ≤ 257) }
     ensures size { IfOk result (λ p. p.2 ≤ length text.now) }
     ensures fault { IfErr result (IsSectionFault (CountedEquations sig.now) text.now first) }
@@ -60,7 +60,7 @@ fn read_counted_rules(
 ) -> Result<(Vec<(Rule, u32)>, u64, usize), TextFault>
     requires names { IsSignature sig.now }
     requires first { first ≤ 9000 }
-    ensures read { IfOk result (λ p. BeginsWith (CountedRules sig.now) text.now (length p.0.items, p.0.items) p.1 (drop p.2 text.now)) }
+    ensures read { IfOk result (λ p. BeginsWith (CountedRules sig.now) text.now (with_count p.0.items) p.1 (drop p.2 text.now)) }
     ensures lines { IfOk result (λ p. p.1 ≤ 4097) }
     ensures size { IfOk result (λ p. p.2 ≤ length text.now) }
     ensures fault { IfErr result (IsSectionFault (CountedRules sig.now) text.now first) }
@@ -81,7 +81,7 @@ fn read_constraints(
 ) -> Result<(Vec<(Rule, u32)>, u64, usize), TextFault>
     requires names { IsSignature sig.now }
     requires first { first ≤ 9000 }
-    ensures read { IfOk result (λ p. BeginsWith (CountedConstraints version sig.now) text.now (length p.0.items, p.0.items) p.1 (drop p.2 text.now)) }
+    ensures read { IfOk result (λ p. BeginsWith (CountedConstraints version sig.now) text.now (with_count p.0.items) p.1 (drop p.2 text.now)) }
     ensures lines { IfOk result (λ p. p.1 ≤ 4097) }
     ensures size { IfOk result (λ p. p.2 ≤ length text.now) }
     ensures fault { IfErr result (IsSectionFault (CountedConstraints version sig.now) text.now first) }
@@ -101,7 +101,7 @@ fn read_counted_steps(
 ) -> Result<(Trace, u64, usize), TextFault>
     requires names { IsSignature sig.now }
     requires first { first ≤ 9000 }
-    ensures read { IfOk result (λ p. BeginsWith (CountedSteps sig.now) text.now (length p.0, p.0) p.1 (drop p.2 text.now)) }
+    ensures read { IfOk result (λ p. BeginsWith (CountedSteps sig.now) text.now (with_count p.0) p.1 (drop p.2 text.now)) }
     ensures lines { IfOk result (λ p. p.1 ≤ 4097) }
     ensures size { IfOk result (λ p. p.2 ≤ length text.now) }
     ensures fault { IfErr result (IsSectionFault (CountedSteps sig.now) text.now first) }
@@ -124,7 +124,7 @@ pub(crate) fn read_problem(
     first: u64,
 ) -> Result<(Problem, u64, usize), TextFault>
     requires first { first ≤ 100 }
-    ensures read { IfOk result (λ p. BeginsWith ProblemPart text.now (p.0.signature, (length p.0.equations, p.0.equations)) p.1 (drop p.2 text.now)) }
+    ensures read { IfOk result (λ p. BeginsWith ProblemPart text.now (p.0.signature, with_count p.0.equations) p.1 (drop p.2 text.now)) }
     ensures lines { IfOk result (λ p. p.1 ≤ 258) }
     ensures size { IfOk result (λ p. p.2 ≤ length text.now) }
     ensures fault { IfErr result (IsSectionFault ProblemPart text.now first) }
@@ -150,7 +150,7 @@ pub(crate) fn read_parts(
     first: u64,
 ) -> Result<(Parts, u64, usize), TextFault>
     requires first { first ≤ 400 }
-    ensures read { IfOk result (λ p. BeginsWith (RulePart version sig.now) text.now ((length p.0.rules.items, p.0.rules.items), ((length p.0.constraints.items, p.0.constraints.items), (p.0.cert, (length p.0.trace, p.0.trace)))) p.1 (drop p.2 text.now)) }
+    ensures read { IfOk result (λ p. BeginsWith (RulePart version sig.now) text.now (part_values p.0.rules.items p.0.constraints.items p.0.cert p.0.trace) p.1 (drop p.2 text.now)) }
     ensures lines { IfOk result (λ p. p.1 ≤ 12300) }
     ensures size { IfOk result (λ p. p.2 ≤ length text.now) }
     ensures fault { IfErr result (IsSectionFault (RulePart version sig.now) text.now first) }

@@ -1,10 +1,9 @@
 // Reading the line of the symbols.
-ghost use Rattle.std.specs.Prelude.{◌≡◌, ◌≤◌, ◌<◌, ◌↔◌, ℕ, IfOk, IfErr, IsTrue, MatchOption, All, drop, get_or, length, map};
+ghost use Rattle.std.specs.Prelude.{◌≡◌, ◌≤◌, ◌<◌, ◌↔◌, ℕ, IfOk, IfErr, IsTrue, MatchOption, drop, get_or, length};
 ghost use Rattle.kb_term.specs.Identifier.{IsIdentifier, begins_otherwise as begins_otherwise_in, is_unbroken as is_unbroken_text, is_white_space};
-ghost use Rattle.kb_term.specs.Signature.{IsSignature, Signature, SymbolEntry, symbols_of_list};
-ghost use Rattle.kb_report.specs.Answers.{entry_text};
+ghost use Rattle.kb_term.specs.Signature.{IsSignature, Signature, symbols_of_list};
 ghost use Rattle.kb_report.specs.Sections.{BeginsWith, IsSectionFault};
-ghost use Rattle.kb_report.specs.SystemSections.{Symbols, IsSymbolsLine};
+ghost use Rattle.kb_report.specs.SystemSections.{Symbols, AreEntries, AreNoEntries, IsEntry, IsNoEntry, IsSymbolsLine};
 
 use crate::header::first_line;
 use kb_term::{MAX_NAME_BYTES, MAX_SYMBOLS, Memory, Signature};
@@ -91,7 +90,7 @@ fn are_names(symbols: &[(Vec<u8>, u8)]) -> bool
 
 /// The name before the last slash of a field, and the arity behind it.
 fn read_entry(alloc: Global, field: &[u8]) -> Result<Option<(Vec<u8>, u8)>, Memory>
-    ensures { IfOk result (λ read. MatchOption read ((f : SymbolEntry) → f.arity ≤ 8 → ¬ (entry_text f ≡ field.now)) (λ f. (f.1 ≤ 8) × (entry_text (record { name = f.0.items; arity = f.1 }) ≡ field.now))) }
+    ensures { IfOk result (λ read. MatchOption read (IsNoEntry field.now) (λ f. IsEntry field.now (record { name = f.0.items; arity = f.1 }))) }
 {
     if field.len() < 2 {
         return Ok(None);
@@ -112,7 +111,7 @@ fn read_entry(alloc: Global, field: &[u8]) -> Result<Option<(Vec<u8>, u8)>, Memo
 
 /// The symbols that the fields behind the first are.
 fn read_entries(alloc: Global, fields: &Fields) -> Result<Option<Vec<(Vec<u8>, u8)>>, Memory>
-    ensures { IfOk result (λ read. MatchOption read ((s : Signature) → All (λ (f : SymbolEntry). f.arity ≤ 8) s → ¬ (map entry_text s ≡ drop 1 fields.now)) (λ fs. All (λ (f : SymbolEntry). f.arity ≤ 8) (symbols_of_list fs.items) × (map entry_text (symbols_of_list fs.items) ≡ drop 1 fields.now))) }
+    ensures { IfOk result (λ read. MatchOption read (AreNoEntries (drop 1 fields.now)) (λ fs. AreEntries (drop 1 fields.now) (symbols_of_list fs.items))) }
 {
     let mut symbols = Vec::new(alloc);
     for k in 1..fields.len() {

@@ -1,5 +1,5 @@
 -- What a text begins with: a name, or the text of a term over a signature.
-use Rattle.std.specs.Prelude.{◌≡◌, ℕ, zero, suc, ◌-◌, ◌<◌, ◌≤◌, ◌==◌, List, [], ◌∷◌, ◌++◌, Bool, true, false, ◌||◌, length, drop, ⊤}
+use Rattle.std.specs.Prelude.{◌≡◌, ℕ, zero, suc, ◌-◌, ◌<◌, ◌≤◌, ◌==◌, List, [], ◌∷◌, ◌++◌, Bool, true, false, ◌||◌, length, drop, ⊤, Option, MatchOption}
 use Rattle.kb_term.specs.Tree.{Tree, variable, apply, Trees, no_trees, more_trees, list_of, trees_of}
 use Rattle.kb_term.specs.Signature.{Signature, HasArity}
 use Rattle.kb_text.specs.Terms.{names_of, term_text, arguments_text}
@@ -51,6 +51,11 @@ pub record BeginsWithArguments (signature : Signature) (text : List ℕ) (depth 
 -- it begins with no such arguments
 abbrev pub BeginsWithNoArguments : Signature → List ℕ → ℕ → ℕ → Type 0
 BeginsWithNoArguments signature text depth arity = (ts : Trees) (rest : List ℕ) → AreBounded signature depth ts → length (list_of ts) ≡ arity → IsNameEnd rest → ¬ (text ≡ arguments_text (names_of signature) ts ++ rest)
+
+-- how many bytes the arguments take with which the text begins; none where it begins with no such arguments
+abbrev pub AreArgumentsRead : Signature → List ℕ → ℕ → ℕ → List Tree → Option ℕ → Type 0
+AreArgumentsRead signature text depth arity ts size =
+    MatchOption size (BeginsWithNoArguments signature text depth arity) (BeginsWithArguments signature text depth arity ts)
 
 -- the closing parenthesis behind so many arguments, where there are any
 abbrev pub closing_text : ℕ → List ℕ

@@ -1,7 +1,7 @@
 // Lines of fields.
 ghost use Rattle.std.specs.Prelude.{◌≡◌, ◌<◌, ◌==◌, ◌++◌, ◌∷◌, ◌↔◌, [], ℕ, List, OnOk, OnErr, IfOk, IsTrue, decimal, get_or, map, length, take};
 ghost use Rattle.std.specs.List.{join_with_byte, slice_split};
-ghost use Rattle.kb_text.specs.Fields.{behind};
+ghost use Rattle.kb_text.specs.Fields.{parts_with};
 ghost use Rattle.kb_text.specs.Lines.{line, parted};
 
 use kb_term::{Memory, push_number};
@@ -57,7 +57,7 @@ fn push_byte(
     separator: u8,
     b: u8,
 ) -> Result<(), Memory>
-    ensures { OnOk result ((rest : List ℕ) → map (λ f. f.items) parts.new.items ++ behind part.new.items (slice_split (λ b. b == separator) rest) ≡ map (λ f. f.items) parts.old.items ++ behind part.old.items (slice_split (λ b. b == separator) (b ∷ rest))) }
+    ensures { OnOk result ((rest : List ℕ) → parts_with separator parts.new.items part.new.items rest ≡ parts_with separator parts.old.items part.old.items (b ∷ rest)) }
 {
     if b == separator {
         let whole = replace(part, Vec::new(alloc));

@@ -4,7 +4,7 @@ ghost use Rattle.kb_term.specs.Signature.{IsSignature};
 ghost use Rattle.kb_term.specs.Tree.{Tree};
 ghost use Rattle.kb_term.specs.View.{tree_of};
 ghost use Rattle.kb_text.specs.Terms.{TermSpelled, names_of, prefix_length};
-ghost use Rattle.kb_text.specs.TermReading.{BeginsWithArguments, BeginsWithNoArguments, BeginsWithNone, BeginsWithTerm, IsInName, IsClosed, IsNameEnd, closing_text, ends_name};
+ghost use Rattle.kb_text.specs.TermReading.{AreArgumentsRead, BeginsWithNone, BeginsWithTerm, IsInName, IsClosed, IsNameEnd, closing_text, ends_name};
 
 use crate::text::{are_letters, first_free, separator_before};
 use kb_term::{MAX_VARIABLES, Memory, Signature, Term, Terms, term_limit};
@@ -120,7 +120,7 @@ fn read_arguments(
     requires prefix { prefix ≡ prefix_length (names_of signature.now) }
     requires end { IsNameEnd text.now }
     requires empty { arguments.old.items ≡ [] }
-    ensures { IfOk result (λ found. MatchOption found (BeginsWithNoArguments signature.now text.now depth arity) (BeginsWithArguments signature.now text.now depth arity (map tree_of arguments.new.items))) }
+    ensures { IfOk result (AreArgumentsRead signature.now text.now depth arity (map tree_of arguments.new.items)) }
 {
     let mut at = 0;
     for i in 0..arity {
