@@ -3,7 +3,7 @@ use Rattle.std.specs.Prelude.{ℕ, ◌+◌, List, [], ◌∷◌, length, Bool, f
 use Rattle.std.specs.Option.{option_map_or}
 use Rattle.std.specs.declared.option.Option.{Option}
 use Rattle.std.specs.declared.option.Option.TheVariants.{None}
-use Rattle.kb_term.specs.Signature.{Problem}
+use Rattle.kb_term.specs.Signature.{Problem, IsWithinLimits}
 use Rattle.kb_node.specs.declared.job.Job.{Job}
 use Rattle.mkb_model.specs.Plain.{Plain}
 use Rattle.mkb_model.specs.DueJobs.{first_job}
@@ -52,3 +52,8 @@ pub record IsRounds (P : Problem) (s : Settings) (J : List Entry) (c : Plain) : 
   pub journal : journal_of moments ≡ J
   pub by_rounds : GoByRounds moments
   pub ended : IsSome (verdict c)
+
+-- rounds of the problem, which is within the limits, have the same journal and the same board at its end
+abbrev pub HasOneJournal : Problem → Settings → Type 0
+HasOneJournal problem settings =
+    (journal other : List Entry) (board end : Plain) → IsWithinLimits problem → IsRounds problem settings journal board → IsRounds problem settings other end → (journal ≡ other) × (board ≡ end)
