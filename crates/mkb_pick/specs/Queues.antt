@@ -40,3 +40,7 @@ HasTask q n t = (e : Entry) × Has q.entries e × (e.name ≡ n) × Has e.tasks 
 -- the process is listed
 abbrev pub IsSeated : Queue → Name → Type 0
 IsSeated q n = (e : Entry) × Has q.entries e × (e.name ≡ n)
+
+-- the process is not listed
+abbrev pub IsUnseated : Queue → Name → Type 0
+IsUnseated q n = (e : Entry) → Has q.entries e → ¬ (e.name ≡ n)

@@ -3,7 +3,7 @@ ghost use Rattle.std.specs.Prelude.{◌≡◌, ◌⊎◌, ◌↔◌, MatchOption
 ghost use Rattle.mkb_pick.specs.declared.tree.Tree.{Leaf};
 ghost use Rattle.mkb_pick.specs.Trees.{Has, IsOrdered};
 ghost use Rattle.mkb_pick.specs.Tasks.{task_cmp};
-ghost use Rattle.mkb_pick.specs.Queues.{IsQueue, turn_of};
+ghost use Rattle.mkb_pick.specs.Queues.{IsQueue, IsUnseated, turn_of};
 
 use crate::task::Task;
 use crate::tree::{Node, Placed, Tree, put, take};
@@ -122,7 +122,7 @@ impl Queue {
     /// Takes a process out.
     pub(crate) fn take_out(&mut self, name: &Process) -> Option<Seat>
         requires { IsQueue self.old }
-        ensures seat { MatchOption result ((e : Entry) → Has self.old.entries e → ¬ (e.name ≡ name.now)) (λ seat. Has self.old.entries seat.entry.value.item × (seat.entry.value.item.name ≡ name.now)) }
+        ensures seat { MatchOption result (IsUnseated self.old name.now) (λ seat. Has self.old.entries seat.entry.value.item × (seat.entry.value.item.name ≡ name.now)) }
         ensures entries { (e : Entry) → Has self.new.entries e ↔ (Has self.old.entries e × ¬ (e.name ≡ name.now)) }
         ensures queue { IsQueue self.new }
     {
@@ -136,7 +136,7 @@ impl Queue {
     /// Puts a process in.
     pub(crate) fn put_in(&mut self, seat: Seat)
         requires queue { IsQueue self.old }
-        requires free { (e : Entry) → Has self.old.entries e → ¬ (e.name ≡ seat.entry.value.item.name) }
+        requires free { IsUnseated self.old seat.entry.value.item.name }
         requires tasks { IsOrdered task_cmp seat.entry.value.item.tasks }
         ensures entries { (e : Entry) → Has self.new.entries e ↔ ((e ≡ seat.entry.value.item) ⊎ Has self.old.entries e) }
         ensures queue { IsQueue self.new }
