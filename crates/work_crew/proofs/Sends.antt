@@ -127,7 +127,7 @@ table_send T L g h s = view_send (TableInside.the_row T L g h) _ _ _ _ (recorded
 tracked_send : IsSend Tracked.the_row
 tracked_send = view_send TrackedInside.the_row _ _ _ _ (recorded_send (TrackedInside.the_field).row _ _ (TrackedInside.the_type).to_one (struct_send (S.shape TrackedInside.the_type) (
   table_send LabelList.the_row NameLog.the_row label_ghosts.ghosts log_ghosts.ghosts labels.the_send,
-  (marks.the_send, (search (sendable, crosses, account.the_send), tt)),
+  (marks.the_send, (marks.the_send, (search (sendable, crosses, account.the_send), tt))),
 )))
 
 nodes_send : IsSend Nodes.the_row
