@@ -1,4 +1,4 @@
-// Which nodes are in use, as the one who marks them means it.
+// Which nodes are marked as in use.
 ghost use Rattle.std.specs.Prelude.{◌≡◌, ◌≢◌, ◌<◌, ℕ, List, Bool, [], length, set, get_or, true, IfSome};
 ghost use Rattle.mkb_rules.specs.Sizes.{AreListed};
 
