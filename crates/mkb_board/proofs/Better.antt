@@ -1,6 +1,6 @@
 -- The better of the best so far and of what the next process would take.
 use Rattle.std.proofs.Common.{ℕ, zero, suc, ◌+◌, ◌≤◌, ◌<◌, ◌≡◌, refl, sym, ap, ◌∙◌, subst, arith, List, [], ◌∷◌, drop, length, get_or, Contains, true, false, cond, Option, Some, None, ⊎_elim, ◌⊎◌, inl, inr}
-use Rattle.std.specs.Prelude.{IfSome, option_map, nat_lt}
+use Rattle.std.specs.Prelude.{IfSome, nat_lt}
 use Rattle.std.specs.Option.{option_map_or}
 use Rattle.std.specs.Ordering.{ordering_then, ordering_reverse, is_le, nat_cmp}
 use Rattle.std.specs.declared.cmp.Ordering.{Ordering}
@@ -19,7 +19,7 @@ use Rattle.mkb_model.specs.Plain.{Plain, cost, weight}
 use Rattle.mkb_model.proofs.Lists.{equal_or_more, clash}
 use Rattle.mkb_model.specs.DueJobs.{first_job, awake}
 use Rattle.mkb_model.specs.declared.entry.Ticket.{Ticket}
-use Rattle.mkb_board.specs.Choosing.{jobs_of, first_choice, merged, IsCosted, StandsBefore}
+use Rattle.mkb_board.specs.Choosing.{job_in, jobs_of, first_choice, merged, IsCosted, StandsBefore}
 use Rattle.mkb_board.specs.declared.first.Choice.{Choice}
 use Rattle.mkb_board.proofs.Choices.{choice_process}
 use Rattle.mkb_board.proofs.Least.{merged_both, merged_none, job_cmp-total}
@@ -50,9 +50,6 @@ more_cost cost weight i j h =
     ap (λ o. is_le (ordering_then o (by_name weight i j))) more
 
 -- ---- the next process
-
-abbrev job_in : Option Choice → Option Job
-job_in o = option_map (λ (c : Choice). c.job) o
 
 module _ (b : Plain) (flight : List Job) (p : Name) (k : ℕ) (is_cost : k ≡ cost b p) where
   of_next : (j : Job) → first_choice b flight p ≡ Some j → cost b (process_of j) ≡ k

@@ -1,6 +1,8 @@
 -- Which jobs may be chosen.
 use Rattle.std.specs.Prelude.{ℕ, List, [], ◌∷◌, ◌++◌, length, map, Bool, ◌&&◌, ◌<◌, ◌≡◌, ◌+◌, filter, if◌then◌else◌, IsTrue}
-use Rattle.std.specs.Option.{option_map_or}
+use Rattle.std.specs.List.{flat_map}
+use Rattle.std.specs.Option.{option_map, option_map_or}
+use Rattle.kb_term.specs.declared.origin.RuleRef.{RuleRef}
 use Rattle.std.specs.declared.cmp.Ordering.{Ordering}
 use Rattle.std.specs.declared.cmp.Ordering.TheVariants.{Less}
 use Rattle.std.specs.declared.option.Option.{Option}
@@ -9,7 +11,7 @@ use Rattle.kb_label.specs.Names.{Name, name_cmp, has}
 use Rattle.kb_node.specs.declared.job.Job.{Job}
 use Rattle.kb_node.specs.declared.job.Job.TheVariants.{Reduce, Orient, Overlap, Close}
 use Rattle.mkb_model.specs.Jobs.{process_of, kind_number, job_numbers, numbers_cmp, job_cmp, is_free, lesser, least}
-use Rattle.mkb_model.specs.Plain.{Plain, is_rule, is_equation, is_constraint, cost, weight, weight_by}
+use Rattle.mkb_model.specs.Plain.{Plain, is_rule, is_equation, is_constraint, rules_of, cost, weight, weight_by}
 use Rattle.mkb_model.specs.Invariants.{IsAtRest}
 use Rattle.mkb_model.specs.DueJobs.{is_work_due, is_due, work_of}
 use Rattle.mkb_model.specs.declared.entry.Ticket.{Ticket}
@@ -52,6 +54,14 @@ abbrev pub node_job : NodeJob → Name → ℕ → Job
 node_job nodes.Reduce p n = Reduce p (record { 0 = n })
 node_job nodes.Orient p n = Orient p (record { 0 = n })
 
+-- all overlaps of rules of the process, in their order
+abbrev pub overlaps_of : Plain → Name → List Job
+overlaps_of b p = flat_map (λ (a : RuleRef). map (Overlap p a) (rules_of b p)) (rules_of b p)
+
+-- the job that is weighed, if there is one
+abbrev pub weighed_job : Option Weighed → Option Job
+weighed_job o = option_map (λ (w : Weighed). w.job) o
+
 -- the weight that is kept beside the job is that by the sizes of nodes
 abbrev pub IsWeighed : Plain → Weighed → Type 0
 IsWeighed b w = w.weight ≡ weight_by Size b w.job
@@ -87,6 +97,14 @@ abbrev pub merged : {A : Type 0} → (A → A → Ordering) → Option A → Opt
 merged cmp None o = o
 merged cmp (Some x) o = Some (option_map_or (lesser cmp x) o x)
 
+-- the job that the process would take, if there is one
+abbrev pub job_in : Option Choice → Option Job
+job_in o = option_map (λ (c : Choice). c.job) o
+
+-- the first by the order of jobs, where there are two
+abbrev pub lesser_job : Plain → Option Job → Option Job → Option Job
+lesser_job b o q = merged (job_cmp (cost b) (weight b)) o q
+
 -- the cost that is kept beside the job is that of its process
 abbrev pub IsCosted : Plain → Choice → Type 0
 IsCosted b c = c.cost ≡ cost b (process_of c.job)
@@ -94,6 +112,10 @@ IsCosted b c = c.cost ≡ cost b (process_of c.job)
 -- the job is of a process that comes before p by name
 abbrev pub StandsBefore : Name → Choice → Type 0
 StandsBefore p c = name_cmp (process_of c.job) p ≡ Less
+
+-- the first by the order of jobs when they weigh what their nodes do, where there are two
+abbrev pub lighter_job : Plain → Option Job → Option Job → Option Job
+lighter_job b o q = merged (job_cmp (cost b) (weight_by Size b)) o q
 
 -- ---- who sleeps
 

@@ -18,6 +18,10 @@ pub record IsHeld (b : Seen) (t : Ticket) (s : Snapshot) : Type 0 where
   pub reads : IsTaken before s
   pub readable : IsReadable s
 
+-- what is held on the first board is held on the second one
+abbrev pub StaysHeld : Seen → Seen → Ticket → Snapshot → Type 0
+StaysHeld old new t s = IsHeld old t s → IsHeld new t s
+
 -- what is held on the first board is held on the second one, whose journal goes on by these entries for the same problem and settings, if the condition holds
 abbrev pub StaysHeldIf : Seen → Seen → List Entry → Ticket → Snapshot → Type 0 → Type 0
 StaysHeldIf old new more t s Condition =

@@ -1,8 +1,7 @@
 // Which jobs are due.
 ghost use Rattle.std.specs.Prelude.{◌≡◌, ◌<◌, ◌&&◌, length, map, slice_index_or, IsTrue};
-ghost use Rattle.std.specs.List.{find, flat_map};
+ghost use Rattle.std.specs.List.{find};
 ghost use Rattle.kb_label.specs.Names.{has};
-ghost use Rattle.kb_term.specs.declared.origin.RuleRef.{RuleRef as Reference};
 ghost use Rattle.kb_node.specs.declared.job.Job.TheVariants as jobs;
 ghost use Rattle.mkb_model.specs.Jobs.{clashes, is_free, process_of, ref_le};
 ghost use Rattle.mkb_model.specs.Plain.{is_rule, node_numbers, rules_of};
@@ -72,7 +71,7 @@ fn first_orient(state: &State, search: &Search) -> Option<Job>
 // The first two of the rules that may be overlapped.
 fn first_overlap(state: &State, flight: &[Ticket], p: &Process, rules: &[RuleRef]) -> Option<Job>
     requires { rules.now ≡ rules_of state.now p.now }
-    ensures { result ≡ find (is_choice state.now (jobs_of flight.now)) (flat_map (λ (a : Reference). map (jobs.Overlap p.now a) (rules_of state.now p.now)) (rules_of state.now p.now)) }
+    ensures { result ≡ find (is_choice state.now (jobs_of flight.now)) (overlaps_of state.now p.now) }
 {
     for i in 0..rules.len() {
         if let Some(job) = first_second(state, flight, p, rules, i) {

@@ -1,5 +1,5 @@
 // Ending a ticket with what its job proposed.
-ghost use Rattle.std.specs.Prelude.{◌≡◌, ◌++◌, ◌∷◌, [], None, Contains, IsTrue, IsFalse, IfOk, IfErr, OnErr};
+ghost use Rattle.std.specs.Prelude.{◌≡◌, None, Contains, IsTrue, IsFalse, IfOk, IfErr, OnErr};
 ghost use Rattle.std.specs.Option.{option_map_or};
 ghost use Rattle.mkb_model.specs.Verdicts.{verdict};
 ghost use Rattle.mkb_model.specs.Effects.{is_dropped};
@@ -9,6 +9,7 @@ ghost use Rattle.mkb_rules.specs.Applying.{applied_as};
 ghost use Rattle.kb_label.specs.declared.verdict.Reason.{Reason};
 ghost use Rattle.std.specs.Prelude.{Option};
 ghost use Rattle.mkb_board.specs.Takes.{IsProposalOf, IsFinishedBy};
+ghost use Rattle.mkb_board.specs.declared.answers.Finished.TheVariants as finished;
 
 use crate::answers::Finished;
 use crate::board::{Board, land};
@@ -53,11 +54,15 @@ impl Board {
                 drop(proposal);
                 Ok(finished)
             }
-            Ok(false) => self.commit(alloc, ticket, proposal),
+            Ok(false) => match self.commit(alloc, &ticket, proposal) {
+                Ok(applied) => Ok(Finished::Committed(applied)),
+                Err(proposal) => Err((ticket, proposal)),
+            },
         }
     }
 
     // Ends the ticket without an effect. It takes no memory.
+    #[inline(never)]
     fn drop_ticket(&mut self, ticket: &Ticket, proposal: &Proposed) -> Finished
         requires flying { Contains self.old.plain.flight ticket.now }
         requires proposed { IsProposalOf self.old ticket.now proposal.now }
@@ -78,24 +83,24 @@ impl Board {
     }
 
     // Ends the ticket with the effect of the proposal. Then processes fall asleep or wake, which takes no memory.
+    #[inline(never)]
     fn commit(
         &mut self,
         alloc: Global,
-        ticket: Ticket,
+        ticket: &Ticket,
         proposal: Proposed,
-    ) -> Result<Finished, (Ticket, Proposed)>
-        requires flying { Contains self.old.plain.flight ticket }
-        requires proposed { IsProposalOf self.old ticket proposal }
+    ) -> Result<Applied, Proposed>
+        requires flying { Contains self.old.plain.flight ticket.now }
+        requires proposed { IsProposalOf self.old ticket.now proposal }
         requires no_verdict { verdict self.old.plain ≡ None }
         requires acts { IsFalse (is_dropped self.old.plain proposal) }
-        ensures ok { IfOk result (IsFinishedBy self.old self.new ticket proposal) }
-        ensures back { IfErr result (λ e. e ≡ (ticket, proposal)) }
+        ensures ok { IfOk result (λ applied. IsFinishedBy self.old self.new ticket.now proposal (finished.Committed applied)) }
+        ensures back { IfErr result (λ e. e ≡ proposal) }
         ensures err { OnErr result (self.new ≡ self.old) }
-        ensures undecided { OnErr result (verdict self.old.plain ≡ None) }
     {
         let applied = match self.state.apply(alloc, &proposal) {
             Ok(applied) => applied,
-            Err(_) => return Err((ticket, proposal)),
+            Err(_) => return Err(proposal),
         };
         turn_away(&mut self.normals, &proposal);
         follow(&self.state, &mut self.working, &proposal, applied);
@@ -109,7 +114,7 @@ impl Board {
             effect: effect_of(applied, proposal),
         };
         self.journal.push(entry).unwrap();
-        Ok(Finished::Committed(applied))
+        Ok(applied)
     }
 }
 

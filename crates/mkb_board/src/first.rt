@@ -1,19 +1,19 @@
 // The first job.
-ghost use Rattle.std.specs.Prelude.{◌≡◌, ◌⊎◌, ◌&&◌, [], true, not, nat_lt, if◌then◌else◌, option_map, Some, None, IsFalse, IsTrue, IfOk, IfSome};
+ghost use Rattle.std.specs.Prelude.{◌≡◌, ◌⊎◌, ◌&&◌, true, not, nat_lt, if◌then◌else◌, Some, None, IsFalse, IsTrue, IfOk, IfSome};
 ghost use Rattle.std.specs.Option.{option_map_or};
 ghost use Rattle.kb_label.specs.Names.{has, IsInNameOrder};
 ghost use Rattle.mkb_model.specs.Limits.{AreLimited};
 ghost use Rattle.kb_node.specs.declared.job.Job.TheVariants.{Close};
-ghost use Rattle.mkb_model.specs.Jobs.{process_of, job_cmp, is_free};
-ghost use Rattle.mkb_model.specs.Plain.{cost, is_over, weight};
+ghost use Rattle.mkb_model.specs.Jobs.{process_of, is_free};
+ghost use Rattle.mkb_model.specs.Plain.{cost, is_over};
 ghost use Rattle.mkb_model.specs.Sleeping.{working as working_on};
 ghost use Rattle.mkb_model.specs.DueJobs.{first_job, work_of};
-ghost use Rattle.mkb_board.specs.Choosing.{jobs_of, first_choice, least_choice, merged, ClosedRest, IsCosted};
+ghost use Rattle.mkb_board.specs.Choosing.{job_in, jobs_of, first_choice, least_choice, lesser_job, ClosedRest, IsCosted};
 ghost use Rattle.mkb_board.specs.Normal.{AreAllNormal, AreNormal, IsSearch, Serves};
 ghost use Rattle.mkb_board.specs.Working.{processes_in};
 ghost use Rattle.mkb_board.specs.declared.first.Choice.{Choice};
 
-use crate::cost::{cost, place_of};
+use crate::cost::cost;
 use crate::due::{first_work, is_free};
 use crate::holding::{Search, held_nodes, rules_among};
 use crate::lightest::lightest_work;
@@ -55,9 +55,9 @@ pub(crate) fn first_job(
     ensures first { IfOk result (λ o. o ≡ first_job (record state.now { flight = flight.now })) }
     ensures normals { AreAllNormal state.now normals.new.items }
 {
-    if let Some(process) = least_working(state, working) {
-        let place = place_of(state, &process) % normals.len();
-        if let Some(job) = first_choice(state, flight, &mut normals[place], &process)? {
+    if let Some(least) = least_working(state, working) {
+        let place = least.place % normals.len();
+        if let Some(job) = first_choice(state, flight, &mut normals[place], &least)? {
             return Ok(Some(job));
         }
     }
@@ -90,7 +90,11 @@ fn first_of_all(
         if state.is_asleep_from(process, &mut asleep) {
             continue;
         }
-        let next = Costed { cost, process };
+        let next = Costed {
+            cost,
+            place: i,
+            process,
+        };
         let place = i % normals.len();
         best = lesser_choice(state, flight, &mut normals[place], best, &next)?;
     }
@@ -115,12 +119,12 @@ fn lesser_choice(
     requires cost { next.now.cost ≡ cost state.now next.now.process.now }
     requires costed { IfSome best (IsCosted state.now) }
     requires below { IsTrue (option_map_or (λ (c : Choice). nat_lt next.now.cost c.cost) best true) }
-    ensures least { IfOk result (λ o. option_map (λ (c : Choice). c.job) o ≡ merged (job_cmp (cost state.now) (weight state.now)) (option_map (λ (c : Choice). c.job) best) (first_choice state.now (jobs_of flight.now) next.now.process.now)) }
+    ensures least { IfOk result (λ o. job_in o ≡ lesser_job state.now (job_in best) (first_choice state.now (jobs_of flight.now) next.now.process.now)) }
     ensures costed { IfOk result (λ o. IfSome o (IsCosted state.now)) }
     ensures of_either { IfOk result (λ o. (o ≡ best) ⊎ IfSome o (λ c. process_of c.job ≡ next.now.process.now)) }
     ensures normal { AreNormal state.now normal.new }
 {
-    match first_choice(state, flight, normal, next.process)? {
+    match first_choice(state, flight, normal, next)? {
         Some(job) => Ok(Some(Choice {
             cost: next.cost,
             job,
@@ -144,31 +148,30 @@ fn first_choice(
     state: &State,
     flight: &[Ticket],
     normal: &mut Normal,
-    p: &Process,
+    next: &Costed,
 ) -> Result<Option<Job>, Memory>
     requires limited { AreLimited state.now.problem.signature state.now.nodes }
     requires rest { ClosedRest state.now }
     requires normal { AreNormal state.now normal.old }
-    requires lives { IsTrue (has state.now.living p.now) }
-    ensures first { IfOk result (λ o. o ≡ first_choice state.now (jobs_of flight.now) p.now) }
+    requires lives { IsTrue (has state.now.living next.now.process.now) }
+    ensures first { IfOk result (λ o. o ≡ first_choice state.now (jobs_of flight.now) next.now.process.now) }
     ensures normal { AreNormal state.now normal.new }
 {
+    let p = next.process;
     if state.is_closed(p) || state.is_over(p) {
         return Ok(None);
     }
-    let roles = state.roles(p);
-    if let Some(nodes) = state.held(p) {
-        if let Some(rules) = state.rules(p) {
-            let search = Search {
-                flight,
-                process: p,
-                nodes,
-                roles,
-                rules,
-            };
-            return choice_by(state, normal, &search);
-        }
+    if let Some(kept) = state.kept(next.place, p) {
+        let search = Search {
+            flight,
+            process: p,
+            nodes: kept.nodes,
+            roles: kept.roles,
+            rules: kept.rules,
+        };
+        return choice_by(state, normal, &search);
     }
+    let roles = state.roles(p);
     let nodes = held_nodes(normal.allocator(), state, p)?;
     let rules = rules_among(normal.allocator(), state, p, nodes.as_slice())?;
     let search = Search {

@@ -1,15 +1,13 @@
 // The lightest work of a process.
-ghost use Rattle.std.specs.Prelude.{◌≡◌, ◌⊎◌, ◌∷◌, [], true, nat_lt, map, option_map, Some, IfSome};
-ghost use Rattle.std.specs.List.{flat_map};
+ghost use Rattle.std.specs.Prelude.{◌≡◌, ◌⊎◌, ◌∷◌, [], true, nat_lt, map, Some, IfSome};
 ghost use Rattle.std.specs.Option.{option_map_or};
-ghost use Rattle.kb_term.specs.declared.origin.RuleRef.{RuleRef as Reference};
 ghost use Rattle.kb_node.specs.declared.job.Job.TheVariants as jobs;
-ghost use Rattle.mkb_model.specs.Jobs.{job_cmp, process_of};
+ghost use Rattle.mkb_model.specs.Jobs.{process_of};
 ghost use Rattle.mkb_model.specs.Limits.{AreLimited};
-ghost use Rattle.mkb_model.specs.Plain.{cost, node_numbers, rules_of, weight_by};
+ghost use Rattle.mkb_model.specs.Plain.{cost, node_numbers};
 ghost use Rattle.mkb_model.specs.DueJobs.{work_of};
 ghost use Rattle.mkb_model.specs.declared.settings.Selection.TheVariants as selections;
-ghost use Rattle.mkb_board.specs.Choosing.{jobs_of, is_choice, least_choice, merged, node_job, HasNodes, IsWeighed, StandsEarlier};
+ghost use Rattle.mkb_board.specs.Choosing.{jobs_of, is_choice, least_choice, node_job, HasNodes, IsWeighed, StandsEarlier};
 ghost use Rattle.mkb_board.specs.Normal.{IsSearch, Serves};
 ghost use Rattle.mkb_board.specs.declared.lightest.Weighed.{Weighed};
 
@@ -92,7 +90,7 @@ fn lightest_overlap(state: &State, normal: &mut Normal, search: &Search) -> Opti
     requires limited { AreLimited state.now.problem.signature state.now.nodes }
     requires serves { Serves state.now search.now.process.now normal.old }
     requires search { IsSearch state.now search.now }
-    ensures lightest { result ≡ least_choice selections.Size state.now (jobs_of search.now.flight.now) (flat_map (λ (a : Reference). map (jobs.Overlap search.now.process.now a) (rules_of state.now search.now.process.now)) (rules_of state.now search.now.process.now)) }
+    ensures lightest { result ≡ least_choice selections.Size state.now (jobs_of search.now.flight.now) (overlaps_of state.now search.now.process.now) }
     ensures serves { Serves state.now search.now.process.now normal.new }
 {
     let mut best = None;
@@ -125,7 +123,7 @@ fn lighter(
     requires next { IsWeighed state.now next }
     requires best { IfSome best (IsWeighed state.now) }
     requires earlier { IfSome best (λ (w : Weighed). StandsEarlier next.job w.job) }
-    ensures least { option_map (λ (w : Weighed). w.job) result ≡ merged (job_cmp (cost state.now) (weight_by selections.Size state.now)) (option_map (λ (w : Weighed). w.job) best) (least_choice selections.Size state.now (jobs_of search.now.flight.now) (next.job ∷ [])) }
+    ensures least { weighed_job result ≡ lighter_job state.now (weighed_job best) (least_choice selections.Size state.now (jobs_of search.now.flight.now) (next.job ∷ [])) }
     ensures weighed { IfSome result (IsWeighed state.now) }
     ensures of_either { (result ≡ best) ⊎ (result ≡ Some next) }
     ensures serves { Serves state.now search.now.process.now normal.new }
@@ -149,7 +147,7 @@ fn is_lighter(weight: u32, best: &Option<Weighed>) -> bool
 
 // The job alone.
 fn job_of(best: Option<Weighed>) -> Option<Job>
-    ensures { result ≡ option_map (λ (w : Weighed). w.job) best }
+    ensures { result ≡ weighed_job best }
 {
     match best {
         Some(best) => Some(best.job),

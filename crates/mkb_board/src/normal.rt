@@ -401,7 +401,7 @@ impl Normal {
             return Ok(None);
         }
         let passed = self.passed(n, roles);
-        let mut kept = Vec::new(self.alloc);
+        let mut kept = Vec::with_capacity(self.alloc, self.rules.len())?;
         for i in 0..self.rules.len() {
             let rule = self.rules[i];
             if self.places[i] >= passed && is_open_to(state, roles, n, rule) {

@@ -18,10 +18,11 @@ use kb_label::{Living, Process};
 use mkb_rules::State;
 use std::cmp::Ordering;
 
-/// A process with its cost.
+/// A process with its cost, and with a place among the living at which what is kept of it is looked up first.
 #[derive(Clone, Copy)]
 pub(crate) struct Costed<'a> {
     pub(crate) cost: u32,
+    pub(crate) place: usize,
     pub(crate) process: &'a Process,
 }
 
@@ -124,16 +125,16 @@ fn greatest_working(state: &State, working: &[Placed]) -> Option<Process>
 }
 
 /// The process that costs least among these, and of equal costs the first by name. It takes no memory.
-pub(crate) fn least_working(state: &State, working: &[Placed]) -> Option<Process>
+pub(crate) fn least_working<'a>(state: &State, working: &'a [Placed]) -> Option<Costed<'a>>
     requires { AreLimited state.now.problem.signature state.now.nodes }
-    ensures { result ≡ least (process_cmp state.now) (processes_in working.now) }
+    ensures { option_map (λ (c : Costed). c.process.now) result ≡ least (process_cmp state.now) (processes_in working.now) }
 {
     let mut best = None;
     for i in 0..working.len() {
         let placed = &working[i];
         best = Some(lesser(best, with_cost(state, placed.place, &placed.process)));
     }
-    process_in(&best)
+    best
 }
 
 // The active sleeper that costs least, and of equal costs the first by name.
@@ -166,6 +167,7 @@ fn with_cost<'a>(state: &State, place: usize, p: &'a Process) -> Costed<'a>
 {
     Costed {
         cost: cost(state, place, p),
+        place,
         process: p,
     }
 }

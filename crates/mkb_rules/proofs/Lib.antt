@@ -25,3 +25,4 @@ pub mod Placing
 pub mod RulesKept
 pub mod RowKept
 pub mod Edited
+pub mod Directions

@@ -1,13 +1,45 @@
 -- Labels of effects, by their parts.
-use Rattle.std.proofs.Common.{ℕ, ◌≡◌, Bool, true, false, not, ◌||◌, if◌then◌else◌, List, [], ◌∷◌, filter, refl, ap, sym, ◌∙◌}
-use Rattle.kb_label.specs.Names.{Name, has, minus}
-use Rattle.mkb_model.specs.Plain.{Plain, label}
-use Rattle.mkb_model.specs.Effects.{orient_label}
+use Rattle.std.proofs.Common.{ℕ, ◌≡◌, Bool, true, false, cond, not, ◌&&◌, ◌||◌, if◌then◌else◌, List, [], ◌∷◌, filter, refl, ap, sym, ◌∙◌}
+use Rattle.kb_label.specs.Names.{Name, has, is_empty, join, meet, minus}
+use Rattle.kb_label.proofs.Members.{has-join}
+use Rattle.kb_term.specs.declared.origin.Found.{Found}
+use Rattle.kb_term.specs.declared.origin.RuleRef.{RuleRef}
+use Rattle.mkb_model.specs.Plain.{Plain, label, other, rule_kind}
+use Rattle.mkb_model.specs.Effects.{if_strict, orient_label, rewrite_label}
 use Rattle.kb_node.specs.declared.node.LabelKind.TheVariants.{E}
 
 -- a process without the equation
 pub orient_none : (b : Plain) (p : Name) (n : ℕ) (l : List Name) → l ≡ label b n E → has l p ≡ false → orient_label b p n ≡ []
 orient_none b p n l e h = ap (λ (t : Bool). if t then (p ∷ []) else []) (sym (ap (λ z. has z p) e) ∙ h)
+
+-- nobody is in the union of two labels
+pub meet_join-empty : (l m k : List Name) → is_empty (meet l (join m k)) ≡ (is_empty (meet l m) && is_empty (meet l k))
+meet_join-empty [] m k = refl
+meet_join-empty (p ∷ l) m k = ap (λ t. is_empty (cond t (p ∷ meet l (join m k)) (meet l (join m k)))) (has-join m k p) ∙ go (has m p) (has k p) (meet_join-empty l m k)
+  where
+    go : (a b : Bool) → is_empty (meet l (join m k)) ≡ (is_empty (meet l m) && is_empty (meet l k))
+        → is_empty (cond (a || b) (p ∷ meet l (join m k)) (meet l (join m k))) ≡ (is_empty (cond a (p ∷ meet l m) (meet l m)) && is_empty (cond b (p ∷ meet l k) (meet l k)))
+    go true b h = refl
+    go false true h = sym (and_false (is_empty (meet l m)))
+      where
+        and_false : (t : Bool) → (t && false) ≡ false
+        and_false true = refl
+        and_false false = refl
+    go false false h = h
+
+-- nobody is in a label of nobody
+pub meet_none-empty : (l : List Name) → is_empty (meet l []) ≡ true
+meet_none-empty [] = refl
+meet_none-empty (p ∷ l) = meet_none-empty l
+
+-- nobody rewrites where nobody has the rule and is in a source
+pub nobody_rewrites : (b : Plain) (n w : ℕ) (a : RuleRef) (found : Found) → is_empty (rewrite_label b n w a found)
+    ≡ (is_empty (meet (label b a.node (rule_kind a.dir)) (label b n E)) && (is_empty (meet (label b a.node (rule_kind a.dir)) (label b n (rule_kind (other w)))) && is_empty (meet (label b a.node (rule_kind a.dir)) (if_strict found (label b n (rule_kind w))))))
+nobody_rewrites b n w a found =
+    let l = label b a.node (rule_kind a.dir) in
+    let right = label b n (rule_kind (other w)) in
+    let left = if_strict found (label b n (rule_kind w)) in
+    meet_join-empty l (label b n E) (join right left) ∙ ap (λ t. is_empty (meet l (label b n E)) && t) (meet_join-empty l right left)
 
 -- nobody is taken out
 pub minus_none : (l : List Name) → minus l [] ≡ l

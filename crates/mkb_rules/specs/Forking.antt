@@ -1,8 +1,9 @@
 -- The parts of a state after a fork.
-use Rattle.std.specs.Prelude.{ℕ, zero, suc, List, [], ◌∷◌, ◌≡◌, map}
-use Rattle.kb_label.specs.Names.{Name, relabel}
-use Rattle.mkb_model.specs.Plain.{Plain, PlainNode, Done, GivenUp as OverFor}
-use Rattle.mkb_model.specs.Effects.{forked_node}
+use Rattle.std.specs.Prelude.{ℕ, zero, suc, true, false, List, [], ◌∷◌, ◌≡◌, map}
+use Rattle.kb_cert.specs.declared.certificate.Certificate.{Certificate}
+use Rattle.kb_label.specs.Names.{Name, child, relabel}
+use Rattle.mkb_model.specs.Plain.{Plain, PlainNode, Done, GivenUp as OverFor, Certified}
+use Rattle.mkb_model.specs.Effects.{certify_in, forked_certificates, forked_node, oriented}
 use Rattle.mkb_rules.specs.Over.{lists_of}
 use Rattle.mkb_rules.specs.declared.effects.forking.Forked.{Forked}
 use Rattle.mkb_rules.specs.declared.effects.forking.NewNames.{NewNames}
@@ -22,6 +23,14 @@ with_names_at (suc i) l (d ∷ ds) = d ∷ with_names_at i l ds
 abbrev pub with_new_names : List NewNames → List Done → List Done
 with_new_names [] ds = ds
 with_new_names (n ∷ ns) ds = with_new_names ns (with_names_at n.place n.names ds)
+
+-- the orders after a fork of p, when each child has its own
+abbrev pub orders_after_fork : Name → Certificate → Certificate → List Certified → List Certified
+orders_after_fork p c0 c1 l = certify_in (child p true) c1 (certify_in (child p false) c0 (forked_certificates p l))
+
+-- one child of p turns the equation into the rule of direction 0, the other into that of direction 1
+abbrev pub oriented_both_ways : Name → ℕ → List PlainNode → List PlainNode
+oriented_both_ways p n xs = oriented (child p true) (record { node = n; dir = 1 }) (oriented (child p false) (record { node = n; dir = 0 }) xs)
 
 -- those that gave up, after a fork of p
 abbrev pub forked_over : Name → List OverFor → List OverFor

@@ -44,8 +44,3 @@ HasNamed b (Deduce a c pairs) = IsThere b a.node × IsThere b c.node
 HasNamed b (Unjoined p pairs) = Lives b p
 HasNamed b (Closed p) = Lives b p
 HasNamed b (Limit j cause) = HasNamedJob b j × HasRedexRule b cause.redex
-
--- the proposal is of facts
-abbrev pub tells_facts : Proposed → Bool
-tells_facts (Facts fs) = true
-tells_facts x = false

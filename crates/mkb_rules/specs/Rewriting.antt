@@ -1,7 +1,7 @@
 -- The parts of a rewriting: what its sources lose, and the pair that gains it.
 use Rattle.std.specs.Prelude.{ℕ, ◌≡◌, ◌≤◌, List, length, Option, Some, None, option_map, option_to_list}
 use Rattle.kb_term.specs.Tree.{Tree}
-use Rattle.kb_term.specs.Pair.{Pair, variables_of_pair}
+use Rattle.kb_term.specs.Pair.{Pair, canonical_pair, variables_of_pair}
 use Rattle.kb_term.specs.declared.origin.Origin.{Origin}
 use Rattle.kb_overlap.specs.Trace.{other_side}
 use Rattle.kb_node.specs.declared.node.LabelKind.TheVariants.{E}
@@ -18,6 +18,10 @@ HasFewVariables b n w t = (q : Pair) → pair_at b n ≡ Some q → length (vari
 -- the pair of a rewriting of the other side's term to the result, if there is one
 abbrev pub target_of : Option Pair → Origin → Tree → Tree → Option Target
 target_of o origin rest outcome = option_map (λ q. record { pair = q; origin = origin; dir = direction rest outcome q }) o
+
+-- the pair to which a rewriting of a side of the pair leads, where the side becomes this term
+abbrev pub target_at : Pair → ℕ → Origin → Tree → Option Target
+target_at q w origin outcome = target_of (canonical_pair outcome (other_side q w)) origin (other_side q w) outcome
 
 -- the pairs for which a rewriting wants nodes
 abbrev pub wanted_by : Option Target → List Pair

@@ -1,10 +1,11 @@
 -- How a process has each node, as it is kept.
-use Rattle.std.specs.Prelude.{ℕ, zero, suc, ◌≡◌, ◌<◌, Bool, false, ◌||◌, if◌then◌else◌, List, [], ◌∷◌, ◌++◌, filter, length, get_or, set, slice_get, sum_by}
+use Rattle.std.specs.Prelude.{ℕ, zero, suc, ◌≡◌, ◌<◌, Bool, false, ◌||◌, if◌then◌else◌, List, [], ◌∷◌, ◌++◌, filter, length, map, get_or, set, slice_get, sum_by}
 use Rattle.std.specs.List.{flat_map}
 use Rattle.std.specs.Option.{option_map_or}
 use Rattle.kb_label.specs.Names.{Name, has}
 use Rattle.kb_term.specs.declared.origin.RuleRef.{RuleRef}
 use Rattle.kb_node.specs.declared.node.LabelKind.{LabelKind}
+use Rattle.kb_node.specs.declared.node.NodeId.{NodeId}
 use Rattle.kb_node.specs.declared.node.LabelKind.TheVariants.{R0, R1, E}
 use Rattle.mkb_model.specs.Jobs.{ref_eq}
 use Rattle.mkb_model.specs.Plain.{Plain, PlainNode, directions, is_equation, is_rule, node_numbers, numbers_from}
@@ -61,6 +62,14 @@ held_of b p = filter (λ n. is_in_use (roles_of b p n)) (node_numbers b)
 -- the nodes, of those whose roles are kept, that have one, in their order
 abbrev pub held_by : List Roles → List ℕ
 held_by row = filter (λ n. is_in_use (get_or row n no_roles)) (numbers_from 0 (length row))
+
+-- these are the nodes, of those whose roles are kept, that have one, in their order
+abbrev pub AreHeldBy : List Roles → List NodeId → Type 0
+AreHeldBy row l = map (λ (n : NodeId). n.0) l ≡ held_by row
+
+-- the rules in the nodes of smaller numbers, in both directions, by node, then direction
+abbrev pub rules_below : ℕ → List RuleRef
+rules_below count = flat_map directions (numbers_from 0 count)
 
 -- how many of the nodes whose roles are kept are equations
 abbrev pub equation_count : List Roles → ℕ

@@ -5,7 +5,7 @@ use Rattle.kb_label.specs.Names.{Name, has, is_empty}
 use Rattle.kb_node.specs.declared.node.LabelKind.{LabelKind}
 use Rattle.kb_node.specs.declared.node.LabelKind.TheVariants.{R0, R1, E, C0, C1}
 use Rattle.kb_node.specs.declared.node.NodeId.{NodeId}
-use Rattle.mkb_model.specs.Plain.{PlainNode, numbers_from, pair_size}
+use Rattle.mkb_model.specs.Plain.{PlainNode, label_at, numbers_from, pair_size}
 use Rattle.mkb_model.specs.declared.settings.Selection.{Selection}
 use Rattle.mkb_model.specs.declared.settings.Selection.TheVariants.{Stated, Size}
 use Rattle.mkb_rules.specs.declared.sizes.Sizes.{Sizes}
@@ -59,6 +59,10 @@ abbrev pub is_rule_kind : LabelKind → Bool
 is_rule_kind R0 = true
 is_rule_kind R1 = true
 is_rule_kind k = false
+
+-- the size of the node, where what it is asked for counts and its label of this kind names p
+abbrev pub size_by : Bool → LabelKind → List PlainNode → ℕ → Name → ℕ
+size_by counts k xs n p = size_if (counts && has (label_at xs n k) p) (size_at xs n)
 
 -- the sizes are those that their process pays
 pub record AreSizesOf (xs : List PlainNode) (s : Sizes) : Type 0 where

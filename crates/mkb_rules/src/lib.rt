@@ -22,4 +22,4 @@ mod tracked;
 
 pub use applied::Applied;
 pub use roles::{Roles, push_held, push_rules};
-pub use state::{State, is_ordered};
+pub use state::{Kept, State, is_ordered};

@@ -5,9 +5,8 @@ ghost use Rattle.kb_term.specs.Signature.{IsWithinLimits};
 ghost use Rattle.kb_term.specs.View.{equations_of_list, tree_of};
 ghost use Rattle.kb_label.specs.Names.{root};
 ghost use Rattle.kb_cert.specs.Family.{family as orders_of_family};
-ghost use Rattle.kb_cert.specs.declared.certificate.Certificate.{Certificate as OrderOf};
 ghost use Rattle.mkb_model.specs.Journals.{opening, with_input, with_inputs};
-ghost use Rattle.mkb_rules.specs.Kept.{plain_certificates};
+ghost use Rattle.mkb_rules.specs.Kept.{first_order_in, plain_certificates};
 
 use crate::facts::Facts;
 use crate::labels::only;
@@ -70,7 +69,7 @@ fn start_parts(alloc: Global, problem: &Problem, family: Family) -> Result<First
     ensures log { IfOk result (λ parts. parts.log ≡ root ∷ []) }
     ensures nodes { IfOk result (λ parts. parts.nodes.now ≡ with_inputs 1 problem.now.equations []) }
     ensures asleep { IfOk result (λ parts. parts.asleep ≡ []) }
-    ensures certificates { IfOk result (λ parts. plain_certificates parts.certificates.items ≡ map (λ (c : OrderOf). record { name = root; certificate = c }) (take 1 (orders_of_family family problem.now.signature))) }
+    ensures certificates { IfOk result (λ parts. plain_certificates parts.certificates.items ≡ first_order_in (orders_of_family family problem.now.signature)) }
 {
     let asleep = Sleepers::new(alloc)?;
     let log = NameLog::start(alloc)?;
@@ -91,7 +90,7 @@ fn first_certificates(
     signature: &Signature,
 ) -> Result<Vec<Certified>, Memory>
     requires { length signature.now ≤ 24 }
-    ensures { IfOk result (λ orders. plain_certificates orders.items ≡ map (λ (c : OrderOf). record { name = root; certificate = c }) (take 1 (orders_of_family family signature.now))) }
+    ensures { IfOk result (λ orders. plain_certificates orders.items ≡ first_order_in (orders_of_family family signature.now)) }
 {
     let mut certificates = Vec::new(alloc);
     match search(alloc, family, signature, &[])? {

@@ -4,7 +4,7 @@ ghost use Rattle.std.specs.List.{flat_map};
 ghost use Rattle.kb_term.specs.declared.origin.RuleRef.{RuleRef as Reference};
 ghost use Rattle.kb_node.specs.declared.node.NodeId.{NodeId as Numbered};
 ghost use Rattle.mkb_model.specs.Plain.{directions, numbers_from};
-ghost use Rattle.mkb_rules.specs.Roles.{but_for, equation_count, held_by, rules_by, with_role_at};
+ghost use Rattle.mkb_rules.specs.Roles.{but_for, equation_count, held_by, rules_below, rules_by, with_role_at, AreHeldBy};
 ghost use Rattle.mkb_rules.specs.declared.roles.Roles.{Roles as Had};
 
 use crate::roles::{Roles, push_held, push_rules};
@@ -165,7 +165,7 @@ fn copied<T: Copy>(alloc: Global, list: &Option<Vec<T>>) -> Result<Option<Vec<T>
 
 // The list of the nodes that a process has, when it comes to have this one so; none where there is no memory for it.
 fn held_with(held: Option<Vec<NodeId>>, n: NodeId, roles: Roles) -> Option<Vec<NodeId>>
-    ensures { (row : List Had) → n.0 < length row → IfSome held (λ l. map (λ (m : Numbered). m.0) l.items ≡ held_by row) → IfSome result (λ l. map (λ (m : Numbered). m.0) l.items ≡ held_by (set row n.0 roles)) }
+    ensures { (row : List Had) → n.0 < length row → IfSome held (λ l. AreHeldBy row l.items) → IfSome result (λ l. AreHeldBy (set row n.0 roles) l.items) }
 {
     let mut held = held?;
     let is_held = roles.is_in_use();
@@ -196,7 +196,7 @@ fn rules_with(rules: Option<Vec<RuleRef>>, n: NodeId, roles: Roles) -> Option<Ve
 // memory for it.
 fn updated(rules: Option<Vec<RuleRef>>, rule: RuleRef, is_there: bool) -> Option<Vec<RuleRef>>
     requires { rule.dir ≤ 1 }
-    ensures { (has : Reference → Bool) (count : ℕ) → rule.node < count → IfSome rules (λ l. l.items ≡ filter has (flat_map directions (numbers_from 0 count))) → IfSome result (λ l. l.items ≡ filter (but_for has rule is_there) (flat_map directions (numbers_from 0 count))) }
+    ensures { (has : Reference → Bool) (count : ℕ) → rule.node < count → IfSome rules (λ l. l.items ≡ filter has (rules_below count)) → IfSome result (λ l. l.items ≡ filter (but_for has rule is_there) (rules_below count)) }
 {
     let mut rules = rules?;
     let number = 2 * rule.node as u32 + rule.dir as u32;
@@ -215,7 +215,7 @@ fn updated(rules: Option<Vec<RuleRef>>, rule: RuleRef, is_there: bool) -> Option
 
 // The list of the nodes that a process has, with the next node, which it has so; none where there is no memory for it.
 fn held_more(held: Option<Vec<NodeId>>, n: NodeId, roles: Roles) -> Option<Vec<NodeId>>
-    ensures { (row : List Had) → n.0 ≡ length row → IfSome held (λ l. map (λ (m : Numbered). m.0) l.items ≡ held_by row) → IfSome result (λ l. map (λ (m : Numbered). m.0) l.items ≡ held_by (row ++ roles ∷ [])) }
+    ensures { (row : List Had) → n.0 ≡ length row → IfSome held (λ l. AreHeldBy row l.items) → IfSome result (λ l. AreHeldBy (row ++ roles ∷ []) l.items) }
 {
     let mut held = held?;
     match push_held(&mut held, n, roles) {

@@ -4,7 +4,7 @@ ghost use Rattle.kb_label.specs.Names.{has};
 ghost use Rattle.kb_node.specs.Labelled.{with_label_at};
 ghost use Rattle.mkb_rules.specs.Parts.{plain_nodes};
 ghost use Rattle.mkb_model.specs.Plain.{label_at};
-ghost use Rattle.mkb_rules.specs.Sizes.{counted_sizes, size_if, size_at, is_open_kind, is_rule_kind, open_share_at, rule_share_at, AreSizesOf};
+ghost use Rattle.mkb_rules.specs.Sizes.{counted_sizes, size_by, size_if, size_at, is_open_kind, is_rule_kind, open_share_at, rule_share_at, AreSizesOf};
 
 use kb_label::{Labels, ListLabels, NameLog, Process};
 use kb_node::{LabelKind, NodeId, NodeTable};
@@ -116,8 +116,8 @@ impl Sizes {
     ) -> Option<Sizes>
         requires { n.0 < length table.now }
         ensures process { IfSome result (λ s. s.process ≡ self.now.process) }
-        ensures open { IfSome result (λ s. s.open_sizes ≡ self.now.open_sizes + size_if (is_open_kind kind && has (label_at (plain_nodes table.now) n.0 kind) self.now.process) (size_at (plain_nodes table.now) n.0)) }
-        ensures rules { IfSome result (λ s. s.rule_sizes ≡ self.now.rule_sizes + size_if (is_rule_kind kind && has (label_at (plain_nodes table.now) n.0 kind) self.now.process) (size_at (plain_nodes table.now) n.0)) }
+        ensures open { IfSome result (λ s. s.open_sizes ≡ self.now.open_sizes + size_by (is_open_kind kind) kind (plain_nodes table.now) n.0 self.now.process) }
+        ensures rules { IfSome result (λ s. s.rule_sizes ≡ self.now.rule_sizes + size_by (is_rule_kind kind) kind (plain_nodes table.now) n.0 self.now.process) }
     {
         let has = table.label(n, kind).has(log, &self.process);
         self.moved(kind, table.size(n), false, has)

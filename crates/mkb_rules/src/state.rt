@@ -47,6 +47,15 @@ pub(crate) struct Certified {
     pub(crate) certificate: Certificate,
 }
 
+/// What is kept of a process: how it has each of the first nodes, the nodes that it has as an equation or as a rule, and its rules,
+/// each in their order.
+#[derive(Clone, Copy)]
+pub struct Kept<'a> {
+    pub roles: &'a [Roles],
+    pub nodes: &'a [NodeId],
+    pub rules: &'a [RuleRef],
+}
+
 /// The board without flight and journal. Contracts see it as the plain board with no ticket in flight.
 #[derive(Drop)]
 pub struct State {
@@ -224,6 +233,27 @@ impl State {
         ensures { IfSome result (λ l. l.now ≡ rules_of self.now p.now) }
     {
         self.whole_row(p)?.rules()
+    }
+
+    /// What is kept of the process at this place among the living, where all of it is kept at the place. It is for each living
+    /// process, where memory allows, and takes constant time.
+    pub fn kept(&self, place: usize, p: &Process) -> Option<Kept>
+        ensures roles { IfSome result (λ k. AreRolesOf self.now.nodes p.now k.roles.now) }
+        ensures nodes { IfSome result (λ k. map (λ (n : Numbered). n.0) k.nodes.now ≡ held_of self.now p.now) }
+        ensures rules { IfSome result (λ k. k.rules.now ≡ rules_of self.now p.now) }
+    {
+        let row = self.nodes.row(place, p)?;
+        if !self.is_whole(row) {
+            return None;
+        }
+        let roles = row.as_slice();
+        let nodes = row.held()?;
+        let rules = row.rules()?;
+        Some(Kept {
+            roles,
+            nodes,
+            rules,
+        })
     }
 
     // How a process has each of the first nodes, where that is kept.

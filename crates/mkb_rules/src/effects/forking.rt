@@ -2,12 +2,12 @@
 ghost use Rattle.std.specs.Prelude.{◌≡◌, ◌<◌, ◌∷◌, [], All, IfOk, IsTrue, OnErr, OnOk, false, length, map, true};
 ghost use Rattle.kb_label.specs.Names.{child, has, relabel};
 ghost use Rattle.mkb_model.specs.Plain.{label_at};
-ghost use Rattle.mkb_model.specs.Effects.{certify_in, counted, forked_certificates, forked_node, oriented, with_label};
+ghost use Rattle.mkb_model.specs.Effects.{counted, forked_certificates, forked_node, with_label};
 ghost use Rattle.mkb_model.specs.declared.proposed.Proposed.TheVariants.{Both};
 ghost use Rattle.kb_node.specs.declared.node.LabelKind.{LabelKind};
 ghost use Rattle.mkb_rules.specs.Accounts.{HasChildren, Inherits, IsAccountOf, IsApart};
 ghost use Rattle.mkb_rules.specs.Applying.{Commits, HasBudget};
-ghost use Rattle.mkb_rules.specs.Forking.{forked_done, forked_over, fork_at, relabelled_lists, with_names_at, with_new_names, with_parts, IsForkOf};
+ghost use Rattle.mkb_rules.specs.Forking.{forked_done, forked_over, fork_at, orders_after_fork, oriented_both_ways, relabelled_lists, with_names_at, with_new_names, with_parts, IsForkOf};
 ghost use Rattle.mkb_rules.specs.Kept.{plain_certificates, plain_done};
 ghost use Rattle.mkb_rules.specs.Over.{lists_of};
 ghost use Rattle.mkb_rules.specs.Parts.{oriented_by};
@@ -260,7 +260,7 @@ fn fork_orders(
     cert1: &Certificate,
 ) -> Result<(), Memory>
     requires { length p.now < MAX_BITS }
-    ensures ok { OnOk result (plain_certificates certificates.new.items ≡ certify_in (child p.now true) cert1.now (certify_in (child p.now false) cert0.now (forked_certificates p.now (plain_certificates certificates.old.items)))) }
+    ensures ok { OnOk result (plain_certificates certificates.new.items ≡ orders_after_fork p.now cert0.now cert1.now (plain_certificates certificates.old.items)) }
     ensures err { OnErr result (certificates.new.items ≡ certificates.old.items) }
 {
     let first = cert0.clone()?;
@@ -305,7 +305,7 @@ fn try_fork(
     requires there { n.0 < length nodes.old.now }
     requires first { IsTrue (has log.now (child p.now false)) }
     requires second { IsTrue (has log.now (child p.now true)) }
-    ensures ok { OnOk result (nodes.new.now ≡ oriented (child p.now true) (record { node = n.0; dir = 1 }) (oriented (child p.now false) (record { node = n.0; dir = 0 }) (map (forked_node p.now) nodes.old.now))) }
+    ensures ok { OnOk result (nodes.new.now ≡ oriented_both_ways p.now n.0 (map (forked_node p.now) nodes.old.now)) }
     ensures before { OnOk result (nodes.new.before ≡ nodes.old.now) }
     ensures err { OnErr result (nodes.new.now ≡ nodes.old.now) }
 {
@@ -431,5 +431,6 @@ fn fork_label(
 fn is_without_children(label: &ListLabels, fork: &Fork) -> bool
     ensures { IsTrue result → (has label.now fork.now.left ≡ false) × (has label.now fork.now.right ≡ false) }
 {
-    !label.has(fork.log, &fork.left) && !label.has(fork.log, &fork.right)
+    let mut place = 0;
+    !label.has_from(&fork.left, &mut place) && !label.has_from(&fork.right, &mut place)
 }

@@ -1,9 +1,9 @@
 // The processes on which a proposal acts.
 ghost use Rattle.std.specs.Prelude.{◌≡◌, ◌<◌, ◌≤◌, ◌+◌, length, IfOk, IsTrue};
-ghost use Rattle.kb_label.specs.Names.{has};
-ghost use Rattle.mkb_model.specs.Plain.{label_at, label, rule_kind as kind_of_rules, other as other_side};
+ghost use Rattle.kb_label.specs.Names.{has, is_empty, meet};
+ghost use Rattle.mkb_model.specs.Plain.{is_equation, label_at, label, rule_kind as kind_of_rules, other as other_side};
 ghost use Rattle.mkb_model.specs.Effects.{rewrite_label, overlap_label, orient_label, effect_label, if_strict, is_dropped, most_nodes};
-ghost use Rattle.mkb_rules.specs.Named.{HasNamed, tells_facts};
+ghost use Rattle.mkb_rules.specs.Named.{HasNamed};
 
 use crate::labels::{copy_of, joined, met, only};
 use crate::nodes::Nodes;
@@ -169,8 +169,81 @@ impl State {
         requires { HasNamed self.now proposal.now }
         ensures { IfOk result (λ idle. idle ≡ is_dropped self.now proposal.now) }
     {
-        let names = self.effect_names(alloc, proposal)?;
-        Ok(!is_facts(proposal) && names.is_empty(&self.log))
+        match proposal {
+            Proposed::Facts(_) => Ok(false),
+            Proposed::Rewrite {
+                node,
+                side,
+                rule,
+                kind,
+                ..
+            } => Ok(self.has_no_rewriter(*node, *side, *rule, *kind)),
+            Proposed::One { process, node, .. } => Ok(!self.has_equation_at(process, *node)),
+            Proposed::Both { process, node, .. } => Ok(!self.has_equation_at(process, *node)),
+            Proposed::Refuse { process, node } => Ok(!self.has_equation_at(process, *node)),
+            Proposed::Deduce { a, b, .. } => Ok(self.have_all_overlapped(alloc, *a, *b)?),
+            Proposed::Unjoined { .. } => Ok(false),
+            Proposed::Closed { .. } => Ok(false),
+            Proposed::Limit { job, cause } => {
+                let names = self.stopped_names(alloc, job, cause)?;
+                Ok(names.is_empty(&self.log))
+            }
+        }
+    }
+
+    // Whether each process that has both rules has overlapped them. Where nobody has, it takes no memory.
+    fn have_all_overlapped(&self, alloc: Global, a: RuleRef, b: RuleRef) -> Result<bool, AllocError>
+        requires first { a.node < length self.now.nodes }
+        requires second { b.node < length self.now.nodes }
+        ensures { IfOk result (λ idle. idle ≡ is_empty (overlap_label self.now a b)) }
+    {
+        match self.done.names(a, b) {
+            None => {
+                let first = self.rule_label(a);
+                let second = self.rule_label(b);
+                Ok(first.is_disjoint(second))
+            }
+            Some(_) => {
+                let names = self.overlap_names(alloc, a, b)?;
+                Ok(names.is_empty(&self.log))
+            }
+        }
+    }
+
+    // Whether no process has the rule and is in a source of the redex. It takes no memory.
+    fn has_no_rewriter(&self, n: NodeId, side: u8, rule: RuleRef, found: Found) -> bool
+        requires node { n.0 < length self.now.nodes }
+        requires rule { rule.node < length self.now.nodes }
+        ensures { result ≡ is_empty (rewrite_label self.now n.0 side rule found) }
+    {
+        if !self.is_apart(rule, n, LabelKind::E) {
+            return false;
+        }
+        if !self.is_apart(rule, n, rule_kind(other(side))) {
+            return false;
+        }
+        match found {
+            Found::Strict => self.is_apart(rule, n, rule_kind(side)),
+            Found::No | Found::Variant => true,
+        }
+    }
+
+    // Whether no process has the rule and is in the label of this kind of the node.
+    fn is_apart(&self, rule: RuleRef, n: NodeId, kind: LabelKind) -> bool
+        requires rule { rule.node < length self.now.nodes }
+        requires node { n.0 < length self.now.nodes }
+        ensures { result ≡ is_empty (meet (label self.now rule.node (kind_of_rules rule.dir)) (label self.now n.0 kind)) }
+    {
+        self.rule_label(rule)
+            .is_disjoint(node_label(&self.nodes, n, kind))
+    }
+
+    // Whether the process has the node as an equation.
+    fn has_equation_at(&self, p: &Process, n: NodeId) -> bool
+        requires { n.0 < length self.now.nodes }
+        ensures { result ≡ is_equation self.now p.now n.0 }
+    {
+        node_label(&self.nodes, n, LabelKind::E).has(&self.log, p)
     }
 
     // The processes on which a proposal acts.
@@ -195,15 +268,5 @@ impl State {
             Proposed::Closed { process } => only(alloc, &self.log, process),
             Proposed::Limit { job, cause } => self.stopped_names(alloc, job, cause),
         }
-    }
-}
-
-// Whether the proposal is of facts.
-fn is_facts(proposal: &Proposed) -> bool
-    ensures { result ≡ tells_facts proposal.now }
-{
-    match proposal {
-        Proposed::Facts(_) => true,
-        _ => false,
     }
 }

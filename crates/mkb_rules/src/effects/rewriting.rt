@@ -1,6 +1,6 @@
 // Nodes that are rewritten.
-ghost use Rattle.std.specs.Prelude.{◌≡◌, ◌<◌, ◌≤◌, Err, IfOk, OnErr, OnOk, Some, length};
-ghost use Rattle.kb_term.specs.Pair.{Pair as CanonicalPair, canonical_pair, variables_of_pair};
+ghost use Rattle.std.specs.Prelude.{◌≡◌, ◌<◌, ◌≤◌, true, Err, IfOk, IsTrue, OnErr, OnOk, Some, length};
+ghost use Rattle.kb_term.specs.Pair.{Pair as CanonicalPair, canonical_pair, numbered, variables_of_pair};
 ghost use Rattle.kb_term.specs.declared.origin.Origin.TheVariants.{Rewrite as ByRewrite};
 ghost use Rattle.kb_term.specs.View.{tree_of};
 ghost use Rattle.kb_overlap.specs.Trace.{other_side};
@@ -11,7 +11,7 @@ ghost use Rattle.mkb_model.specs.Effects.{direction as leading, if_strict, most_
 ghost use Rattle.mkb_model.specs.declared.proposed.Proposed.TheVariants.{Rewrite};
 ghost use Rattle.mkb_rules.specs.Applying.{Commits, HasBudget};
 ghost use Rattle.mkb_rules.specs.Named.{IsThere};
-ghost use Rattle.mkb_rules.specs.Rewriting.{HasFewVariables, gained, lost, target_of, wanted_by};
+ghost use Rattle.mkb_rules.specs.Rewriting.{HasFewVariables, gained, lost, target_at, target_of, wanted_by};
 
 use crate::applied::Applied;
 use crate::effects::label::{counted_up, node_label, other, rule_kind};
@@ -19,6 +19,7 @@ use crate::labels::{copy_of, met};
 use crate::nodes::Nodes;
 use crate::state::State;
 use kb_label::{Labels, ListLabels, NameLog, Reason};
+use kb_match::fits;
 use kb_node::{LabelKind, NodeFault, NodeId};
 use kb_overlap::other_side_of;
 use kb_term::{
@@ -108,7 +109,7 @@ impl State {
     ) -> Result<Option<Target>, Memory>
         requires node { IsThere self.now n.0 }
         requires few { HasFewVariables self.now n.0 side (tree_of outcome.now) }
-        ensures { (q : CanonicalPair) → pair_at self.now n.0 ≡ Some q → IfOk result (λ target. target ≡ target_of (canonical_pair (tree_of outcome.now) (other_side q side)) (ByRewrite n.0 side position.now rule) (other_side q side) (tree_of outcome.now)) }
+        ensures { (q : CanonicalPair) → pair_at self.now n.0 ≡ Some q → IfOk result (λ target. target ≡ target_at q side (ByRewrite n.0 side position.now rule) (tree_of outcome.now)) }
     {
         let pair = self.nodes.table().pair(n)?;
         let origin = Origin::Rewrite {
@@ -210,17 +211,31 @@ fn target_for(
     }
 }
 
-// The direction in which the canonical pair of the two terms leads from the first to the second.
+// The direction in which the canonical pair of the two terms leads from the first to the second. Mostly their symbols tell it.
 fn direction(alloc: Global, rest: &Term, outcome: &Term, pair: &Pair) -> Result<u8, Memory>
-    requires { length (variables_of_pair (tree_of rest.now) (tree_of outcome.now)) ≤ 64 }
+    requires few { length (variables_of_pair (tree_of rest.now) (tree_of outcome.now)) ≤ 64 }
+    requires of_both { canonical_pair (tree_of outcome.now) (tree_of rest.now) ≡ Some pair.now }
     ensures { IfOk result (λ dir. dir ≡ leading (tree_of rest.now) (tree_of outcome.now) pair.now) }
 {
+    if !fit_sides(rest, outcome, pair) {
+        return Ok(1);
+    }
+    if !fit_sides(outcome, rest, pair) {
+        return Ok(0);
+    }
     let rule = numbered_rule(alloc, rest, outcome)?;
     if has_sides_of(&rule, pair) {
         Ok(0)
     } else {
         Ok(1)
     }
+}
+
+// Whether the terms fit the sides of the pair, as they do where the pair is that of both with their variables numbered.
+fn fit_sides(first: &Term, second: &Term, pair: &Pair) -> bool
+    ensures { pair_eq (numbered (tree_of first.now) (tree_of second.now)) pair.now ≡ true → IsTrue result }
+{
+    fits(first, pair.first()) && fits(second, pair.second())
 }
 
 // Whether the rule leads from side 0 of the pair to side 1.

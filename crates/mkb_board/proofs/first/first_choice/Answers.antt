@@ -7,7 +7,7 @@ use Rattle.mkb_board.proofs.first.first_choice.Goals.{then-is_closed-via-then-is
 pub returns-then-is_closed-clause-first : goal.returns-then-is_closed-clause-first
 returns-then-is_closed-clause-first c =
     let b = c.args.state.now in
-    let p = c.args.p.now in
+    let p = c.args.next.now.process.now in
     let flight = jobs_of c.args.flight.now in
     elim c.then-is_closed.branch [
       | then-is_closed-via-then-is_closed w ↦ sym (choice_closed b flight p c.requires.rest (sym c.is_closed.ensures ∙ w.if-is_closed.true))
