@@ -161,7 +161,7 @@ fn is_orient_due(state: &State, search: &Search, n: NodeId) -> bool
 }
 
 // Whether the process has both rules, in this order, and has not overlapped them.
-fn is_overlap_due(state: &State, p: &Process, a: RuleRef, c: RuleRef) -> bool
+pub(crate) fn is_overlap_due(state: &State, p: &Process, a: RuleRef, c: RuleRef) -> bool
     requires first { a.node < length state.now.nodes }
     requires second { c.node < length state.now.nodes }
     ensures { result ≡ is_work_due state.now (jobs.Overlap p.now a c) }

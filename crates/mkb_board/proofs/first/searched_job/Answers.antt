@@ -2,7 +2,7 @@ use Rattle.std.proofs.Common.{◌∙◌, ap, sym}
 use Rattle.mkb_model.specs.Jobs.{least}
 use Rattle.mkb_model.specs.Sleeping.{process_cmp}
 use Rattle.mkb_board.proofs.Cheapest.{first_of_least, least_lives}
-use Rattle.mkb_board.proofs.first.first_job.Goals as goal
+use Rattle.mkb_board.proofs.first.searched_job.Goals as goal
 
 pub first_choice-requires-clause-lives : goal.first_choice-requires-clause-lives
 first_choice-requires-clause-lives c =
