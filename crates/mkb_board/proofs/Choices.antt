@@ -33,14 +33,14 @@ abbrev pub open_in : Plain → List Job → List Job → List Job
 open_in b flight js = filter (λ j. is_due b j && is_free flight j) js
 
 -- the lesser of the work and of the closing
-choice_parts : (b : Plain) (flight : List Job) (p : Name)
+pub choice_parts : (b : Plain) (flight : List Job) (p : Name)
     → first_choice b flight p ≡ merged (job_cmp (cost b) (weight b)) (least (job_cmp (cost b) (weight b)) (open_in b flight (work_of b p))) (least (job_cmp (cost b) (weight b)) (open_in b flight (Close p ∷ [])))
 choice_parts b flight p =
     ap (least (job_cmp (cost b) (weight b))) (filter-append (λ j. is_due b j && is_free flight j) (work_of b p) (Close p ∷ []))
     ∙ least_append (job_cmp (cost b) (weight b)) (job_cmp-total (cost b) (weight b)) (open_in b flight (work_of b p)) (open_in b flight (Close p ∷ []))
 
 -- of a process that works what is due is what is due by what it sees
-open_works : (b : Plain) (flight : List Job) (p : Name) → has b.living p ≡ true → is_over b p ≡ false → open_in b flight (work_of b p) ≡ filter (is_choice b flight) (work_of b p)
+pub open_works : (b : Plain) (flight : List Job) (p : Name) → has b.living p ≡ true → is_over b p ≡ false → open_in b flight (work_of b p) ≡ filter (is_choice b flight) (work_of b p)
 open_works b flight p lives going =
     filter_alike (λ j. is_due b j && is_free flight j) (is_choice b flight) (work_of b p) (λ j i. ap (λ z. z && is_free flight j) (due_as b p (working_so b p lives going) j i))
 

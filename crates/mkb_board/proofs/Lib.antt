@@ -8,6 +8,7 @@
 --   lightest                  Rising, Weighing, NodeJobs, Having, Picking
 --   normal                    Irreducible
 --   settling                  Sleepers, Placing, AtRest
+--   takable                   AnyJob, Choices, Firsts, Picking, Irreducible
 --   working                   Placing
 --   shelf, snapshots          Kept, Viewed, Open
 --   law held_tickets_stay     Held, Others
@@ -44,3 +45,4 @@ pub mod StillWorking
 pub mod Placing
 pub mod Verdicts
 pub mod Following
+pub mod AnyJob

@@ -8,7 +8,7 @@ use Rattle.mkb_board.proofs.Better.{drop_at}
 
 -- ---- numbers
 
-numbers_step : (n len : ℕ) → n < len → numbers_from n (len - n) ≡ n ∷ numbers_from (n + 1) (len - (n + 1))
+pub numbers_step : (n len : ℕ) → n < len → numbers_from n (len - n) ≡ n ∷ numbers_from (n + 1) (len - (n + 1))
 numbers_step n len h = let e : len - n ≡ suc (len - (n + 1)) = omega arith in ap (numbers_from n) e
 
 -- ---- the first that passes

@@ -6,7 +6,7 @@ ghost use Rattle.kb_node.specs.declared.job.Job.TheVariants as jobs;
 ghost use Rattle.mkb_model.specs.Jobs.{clashes, is_free, process_of, ref_le};
 ghost use Rattle.mkb_model.specs.Plain.{is_rule, node_numbers, rules_of};
 ghost use Rattle.mkb_model.specs.DueJobs.{is_work_due, work_of};
-ghost use Rattle.mkb_board.specs.Choosing.{jobs_of, is_choice, HasNodes};
+ghost use Rattle.mkb_board.specs.Choosing.{jobs_of, is_choice, overlaps_of, HasNodes};
 ghost use Rattle.mkb_board.specs.Normal.{IsSearch, Serves};
 
 use crate::choosing::is_rule;
@@ -160,7 +160,7 @@ fn is_orient_due(state: &State, search: &Search, n: NodeId) -> bool
 }
 
 // Whether the process has both rules, in this order, and has not overlapped them.
-fn is_overlap_due(state: &State, p: &Process, a: RuleRef, c: RuleRef) -> bool
+pub(crate) fn is_overlap_due(state: &State, p: &Process, a: RuleRef, c: RuleRef) -> bool
     requires first { a.node < length state.now.nodes }
     requires second { c.node < length state.now.nodes }
     ensures { result ≡ is_work_due state.now (jobs.Overlap p.now a c) }

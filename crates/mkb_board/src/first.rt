@@ -1,5 +1,5 @@
 // The first job.
-ghost use Rattle.std.specs.Prelude.{◌≡◌, ◌⊎◌, ◌&&◌, true, not, nat_lt, if◌then◌else◌, Some, None, IsFalse, IsTrue, IfOk, IfSome};
+ghost use Rattle.std.specs.Prelude.{◌≡◌, ◌⊎◌, ◌&&◌, true, not, nat_lt, if◌then◌else◌, Some, None, IsFalse, IsTrue, IfOk, IfSome, IsSome, OnErr};
 ghost use Rattle.std.specs.Option.{option_map_or};
 ghost use Rattle.kb_label.specs.Names.{has, IsInNameOrder};
 ghost use Rattle.mkb_model.specs.Limits.{AreLimited};
@@ -19,6 +19,7 @@ use crate::holding::{Search, held_nodes, rules_among};
 use crate::lightest::lightest_work;
 use crate::normal::Normal;
 use crate::settling::{Costed, least_working};
+use crate::takable::has_first;
 use crate::working::Placed;
 use kb_label::Process;
 use kb_node::Job;
@@ -40,8 +41,35 @@ struct Choice {
 ///
 /// What is noted of one process at another's place is of no use, so each process has the place of its number, again from the first
 /// after the last. By the stated selection the search of a process ends at its first job that serves; by size it goes over its
-/// jobs of one kind.
+/// jobs of one kind. Where the search finds no memory, whether there is a job at all is asked without any.
+///
+/// # Errors
+///
+/// Want of memory, where there is a first job.
 pub(crate) fn first_job(
+    state: &State,
+    flight: &[Ticket],
+    normals: &mut Vec<Normal>,
+    working: &[Placed],
+) -> Result<Option<Job>, Memory>
+    requires limited { AreLimited state.now.problem.signature state.now.nodes }
+    requires rest { ClosedRest state.now }
+    requires in_order { IsInNameOrder state.now.living }
+    requires normals { AreAllNormal state.now normals.old.items }
+    requires works { processes_in working.now ≡ working_on state.now state.now.asleep }
+    ensures first { IfOk result (λ o. o ≡ first_job (record state.now { flight = flight.now })) }
+    ensures takable { OnErr result (IsSome (first_job (record state.now { flight = flight.now }))) }
+    ensures normals { AreAllNormal state.now normals.new.items }
+{
+    match searched_job(state, flight, normals, working) {
+        Ok(job) => Ok(job),
+        Err(fault) if has_first(state, flight) => Err(fault),
+        Err(_) => Ok(None),
+    }
+}
+
+// The same, but it may want memory also where there is no such job.
+fn searched_job(
     state: &State,
     flight: &[Ticket],
     normals: &mut Vec<Normal>,

@@ -15,6 +15,7 @@ mod normal;
 mod settling;
 mod shelf;
 mod snapshots;
+mod takable;
 mod taking;
 mod working;
 

@@ -1,13 +1,12 @@
 // The lightest work of a process.
 ghost use Rattle.std.specs.Prelude.{◌≡◌, ◌⊎◌, ◌∷◌, [], true, nat_lt, map, Some, IfSome};
 ghost use Rattle.std.specs.Option.{option_map_or};
-ghost use Rattle.kb_node.specs.declared.job.Job.TheVariants as jobs;
 ghost use Rattle.mkb_model.specs.Jobs.{process_of};
 ghost use Rattle.mkb_model.specs.Limits.{AreLimited};
-ghost use Rattle.mkb_model.specs.Plain.{cost, node_numbers};
+ghost use Rattle.mkb_model.specs.Plain.{node_numbers};
 ghost use Rattle.mkb_model.specs.DueJobs.{work_of};
 ghost use Rattle.mkb_model.specs.declared.settings.Selection.TheVariants as selections;
-ghost use Rattle.mkb_board.specs.Choosing.{jobs_of, is_choice, least_choice, node_job, HasNodes, IsWeighed, StandsEarlier};
+ghost use Rattle.mkb_board.specs.Choosing.{jobs_of, is_choice, least_choice, lighter_job, node_job, overlaps_of, weighed_job, HasNodes, IsWeighed, StandsEarlier};
 ghost use Rattle.mkb_board.specs.Normal.{IsSearch, Serves};
 ghost use Rattle.mkb_board.specs.declared.lightest.Weighed.{Weighed};
 

@@ -1,5 +1,5 @@
 // Taking a job.
-ghost use Rattle.std.specs.Prelude.{◌≡◌, ◌≤◌, ◌+◌, ◌++◌, ◌∷◌, [], Some, None, IsFalse, IfOk, OnOk, OnErr, vec_len, vec_capacity};
+ghost use Rattle.std.specs.Prelude.{◌≡◌, ◌≤◌, ◌+◌, ◌++◌, ◌∷◌, [], Some, None, IsFalse, IfOk, IsSome, OnOk, OnErr, vec_len, vec_capacity};
 ghost use Rattle.mkb_model.specs.Verdicts.{verdict};
 ghost use Rattle.mkb_model.specs.DueJobs.{first_job};
 ghost use Rattle.mkb_model.specs.declared.entry.Ticket.{Ticket};
@@ -20,11 +20,12 @@ use std::alloc::{AllocError, Global};
 impl Board {
     /// Takes the first job for a worker: the least due job that clashes with none in flight.
     ///
-    /// Where it gives no ticket it changes nothing. Where a verdict stands or a halt was made it takes no memory.
+    /// Where it gives no ticket it changes nothing, and wants no memory: where a verdict stands, where a halt was made, and where no
+    /// job may be taken.
     ///
     /// # Errors
     ///
-    /// Want of memory; the board is then as before.
+    /// Want of memory, where a job may be taken; the board is then as before.
     pub fn take(&mut self, alloc: Global, worker: u8) -> Result<Taken, Memory>
         requires least { 1 ≤ worker }
         requires most { worker ≤ 16 }
@@ -32,6 +33,7 @@ impl Board {
         ensures err { OnErr result (self.new ≡ self.old) }
         ensures undecided { OnErr result (verdict self.old.plain ≡ None) }
         ensures unhalted { OnErr result (IsFalse (has_halt self.old.journal)) }
+        ensures takable { OnErr result (IsSome (first_job self.old.plain)) }
     {
         if let Some(verdict) = self.verdict {
             return Ok(Taken::Over(verdict));
@@ -63,6 +65,7 @@ impl Board {
         ensures err { OnErr result (self.new ≡ self.old) }
         ensures undecided { OnErr result (verdict self.old.plain ≡ None) }
         ensures unhalted { OnErr result (IsFalse (has_halt self.old.journal)) }
+        ensures takable { OnErr result (IsSome (first_job self.old.plain)) }
     {
         let snapshot = snapshot(alloc, &self.state, &self.normals, &mut self.shelf, job)?;
         reserve(&mut self.flight, &mut self.journal)?;

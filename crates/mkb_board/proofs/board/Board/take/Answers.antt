@@ -1,5 +1,5 @@
 use Rattle.std.proofs.Common.{ℕ, ◌<◌, ◌≡◌, ◌∙◌, ◌≢◌, List, [], ◌∷◌, length, arith, subst, ap, refl, sym, Some, None}
-use Rattle.std.specs.Prelude.{IsFalse, IsTrue, OnErr, Result, Ok, Err}
+use Rattle.std.specs.Prelude.{IsFalse, IsSome, IsTrue, OnErr, Result, Ok, Err}
 use Rattle.mkb_model.specs.DueJobs.{first_job}
 use Rattle.mkb_model.specs.Verdicts.{verdict}
 use Rattle.mkb_model.specs.declared.entry.Ticket.{Ticket}
@@ -39,6 +39,12 @@ returns-in_err-first_job-clause-undecided c = on_err c.from_residual.result (sub
 
 pub returns-in_err-first_job-clause-unhalted : goal.returns-in_err-first_job-clause-unhalted
 returns-in_err-first_job-clause-unhalted c = on_err c.from_residual.result (subst {A = Seen} (λ z. IsFalse (has_halt z.journal)) c.self.view_is (sym c.self.invariant.0.halted_is ∙ c.if-self.false))
+
+pub returns-in_err-first_job-clause-takable : goal.returns-in_err-first_job-clause-takable
+returns-in_err-first_job-clause-takable c =
+    let b = c.self.inside.state in
+    let some : IsSome (first_job (record b { flight = c.self.inside.flight.items })) = subst {A = List Ticket} (λ ts. IsSome (first_job (record b { flight = ts }))) c.as_slice.ensures.value c.in_err-first_job.ensures.takable in
+    on_err c.from_residual.result (subst {A = Seen} (λ z. IsSome (first_job z.plain)) c.self.view_is some)
 
 pub returns-in-None-clause-ok : goal.returns-in-None-clause-ok
 returns-in-None-clause-ok c =
