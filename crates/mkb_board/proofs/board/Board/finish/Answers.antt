@@ -24,6 +24,9 @@ commit-requires-clause-no_verdict c = subst {A = Seen} (λ z. verdict z.plain �
 pub returns-in-Err-clause-undecided : goal.returns-in-Err-clause-undecided
 returns-in-Err-clause-undecided c = subst {A = Seen} (λ z. verdict z.plain ≡ None) c.self.view_is (sym c.self.invariant.2 ∙ c.in_default.is)
 
+pub returns-in-Err-commit-clause-undecided : goal.returns-in-Err-commit-clause-undecided
+returns-in-Err-commit-clause-undecided c = subst {A = Seen} (λ z. verdict z.plain ≡ None) c.self.view_is (sym c.self.invariant.2 ∙ c.in_default.is)
+
 pub drop_ticket-finished-requires-clause-idle : goal.drop_ticket-finished-requires-clause-idle
 drop_ticket-finished-requires-clause-idle c =
     subst {A = Seen} (λ z. IsTrue (is_dropped z.plain c.args.proposal)) c.self.view_is
