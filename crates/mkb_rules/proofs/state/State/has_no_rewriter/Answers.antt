@@ -35,6 +35,7 @@ returns-in-Strict c =
     c.is_apart-in-Strict.ensures
     ∙ ap (apart b c.args.rule c.args.n.0) c.rule_kind-in-Strict.ensures
     ∙ sym (ap (λ found. is_empty (rewrite_label b c.args.n.0 c.args.side c.args.rule found)) c.in-Strict.is ∙ told b c.args.n.0 c.args.side c.args.rule Strict (sym c.is_apart.ensures ∙ c.if-not-is_apart.false) (ap (apart b c.args.rule c.args.n.0) (sym kind) ∙ sym c.is_apart-2.ensures ∙ c.if-not-is_apart-2.false))
+
 pub returns-in-No : goal.returns-in-No
 returns-in-No c =
     let b = c.args.self.now in
