@@ -1,6 +1,6 @@
 -- Names as a list keeps them.
-use Rattle.std.proofs.Common.{◌≡◌, ℕ, ◌≤◌, List, [], ◌∷◌, length, Option, Some, None, refl, sym, ap, ap₂, ◌∙◌, arith}
-use Rattle.std.specs.Prelude.{MatchOption, option_map}
+use Rattle.std.proofs.Common.{◌≡◌, ℕ, ◌≤◌, List, [], ◌∷◌, length, Option, Some, None, sym, ap, ap₂, ◌∙◌, arith}
+use Rattle.std.specs.Prelude.{MatchOption}
 use Rattle.std.proofs.lemmas.List.{drop_all}
 use Rattle.kb_label.specs.Names.{Name}
 use Rattle.kb_label.specs.Packed.{name_in, word, words_of}
@@ -39,8 +39,3 @@ module _ (f n : ℕ) (k : IsKept f n None) where
   short_same =
       let p = name_in (f ∷ []) n in
       ap₂ name_in short_words k.1 ∙ name_in-words_of 16 p (omega (arith, k.1, k.2))
-
--- what isn't whole fits a word
-pub fits_none : {B : Type 0} (v : B → Name) (o : Option B) (n : ℕ) → ((b : B) → o ≡ Some b → ⊥) → fits n (option_map v o) → n ≤ 64
-fits_none v None n h k = k
-fits_none v (Some b) n h k = absurd (h b refl)

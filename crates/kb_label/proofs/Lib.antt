@@ -7,3 +7,4 @@ pub mod Searched
 pub mod Forked
 pub mod Sets
 pub mod Compared
+pub mod Retained

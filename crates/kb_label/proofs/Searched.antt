@@ -9,7 +9,7 @@ use Rattle.std.specs.List.Sorted.{IsSorted, IsNonDecreasingBy, IsPartitionPoint,
 use Rattle.std.proofs.lemmas.List.Sorted.{searchable_from_sorted}
 use Rattle.std.specs.declared.cmp.Ordering.TheVariants.{Less, Equal, Greater}
 use Rattle.std.proofs.Math.Bool.{or-true}
-use Rattle.kb_label.specs.Kept.{AreBefore, AreAfter}
+use Rattle.kb_label.specs.Kept.{AreBefore, AreAfter, IsPlaceOf}
 use Rattle.kb_label.specs.Names.{Name, name_cmp, name_eq, has, add, minus, by_order, IsInNameOrder}
 use Rattle.kb_label.specs.NameOrder.{name_cmp-total, name_cmp-equal, name_eq-by_cmp}
 use Rattle.kb_label.proofs.Ordered.{turned, turned_back, rest, lower, before-absent, add-later, minus-absent}
@@ -107,7 +107,7 @@ module _ (l : List Name) (p : Name) (o : IsInNameOrder l) where
   search-present (Ok k) w h = add-present p l o (at-has l p k w (name_cmp-equal (get_or l k p) p (h p)))
   search-present (Err k) w h = tt
 
-  pub search-there : (r : Result ℕ ℕ) → IsSearchInRange r (length l) → IfOk r (λ k. k < length l)
+  search-there : (r : Result ℕ ℕ) → IsSearchInRange r (length l) → IfOk r (λ k. k < length l)
   search-there (Ok k) w = w
   search-there (Err k) w = tt
 
@@ -115,9 +115,24 @@ module _ (l : List Name) (p : Name) (o : IsInNameOrder l) where
   search-left (Ok k) w h = remove-place l p k o w (name_cmp-equal (get_or l k p) p (h p))
   search-left (Err k) w h = tt
 
+  search-within : (r : Result ℕ ℕ) → IsSearchInRange r (length l) → IfErr r (λ k. k ≤ length l)
+  search-within (Ok k) w = tt
+  search-within (Err k) w = w
+
   pub search-absent : (r : Result ℕ ℕ) → IsSearchInRange r (length l) → IsBinarySearchResult (λ q. name_cmp q p) l r → IfErr r (λ k. insert l k p ≡ add p l)
   search-absent (Ok k) w h = tt
   search-absent (Err k) w h = insert-place p l k (placed k w (h (searchable l p o)))
+
+  -- a search by the order of names answers the place of the name
+  pub search-place : (r : Result ℕ ℕ) → IsSearchInRange r (length l) → IsBinarySearchResult (λ q. name_cmp q p) l r → IsPlaceOf l p r
+  search-place r w h = record {
+    found = search-found r w h;
+    present = search-present r w h;
+    there = search-there r w;
+    left = search-left r w h;
+    within = search-within r w;
+    absent = search-absent r w h;
+  }
 
 -- ---- a place that is tried first
 

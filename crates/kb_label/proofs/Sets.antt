@@ -1,5 +1,5 @@
 -- Lists of names in their order are told by what they name.
-use Rattle.std.specs.Prelude.{List, [], ◌∷◌, Bool, true, false, ◌&&◌, ◌||◌, not, if◌then◌else◌, ◌≡◌, ◌<◌, length, refl}
+use Rattle.std.specs.Prelude.{List, [], ◌∷◌, Bool, true, false, ◌&&◌, ◌||◌, not, if◌then◌else◌, ◌≡◌, length, refl}
 use Rattle.std.proofs.Common.{ap, ap₂, sym, ◌∙◌, subst}
 use mathlib.Core.Bool.{true≢false}
 use Rattle.std.specs.declared.cmp.Ordering.{Ordering}
@@ -7,7 +7,7 @@ use Rattle.std.specs.declared.cmp.Ordering.TheVariants.{Less, Equal, Greater}
 use Rattle.std.proofs.Math.Bool.{or-false, or-true}
 use Rattle.std.proofs.Math.Dec.{ltb}
 use Rattle.std.proofs.lemmas.Bool.{lt-ltb}
-use Rattle.kb_label.specs.Names.{Name, child, name_cmp, name_eq, has, add, minus, relabel, united, IsInNameOrder, IsTakenBack}
+use Rattle.kb_label.specs.Names.{Name, child, name_cmp, name_eq, has, add, minus, relabel, IsInNameOrder, IsTakenBack}
 use Rattle.kb_label.specs.NameOrder.{name_cmp-equal}
 use Rattle.kb_label.proofs.Members.{name_eq-refl, name_eq-eq, has-add, has-minus}
 use Rattle.kb_label.proofs.Ordered.{turned, rest, lower, before-absent, ordered-add, ordered-without}

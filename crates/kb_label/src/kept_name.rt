@@ -1,6 +1,7 @@
 // Names as a list keeps them.
-ghost use Rattle.std.specs.Prelude.{◌≡◌, ◌≤◌, length, IfOk};
-ghost use Rattle.kb_label.specs.Names.{name_cmp};
+ghost use Rattle.std.specs.Prelude.{◌≡◌, ◌≤◌, length, IfOk, None};
+ghost use Rattle.kb_label.specs.Names.{name_cmp, IsInNameOrder};
+ghost use Rattle.kb_label.specs.Kept.{kept_name, IsKept, IsPlaceOf};
 
 use crate::process::{Process, WORD_BITS};
 use std::alloc::{AllocError, Global};
@@ -78,14 +79,62 @@ impl KeptName {
     pub(crate) fn beside(&self, other: &KeptName) -> Ordering
         ensures { result ≡ name_cmp self.now other.now }
     {
-        if let Some(whole) = &other.whole {
-            return self.against(whole);
+        match &other.whole {
+            Some(whole) => self.against(whole),
+            None => self.beside_word(other.first, other.len),
         }
-        match self.len.cmp(&other.len) {
-            Ordering::Equal => self.first.cmp(&other.first),
+    }
+
+    /// How the name stands to the short name with this word and this length.
+    pub(crate) fn beside_word(&self, first: u64, len: u16) -> Ordering
+        requires { IsKept first len None }
+        ensures { result ≡ name_cmp self.now (kept_name first len None) }
+    {
+        match self.len.cmp(&len) {
+            Ordering::Equal => self.first.cmp(&first),
             by_length => by_length,
         }
     }
+
+    /// Where the name stands among others, or where it would have to be put.
+    pub(crate) fn place_in(&self, names: &[KeptName]) -> Result<usize, usize>
+        requires { IsInNameOrder names.now }
+        ensures { IsPlaceOf names.now self.now result }
+    {
+        match &self.whole {
+            Some(whole) => long_place(names, whole),
+            None => short_place(names, self.first, self.len),
+        }
+    }
+}
+
+/// Where a name stands among others, or where it would have to be put.
+pub(crate) fn place_of(names: &[KeptName], name: &Process) -> Result<usize, usize>
+    requires { IsInNameOrder names.now }
+    ensures { IsPlaceOf names.now name.now result }
+{
+    if name.len() <= WORD_BITS {
+        short_place(names, name.first_word(), name.len() as u16)
+    } else {
+        long_place(names, name)
+    }
+}
+
+// The same for the short name with this word and this length.
+fn short_place(names: &[KeptName], first: u64, len: u16) -> Result<usize, usize>
+    requires kept { IsKept first len None }
+    requires in_order { IsInNameOrder names.now }
+    ensures { IsPlaceOf names.now (kept_name first len None) result }
+{
+    names.binary_search_by(|name| name.beside_word(first, len))
+}
+
+// The same for a name of any length.
+fn long_place(names: &[KeptName], name: &Process) -> Result<usize, usize>
+    requires { IsInNameOrder names.now }
+    ensures { IsPlaceOf names.now name.now result }
+{
+    names.binary_search_by(|other| other.against(name))
 }
 
 impl Clone for KeptName {

@@ -1,5 +1,6 @@
 // Labels that are plain lists of names.
 ghost use Rattle.std.specs.Prelude.{◌≡◌, ◌+◌, ◌<◌, ◌≤◌, [], ◌∷◌, length, insert, remove, is_ok, IfOk, IfErr, OnOk, OnErr, IsTrue, vec_len, vec_capacity};
+ghost use Rattle.kb_label.specs.Kept.{IsPlaceOf};
 ghost use Rattle.kb_label.specs.Names.{add, has, relabel, united, IsTakenBack, join, meet, minus, is_empty, IsInNameOrder};
 
 use crate::labels::Labels;
@@ -93,12 +94,7 @@ fn put(names: &mut Vec<Process>, name: Process)
 // Where a name stands among others, or where it would have to be put.
 fn place_of(names: &[Process], name: &Process) -> Result<usize, usize>
     requires { IsInNameOrder names.now }
-    ensures found { is_ok result ≡ has names.now name.now }
-    ensures present { IfOk result (λ _. add name.now names.now ≡ names.now) }
-    ensures there { IfOk result (λ place. place < length names.now) }
-    ensures left { IfOk result (λ place. remove names.now place ≡ minus names.now (name.now ∷ [])) }
-    ensures within { IfErr result (λ place. place ≤ length names.now) }
-    ensures absent { IfErr result (λ place. insert names.now place name.now ≡ add name.now names.now) }
+    ensures { IsPlaceOf names.now name.now result }
 {
     names.binary_search(name)
 }

@@ -1,10 +1,10 @@
 // Lists of names in their order.
 ghost use Rattle.std.specs.Prelude.{◌≡◌, ◌+◌, ◌<◌, ◌≤◌, [], ◌∷◌, length, true, insert, remove, is_ok, OnOk, OnErr, IfOk, IfErr, IsTrue, vec_len, vec_capacity};
-ghost use Rattle.kb_label.specs.Kept.{AreBefore, AreAfter};
+ghost use Rattle.kb_label.specs.Kept.{AreBefore, AreAfter, IsPlaceOf};
 ghost use Rattle.kb_label.specs.Names.{has, add, join, meet, minus, relabel, united, is_empty, IsTakenBack, IsInNameOrder};
 ghost use Rattle.std.specs.declared.cmp.Ordering.TheVariants.{Equal, Greater};
 
-use crate::kept_name::KeptName;
+use crate::kept_name::{KeptName, place_of};
 use crate::process::{MAX_BITS, Process, WORD_BITS};
 use std::alloc::{AllocError, Global};
 use std::cmp::Ordering;
@@ -119,6 +119,10 @@ impl NameList {
         ensures ok { OnOk result (self.new ≡ join self.old other.now) }
         ensures err { OnErr result (self.new ≡ self.old) }
     {
+        if self.names.is_empty() {
+            self.names = other.names.as_slice().to_vec(*self.names.allocator())?;
+            return Ok(());
+        }
         let names = merged(
             *self.names.allocator(),
             self.names.as_slice(),
@@ -132,7 +136,9 @@ impl NameList {
     pub(crate) fn meet(&mut self, other: &NameList)
         ensures { self.new ≡ meet self.old other.now }
     {
-        self.names.retain(|name| other.has_kept(name));
+        let mut place = 0;
+        self.names
+            .retain(|name| other.has_kept_from(name, &mut place));
     }
 
     /// Takes out the names that another list has.
@@ -268,36 +274,36 @@ impl NameList {
     fn has_kept(&self, name: &KeptName) -> bool
         ensures { result ≡ has self.now name.now }
     {
-        kept_place(self.names.as_slice(), name).is_ok()
+        name.place_in(self.names.as_slice()).is_ok()
+    }
+
+    // The same, where the name is first looked for at a place; the place is left behind it.
+    fn has_kept_from(&self, name: &KeptName, place: &mut usize) -> bool
+        ensures { result ≡ has self.now name.now }
+    {
+        if *place < self.names.len() && self.names[*place].beside(name).is_eq() {
+            *place += 1;
+            return true;
+        }
+        match name.place_in(self.names.as_slice()) {
+            Ok(at) => {
+                *place = at.saturating_add(1);
+                true
+            }
+            Err(at) => {
+                *place = at;
+                false
+            }
+        }
     }
 
     // Where the name stands, or where it would have to be put.
     fn place(&self, process: &Process) -> Result<usize, usize>
-        ensures found { is_ok result ≡ has self.now process.now }
-        ensures present { IfOk result (λ _. add process.now self.now ≡ self.now) }
-        ensures there { IfOk result (λ place. place < length self.now) }
-        ensures left { IfOk result (λ place. remove self.now place ≡ minus self.now (process.now ∷ [])) }
-        ensures within { IfErr result (λ place. place ≤ length self.now) }
-        ensures absent { IfErr result (λ place. insert self.now place process.now ≡ add process.now self.now) }
+        ensures place { IsPlaceOf self.now process.now result }
         ensures in_order { IsInNameOrder self.now }
     {
-        self.names
-            .as_slice()
-            .binary_search_by(|name| name.against(process))
+        place_of(self.names.as_slice(), process)
     }
-}
-
-// Where a name stands among others, or where it would have to be put.
-fn kept_place(names: &[KeptName], name: &KeptName) -> Result<usize, usize>
-    requires { IsInNameOrder names.now }
-    ensures found { is_ok result ≡ has names.now name.now }
-    ensures present { IfOk result (λ _. add name.now names.now ≡ names.now) }
-    ensures there { IfOk result (λ place. place < length names.now) }
-    ensures left { IfOk result (λ place. remove names.now place ≡ minus names.now (name.now ∷ [])) }
-    ensures within { IfErr result (λ place. place ≤ length names.now) }
-    ensures absent { IfErr result (λ place. insert names.now place name.now ≡ add name.now names.now) }
-{
-    names.binary_search_by(|other| other.beside(name))
 }
 
 // Adds a name at its place, where there is room for it.
@@ -308,7 +314,7 @@ fn put(names: &mut Vec<KeptName>, name: KeptName)
     ensures len { vec_len names.new ≤ vec_len names.old + 1 }
     ensures capacity { vec_capacity names.old ≤ vec_capacity names.new }
 {
-    if let Err(place) = kept_place(names.as_slice(), &name) {
+    if let Err(place) = name.place_in(names.as_slice()) {
         names.insert(place, name).unwrap();
     }
 }
@@ -321,7 +327,7 @@ fn take_out(names: &mut Vec<KeptName>, name: &KeptName)
     ensures less { IsTrue (has names.old.items name.now) → vec_len names.new < vec_len names.old }
     ensures capacity { vec_capacity names.old ≤ vec_capacity names.new }
 {
-    if let Ok(place) = kept_place(names.as_slice(), name) {
+    if let Ok(place) = name.place_in(names.as_slice()) {
         names.remove(place);
     }
 }
@@ -332,7 +338,7 @@ fn merged(alloc: Global, left: &[KeptName], right: &[KeptName]) -> Result<Vec<Ke
     requires right_in_order { IsInNameOrder right.now }
     ensures { IfOk result (λ names. names.items ≡ join left.now right.now) }
 {
-    let mut names = Vec::new(alloc);
+    let mut names = Vec::with_capacity(alloc, left.len().saturating_add(right.len()))?;
     let mut i = 0;
     let mut j = 0;
     while i < left.len() && j < right.len() {

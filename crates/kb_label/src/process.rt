@@ -131,6 +131,16 @@ impl Process {
         }
     }
 
+    // How the name stands to another one of its length in the order of names. It is out of line, so that names that fit a word are
+    // compared in line.
+    #[inline(never)]
+    fn against_as_long(&self, other: &Process) -> Ordering
+        requires { length self.now ≡ length other.now }
+        ensures { result ≡ name_cmp self.now other.now }
+    {
+        self.words.cmp(&other.words)
+    }
+
     // Adds a bit at the end of the name.
     fn push(&mut self, bit: bool)
         requires { length self.old < MAX_BITS }
@@ -172,7 +182,11 @@ impl PartialEq for Process {
     ghost laws = { partial_equiv_from_equiv (eq_by_cmp_equiv bits_cmp-total) };
 
     fn eq(&self, other: &Process) -> bool {
-        self.cmp(other).is_eq()
+        if self.len == other.len && self.len as usize <= WORD_BITS {
+            self.words[0] == other.words[0]
+        } else {
+            self.cmp(other).is_eq()
+        }
     }
 }
 
@@ -215,7 +229,7 @@ impl Ord for Process {
     fn cmp(&self, other: &Process) -> Ordering {
         match self.len.cmp(&other.len) {
             Ordering::Equal if self.len as usize <= WORD_BITS => self.words[0].cmp(&other.words[0]),
-            Ordering::Equal => self.words.cmp(&other.words),
+            Ordering::Equal => self.against_as_long(other),
             by_length => by_length,
         }
     }

@@ -1,4 +1,4 @@
-use Rattle.std.proofs.Common.{◌≤◌, None, arith}
+use Rattle.std.proofs.Common.{None, arith}
 use Rattle.kb_label.proofs.Kept.{keeps_name, keeps}
 use Rattle.kb_label.proofs.kept_name.KeptName.short.Goals as goal
 

@@ -1,5 +1,3 @@
-use Rattle.std.proofs.Common.{ap, ◌∙◌}
-use Rattle.kb_label.specs.Names.{IsInNameOrder, child}
 use Rattle.kb_label.proofs.Ordered.{ordered-add, ordered-without}
 use Rattle.kb_label.proofs.name_list.NameList.unite.Goals as goal
 
