@@ -316,6 +316,11 @@ impl Nodes {
         ensures ok { OnOk result (self.new.now ≡ with_equation n.0 names.now self.old.now) }
         ensures before { self.new.before ≡ self.old.before }
     {
+        if self.label(n, LabelKind::R0).is_disjoint(names)
+            && self.label(n, LabelKind::R1).is_disjoint(names)
+        {
+            return self.gains(log, n, LabelKind::E, names);
+        }
         let mut free = left(self.allocator(), log, names, self.label(n, LabelKind::R0))?;
         free.minus(log, self.label(n, LabelKind::R1))?;
         self.gains(log, n, LabelKind::E, &free)
