@@ -18,6 +18,20 @@ pub(crate) fn place_of(state: &State, p: &Process) -> usize {
     }
 }
 
+/// The same, where the process is first looked for at a place, the one before it and the one behind it: a fork moves each other
+/// process by one place at most.
+pub(crate) fn place_near(state: &State, p: &Process, place: usize) -> usize {
+    let living = state.log().processes();
+    let first = place.saturating_sub(1);
+    for near in first..first.saturating_add(3) {
+        match living.get(near) {
+            Some(process) if *process == *p => return near,
+            _ => {}
+        }
+    }
+    place_of(state, p)
+}
+
 /// The same, where the process is first looked for at a place.
 pub(crate) fn place_from(state: &State, p: &Process, place: usize) -> usize {
     match state.log().processes().get(place) {

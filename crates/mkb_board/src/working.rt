@@ -7,7 +7,7 @@ ghost use Rattle.mkb_rules.specs.Applying.{applied_as};
 ghost use Rattle.mkb_board.specs.Working.{processes_in, still_working, completed_by, IsShort};
 
 use crate::choosing::has_equation;
-use crate::cost::{place_from, place_of};
+use crate::cost::{place_near, place_of};
 use kb_label::{MAX_BITS, Process};
 use mkb_model::Proposed;
 use mkb_rules::{Applied, State};
@@ -108,12 +108,10 @@ fn look_up(state: &State, working: &mut Vec<Placed>)
     ensures items { processes_in working.new.items ≡ processes_in working.old.items }
     ensures room { vec_capacity working.old ≤ vec_capacity working.new }
 {
-    let mut place = 0;
     for i in 0..working.len() {
         let process = working[i].process;
-        place = place_from(state, &process, place);
+        let place = place_near(state, &process, working[i].place);
         working[i] = Placed { place, process };
-        place = place.saturating_add(1);
     }
 }
 
