@@ -10,3 +10,5 @@ mod Sources
 mod Rewriting
 mod Refused
 mod Stuck
+mod DueWork
+mod DueJobsKept

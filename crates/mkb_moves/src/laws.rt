@@ -22,6 +22,7 @@ ghost use Rattle.mkb_model.specs.Runs.{OfEachRun, OfEachLimitedRun, OfAnyCommit,
 ghost use Rattle.mkb_model.specs.declared.entry.Effect.{Effect};
 ghost use Rattle.mkb_model.specs.declared.entry.Effect.TheVariants.{Over, Made};
 ghost use Rattle.mkb_model.specs.declared.proposed.Proposed.TheVariants.{Facts, One, Both, Refuse, Deduce, Unjoined, Closed};
+ghost use Rattle.mkb_moves.specs.Changes.{IsNotOfFacts, OthersKeepJobs};
 ghost use Rattle.mkb_moves.specs.Moves.{IsLeftAlone, Orients, Forks, Deduces, DeducesByBoth, MovesItsLabel, GivesUp};
 ghost use Rattle.mkb_moves.specs.Order.{IsLeastFree, MayBeTaken, IsFirstOver};
 ghost use Rattle.mkb_moves.specs.Stuck.{IsUnorientable, IsStuck};
@@ -94,4 +95,10 @@ pub fn failed_processes_are_stuck()
     ensures refused { OfEachRun (λ board. (p : Name) (n : ℕ) → IsTrue (has (label board n X) p) → IsUnorientable board p n) }
     ensures stuck { OfEachLimitedRun (λ board. (p : Name) → IsTrue (has board.living p) → IsTrue (is_failed board p) → IsStuck board p) }
     ensures all { OfEachLimitedRun (λ board. (p : Name) → verdict board ≡ Some AllFailed → IsTrue (has board.living p) → IsStuck board p) }
+{}
+
+/// In each possible run, after each commit but one of facts, each living process that the effect label does not name has the same
+/// jobs due as before.
+pub fn others_keep_their_jobs()
+    ensures { (effect : Effect) → OfEachCommit effect (λ board next proposal. IsNotOfFacts proposal → OthersKeepJobs board next proposal) }
 {}

@@ -8,5 +8,6 @@ mod laws;
 pub use laws::{
     closings_and_facts_are_noted, deducing_adds_equations, failed_processes_are_stuck,
     first_job_is_the_least, limits_stop_their_processes, orienting_makes_rules,
-    others_keep_their_state, reasons_are_of_the_first, rewriting_moves_its_label,
+    others_keep_their_jobs, others_keep_their_state, reasons_are_of_the_first,
+    rewriting_moves_its_label,
 };

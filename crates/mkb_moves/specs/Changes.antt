@@ -1,0 +1,60 @@
+-- Which jobs a commit makes due, and which it makes due no more. Work is reducing, orienting and overlapping.
+use Rattle.std.specs.Prelude.{ℕ, ◌<◌, List, ◌≡◌, ◌≢◌, ⊤, IsTrue, IsFalse, Contains}
+use Rattle.std.specs.declared.option.Option.TheVariants.{Some}
+use Rattle.kb_term.specs.declared.origin.RuleRef.{RuleRef}
+use Rattle.kb_label.specs.Names.{Name, has}
+use Rattle.kb_node.specs.declared.node.NodeId.{NodeId}
+use Rattle.kb_node.specs.declared.job.Job.{Job}
+use Rattle.kb_node.specs.declared.job.Job.TheVariants.{Reduce, Orient, Overlap, Close}
+use Rattle.kb_node.specs.declared.job.Fact.{Fact}
+use Rattle.kb_node.specs.declared.job.Deduced.{Deduced}
+use Rattle.mkb_model.specs.Jobs.{process_of}
+use Rattle.mkb_model.specs.Plain.{Plain, pair_at}
+use Rattle.mkb_model.specs.DueJobs.{is_work_due, is_due, due_jobs_of}
+use Rattle.mkb_model.specs.Effects.{effect_label}
+use Rattle.mkb_model.specs.declared.proposed.Proposed.{Proposed}
+use Rattle.mkb_model.specs.declared.proposed.Proposed.TheVariants.{Facts}
+
+-- ---- whose jobs are as before
+
+-- the proposal is none of facts
+abbrev pub IsNotOfFacts : Proposed → Type 0
+IsNotOfFacts (Facts fs) = ⊥
+IsNotOfFacts x = ⊤
+
+-- each living process that the effect label does not name has the jobs due that it had
+abbrev pub OthersKeepJobs : Plain → Plain → Proposed → Type 0
+OthersKeepJobs b c x = (p : Name) → IsTrue (has b.living p) → IsFalse (has (effect_label b x) p) → due_jobs_of c p ≡ due_jobs_of b p
+
+-- ---- which work is as before
+
+-- the work is due after the commit just where it was before
+abbrev pub IsDueAsBefore : Plain → Plain → Job → Type 0
+IsDueAsBefore b c j = is_work_due c j ≡ is_work_due b j
+
+-- all work of every process is due just where it was before
+abbrev pub KeepsWork : Plain → Plain → Type 0
+KeepsWork b c = (j : Job) → IsDueAsBefore b c j
+
+-- work that was due still is
+abbrev pub StaysDue : Plain → Plain → Job → Type 0
+StaysDue b c j = IsTrue (is_work_due b j) → IsTrue (is_work_due c j)
+
+-- no work of any process is due that was not due before
+abbrev pub OpensNoWork : Plain → Plain → Type 0
+OpensNoWork b c = (j : Job) → IsTrue (is_work_due c j) → IsTrue (is_work_due b j)
+
+-- ---- what ends
+
+-- the job reduces a node that one of the facts names
+abbrev pub ReducesNodeOf : List Fact → Job → Type 0
+ReducesNodeOf facts (Reduce p n) = (f : Fact) × Contains facts f × (f.node ≡ n)
+ReducesNodeOf facts j = ⊥
+
+-- the job is not due afterwards, and all other work of every process is due just where it was before
+abbrev pub EndsOneJob : Plain → Plain → Job → Type 0
+EndsOneJob b c i = IsFalse (is_work_due c i) × ((j : Job) → j ≢ i → IsDueAsBefore b c j)
+
+-- no job of the process is due, of whatever kind
+abbrev pub HasNoJob : Plain → Name → Type 0
+HasNoJob c p = (j : Job) → process_of j ≡ p → IsFalse (is_due c j)
