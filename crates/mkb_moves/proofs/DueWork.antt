@@ -54,7 +54,7 @@ module _ (b c : Plain) (p : Name) where
   usable_same m w e r Variant = ap₂ (λ (x y : Bool). x || y) e (r (other w))
   usable_same m w e r Strict = refl
 
-  open_same : (m w : ℕ) → IsSameAt m E → ((d : ℕ) → IsSameAt m (rule_kind d)) → (o : Option Found) → is_open c p m w o ≡ is_open b p m w o
+  pub open_same : (m w : ℕ) → IsSameAt m E → ((d : ℕ) → IsSameAt m (rule_kind d)) → (o : Option Found) → is_open c p m w o ≡ is_open b p m w o
   open_same m w e r None = refl
   open_same m w e r (Some v) = usable_same m w e r v
 

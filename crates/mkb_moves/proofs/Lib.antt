@@ -12,3 +12,4 @@ mod Refused
 mod Stuck
 mod DueWork
 mod DueJobsKept
+mod EndedWork

@@ -11,7 +11,7 @@ use Rattle.kb_node.specs.declared.job.Deduced.{Deduced}
 use Rattle.mkb_model.specs.Jobs.{process_of}
 use Rattle.mkb_model.specs.Plain.{Plain, pair_at}
 use Rattle.mkb_model.specs.DueJobs.{is_work_due, is_due, due_jobs_of}
-use Rattle.mkb_model.specs.Effects.{effect_label}
+use Rattle.mkb_model.specs.Effects.{effect_label, overlap_label}
 use Rattle.mkb_model.specs.declared.proposed.Proposed.{Proposed}
 use Rattle.mkb_model.specs.declared.proposed.Proposed.TheVariants.{Facts}
 
@@ -58,3 +58,38 @@ EndsOneJob b c i = IsFalse (is_work_due c i) × ((j : Job) → j ≢ i → IsDue
 -- no job of the process is due, of whatever kind
 abbrev pub HasNoJob : Plain → Name → Type 0
 HasNoJob c p = (j : Job) → process_of j ≡ p → IsFalse (is_due c j)
+
+-- ---- what new pairs open
+
+-- the node is that of one of the pairs
+abbrev pub IsNodeOfOne : Plain → List Deduced → ℕ → Type 0
+IsNodeOfOne c pairs m = (d : Deduced) × Contains pairs d × (pair_at c m ≡ Some d.pair)
+
+-- the job reduces or orients the node of one of the pairs
+abbrev pub IsOnPairs : Plain → List Deduced → Job → Type 0
+IsOnPairs c pairs (Reduce p n) = IsNodeOfOne c pairs n.0
+IsOnPairs c pairs (Orient p n) = IsNodeOfOne c pairs n.0
+IsOnPairs c pairs j = ⊥
+
+-- work of the process, but for that on the nodes of the pairs, is due just where it was before
+abbrev pub OpensPairs : Plain → Plain → List Deduced → Name → Type 0
+OpensPairs b c pairs p = (j : Job) → process_of j ≡ p → ¬ IsOnPairs c pairs j → IsDueAsBefore b c j
+
+-- for each process of the label the overlap of the two rules is not due afterwards, and its other work, but for that on the nodes of the pairs, is due just where it was before
+abbrev pub EndsOverlap : Plain → Plain → RuleRef → RuleRef → List Deduced → Type 0
+EndsOverlap b c a e pairs =
+    (p : Name) → IsTrue (has (overlap_label b a e) p)
+    → IsFalse (is_work_due c (Overlap p a e)) × ((j : Job) → process_of j ≡ p → j ≢ Overlap p a e → ¬ IsOnPairs c pairs j → IsDueAsBefore b c j)
+
+-- ---- what a new rule opens
+
+-- the reference, with one of the two directions, names another rule than a
+abbrev pub IsAnother : RuleRef → RuleRef → Type 0
+IsAnother a e = (e.dir < 2) × (e ≢ a)
+
+-- the node of the new rule is not to be oriented any more, other nodes are just where they were, overlaps of two other rules are due just where they were, and another node that was to be reduced still is
+pub record LeavesOtherWork (b c : Plain) (p : Name) (a : RuleRef) : Type 0 where
+  pub oriented : (n : NodeId) → n.0 ≡ a.node → IsFalse (is_work_due c (Orient p n))
+  pub orients : (n : NodeId) → n.0 ≢ a.node → IsDueAsBefore b c (Orient p n)
+  pub overlaps : (e f : RuleRef) → IsAnother a e → IsAnother a f → IsDueAsBefore b c (Overlap p e f)
+  pub reduces : (n : NodeId) → n.0 ≢ a.node → StaysDue b c (Reduce p n)

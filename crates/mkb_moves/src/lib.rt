@@ -6,8 +6,9 @@
 mod laws;
 
 pub use laws::{
-    closings_and_facts_are_noted, deducing_adds_equations, failed_processes_are_stuck,
-    first_job_is_the_least, limits_stop_their_processes, orienting_makes_rules,
-    others_keep_their_jobs, others_keep_their_state, reasons_are_of_the_first,
+    closings_and_facts_are_noted, closings_and_limits_end_jobs, deducing_adds_equations,
+    facts_end_reductions, failed_processes_are_stuck, first_job_is_the_least,
+    limits_stop_their_processes, orienting_makes_rules, others_keep_their_jobs,
+    others_keep_their_state, reasons_are_of_the_first, refusals_end_one_orientation,
     rewriting_moves_its_label,
 };
