@@ -1,7 +1,7 @@
 -- Which work is due on two boards of which the labels, the noted overlaps and the facts that it reads are the same, or more.
-use Rattle.std.proofs.Common.{ℕ, ◌≤◌, ◌≡◌, refl, ap, ap₂, ◌∙◌, sym, List, [], ◌∷◌, filter, length, Contains, Bool, true, false, not, ◌&&◌, ◌||◌, ◌==◌, Option, Some, None}
+use Rattle.std.proofs.Common.{ℕ, ◌≤◌, ◌≡◌, ◌≢◌, refl, ap, ap₂, ◌∙◌, sym, List, [], ◌∷◌, filter, length, Contains, Bool, true, false, not, ◌&&◌, ◌||◌, ◌==◌, Option, Some, None}
 use Rattle.std.specs.List.{list_any}
-use Rattle.std.proofs.lemmas.Bool.{and_from, or_from}
+use Rattle.std.proofs.lemmas.Bool.{eq-eqb, and_from, or_from}
 use Rattle.kb_lemmas.proofs.Booleans.{and_gives_left, and_gives_right}
 use Rattle.kb_term.specs.declared.origin.RuleRef.{RuleRef}
 use Rattle.kb_term.specs.declared.origin.Found.{Found}
@@ -14,7 +14,7 @@ use Rattle.kb_node.specs.declared.job.Job.TheVariants.{Reduce, Orient, Overlap}
 use Rattle.mkb_model.specs.Jobs.{ref_le}
 use Rattle.mkb_model.specs.Plain.{Plain, label, label_at, rule_kind, other, is_equation, is_rule, rules_of, done_of, known}
 use Rattle.mkb_model.specs.DueJobs.{is_usable, is_open, reducers, is_node_of, is_reducible, is_work_due}
-use Rattle.mkb_model.proofs.Lists.{any_in, in_any, filter_in, in_filter}
+use Rattle.mkb_model.proofs.Lists.{clash, not_true, any_in, in_any, filter_in, in_filter}
 use Rattle.mkb_moves.proofs.Sight.{beyond}
 
 -- ---- lists of which one passes
@@ -74,13 +74,20 @@ module _ (b c : Plain) (p : Name) where
   pub overlap_same : (a e : RuleRef) → IsSameAt a.node (rule_kind a.dir) → IsSameAt e.node (rule_kind e.dir) → has (done_of c a e) p ≡ has (done_of b a e) p → is_work_due c (Overlap p a e) ≡ is_work_due b (Overlap p a e)
   overlap_same a e r s d = ap₂ (λ (x y : Bool). x && (ref_le a e && not y)) (ap₂ (λ (x y : Bool). x && y) r s) d
 
+  -- what is open stays so where a variant that was of use is
+  pub open_carried : (m w : ℕ) → (is_usable b p m w Variant ≡ true → is_usable c p m w Variant ≡ true) → (o : Option Found) → is_open b p m w o ≡ true → is_open c p m w o ≡ true
+  open_carried m w h None o = refl
+  open_carried m w h (Some No) o = o
+  open_carried m w h (Some Variant) o = h o
+  open_carried m w h (Some Strict) o = refl
+
   -- a Reduce stays due where the node is still one of the process, its rules are, and what is open is
-  pub reduce_carried : (n : NodeId) → (is_node_of b p n.0 ≡ true → is_node_of c p n.0 ≡ true) → ((a : RuleRef) → Contains (rules_of b p) a → Contains (rules_of c p) a)
+  pub reduce_carried : (n : NodeId) → (is_node_of b p n.0 ≡ true → is_node_of c p n.0 ≡ true) → ((a : RuleRef) → a.node ≢ n.0 → Contains (rules_of b p) a → Contains (rules_of c p) a)
       → ((w : ℕ) (a : RuleRef) → is_open b p n.0 w (known b n.0 w a) ≡ true → is_open c p n.0 w (known c n.0 w a) ≡ true) → is_work_due b (Reduce p n) ≡ true → is_work_due c (Reduce p n) ≡ true
   reduce_carried n node rules opened h = and_from (is_node_of c p n.0) (is_reducible c p n.0) (node (and_gives_left (is_node_of b p n.0) (is_reducible b p n.0) h))
       (any_carried (λ (a : RuleRef). list_any (λ w. is_open b p n.0 w (known b n.0 w a)) (0 ∷ 1 ∷ [])) (λ (a : RuleRef). list_any (λ w. is_open c p n.0 w (known c n.0 w a)) (0 ∷ 1 ∷ [])) (reducers b p n.0) (reducers c p n.0)
       (λ a i o. let r = filter_in (λ (a : RuleRef). not (a.node == n.0)) (rules_of b p) a i in (
-        in_filter (λ (a : RuleRef). not (a.node == n.0)) (rules_of c p) a (rules a r.0) r.1,
+        in_filter (λ (a : RuleRef). not (a.node == n.0)) (rules_of c p) a (rules a (λ e. clash (eq-eqb a.node n.0 e) (not_true r.1)) r.0) r.1,
         any_carried (λ w. is_open b p n.0 w (known b n.0 w a)) (λ w. is_open c p n.0 w (known c n.0 w a)) (0 ∷ 1 ∷ []) (0 ∷ 1 ∷ []) (λ w j k. (j, opened w a k)) o,
       ))
       (and_gives_right (is_node_of b p n.0) (is_reducible b p n.0) h))

@@ -71,7 +71,7 @@ module _ (b c : Plain) (nodes : c.nodes ≡ b.nodes) (done : c.done ≡ b.done) 
             ∙ ap (is_open c p n w) (sym (known_now n w a ∙ ap (λ o. option_map (λ (f : Fact). f.found) (option_or o (find (is_about n w a) fs))) e)) ∙ h
 
     pub opens_none : OpensNoWork b c
-    opens_none (Reduce p n) h = reduce_carried c b p n (λ o. sym (node_same b c p n.0 (labels_same p n.0 E) (λ d. labels_same p n.0 (rule_kind d))) ∙ o) (λ a i. subst {A = List RuleRef} (λ rs. Contains rs a) (rules_same p) i) (opened_before p n.0) h
+    opens_none (Reduce p n) h = reduce_carried c b p n (λ o. sym (node_same b c p n.0 (labels_same p n.0 E) (λ d. labels_same p n.0 (rule_kind d))) ∙ o) (λ a _ i. subst {A = List RuleRef} (λ rs. Contains rs a) (rules_same p) i) (opened_before p n.0) h
     opens_none (Orient p n) h = sym (orient_same b c p n (labels_same p n.0 E) (labels_same p n.0 X)) ∙ h
     opens_none (Overlap p a e) h = sym (overlap_same b c p a e (labels_same p a.node (rule_kind a.dir)) (labels_same p e.node (rule_kind e.dir)) (ap (λ ds. has (done_in ds a e) p) done)) ∙ h
     opens_none (Close p) h = h

@@ -13,3 +13,4 @@ mod Stuck
 mod DueWork
 mod DueJobsKept
 mod EndedWork
+mod OpenedWork

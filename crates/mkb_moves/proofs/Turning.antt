@@ -50,7 +50,7 @@ turned b c p q a bit on r = record {
 }
 
 -- an orientation goes in one of the two directions
-direction_bit : (before : Plain) (j : Job) (p : Name) (n : NodeId) (d : ℕ) (c : Certificate) → Proposes before j (One p n d c) → IsBit d
+pub direction_bit : (before : Plain) (j : Job) (p : Name) (n : NodeId) (d : ℕ) (c : Certificate) → Proposes before j (One p n d c) → IsBit d
 direction_bit before (Orient q m) p n d c h = h.2
 direction_bit before (Reduce q m) p n d c h = absurd h
 direction_bit before (Overlap q a e) p n d c h = absurd h

@@ -37,12 +37,16 @@ abbrev pub KeepsWork : Plain → Plain → Type 0
 KeepsWork b c = (j : Job) → IsDueAsBefore b c j
 
 -- work that was due still is
-abbrev pub StaysDue : Plain → Plain → Job → Type 0
-StaysDue b c j = IsTrue (is_work_due b j) → IsTrue (is_work_due c j)
+abbrev pub IsStillDue : Plain → Plain → Job → Type 0
+IsStillDue b c j = IsTrue (is_work_due b j) → IsTrue (is_work_due c j)
+
+-- work that is due afterwards was due before
+abbrev pub IsNotNewlyDue : Plain → Plain → Job → Type 0
+IsNotNewlyDue b c j = IsTrue (is_work_due c j) → IsTrue (is_work_due b j)
 
 -- no work of any process is due that was not due before
 abbrev pub OpensNoWork : Plain → Plain → Type 0
-OpensNoWork b c = (j : Job) → IsTrue (is_work_due c j) → IsTrue (is_work_due b j)
+OpensNoWork b c = (j : Job) → IsNotNewlyDue b c j
 
 -- ---- what ends
 
@@ -71,15 +75,20 @@ IsOnPairs c pairs (Reduce p n) = IsNodeOfOne c pairs n.0
 IsOnPairs c pairs (Orient p n) = IsNodeOfOne c pairs n.0
 IsOnPairs c pairs j = ⊥
 
--- work of the process, but for that on the nodes of the pairs, is due just where it was before
-abbrev pub OpensPairs : Plain → Plain → List Deduced → Name → Type 0
-OpensPairs b c pairs p = (j : Job) → process_of j ≡ p → ¬ IsOnPairs c pairs j → IsDueAsBefore b c j
+-- the process gains pairs: its work, but for that on their nodes, is due just where it was, and that on their nodes stays due
+pub record OpensPairs (b c : Plain) (p : Name) (pairs : List Deduced) : Type 0 where
+  pub elsewhere : (j : Job) → process_of j ≡ p → ¬ IsOnPairs c pairs j → IsDueAsBefore b c j
+  pub there : (j : Job) → process_of j ≡ p → IsOnPairs c pairs j → IsStillDue b c j
 
--- for each process of the label the overlap of the two rules is not due afterwards, and its other work, but for that on the nodes of the pairs, is due just where it was before
-abbrev pub EndsOverlap : Plain → Plain → RuleRef → RuleRef → List Deduced → Type 0
-EndsOverlap b c a e pairs =
-    (p : Name) → IsTrue (has (overlap_label b a e) p)
-    → IsFalse (is_work_due c (Overlap p a e)) × ((j : Job) → process_of j ≡ p → j ≢ Overlap p a e → ¬ IsOnPairs c pairs j → IsDueAsBefore b c j)
+-- the same, where the pairs are those of two rules, of which the overlap is not due afterwards
+pub record EndsOverlap (b c : Plain) (p : Name) (a e : RuleRef) (pairs : List Deduced) : Type 0 where
+  pub ended : IsFalse (is_work_due c (Overlap p a e))
+  pub elsewhere : (j : Job) → process_of j ≡ p → j ≢ Overlap p a e → ¬ IsOnPairs c pairs j → IsDueAsBefore b c j
+  pub there : (j : Job) → process_of j ≡ p → IsOnPairs c pairs j → IsStillDue b c j
+
+-- this holds of each process that has both rules and has not overlapped them yet
+abbrev pub EndsOverlapByBoth : Plain → Plain → RuleRef → RuleRef → List Deduced → Type 0
+EndsOverlapByBoth b c a e pairs = (p : Name) → IsTrue (has (overlap_label b a e) p) → EndsOverlap b c p a e pairs
 
 -- ---- what a new rule opens
 
@@ -87,9 +96,10 @@ EndsOverlap b c a e pairs =
 abbrev pub IsAnother : RuleRef → RuleRef → Type 0
 IsAnother a e = (e.dir < 2) × (e ≢ a)
 
--- the node of the new rule is not to be oriented any more, other nodes are just where they were, overlaps of two other rules are due just where they were, and another node that was to be reduced still is
+-- the node of the new rule is not to be oriented any more, and to be reduced only where it was; other nodes are to be oriented just where they were, and stay to be reduced; overlaps of two other rules are due just where they were
 pub record LeavesOtherWork (b c : Plain) (p : Name) (a : RuleRef) : Type 0 where
   pub oriented : (n : NodeId) → n.0 ≡ a.node → IsFalse (is_work_due c (Orient p n))
   pub orients : (n : NodeId) → n.0 ≢ a.node → IsDueAsBefore b c (Orient p n)
   pub overlaps : (e f : RuleRef) → IsAnother a e → IsAnother a f → IsDueAsBefore b c (Overlap p e f)
-  pub reduces : (n : NodeId) → n.0 ≢ a.node → StaysDue b c (Reduce p n)
+  pub reduced : (n : NodeId) → n.0 ≡ a.node → IsNotNewlyDue b c (Reduce p n)
+  pub reduces : (n : NodeId) → n.0 ≢ a.node → IsStillDue b c (Reduce p n)

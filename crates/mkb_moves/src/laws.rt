@@ -23,7 +23,7 @@ ghost use Rattle.mkb_model.specs.Runs.{OfEachRun, OfEachLimitedRun, OfAnyCommit,
 ghost use Rattle.mkb_model.specs.declared.entry.Effect.{Effect};
 ghost use Rattle.mkb_model.specs.declared.entry.Effect.TheVariants.{Over, Made};
 ghost use Rattle.mkb_model.specs.declared.proposed.Proposed.TheVariants.{Facts, One, Both, Refuse, Deduce, Unjoined, Closed};
-ghost use Rattle.mkb_moves.specs.Changes.{IsNotOfFacts, OthersKeepJobs, OpensNoWork, ReducesNodeOf, IsDueAsBefore, EndsOneJob, KeepsWork, HasNoJob};
+ghost use Rattle.mkb_moves.specs.Changes.{IsNotOfFacts, OthersKeepJobs, OpensNoWork, ReducesNodeOf, IsDueAsBefore, EndsOneJob, KeepsWork, HasNoJob, EndsOverlapByBoth, OpensPairs, LeavesOtherWork};
 ghost use Rattle.mkb_moves.specs.Moves.{IsLeftAlone, Orients, Forks, Deduces, DeducesByBoth, MovesItsLabel, GivesUp};
 ghost use Rattle.mkb_moves.specs.Order.{IsLeastFree, MayBeTaken, IsFirstOver};
 ghost use Rattle.mkb_moves.specs.Stuck.{IsUnorientable, IsStuck};
@@ -118,9 +118,25 @@ pub fn refusals_end_one_orientation()
 {}
 
 /// Where a closing has its effect, closing is not due for the process any more, and all work of every process is due just where it
-/// was. Where a commit comes to a limit, in each possible run, no job is due for a process of its effect label afterwards.
+/// was. Where a commit comes to a limit, in each possible run, no job is due afterwards for a process of its effect label; and by what
+/// each process sees all work is due just where it was.
 pub fn closings_and_limits_end_jobs()
     ensures closed { (p : Name) → OfAnyCommit (Made (Closed p)) (λ board next. IsFalse (is_due next (Close p)) × KeepsWork board next) }
     ensures limits { (reason : Reason) → OfEachCommit (Over reason) (λ board next proposal. (p : Name) → IsTrue (has (effect_label board proposal) p) → HasNoJob next p) }
     ensures work { (reason : Reason) → OfAnyCommit (Over reason) (λ board next. KeepsWork board next) }
+{}
+
+/// In each possible run, where the pairs of the overlaps of two rules are committed, that overlap is not due any more for a process
+/// of the effect label; its other work, but for reducing and orienting the nodes of the pairs, is due just where it was, and that on
+/// the nodes of the pairs stays due. The pairs that a closing deduces leave the work of its process in the same way.
+pub fn deductions_open_their_nodes()
+    ensures overlaps { (a c : RuleRef) (pairs : List Deduced) → OfEachCommit (Made (Deduce a c pairs)) (λ board next _. EndsOverlapByBoth board next a c pairs) }
+    ensures unjoined { (p : Name) (pairs : List Deduced) → OfEachCommit (Made (Unjoined p pairs)) (λ board next _. OpensPairs board next p pairs) }
+{}
+
+/// Where an orientation has its effect, the process is not to orient the node any more, and to reduce it only where it was. It is to
+/// orient other nodes just where it was, its overlaps of two other rules are due just where they were, and each other node that it
+/// was to reduce it still is.
+pub fn new_rules_leave_other_work()
+    ensures { (p : Name) (n : NodeId) (d : ℕ) (c : Certificate) → OfAnyCommit (Made (One p n d c)) (λ board next. LeavesOtherWork board next p (record { node = n.0; dir = d })) }
 {}
