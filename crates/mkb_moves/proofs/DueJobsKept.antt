@@ -1,6 +1,5 @@
 -- A process that a commit leaves alone has the same jobs due, where no facts are noted.
 use Rattle.std.proofs.Common.{ℕ, ◌≤◌, ◌≡◌, refl, sym, ap, ap₂, ◌∙◌, subst, arith, List, [], ◌∷◌, ◌++◌, map, filter, flat_map, length, Contains, Bool, true, false, cond, not, ◌&&◌, Option, Some, None}
-use Rattle.std.specs.Prelude.{IsFalse}
 use Rattle.std.specs.List.{list_any}
 use Rattle.std.specs.Option.{option_map_or}
 use Rattle.std.proofs.lemmas.Bool.{and_right}
@@ -13,9 +12,9 @@ use Rattle.kb_node.specs.declared.node.LabelKind.{LabelKind}
 use Rattle.kb_node.specs.declared.node.LabelKind.TheVariants.{E, X}
 use Rattle.kb_node.specs.declared.job.Job.{Job}
 use Rattle.kb_node.specs.declared.job.Job.TheVariants.{Reduce, Orient, Overlap, Close}
-use Rattle.mkb_model.specs.Plain.{Plain, rule_kind, node_numbers, rules_of, done_of, is_over, known}
-use Rattle.mkb_model.specs.DueJobs.{is_working, is_work_due, is_close_due, is_due, work_of, due_jobs_of}
-use Rattle.mkb_model.specs.Effects.{applied, effect, effect_label, give_up, limit_of, is_dropped}
+use Rattle.mkb_model.specs.Plain.{Plain, rule_kind, node_numbers, rules_of, done_of, known}
+use Rattle.mkb_model.specs.DueJobs.{is_working, is_work_due, is_due, work_of, due_jobs_of}
+use Rattle.mkb_model.specs.Effects.{applied, effect, effect_label, give_up, limit_of}
 use Rattle.mkb_model.specs.Journals.{Moment, IsPossibleRun, IsCommitting}
 use Rattle.mkb_model.specs.declared.entry.Effect.{Effect}
 use Rattle.mkb_model.specs.declared.proposed.Proposed.{Proposed}

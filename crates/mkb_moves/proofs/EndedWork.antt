@@ -18,7 +18,7 @@ use Rattle.kb_node.specs.declared.job.Fact.{Fact}
 use Rattle.kb_node.specs.declared.job.Job.{Job}
 use Rattle.kb_node.specs.declared.job.Job.TheVariants.{Reduce, Orient, Overlap, Close}
 use Rattle.mkb_model.specs.Jobs.{process_of, ref_eq}
-use Rattle.mkb_model.specs.Plain.{Plain, label, label_at, rule_kind, is_equation, rules_of, done_in, done_of, known, is_over}
+use Rattle.mkb_model.specs.Plain.{Plain, label, label_at, rule_kind, is_equation, rules_of, done_in, known, is_over}
 use Rattle.mkb_model.specs.DueJobs.{is_open, is_working, is_work_due, is_close_due, is_due, work_of}
 use Rattle.mkb_model.specs.Effects.{gains, effect_label}
 use Rattle.mkb_model.specs.Journals.{Moment, IsPossibleRun, IsCommitting}
@@ -30,10 +30,9 @@ use Rattle.mkb_model.proofs.commits.Bystanders.{role_tests}
 use Rattle.mkb_model.proofs.commits.Roles.{numbers_decide, put_other, keeps-gains, has-one, refused-no_rule, kind_number}
 use Rattle.mkb_model.proofs.runs.Findings.{is_about}
 use Rattle.mkb_model.proofs.tickets.InFlight.{due_working}
-use Rattle.mkb_moves.specs.Moves.{GivesUp}
 use Rattle.mkb_moves.specs.Changes.{ReducesNodeOf, EndsOneJob, HasNoJob, IsDueAsBefore, KeepsWork, OpensNoWork}
 use Rattle.mkb_moves.proofs.Sight.{same_rules}
-use Rattle.mkb_moves.proofs.Makes.{IsMaking, making, stopping}
+use Rattle.mkb_moves.proofs.Makes.{making, stopping}
 use Rattle.mkb_moves.proofs.Stopped.{closing_noted, limit_stops}
 use Rattle.mkb_moves.proofs.Turning.{refusal_noted}
 use Rattle.mkb_moves.proofs.DueWork.{IsSameAt, node_same, open_same, reduce_same, orient_same, overlap_same, reduce_carried}

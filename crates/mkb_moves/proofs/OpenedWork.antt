@@ -14,8 +14,8 @@ use Rattle.kb_node.specs.declared.job.Deduced.{Deduced}
 use Rattle.kb_node.specs.declared.job.Job.{Job}
 use Rattle.kb_node.specs.declared.job.Job.TheVariants.{Reduce, Orient, Overlap, Close}
 use Rattle.mkb_model.specs.Jobs.{process_of, ref_eq, ref_le}
-use Rattle.mkb_model.specs.Plain.{Plain, PlainNode, Done, label_at, rule_kind, other, is_equation, is_rule, rules_of, done_in, done_of, known}
-use Rattle.mkb_model.specs.DueJobs.{is_open, is_work_due}
+use Rattle.mkb_model.specs.Plain.{Plain, PlainNode, Done, label_at, rule_kind, other, is_equation, is_rule, done_in, done_of, known}
+use Rattle.mkb_model.specs.DueJobs.{is_open}
 use Rattle.mkb_model.specs.Effects.{added, oriented, overlap_label, gains_done_in}
 use Rattle.mkb_model.specs.Ready.{IsOn}
 use Rattle.mkb_model.specs.Journals.{Moment, IsPossibleRun, IsCommitting}
