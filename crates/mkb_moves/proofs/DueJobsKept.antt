@@ -93,7 +93,7 @@ module _ (b c : Plain) (p : Name) (f g : Job → Bool) where
 
 -- the process is worked on or not as before, and its labels, its overlaps and the facts are the same
 record IsAsBefore (b c : Plain) (p : Name) : Type 0 where
-  labels : (m : ℕ) (j : LabelKind) → IsSameAt b c p m j
+  labels : (m : ℕ) (j : LabelKind) → IsSameAt b c p p m j
   overlapped : (a e : RuleRef) → has (done_of c a e) p ≡ has (done_of b a e) p
   closed : has c.closed p ≡ has b.closed p
   working : is_working c p ≡ is_working b p
@@ -107,13 +107,13 @@ module _ (b c : Plain) (p : Name) (h : IsAsBefore b c p) where
   known_same n w a = ap (λ fs. known (record b { facts = fs }) n w a) h.facts
 
   reduces : (n : ℕ) → is_work_due c (Reduce p (record { 0 = n })) ≡ is_work_due b (Reduce p (record { 0 = n }))
-  reduces n = reduce_same b c p (record { 0 = n }) (h.labels n E) (λ d. h.labels n (rule_kind d)) rules_same (known_same n)
+  reduces n = reduce_same b c p p (record { 0 = n }) (h.labels n E) (λ d. h.labels n (rule_kind d)) rules_same (known_same n)
 
   orients : (n : ℕ) → is_work_due c (Orient p (record { 0 = n })) ≡ is_work_due b (Orient p (record { 0 = n }))
-  orients n = orient_same b c p (record { 0 = n }) (h.labels n E) (h.labels n X)
+  orients n = orient_same b c p p (record { 0 = n }) (h.labels n E) (h.labels n X)
 
   overlaps : (a e : RuleRef) → is_work_due c (Overlap p a e) ≡ is_work_due b (Overlap p a e)
-  overlaps a e = overlap_same b c p a e (h.labels a.node (rule_kind a.dir)) (h.labels e.node (rule_kind e.dir)) (h.overlapped a e)
+  overlaps a e = overlap_same b c p p a e (h.labels a.node (rule_kind a.dir)) (h.labels e.node (rule_kind e.dir)) (h.overlapped a e)
 
   work_alike : PassAlike b c p (is_work_due c) (is_work_due b)
   work_alike = record {

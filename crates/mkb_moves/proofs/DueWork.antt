@@ -1,4 +1,4 @@
--- Which work is due on two boards of which the labels, the noted overlaps and the facts that it reads are the same, or more.
+-- Which work is due for a process on one board and for one on another, where the labels, the noted overlaps and the facts that it reads are the same, or more.
 use Rattle.std.proofs.Common.{ℕ, ◌≤◌, ◌≡◌, ◌≢◌, refl, ap, ap₂, ◌∙◌, List, [], ◌∷◌, filter, length, Contains, Bool, true, false, not, ◌&&◌, ◌||◌, ◌==◌, Option, Some, None}
 use Rattle.std.specs.List.{list_any}
 use Rattle.std.proofs.lemmas.Bool.{eq-eqb, and_from, or_from}
@@ -41,53 +41,53 @@ no_orient_beyond b p n h = ap (λ z. z && not (has (label b n.0 X) p)) (beyond b
 
 -- ---- two boards
 
-module _ (b c : Plain) (p : Name) where
-  -- the label of the kind at the node names the process on both boards or on neither
+module _ (b c : Plain) (p q : Name) where
+  -- the label of the kind at the node names q on the later board where it named p on the earlier one
   abbrev pub IsSameAt : ℕ → LabelKind → Type 0
-  IsSameAt m j = has (label_at c.nodes m j) p ≡ has (label_at b.nodes m j) p
+  IsSameAt m j = has (label_at c.nodes m j) q ≡ has (label_at b.nodes m j) p
 
-  pub node_same : (m : ℕ) → IsSameAt m E → ((d : ℕ) → IsSameAt m (rule_kind d)) → is_node_of c p m ≡ is_node_of b p m
+  pub node_same : (m : ℕ) → IsSameAt m E → ((d : ℕ) → IsSameAt m (rule_kind d)) → is_node_of c q m ≡ is_node_of b p m
   node_same m e r = ap₂ (λ (x y : Bool). x || y) e (ap₂ (λ (x y : Bool). x || y) (r 0) (r 1))
 
-  usable_same : (m w : ℕ) → IsSameAt m E → ((d : ℕ) → IsSameAt m (rule_kind d)) → (v : Found) → is_usable c p m w v ≡ is_usable b p m w v
+  usable_same : (m w : ℕ) → IsSameAt m E → ((d : ℕ) → IsSameAt m (rule_kind d)) → (v : Found) → is_usable c q m w v ≡ is_usable b p m w v
   usable_same m w e r No = refl
   usable_same m w e r Variant = ap₂ (λ (x y : Bool). x || y) e (r (other w))
   usable_same m w e r Strict = refl
 
-  pub open_same : (m w : ℕ) → IsSameAt m E → ((d : ℕ) → IsSameAt m (rule_kind d)) → (o : Option Found) → is_open c p m w o ≡ is_open b p m w o
+  pub open_same : (m w : ℕ) → IsSameAt m E → ((d : ℕ) → IsSameAt m (rule_kind d)) → (o : Option Found) → is_open c q m w o ≡ is_open b p m w o
   open_same m w e r None = refl
   open_same m w e r (Some v) = usable_same m w e r v
 
   -- a side and a rule of which the same is known
-  pub side_same : (m w : ℕ) (a : RuleRef) → IsSameAt m E → ((d : ℕ) → IsSameAt m (rule_kind d)) → known c m w a ≡ known b m w a → is_open c p m w (known c m w a) ≡ is_open b p m w (known b m w a)
-  side_same m w a e r k = ap (is_open c p m w) k ∙ open_same m w e r (known b m w a)
+  pub side_same : (m w : ℕ) (a : RuleRef) → IsSameAt m E → ((d : ℕ) → IsSameAt m (rule_kind d)) → known c m w a ≡ known b m w a → is_open c q m w (known c m w a) ≡ is_open b p m w (known b m w a)
+  side_same m w a e r k = ap (is_open c q m w) k ∙ open_same m w e r (known b m w a)
 
-  pub reduce_same : (n : NodeId) → IsSameAt n.0 E → ((d : ℕ) → IsSameAt n.0 (rule_kind d)) → rules_of c p ≡ rules_of b p → ((w : ℕ) (a : RuleRef) → known c n.0 w a ≡ known b n.0 w a) → is_work_due c (Reduce p n) ≡ is_work_due b (Reduce p n)
+  pub reduce_same : (n : NodeId) → IsSameAt n.0 E → ((d : ℕ) → IsSameAt n.0 (rule_kind d)) → rules_of c q ≡ rules_of b p → ((w : ℕ) (a : RuleRef) → known c n.0 w a ≡ known b n.0 w a) → is_work_due c (Reduce q n) ≡ is_work_due b (Reduce p n)
   reduce_same n e r s k = ap₂ (λ (x y : Bool). x && y) (node_same n.0 e r)
-      (ap (λ (rs : List RuleRef). list_any (λ (a : RuleRef). list_any (λ w. is_open c p n.0 w (known c n.0 w a)) (0 ∷ 1 ∷ [])) (filter (λ (a : RuleRef). not (a.node == n.0)) rs)) s
-      ∙ any_same (λ (a : RuleRef). list_any (λ w. is_open c p n.0 w (known c n.0 w a)) (0 ∷ 1 ∷ [])) (λ (a : RuleRef). list_any (λ w. is_open b p n.0 w (known b n.0 w a)) (0 ∷ 1 ∷ []))
-      (λ a. any_same (λ w. is_open c p n.0 w (known c n.0 w a)) (λ w. is_open b p n.0 w (known b n.0 w a)) (λ w. side_same n.0 w a e r (k w a)) (0 ∷ 1 ∷ [])) (reducers b p n.0))
+      (ap (λ (rs : List RuleRef). list_any (λ (a : RuleRef). list_any (λ w. is_open c q n.0 w (known c n.0 w a)) (0 ∷ 1 ∷ [])) (filter (λ (a : RuleRef). not (a.node == n.0)) rs)) s
+      ∙ any_same (λ (a : RuleRef). list_any (λ w. is_open c q n.0 w (known c n.0 w a)) (0 ∷ 1 ∷ [])) (λ (a : RuleRef). list_any (λ w. is_open b p n.0 w (known b n.0 w a)) (0 ∷ 1 ∷ []))
+      (λ a. any_same (λ w. is_open c q n.0 w (known c n.0 w a)) (λ w. is_open b p n.0 w (known b n.0 w a)) (λ w. side_same n.0 w a e r (k w a)) (0 ∷ 1 ∷ [])) (reducers b p n.0))
 
-  pub orient_same : (n : NodeId) → IsSameAt n.0 E → IsSameAt n.0 X → is_work_due c (Orient p n) ≡ is_work_due b (Orient p n)
+  pub orient_same : (n : NodeId) → IsSameAt n.0 E → IsSameAt n.0 X → is_work_due c (Orient q n) ≡ is_work_due b (Orient p n)
   orient_same n e x = ap₂ (λ (y z : Bool). y && not z) e x
 
-  pub overlap_same : (a e : RuleRef) → IsSameAt a.node (rule_kind a.dir) → IsSameAt e.node (rule_kind e.dir) → has (done_of c a e) p ≡ has (done_of b a e) p → is_work_due c (Overlap p a e) ≡ is_work_due b (Overlap p a e)
+  pub overlap_same : (a e : RuleRef) → IsSameAt a.node (rule_kind a.dir) → IsSameAt e.node (rule_kind e.dir) → has (done_of c a e) q ≡ has (done_of b a e) p → is_work_due c (Overlap q a e) ≡ is_work_due b (Overlap p a e)
   overlap_same a e r s d = ap₂ (λ (x y : Bool). x && (ref_le a e && not y)) (ap₂ (λ (x y : Bool). x && y) r s) d
 
   -- what is open stays so where a variant that was of use is
-  pub open_carried : (m w : ℕ) → (is_usable b p m w Variant ≡ true → is_usable c p m w Variant ≡ true) → (o : Option Found) → is_open b p m w o ≡ true → is_open c p m w o ≡ true
+  pub open_carried : (m w : ℕ) → (is_usable b p m w Variant ≡ true → is_usable c q m w Variant ≡ true) → (o : Option Found) → is_open b p m w o ≡ true → is_open c q m w o ≡ true
   open_carried m w h None o = refl
   open_carried m w h (Some No) o = o
   open_carried m w h (Some Variant) o = h o
   open_carried m w h (Some Strict) o = refl
 
   -- a Reduce stays due where the node is still one of the process, its rules are, and what is open is
-  pub reduce_carried : (n : NodeId) → (is_node_of b p n.0 ≡ true → is_node_of c p n.0 ≡ true) → ((a : RuleRef) → a.node ≢ n.0 → Contains (rules_of b p) a → Contains (rules_of c p) a)
-      → ((w : ℕ) (a : RuleRef) → is_open b p n.0 w (known b n.0 w a) ≡ true → is_open c p n.0 w (known c n.0 w a) ≡ true) → is_work_due b (Reduce p n) ≡ true → is_work_due c (Reduce p n) ≡ true
-  reduce_carried n node rules opened h = and_from (is_node_of c p n.0) (is_reducible c p n.0) (node (and_gives_left (is_node_of b p n.0) (is_reducible b p n.0) h))
-      (any_carried (λ (a : RuleRef). list_any (λ w. is_open b p n.0 w (known b n.0 w a)) (0 ∷ 1 ∷ [])) (λ (a : RuleRef). list_any (λ w. is_open c p n.0 w (known c n.0 w a)) (0 ∷ 1 ∷ [])) (reducers b p n.0) (reducers c p n.0)
+  pub reduce_carried : (n : NodeId) → (is_node_of b p n.0 ≡ true → is_node_of c q n.0 ≡ true) → ((a : RuleRef) → a.node ≢ n.0 → Contains (rules_of b p) a → Contains (rules_of c q) a)
+      → ((w : ℕ) (a : RuleRef) → is_open b p n.0 w (known b n.0 w a) ≡ true → is_open c q n.0 w (known c n.0 w a) ≡ true) → is_work_due b (Reduce p n) ≡ true → is_work_due c (Reduce q n) ≡ true
+  reduce_carried n node rules opened h = and_from (is_node_of c q n.0) (is_reducible c q n.0) (node (and_gives_left (is_node_of b p n.0) (is_reducible b p n.0) h))
+      (any_carried (λ (a : RuleRef). list_any (λ w. is_open b p n.0 w (known b n.0 w a)) (0 ∷ 1 ∷ [])) (λ (a : RuleRef). list_any (λ w. is_open c q n.0 w (known c n.0 w a)) (0 ∷ 1 ∷ [])) (reducers b p n.0) (reducers c q n.0)
       (λ a i o. let r = filter_in (λ (a : RuleRef). not (a.node == n.0)) (rules_of b p) a i in (
-        in_filter (λ (a : RuleRef). not (a.node == n.0)) (rules_of c p) a (rules a (λ e. clash (eq-eqb a.node n.0 e) (not_true r.1)) r.0) r.1,
-        any_carried (λ w. is_open b p n.0 w (known b n.0 w a)) (λ w. is_open c p n.0 w (known c n.0 w a)) (0 ∷ 1 ∷ []) (0 ∷ 1 ∷ []) (λ w j k. (j, opened w a k)) o,
+        in_filter (λ (a : RuleRef). not (a.node == n.0)) (rules_of c q) a (rules a (λ e. clash (eq-eqb a.node n.0 e) (not_true r.1)) r.0) r.1,
+        any_carried (λ w. is_open b p n.0 w (known b n.0 w a)) (λ w. is_open c q n.0 w (known c n.0 w a)) (0 ∷ 1 ∷ []) (0 ∷ 1 ∷ []) (λ w j k. (j, opened w a k)) o,
       ))
       (and_gives_right (is_node_of b p n.0) (is_reducible b p n.0) h))

@@ -40,7 +40,7 @@ use Rattle.mkb_moves.proofs.DueWork.{IsSameAt, node_same, open_same, reduce_same
 -- ---- boards of which the labels and the overlaps are the same
 
 module _ (b c : Plain) (nodes : c.nodes ≡ b.nodes) (done : c.done ≡ b.done) where
-  labels_same : (p : Name) (m : ℕ) (j : LabelKind) → IsSameAt b c p m j
+  labels_same : (p : Name) (m : ℕ) (j : LabelKind) → IsSameAt b c p p m j
   labels_same p m j = ap (λ xs. has (label_at xs m j) p) nodes
 
   rules_same : (p : Name) → rules_of c p ≡ rules_of b p
@@ -48,9 +48,9 @@ module _ (b c : Plain) (nodes : c.nodes ≡ b.nodes) (done : c.done ≡ b.done) 
 
   -- work is due just where it was, if of the node that is to be reduced the same is known
   work_by : (j : Job) → ((p : Name) (n : NodeId) → j ≡ Reduce p n → (w : ℕ) (a : RuleRef) → known c n.0 w a ≡ known b n.0 w a) → IsDueAsBefore b c j
-  work_by (Reduce p n) k = reduce_same b c p n (labels_same p n.0 E) (λ d. labels_same p n.0 (rule_kind d)) (rules_same p) (k p n refl)
-  work_by (Orient p n) k = orient_same b c p n (labels_same p n.0 E) (labels_same p n.0 X)
-  work_by (Overlap p a e) k = overlap_same b c p a e (labels_same p a.node (rule_kind a.dir)) (labels_same p e.node (rule_kind e.dir)) (ap (λ ds. has (done_in ds a e) p) done)
+  work_by (Reduce p n) k = reduce_same b c p p n (labels_same p n.0 E) (λ d. labels_same p n.0 (rule_kind d)) (rules_same p) (k p n refl)
+  work_by (Orient p n) k = orient_same b c p p n (labels_same p n.0 E) (labels_same p n.0 X)
+  work_by (Overlap p a e) k = overlap_same b c p p a e (labels_same p a.node (rule_kind a.dir)) (labels_same p e.node (rule_kind e.dir)) (ap (λ ds. has (done_in ds a e) p) done)
   work_by (Close p) k = refl
 
   pub work_stays : c.facts ≡ b.facts → KeepsWork b c
@@ -66,13 +66,13 @@ module _ (b c : Plain) (nodes : c.nodes ≡ b.nodes) (done : c.done ≡ b.done) 
       where
         go : (o : Option Fact) → find (is_about n w a) b.facts ≡ o → is_open c p n w (known c n w a) ≡ true → is_open b p n w (option_map (λ (f : Fact). f.found) o) ≡ true
         go None e h = refl
-        go (Some f) e h = sym (open_same b c p n w (labels_same p n E) (λ d. labels_same p n (rule_kind d)) (Some f.found))
+        go (Some f) e h = sym (open_same b c p p n w (labels_same p n E) (λ d. labels_same p n (rule_kind d)) (Some f.found))
             ∙ ap (is_open c p n w) (sym (known_now n w a ∙ ap (λ o. option_map (λ (f : Fact). f.found) (option_or o (find (is_about n w a) fs))) e)) ∙ h
 
     pub opens_none : OpensNoWork b c
-    opens_none (Reduce p n) h = reduce_carried c b p n (λ o. sym (node_same b c p n.0 (labels_same p n.0 E) (λ d. labels_same p n.0 (rule_kind d))) ∙ o) (λ a _ i. subst {A = List RuleRef} (λ rs. Contains rs a) (rules_same p) i) (opened_before p n.0) h
-    opens_none (Orient p n) h = sym (orient_same b c p n (labels_same p n.0 E) (labels_same p n.0 X)) ∙ h
-    opens_none (Overlap p a e) h = sym (overlap_same b c p a e (labels_same p a.node (rule_kind a.dir)) (labels_same p e.node (rule_kind e.dir)) (ap (λ ds. has (done_in ds a e) p) done)) ∙ h
+    opens_none (Reduce p n) h = reduce_carried c b p p n (λ o. sym (node_same b c p p n.0 (labels_same p n.0 E) (λ d. labels_same p n.0 (rule_kind d))) ∙ o) (λ a _ i. subst {A = List RuleRef} (λ rs. Contains rs a) (rules_same p) i) (opened_before p n.0) h
+    opens_none (Orient p n) h = sym (orient_same b c p p n (labels_same p n.0 E) (labels_same p n.0 X)) ∙ h
+    opens_none (Overlap p a e) h = sym (overlap_same b c p p a e (labels_same p a.node (rule_kind a.dir)) (labels_same p e.node (rule_kind e.dir)) (ap (λ ds. has (done_in ds a e) p) done)) ∙ h
     opens_none (Close p) h = h
 
     -- of a node that no fact names nothing more is known
@@ -121,24 +121,24 @@ limit_ends P n past b run w t r next f p named j e = false_unless (is_due next j
 
 -- a refusal
 module _ (b c : Plain) (p : Name) (n : NodeId) (nodes : c.nodes ≡ gains n.0 X (p ∷ []) b.nodes) (done : c.done ≡ b.done) (facts : c.facts ≡ b.facts) where
-  roles_same : (q : Name) (m : ℕ) (j : LabelKind) → (m ≢ n.0) ⊎ (j ≢ X) → IsSameAt b c q m j
+  roles_same : (q : Name) (m : ℕ) (j : LabelKind) → (m ≢ n.0) ⊎ (j ≢ X) → IsSameAt b c q q m j
   roles_same q m j h = ap (λ xs. has (label_at xs m j) q) nodes ∙ ap (λ l. has l q) (put_other b.nodes n.0 m X j (join (label_at b.nodes n.0 X) (p ∷ [])) h)
 
-  equation_same : (q : Name) (m : ℕ) → IsSameAt b c q m E
+  equation_same : (q : Name) (m : ℕ) → IsSameAt b c q q m E
   equation_same q m = roles_same q m E (inr (λ e. omega (arith, ap kind_number e)))
 
-  rule_same : (q : Name) (m d : ℕ) → IsSameAt b c q m (rule_kind d)
+  rule_same : (q : Name) (m d : ℕ) → IsSameAt b c q q m (rule_kind d)
   rule_same q m d = roles_same q m (rule_kind d) (inr (refused-no_rule d))
 
-  refused_same : (q : Name) (m : NodeId) → Orient q m ≢ Orient p n → (name_eq q p ≡ true) ⊎ (name_eq q p ≡ false) → (m.0 ≡ n.0) ⊎ (m.0 ≢ n.0) → IsSameAt b c q m.0 X
+  refused_same : (q : Name) (m : NodeId) → Orient q m ≢ Orient p n → (name_eq q p ≡ true) ⊎ (name_eq q p ≡ false) → (m.0 ≡ n.0) ⊎ (m.0 ≢ n.0) → IsSameAt b c q q m.0 X
   refused_same q m h k (inr d) = roles_same q m.0 X (inl d)
   refused_same q m h (inr k) (inl e) = ap (λ xs. has (label_at xs m.0 X) q) nodes ∙ role_tests b (record b { nodes = gains n.0 X (p ∷ []) b.nodes }) q (keeps-gains n.0 X (p ∷ []) b.nodes q (has-one p q ∙ k)) m.0 X
   refused_same q m h (inl k) (inl e) = absurd (h (ap₂ (λ (r : Name) (i : ℕ). Orient r (record { 0 = i })) (name_eq-eq q p k) e))
 
   others_stay : (j : Job) → j ≢ Orient p n → IsDueAsBefore b c j
-  others_stay (Reduce q m) h = reduce_same b c q m (equation_same q m.0) (rule_same q m.0) (same_rules b c q q (λ d i. rule_same q i d)) (λ w a. ap (λ fs. known (record b { facts = fs }) m.0 w a) facts)
-  others_stay (Orient q m) h = orient_same b c q m (equation_same q m.0) (refused_same q m h (decide (name_eq q p)) (numbers_decide m.0 n.0))
-  others_stay (Overlap q a e) h = overlap_same b c q a e (rule_same q a.node a.dir) (rule_same q e.node e.dir) (ap (λ ds. has (done_in ds a e) q) done)
+  others_stay (Reduce q m) h = reduce_same b c q q m (equation_same q m.0) (rule_same q m.0) (same_rules b c q q (λ d i. rule_same q i d)) (λ w a. ap (λ fs. known (record b { facts = fs }) m.0 w a) facts)
+  others_stay (Orient q m) h = orient_same b c q q m (equation_same q m.0) (refused_same q m h (decide (name_eq q p)) (numbers_decide m.0 n.0))
+  others_stay (Overlap q a e) h = overlap_same b c q q a e (rule_same q a.node a.dir) (rule_same q e.node e.dir) (ap (λ ds. has (done_in ds a e) q) done)
   others_stay (Close q) h = refl
 
 pub refusal_ends : (past : List Moment) (b : Plain) (w t : ℕ) (p : Name) (n : NodeId) (next : Plain) → IsCommitting past b w t (Made (Refuse p n)) next → EndsOneJob b next (Orient p n)

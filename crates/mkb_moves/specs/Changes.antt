@@ -1,8 +1,8 @@
 -- Which jobs a commit makes due, and which it makes due no more. Work is reducing, orienting and overlapping.
-use Rattle.std.specs.Prelude.{ℕ, ◌<◌, List, ◌≡◌, ◌≢◌, ⊤, IsTrue, IsFalse, Contains}
+use Rattle.std.specs.Prelude.{ℕ, true, false, ◌<◌, List, ◌≡◌, ◌≢◌, ⊤, IsTrue, IsFalse, Contains}
 use Rattle.std.specs.declared.option.Option.TheVariants.{Some}
 use Rattle.kb_term.specs.declared.origin.RuleRef.{RuleRef}
-use Rattle.kb_label.specs.Names.{Name, has}
+use Rattle.kb_label.specs.Names.{Name, has, child}
 use Rattle.kb_node.specs.declared.node.NodeId.{NodeId}
 use Rattle.kb_node.specs.declared.job.Job.{Job}
 use Rattle.kb_node.specs.declared.job.Job.TheVariants.{Reduce, Orient, Overlap}
@@ -40,13 +40,9 @@ KeepsWork b c = (j : Job) → IsDueAsBefore b c j
 abbrev pub IsStillDue : Plain → Plain → Job → Type 0
 IsStillDue b c j = IsTrue (is_work_due b j) → IsTrue (is_work_due c j)
 
--- work that is due afterwards was due before
-abbrev pub IsNotNewlyDue : Plain → Plain → Job → Type 0
-IsNotNewlyDue b c j = IsTrue (is_work_due c j) → IsTrue (is_work_due b j)
-
 -- no work of any process is due that was not due before
 abbrev pub OpensNoWork : Plain → Plain → Type 0
-OpensNoWork b c = (j : Job) → IsNotNewlyDue b c j
+OpensNoWork b c = (j : Job) → IsTrue (is_work_due c j) → IsTrue (is_work_due b j)
 
 -- ---- what ends
 
@@ -96,10 +92,16 @@ EndsOverlapByBoth b c a e pairs = (p : Name) → IsTrue (has (overlap_label b a 
 abbrev pub IsAnother : RuleRef → RuleRef → Type 0
 IsAnother a e = (e.dir < 2) × (e ≢ a)
 
--- the node of the new rule is not to be oriented any more, and to be reduced only where it was; other nodes are to be oriented just where they were, and stay to be reduced; overlaps of two other rules are due just where they were
-pub record LeavesOtherWork (b c : Plain) (p : Name) (a : RuleRef) : Type 0 where
-  pub oriented : (n : NodeId) → n.0 ≡ a.node → IsFalse (is_work_due c (Orient p n))
-  pub orients : (n : NodeId) → n.0 ≢ a.node → IsDueAsBefore b c (Orient p n)
-  pub overlaps : (e f : RuleRef) → IsAnother a e → IsAnother a f → IsDueAsBefore b c (Overlap p e f)
-  pub reduced : (n : NodeId) → n.0 ≡ a.node → IsNotNewlyDue b c (Reduce p n)
-  pub reduces : (n : NodeId) → n.0 ≢ a.node → IsStillDue b c (Reduce p n)
+-- q has the work that p had, but for that of the new rule: the rule's node is not to be oriented, and to be reduced only where it was; other nodes are to be oriented just where they were, and stay to be reduced; overlaps of two other rules are due just where they were
+pub record LeavesOtherWork (b : Plain) (p : Name) (c : Plain) (q : Name) (a : RuleRef) : Type 0 where
+  pub oriented : (n : NodeId) → n.0 ≡ a.node → IsFalse (is_work_due c (Orient q n))
+  pub orients : (n : NodeId) → n.0 ≢ a.node → is_work_due c (Orient q n) ≡ is_work_due b (Orient p n)
+  pub overlaps : (e f : RuleRef) → IsAnother a e → IsAnother a f → is_work_due c (Overlap q e f) ≡ is_work_due b (Overlap p e f)
+  pub reduced : (n : NodeId) → n.0 ≡ a.node → IsTrue (is_work_due c (Reduce q n)) → IsTrue (is_work_due b (Reduce p n))
+  pub reduces : (n : NodeId) → n.0 ≢ a.node → IsTrue (is_work_due b (Reduce p n)) → IsTrue (is_work_due c (Reduce q n))
+
+-- the forked process has no job, and each of its two children has the other work that it had, with the rule of its direction
+pub record SharesWork (b : Plain) (p : Name) (c : Plain) (n : ℕ) : Type 0 where
+  pub gone : HasNoJob c p
+  pub first : LeavesOtherWork b p c (child p false) (record { node = n; dir = 0 })
+  pub second : LeavesOtherWork b p c (child p true) (record { node = n; dir = 1 })

@@ -23,7 +23,7 @@ ghost use Rattle.mkb_model.specs.Runs.{OfEachRun, OfEachLimitedRun, OfAnyCommit,
 ghost use Rattle.mkb_model.specs.declared.entry.Effect.{Effect};
 ghost use Rattle.mkb_model.specs.declared.entry.Effect.TheVariants.{Over, Made};
 ghost use Rattle.mkb_model.specs.declared.proposed.Proposed.TheVariants.{Facts, One, Both, Refuse, Deduce, Unjoined, Closed};
-ghost use Rattle.mkb_moves.specs.Changes.{IsNotOfFacts, OthersKeepJobs, OpensNoWork, ReducesNodeOf, IsDueAsBefore, EndsOneJob, KeepsWork, HasNoJob, EndsOverlapByBoth, OpensPairs, LeavesOtherWork};
+ghost use Rattle.mkb_moves.specs.Changes.{IsNotOfFacts, OthersKeepJobs, OpensNoWork, ReducesNodeOf, IsDueAsBefore, EndsOneJob, KeepsWork, HasNoJob, EndsOverlapByBoth, OpensPairs, LeavesOtherWork, SharesWork};
 ghost use Rattle.mkb_moves.specs.Moves.{IsLeftAlone, Orients, Forks, Deduces, DeducesByBoth, MovesItsLabel, GivesUp};
 ghost use Rattle.mkb_moves.specs.Order.{IsLeastFree, MayBeTaken, IsFirstOver};
 ghost use Rattle.mkb_moves.specs.Stuck.{IsUnorientable, IsStuck};
@@ -136,7 +136,9 @@ pub fn deductions_open_their_nodes()
 
 /// Where an orientation has its effect, the process is not to orient the node any more, and to reduce it only where it was. It is to
 /// orient other nodes just where it was, its overlaps of two other rules are due just where they were, and each other node that it
-/// was to reduce it still is.
+/// was to reduce it still is. At a fork, in each possible run, each child has the work of the process so, with the rule of its
+/// direction, and the process has no job.
 pub fn new_rules_leave_other_work()
-    ensures { (p : Name) (n : NodeId) (d : ℕ) (c : Certificate) → OfAnyCommit (Made (One p n d c)) (λ board next. LeavesOtherWork board next p (record { node = n.0; dir = d })) }
+    ensures one { (p : Name) (n : NodeId) (d : ℕ) (c : Certificate) → OfAnyCommit (Made (One p n d c)) (λ board next. LeavesOtherWork board p next p (record { node = n.0; dir = d })) }
+    ensures both { (p : Name) (n : NodeId) (c0 c1 : Certificate) → OfEachCommit (Made (Both p n c0 c1)) (λ board next _. SharesWork board p next n.0) }
 {}
