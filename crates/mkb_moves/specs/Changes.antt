@@ -92,7 +92,7 @@ EndsOverlapByBoth b c a e pairs = (p : Name) → IsTrue (has (overlap_label b a 
 abbrev pub IsAnother : RuleRef → RuleRef → Type 0
 IsAnother a e = (e.dir < 2) × (e ≢ a)
 
--- q has the work that p had, but for that of the new rule: the rule's node is not to be oriented, and to be reduced only where it was; other nodes are to be oriented just where they were, and stay to be reduced; overlaps of two other rules are due just where they were
+-- q has the work that p had, but that the new rule's node is not to be oriented any more, and only other nodes may open to be reduced; nothing is said of overlaps with the new rule
 pub record LeavesOtherWork (b : Plain) (p : Name) (c : Plain) (q : Name) (a : RuleRef) : Type 0 where
   pub oriented : (n : NodeId) → n.0 ≡ a.node → IsFalse (is_work_due c (Orient q n))
   pub orients : (n : NodeId) → n.0 ≢ a.node → is_work_due c (Orient q n) ≡ is_work_due b (Orient p n)
