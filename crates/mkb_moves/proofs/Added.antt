@@ -29,18 +29,18 @@ use Rattle.mkb_moves.proofs.Sight.{equations_are, no_rule_are, same_rules, same_
 use Rattle.mkb_moves.proofs.Makes.{IsMaking, making, commit_fits}
 
 -- other roles than that of an equation stay
-added-others : (l : List Name) (ds : List Deduced) (xs : List PlainNode) (p : Name) → has l p ≡ true → (m : ℕ) (j : LabelKind) → j ≢ E → IsOn (added l ds xs) p m j ↔ IsOn xs p m j
+pub added-others : (l : List Name) (ds : List Deduced) (xs : List PlainNode) (p : Name) → has l p ≡ true → (m : ℕ) (j : LabelKind) → j ≢ E → IsOn (added l ds xs) p m j ↔ IsOn xs p m j
 added-others l [] xs p named m j h = ((λ o. o), λ o. o)
 added-others l (d ∷ ds) xs p named m j h =
     let ih = added-others l ds (add_one l d xs) p named m j h in
     let k = add-others l d xs p named m j h in
     ((λ o. k.0 (ih.0 o)), λ o. ih.1 (k.1 o))
 
-rule_other : (d : ℕ) → rule_kind d ≢ E
+pub rule_other : (d : ℕ) → rule_kind d ≢ E
 rule_other d e = equation-no_rule d (sym e)
 
 -- one of the pairs is that of the node, which the process has as no rule
-abbrev IsNewPair : List Deduced → List PlainNode → List PlainNode → Name → ℕ → Type 0
+abbrev pub IsNewPair : List Deduced → List PlainNode → List PlainNode → Name → ℕ → Type 0
 IsNewPair ds zs xs p m = (d : Deduced) × Contains ds d × (pair_in zs m ≡ Some d.pair) × (¬ IsOn xs p m R0) × (¬ IsOn xs p m R1)
 
 -- one pair more
@@ -69,7 +69,7 @@ module _ (l : List Name) (d : Deduced) (ds : List Deduced) (xs : List PlainNode)
       (λ c. ih.1 (inr (e, c, there, (λ v. n0 ((add-others l d xs p named m R0 (rule_other 0)).0 v)), λ v. n1 ((add-others l d xs p named m R1 (rule_other 1)).0 v))))
       (contains_cases d ds e i)
 
-added-equations : (l : List Name) (ds : List Deduced) (xs : List PlainNode) (p : Name) → has l p ≡ true → Fits (added l ds xs) → (m : ℕ) → IsOn (added l ds xs) p m E ↔ (IsOn xs p m E ⊎ IsNewPair ds (added l ds xs) xs p m)
+pub added-equations : (l : List Name) (ds : List Deduced) (xs : List PlainNode) (p : Name) → has l p ≡ true → Fits (added l ds xs) → (m : ℕ) → IsOn (added l ds xs) p m E ↔ (IsOn xs p m E ⊎ IsNewPair ds (added l ds xs) xs p m)
 added-equations l [] xs p named fits m = ((λ o. inl o), λ h. ⊎_elim (λ o. o) (λ i. none_in i.1) h)
 added-equations l (d ∷ ds) xs p named fits m =
     let ih = added-equations l ds (add_one l d xs) p named fits m in

@@ -10,3 +10,7 @@ mod Sources
 mod Rewriting
 mod Refused
 mod Stuck
+mod DueWork
+mod DueJobsKept
+mod EndedWork
+mod OpenedWork

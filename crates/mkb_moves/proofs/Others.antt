@@ -36,18 +36,25 @@ not_forked b (Unjoined q ds) p acts h = tt
 not_forked b (Closed q) p acts h = tt
 not_forked b (Limit j cause) p acts h = tt
 
-pub others_left : (P : Problem) (n : Settings) (past : List Moment) (b : Plain) (w t : ℕ) (e : Effect) (d : Plain) → IsPossibleRun P n past b → (c : IsCommitting past b w t e d) → (p : Name) → has b.living p ≡ true → has (effect_label b c.proposal) p ≡ false → IsLeftAlone b d p
-others_left P n past b w t e d run c p lives h = subst {A = Plain} (λ z. IsLeftAlone b z p) (sym c.leads_to) (record {
-  lives = effect_lives b c.proposal p (not_forked b c.proposal p c.acts h) lives;
-  same_view = kept_view b (landed t (effect b c.proposal)) p u.roles;
-  refused = λ n. role_tests b (effect b c.proposal) p u.roles n X;
-  overlapped = u.done;
-  closed = u.closed;
-  over = u.over;
-})
+pub others_unmoved : (P : Problem) (n : Settings) (past : List Moment) (b : Plain) (w t : ℕ) (e : Effect) (d : Plain) → IsPossibleRun P n past b → (c : IsCommitting past b w t e d) → (p : Name) → has b.living p ≡ true → has (effect_label b c.proposal) p ≡ false
+    → IsUnmoved b (effect b c.proposal) p × (has (effect b c.proposal).living p ≡ true)
+others_unmoved P n past b w t e d run c p lives h = (
+  unmoved_effect b c.proposal p c.acts h s.apart (λ q m o. (s.labelled.nodes m E).lives q o) lives,
+  effect_lives b c.proposal p (not_forked b c.proposal p c.acts h) lives,
+)
   where
     s : Stands b
     s = stands_run P n past b run
 
-    u : IsUnmoved b (effect b c.proposal) p
-    u = unmoved_effect b c.proposal p c.acts h s.apart (λ q m o. (s.labelled.nodes m E).lives q o) lives
+pub others_left : (P : Problem) (n : Settings) (past : List Moment) (b : Plain) (w t : ℕ) (e : Effect) (d : Plain) → IsPossibleRun P n past b → (c : IsCommitting past b w t e d) → (p : Name) → has b.living p ≡ true → has (effect_label b c.proposal) p ≡ false → IsLeftAlone b d p
+others_left P n past b w t e d run c p lives h = subst {A = Plain} (λ z. IsLeftAlone b z p) (sym c.leads_to) (record {
+  lives = u.1;
+  same_view = kept_view b (landed t (effect b c.proposal)) p u.0.roles;
+  refused = λ n. role_tests b (effect b c.proposal) p u.0.roles n X;
+  overlapped = u.0.done;
+  closed = u.0.closed;
+  over = u.0.over;
+})
+  where
+    u : IsUnmoved b (effect b c.proposal) p × (has (effect b c.proposal).living p ≡ true)
+    u = others_unmoved P n past b w t e d run c p lives h

@@ -76,7 +76,7 @@ still_refuses f g b c p q m d keeps grows h = none_more f g (rules_at b (constra
 -- ---- who is refused after a change
 
 -- the refusals of each node stay
-abbrev SameRefusals : List PlainNode → List PlainNode → Type 0
+abbrev pub SameRefusals : List PlainNode → List PlainNode → Type 0
 SameRefusals xs ys = (m : ℕ) → label_at ys m X ≡ label_at xs m X
 
 refusals_trans : (xs ys zs : List PlainNode) → SameRefusals xs ys → SameRefusals ys zs → SameRefusals xs zs
@@ -97,7 +97,7 @@ refusals_gains_rule a l xs = refusals_trans xs (loses a.node E l xs) (gains_rule
 refusals_with_node : (q : Pair) (o : Origin) (xs : List PlainNode) → SameRefusals xs (with_node q o xs)
 refusals_with_node q o xs m = label-with_node q o xs m X
 
-refusals_added : (l : List Name) (ds : List Deduced) (xs : List PlainNode) → SameRefusals xs (added l ds xs)
+pub refusals_added : (l : List Name) (ds : List Deduced) (xs : List PlainNode) → SameRefusals xs (added l ds xs)
 refusals_added l [] xs = λ m. refl
 refusals_added l (x ∷ ds) xs =
     let ys : List PlainNode = with_node x.pair (ByOverlap x.outer x.inner x.position) xs in
@@ -122,7 +122,7 @@ refusals_rewritten l n w at a kind u q xs =
     refusals_trans xs x3 (rewritten l n w at a kind u q xs) (refusals_trans xs x1 x3 (refusals_put n (rule_kind w) (minus (label_at xs n (rule_kind w)) (if_strict kind l)) xs (refused-no_rule w)) (refusals_trans x1 x2 x3 (refusals_put n (rule_kind (other w)) (minus (label_at x1 n (rule_kind (other w))) l) x1 (refused-no_rule (other w))) (refusals_put n E (minus (label_at x2 n E) l) x2 equation_kept)))
     (refusals_moved (canonical_pair u (other_side q w)) (ByRewrite n w at a) (other_side q w) u (meet l (label_at xs n E)) (meet l (label_at xs n (rule_kind (other w)))) (if_strict kind (meet l (label_at xs n (rule_kind w)))) x3)
 
-refusals_oriented : (p : Name) (a : RuleRef) (xs : List PlainNode) → SameRefusals xs (oriented p a xs)
+pub refusals_oriented : (p : Name) (a : RuleRef) (xs : List PlainNode) → SameRefusals xs (oriented p a xs)
 refusals_oriented p a xs =
     let x1 : List PlainNode = loses a.node E (p ∷ []) xs in
     let x2 : List PlainNode = gains a.node (rule_kind a.dir) (p ∷ []) x1 in

@@ -18,7 +18,7 @@ use Rattle.mkb_moves.specs.Moves.{HasNoRule}
 -- ---- rows of numbers
 
 -- what is kept of a row does not depend on its end, past which nothing is kept
-kept_numbers : (f g : ℕ → Bool) → ((m : ℕ) → f m ≡ g m) → (i k l : ℕ) → ((m : ℕ) → i + k ≤ m → f m ≡ false) → ((m : ℕ) → i + l ≤ m → g m ≡ false) → filter f (numbers_from i k) ≡ filter g (numbers_from i l)
+pub kept_numbers : (f g : ℕ → Bool) → ((m : ℕ) → f m ≡ g m) → (i k l : ℕ) → ((m : ℕ) → i + k ≤ m → f m ≡ false) → ((m : ℕ) → i + l ≤ m → g m ≡ false) → filter f (numbers_from i k) ≡ filter g (numbers_from i l)
 kept_numbers f g e i zero l hf hg = sym (filter_none_of g (numbers_from i l) (λ m c. sym (e m) ∙ hf m (let r = numbers_in i l m c in omega (arith, r.0))))
 kept_numbers f g e i (suc k) zero hf hg = filter_none_of f (numbers_from i (suc k)) (λ m c. e m ∙ hg m (let r = numbers_in i (suc k) m c in omega (arith, r.0)))
 kept_numbers f g e i (suc k) (suc l) hf hg = ap₂ (λ (b : Bool) (xs : List ℕ). cond b (i ∷ xs) xs) (e i) (kept_numbers f g e (i + 1) k l (λ m h. hf m (omega (arith, h))) (λ m h. hg m (omega (arith, h))))
@@ -38,7 +38,7 @@ kept_rules f g e i (suc k) (suc l) hf hg =
     ap₂ (λ (b : Bool) (xs : List RuleRef). cond b (a0 ∷ xs) xs) (e a0) (ap₂ (λ (b : Bool) (xs : List RuleRef). cond b (a1 ∷ xs) xs) (e a1) (kept_rules f g e (i + 1) k l (λ a h. hf a (omega (arith, h))) (λ a h. hg a (omega (arith, h)))))
 
 -- no label of a node that is not there names anyone
-beyond : (xs : List PlainNode) (p : Name) (m : ℕ) (j : LabelKind) → length xs ≤ m → has (label_at xs m j) p ≡ false
+pub beyond : (xs : List PlainNode) (p : Name) (m : ℕ) (j : LabelKind) → length xs ≤ m → has (label_at xs m j) p ≡ false
 beyond xs p m j h = ap (λ l. has l p) (label_beyond xs m j h)
 
 module _ (b c : Plain) (p q : Name) where

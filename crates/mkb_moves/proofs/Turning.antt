@@ -50,7 +50,7 @@ turned b c p q a bit on r = record {
 }
 
 -- an orientation goes in one of the two directions
-direction_bit : (before : Plain) (j : Job) (p : Name) (n : NodeId) (d : ℕ) (c : Certificate) → Proposes before j (One p n d c) → IsBit d
+pub direction_bit : (before : Plain) (j : Job) (p : Name) (n : NodeId) (d : ℕ) (c : Certificate) → Proposes before j (One p n d c) → IsBit d
 direction_bit before (Orient q m) p n d c h = h.2
 direction_bit before (Reduce q m) p n d c h = absurd h
 direction_bit before (Overlap q a e) p n d c h = absurd h
@@ -94,8 +94,8 @@ module _ (P : Problem) (n : Settings) (past : List Moment) (b : Plain) (run : Is
   child_there : (bit : Bool) → has next.living (child p bit) ≡ true
   child_there bit = ap (λ l. has l (child p bit)) living_is ∙ child_lives p bit b.living lives
 
-  roles : (bit : Bool) → OrientRoles b.nodes p next.nodes (child p bit) (record { node = m.0; dir = bit_number bit })
-  roles bit = subst {A = Plain} (λ z. OrientRoles b.nodes p z.nodes (child p bit) (record { node = m.0; dir = bit_number bit })) (sym (making past b w t (Both p m c0 c1) next f).leads_to)
+  pub child_roles : (bit : Bool) → OrientRoles b.nodes p next.nodes (child p bit) (record { node = m.0; dir = bit_number bit })
+  child_roles bit = subst {A = Plain} (λ z. OrientRoles b.nodes p z.nodes (child p bit) (record { node = m.0; dir = bit_number bit })) (sym (making past b w t (Both p m c0 c1) next f).leads_to)
       (fork_roles b.nodes p m.0 (children_new b p (stands_run P n past b run) lives) on bit)
 
   pub forks : Forks b p next m.0
@@ -103,8 +103,8 @@ module _ (P : Problem) (n : Settings) (past : List Moment) (b : Plain) (run : Is
     gone = parent_gone;
     first_lives = child_there false;
     second_lives = child_there true;
-    first = turned b next p (child p false) (record { node = m.0; dir = 0 }) (inl refl) on (roles false);
-    second = turned b next p (child p true) (record { node = m.0; dir = 1 }) (inr refl) on (roles true);
+    first = turned b next p (child p false) (record { node = m.0; dir = 0 }) (inl refl) on (child_roles false);
+    second = turned b next p (child p true) (record { node = m.0; dir = 1 }) (inr refl) on (child_roles true);
   }
 
 -- a refusal is noted, and changes nothing else of its process

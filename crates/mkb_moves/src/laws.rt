@@ -11,10 +11,11 @@ ghost use Rattle.kb_label.specs.declared.verdict.Verdict.TheVariants.{AllFailed,
 ghost use Rattle.kb_node.specs.declared.node.NodeId.{NodeId};
 ghost use Rattle.kb_node.specs.declared.node.LabelKind.TheVariants.{X};
 ghost use Rattle.kb_node.specs.declared.job.Job.{Job};
+ghost use Rattle.kb_node.specs.declared.job.Job.TheVariants.{Orient, Close};
 ghost use Rattle.kb_node.specs.declared.job.Deduced.{Deduced};
 ghost use Rattle.kb_node.specs.declared.job.Fact.{Fact};
 ghost use Rattle.mkb_model.specs.Plain.{Plain, label, view};
-ghost use Rattle.mkb_model.specs.DueJobs.{first_job, free_jobs};
+ghost use Rattle.mkb_model.specs.DueJobs.{first_job, free_jobs, is_due};
 ghost use Rattle.mkb_model.specs.Sleeping.{is_failed};
 ghost use Rattle.mkb_model.specs.Effects.{effect_label};
 ghost use Rattle.mkb_model.specs.Verdicts.{verdict};
@@ -22,6 +23,7 @@ ghost use Rattle.mkb_model.specs.Runs.{OfEachRun, OfEachLimitedRun, OfAnyCommit,
 ghost use Rattle.mkb_model.specs.declared.entry.Effect.{Effect};
 ghost use Rattle.mkb_model.specs.declared.entry.Effect.TheVariants.{Over, Made};
 ghost use Rattle.mkb_model.specs.declared.proposed.Proposed.TheVariants.{Facts, One, Both, Refuse, Deduce, Unjoined, Closed};
+ghost use Rattle.mkb_moves.specs.Changes.{IsNotOfFacts, OthersKeepJobs, OpensNoWork, ReducesNodeOf, IsDueAsBefore, EndsOneJob, KeepsWork, HasNoJob, EndsOverlapByBoth, OpensPairs, LeavesOtherWork, SharesWork};
 ghost use Rattle.mkb_moves.specs.Moves.{IsLeftAlone, Orients, Forks, Deduces, DeducesByBoth, MovesItsLabel, GivesUp};
 ghost use Rattle.mkb_moves.specs.Order.{IsLeastFree, MayBeTaken, IsFirstOver};
 ghost use Rattle.mkb_moves.specs.Stuck.{IsUnorientable, IsStuck};
@@ -94,4 +96,49 @@ pub fn failed_processes_are_stuck()
     ensures refused { OfEachRun (λ board. (p : Name) (n : ℕ) → IsTrue (has (label board n X) p) → IsUnorientable board p n) }
     ensures stuck { OfEachLimitedRun (λ board. (p : Name) → IsTrue (has board.living p) → IsTrue (is_failed board p) → IsStuck board p) }
     ensures all { OfEachLimitedRun (λ board. (p : Name) → verdict board ≡ Some AllFailed → IsTrue (has board.living p) → IsStuck board p) }
+{}
+
+/// In each possible run, after each commit but one of facts, each living process that the effect label does not name has the same
+/// jobs due as before.
+pub fn others_keep_their_jobs()
+    ensures { (effect : Effect) → OfEachCommit effect (λ board next proposal. IsNotOfFacts proposal → OthersKeepJobs board next proposal) }
+{}
+
+/// Where facts are noted, no work is due that was not before, and work other than reducing a node that one of the facts names is due
+/// just where it was.
+pub fn facts_end_reductions()
+    ensures opened { (facts : List Fact) → OfAnyCommit (Made (Facts facts)) (λ board next. OpensNoWork board next) }
+    ensures others { (facts : List Fact) → OfAnyCommit (Made (Facts facts)) (λ board next. (j : Job) → ¬ ReducesNodeOf facts j → IsDueAsBefore board next j) }
+{}
+
+/// Where a refusal has its effect, the process is not to orient the node any more, and all other work of every process is due just
+/// where it was.
+pub fn refusals_end_one_orientation()
+    ensures { (p : Name) (n : NodeId) → OfAnyCommit (Made (Refuse p n)) (λ board next. EndsOneJob board next (Orient p n)) }
+{}
+
+/// Where a closing has its effect, closing is not due for the process any more, and all work of every process is due just where it
+/// was. Where a commit comes to a limit, in each possible run, no job is due afterwards for a process of its effect label; and by what
+/// each process sees all work is due just where it was.
+pub fn closings_and_limits_end_jobs()
+    ensures closed { (p : Name) → OfAnyCommit (Made (Closed p)) (λ board next. IsFalse (is_due next (Close p)) × KeepsWork board next) }
+    ensures limits { (reason : Reason) → OfEachCommit (Over reason) (λ board next proposal. (p : Name) → IsTrue (has (effect_label board proposal) p) → HasNoJob next p) }
+    ensures work { (reason : Reason) → OfAnyCommit (Over reason) (λ board next. KeepsWork board next) }
+{}
+
+/// In each possible run, where the pairs of the overlaps of two rules are committed, that overlap is not due any more for a process
+/// of the effect label; its other work, but for reducing and orienting the nodes of the pairs, is due just where it was, and that on
+/// the nodes of the pairs stays due. The pairs that a closing deduces leave the work of its process in the same way.
+pub fn deductions_open_their_nodes()
+    ensures overlaps { (a c : RuleRef) (pairs : List Deduced) → OfEachCommit (Made (Deduce a c pairs)) (λ board next _. EndsOverlapByBoth board next a c pairs) }
+    ensures unjoined { (p : Name) (pairs : List Deduced) → OfEachCommit (Made (Unjoined p pairs)) (λ board next _. OpensPairs board next p pairs) }
+{}
+
+/// Where an orientation has its effect, the process is not to orient the node any more, and to reduce it only where it was. It is to
+/// orient other nodes just where it was, its overlaps of two other rules are due just where they were, and each other node that it
+/// was to reduce it still is. At a fork, in each possible run, each child has the work of the process so, with the rule of its
+/// direction, and the process has no job.
+pub fn new_rules_leave_other_work()
+    ensures one { (p : Name) (n : NodeId) (d : ℕ) (c : Certificate) → OfAnyCommit (Made (One p n d c)) (λ board next. LeavesOtherWork board p next p (record { node = n.0; dir = d })) }
+    ensures both { (p : Name) (n : NodeId) (c0 c1 : Certificate) → OfEachCommit (Made (Both p n c0 c1)) (λ board next _. SharesWork board p next n.0) }
 {}

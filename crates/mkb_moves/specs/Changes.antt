@@ -1,0 +1,107 @@
+-- Which jobs a commit makes due, and which it makes due no more. Work is reducing, orienting and overlapping.
+use Rattle.std.specs.Prelude.{ℕ, true, false, ◌<◌, List, ◌≡◌, ◌≢◌, ⊤, IsTrue, IsFalse, Contains}
+use Rattle.std.specs.declared.option.Option.TheVariants.{Some}
+use Rattle.kb_term.specs.declared.origin.RuleRef.{RuleRef}
+use Rattle.kb_label.specs.Names.{Name, has, child}
+use Rattle.kb_node.specs.declared.node.NodeId.{NodeId}
+use Rattle.kb_node.specs.declared.job.Job.{Job}
+use Rattle.kb_node.specs.declared.job.Job.TheVariants.{Reduce, Orient, Overlap}
+use Rattle.kb_node.specs.declared.job.Fact.{Fact}
+use Rattle.kb_node.specs.declared.job.Deduced.{Deduced}
+use Rattle.mkb_model.specs.Jobs.{process_of}
+use Rattle.mkb_model.specs.Plain.{Plain, pair_at}
+use Rattle.mkb_model.specs.DueJobs.{is_work_due, is_due, due_jobs_of}
+use Rattle.mkb_model.specs.Effects.{effect_label, overlap_label}
+use Rattle.mkb_model.specs.declared.proposed.Proposed.{Proposed}
+use Rattle.mkb_model.specs.declared.proposed.Proposed.TheVariants.{Facts}
+
+-- ---- whose jobs are as before
+
+-- the proposal is none of facts
+abbrev pub IsNotOfFacts : Proposed → Type 0
+IsNotOfFacts (Facts fs) = ⊥
+IsNotOfFacts x = ⊤
+
+-- each living process that the effect label does not name has the jobs due that it had
+abbrev pub OthersKeepJobs : Plain → Plain → Proposed → Type 0
+OthersKeepJobs b c x = (p : Name) → IsTrue (has b.living p) → IsFalse (has (effect_label b x) p) → due_jobs_of c p ≡ due_jobs_of b p
+
+-- ---- which work is as before
+
+-- the work is due after the commit just where it was before
+abbrev pub IsDueAsBefore : Plain → Plain → Job → Type 0
+IsDueAsBefore b c j = is_work_due c j ≡ is_work_due b j
+
+-- all work of every process is due just where it was before
+abbrev pub KeepsWork : Plain → Plain → Type 0
+KeepsWork b c = (j : Job) → IsDueAsBefore b c j
+
+-- work that was due still is
+abbrev pub IsStillDue : Plain → Plain → Job → Type 0
+IsStillDue b c j = IsTrue (is_work_due b j) → IsTrue (is_work_due c j)
+
+-- no work of any process is due that was not due before
+abbrev pub OpensNoWork : Plain → Plain → Type 0
+OpensNoWork b c = (j : Job) → IsTrue (is_work_due c j) → IsTrue (is_work_due b j)
+
+-- ---- what ends
+
+-- the job reduces a node that one of the facts names
+abbrev pub ReducesNodeOf : List Fact → Job → Type 0
+ReducesNodeOf facts (Reduce p n) = (f : Fact) × Contains facts f × (f.node ≡ n)
+ReducesNodeOf facts j = ⊥
+
+-- the job is not due afterwards, and all other work of every process is due just where it was before
+abbrev pub EndsOneJob : Plain → Plain → Job → Type 0
+EndsOneJob b c i = IsFalse (is_work_due c i) × ((j : Job) → j ≢ i → IsDueAsBefore b c j)
+
+-- no job of the process is due, of whatever kind
+abbrev pub HasNoJob : Plain → Name → Type 0
+HasNoJob c p = (j : Job) → process_of j ≡ p → IsFalse (is_due c j)
+
+-- ---- what new pairs open
+
+-- the node is that of one of the pairs
+abbrev pub IsNodeOfOne : Plain → List Deduced → ℕ → Type 0
+IsNodeOfOne c pairs m = (d : Deduced) × Contains pairs d × (pair_at c m ≡ Some d.pair)
+
+-- the job reduces or orients the node of one of the pairs
+abbrev pub IsOnPairs : Plain → List Deduced → Job → Type 0
+IsOnPairs c pairs (Reduce p n) = IsNodeOfOne c pairs n.0
+IsOnPairs c pairs (Orient p n) = IsNodeOfOne c pairs n.0
+IsOnPairs c pairs j = ⊥
+
+-- the process gains pairs: its work, but for that on their nodes, is due just where it was, and that on their nodes stays due
+pub record OpensPairs (b c : Plain) (p : Name) (pairs : List Deduced) : Type 0 where
+  pub elsewhere : (j : Job) → process_of j ≡ p → ¬ IsOnPairs c pairs j → IsDueAsBefore b c j
+  pub there : (j : Job) → process_of j ≡ p → IsOnPairs c pairs j → IsStillDue b c j
+
+-- the same, where the pairs are those of two rules, of which the overlap is not due afterwards
+pub record EndsOverlap (b c : Plain) (p : Name) (a e : RuleRef) (pairs : List Deduced) : Type 0 where
+  pub ended : IsFalse (is_work_due c (Overlap p a e))
+  pub elsewhere : (j : Job) → process_of j ≡ p → j ≢ Overlap p a e → ¬ IsOnPairs c pairs j → IsDueAsBefore b c j
+  pub there : (j : Job) → process_of j ≡ p → IsOnPairs c pairs j → IsStillDue b c j
+
+-- this holds of each process that has both rules and has not overlapped them yet
+abbrev pub EndsOverlapByBoth : Plain → Plain → RuleRef → RuleRef → List Deduced → Type 0
+EndsOverlapByBoth b c a e pairs = (p : Name) → IsTrue (has (overlap_label b a e) p) → EndsOverlap b c p a e pairs
+
+-- ---- what a new rule opens
+
+-- the reference, with one of the two directions, names another rule than a
+abbrev pub IsAnother : RuleRef → RuleRef → Type 0
+IsAnother a e = (e.dir < 2) × (e ≢ a)
+
+-- q has the work that p had, but that the new rule's node is not to be oriented any more, and only other nodes may open to be reduced; nothing is said of overlaps with the new rule
+pub record LeavesOtherWork (b : Plain) (p : Name) (c : Plain) (q : Name) (a : RuleRef) : Type 0 where
+  pub oriented : (n : NodeId) → n.0 ≡ a.node → IsFalse (is_work_due c (Orient q n))
+  pub orients : (n : NodeId) → n.0 ≢ a.node → is_work_due c (Orient q n) ≡ is_work_due b (Orient p n)
+  pub overlaps : (e f : RuleRef) → IsAnother a e → IsAnother a f → is_work_due c (Overlap q e f) ≡ is_work_due b (Overlap p e f)
+  pub reduced : (n : NodeId) → n.0 ≡ a.node → IsTrue (is_work_due c (Reduce q n)) → IsTrue (is_work_due b (Reduce p n))
+  pub reduces : (n : NodeId) → n.0 ≢ a.node → IsTrue (is_work_due b (Reduce p n)) → IsTrue (is_work_due c (Reduce q n))
+
+-- the forked process has no job, and each of its two children has the other work that it had, with the rule of its direction
+pub record SharesWork (b : Plain) (p : Name) (c : Plain) (n : ℕ) : Type 0 where
+  pub gone : HasNoJob c p
+  pub first : LeavesOtherWork b p c (child p false) (record { node = n; dir = 0 })
+  pub second : LeavesOtherWork b p c (child p true) (record { node = n; dir = 1 })
