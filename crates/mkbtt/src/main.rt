@@ -15,7 +15,7 @@ use showing::{ClearedOutput, ShowingGate};
 use std::alloc::{AllocError, Global};
 use std::env;
 use std::io::{ErrorKind, IsTerminal, Write};
-use std::mem::drop;
+use std::mem::forget;
 use std::process::ExitCode;
 use std::sync::Wait;
 use std::thread::Threads;
@@ -83,7 +83,8 @@ fn perform<R: Threads + Wait + Clock + Sync>(
     });
     let outcome = run(threads, rt.alloc(), &words, &mut source, &mut sink, &gate);
     let status = outcome.status;
-    drop(outcome);
+    // The process ends soon, and the system takes the memory of the board back in one piece.
+    forget(outcome);
     gate.clear();
     let code = told(rt, &status);
     if manner.explains {
