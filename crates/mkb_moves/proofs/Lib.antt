@@ -14,3 +14,4 @@ mod DueWork
 mod DueJobsKept
 mod EndedWork
 mod OpenedWork
+mod RewrittenWork

@@ -114,7 +114,7 @@ refusals_moved (Some q) o rest result le lr ll xs =
     let y2 : List PlainNode = gains_equation n le y1 in
     refusals_trans xs ws (gains_equation n ll y2) (refusals_with_node q o xs) (refusals_trans ws y1 (gains_equation n ll y2) (refusals_gains_rule a lr ws) (refusals_trans y1 y2 (gains_equation n ll y2) (refusals_gains_equation n le y1) (refusals_gains_equation n ll y2)))
 
-refusals_rewritten : (l : List Name) (n w : ℕ) (at : List ℕ) (a : RuleRef) (kind : Found) (u : Tree) (q : Pair) (xs : List PlainNode) → SameRefusals xs (rewritten l n w at a kind u q xs)
+pub refusals_rewritten : (l : List Name) (n w : ℕ) (at : List ℕ) (a : RuleRef) (kind : Found) (u : Tree) (q : Pair) (xs : List PlainNode) → SameRefusals xs (rewritten l n w at a kind u q xs)
 refusals_rewritten l n w at a kind u q xs =
     let x1 : List PlainNode = loses n (rule_kind w) (if_strict kind l) xs in
     let x2 : List PlainNode = loses n (rule_kind (other w)) l x1 in

@@ -59,7 +59,7 @@ IsMoved xs ys p n w kind o rest u =
     ⊎ ((IsOn xs p n (rule_kind (other w)) × IsComposed xs ys p n (other w) o rest u)
     ⊎ ((kind ≡ Strict) × IsOn xs p n (rule_kind w) × IsCollapsed xs ys p n w o))
 
-other-rule : (w : ℕ) → rule_kind w ≢ rule_kind (other w)
+pub other-rule : (w : ℕ) → rule_kind w ≢ rule_kind (other w)
 other-rule zero e = omega (arith, ap kind_number e)
 other-rule (suc w) e = omega (arith, ap kind_number e)
 

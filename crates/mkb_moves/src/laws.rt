@@ -23,7 +23,7 @@ ghost use Rattle.mkb_model.specs.Runs.{OfEachRun, OfEachLimitedRun, OfAnyCommit,
 ghost use Rattle.mkb_model.specs.declared.entry.Effect.{Effect};
 ghost use Rattle.mkb_model.specs.declared.entry.Effect.TheVariants.{Over, Made};
 ghost use Rattle.mkb_model.specs.declared.proposed.Proposed.TheVariants.{Facts, One, Both, Refuse, Deduce, Unjoined, Closed};
-ghost use Rattle.mkb_moves.specs.Changes.{IsNotOfFacts, OthersKeepJobs, OpensNoWork, ReducesNodeOf, IsDueAsBefore, EndsOneJob, KeepsWork, HasNoJob, EndsOverlapByBoth, OpensPairs, LeavesOtherWork, SharesWork};
+ghost use Rattle.mkb_moves.specs.Changes.{IsNotOfFacts, OthersKeepJobs, OpensNoWork, ReducesNodeOf, IsDueAsBefore, EndsOneJob, KeepsWork, HasNoJob, EndsOverlapByBoth, OpensPairs, LeavesOtherWork, SharesWork, LeavesWorkAtEach};
 ghost use Rattle.mkb_moves.specs.Moves.{IsLeftAlone, Orients, Forks, Deduces, DeducesByBoth, MovesItsLabel, GivesUp};
 ghost use Rattle.mkb_moves.specs.Order.{IsLeastFree, MayBeTaken, IsFirstOver};
 ghost use Rattle.mkb_moves.specs.Stuck.{IsUnorientable, IsStuck};
@@ -141,4 +141,13 @@ pub fn deductions_open_their_nodes()
 pub fn new_rules_leave_other_work()
     ensures one { (p : Name) (n : NodeId) (d : ℕ) (c : Certificate) → OfAnyCommit (Made (One p n d c)) (λ board next. LeavesOtherWork board p next p (record { node = n.0; dir = d })) }
     ensures both { (p : Name) (n : NodeId) (c0 c1 : Certificate) → OfEachCommit (Made (Both p n c0 c1)) (λ board next _. SharesWork board p next n.0) }
+{}
+
+/// In each possible run of a problem within the limits, where a rewriting has its effect, no work on its node is due any more for a
+/// process of its label. Nodes but this one and that of the new equation it is to orient, and their rules to overlap, just where it
+/// was; where it had no rule with the rewritten side on the right, so too the rules of the new equation's node. Where it had the node
+/// as an equation, it is to reduce those nodes just where it was, and where it had the rule with the rewritten side on the left, only
+/// where it was.
+pub fn rewritings_leave_other_work()
+    ensures { (n : NodeId) (w : ℕ) (at : List ℕ) (a : RuleRef) (found : Found) (t : Term) → LeavesWorkAtEach n w at a found t }
 {}

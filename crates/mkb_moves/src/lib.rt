@@ -11,4 +11,5 @@ pub use laws::{
     first_job_is_the_least, limits_stop_their_processes, new_rules_leave_other_work,
     orienting_makes_rules, others_keep_their_jobs, others_keep_their_state,
     reasons_are_of_the_first, refusals_end_one_orientation, rewriting_moves_its_label,
+    rewritings_leave_other_work,
 };
