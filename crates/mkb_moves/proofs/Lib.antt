@@ -15,3 +15,5 @@ mod DueJobsKept
 mod EndedWork
 mod OpenedWork
 mod RewrittenWork
+mod SameCosts
+mod RulesInUse

@@ -1,5 +1,5 @@
 -- Which jobs a commit makes due, and which it makes due no more. Work is reducing, orienting and overlapping.
-use Rattle.std.specs.Prelude.{ℕ, true, false, ◌<◌, List, ◌≡◌, ◌≢◌, ⊤, IsTrue, IsFalse, Contains}
+use Rattle.std.specs.Prelude.{ℕ, Bool, not, true, false, ◌<◌, List, ◌≡◌, ◌≢◌, ⊤, IsTrue, IsFalse, Contains}
 use Rattle.std.specs.declared.option.Option.TheVariants.{Some}
 use Rattle.kb_term.specs.Tree.{Tree}
 use Rattle.kb_term.specs.View.{tree_of}
@@ -8,14 +8,14 @@ use Rattle.kb_term.specs.declared.term.Term.{Term}
 use Rattle.kb_term.specs.declared.origin.RuleRef.{RuleRef}
 use Rattle.kb_term.specs.declared.origin.Found.{Found}
 use Rattle.kb_overlap.specs.Trace.{other_side}
-use Rattle.kb_label.specs.Names.{Name, has, child}
+use Rattle.kb_label.specs.Names.{Name, has, child, is_empty}
 use Rattle.kb_node.specs.declared.node.NodeId.{NodeId}
 use Rattle.kb_node.specs.declared.job.Job.{Job}
 use Rattle.kb_node.specs.declared.job.Job.TheVariants.{Reduce, Orient, Overlap}
 use Rattle.kb_node.specs.declared.job.Fact.{Fact}
 use Rattle.kb_node.specs.declared.job.Deduced.{Deduced}
 use Rattle.mkb_model.specs.Jobs.{process_of}
-use Rattle.mkb_model.specs.Plain.{Plain, other, is_equation, is_rule, pair_at, job_nodes}
+use Rattle.mkb_model.specs.Plain.{Plain, label, rule_kind, other, is_equation, is_rule, pair_at, job_nodes, cost}
 use Rattle.mkb_model.specs.DueJobs.{is_work_due, is_due, due_jobs_of}
 use Rattle.mkb_model.specs.Effects.{effect_label, overlap_label, rewrite_label}
 use Rattle.mkb_model.specs.Runs.{OfEachLimitedCommit}
@@ -121,7 +121,7 @@ pub record SharesWork (b : Plain) (p : Name) (c : Plain) (n : ℕ) : Type 0 wher
 abbrev pub IsElsewhere : Plain → ℕ → Tree → Tree → ℕ → Type 0
 IsElsewhere c n rest result k = (k ≢ n) × ¬ IsNodeOf c result rest k
 
--- p has no work on the rewritten node; orienting and overlapping elsewhere are due just where they were, and so are overlaps with rules of the new equation's node where p composed none, and reducing elsewhere where it had the node as an equation; where it had the rule with the rewritten side on the left, no reducing elsewhere is due that was not
+-- p has no work on the rewritten node; orienting and overlapping elsewhere stays, and so do overlaps with rules of the new equation, but where a rule is composed; reducing elsewhere stays where an equation is simplified, and opens nowhere where a rule is collapsed
 pub record LeavesWorkElsewhere (b c : Plain) (p : Name) (n w : ℕ) (rest result : Tree) : Type 0 where
   pub ended : (j : Job) → process_of j ≡ p → Contains (job_nodes j) n → IsFalse (is_work_due c j)
   pub orients : (k : NodeId) → IsElsewhere c n rest result k.0 → IsDueAsBefore b c (Orient p k)
@@ -138,3 +138,32 @@ LeavesLabelsWork b c n w a found result =
 -- in each possible run of a problem within the limits, this holds of each commit of this rewriting
 abbrev pub LeavesWorkAtEach : NodeId → ℕ → List ℕ → RuleRef → Found → Term → Type 0
 LeavesWorkAtEach n w at a found result = OfEachLimitedCommit (Made (Rewrite n w at a found result)) (λ board next _. LeavesLabelsWork board next n w a found result)
+
+-- ---- whose cost is as before
+
+-- each process costs what it did
+abbrev pub KeepsCosts : Plain → Plain → Type 0
+KeepsCosts b c = (p : Name) → cost c p ≡ cost b p
+
+-- each living process that the effect label does not name costs what it did
+abbrev pub OthersKeepCosts : Plain → Plain → Proposed → Type 0
+OthersKeepCosts b c x = (p : Name) → IsTrue (has b.living p) → IsFalse (has (effect_label b x) p) → cost c p ≡ cost b p
+
+-- ---- which rules are in use
+
+-- some process has the rule
+abbrev pub is_in_use : Plain → RuleRef → Bool
+is_in_use b a = not (is_empty (label b a.node (rule_kind a.dir)))
+
+-- the rule is in use after the commit just where it was before
+abbrev pub IsUsedAsBefore : Plain → Plain → RuleRef → Type 0
+IsUsedAsBefore b c a = is_in_use c a ≡ is_in_use b a
+
+-- each rule is in use just where it was
+abbrev pub KeepsRulesInUse : Plain → Plain → Type 0
+KeepsRulesInUse b c = (a : RuleRef) → IsUsedAsBefore b c a
+
+-- each rule of other nodes than the rewritten one and that of the result is in use just where it was
+abbrev pub KeepsRulesElsewhere : Plain → Plain → NodeId → ℕ → Term → Type 0
+KeepsRulesElsewhere b c n w result =
+    (pair : Pair) → pair_at b n.0 ≡ Some pair → (a : RuleRef) → IsElsewhere c n.0 (other_side pair w) (tree_of result) a.node → IsUsedAsBefore b c a
