@@ -1,4 +1,4 @@
--- Which jobs a commit makes due, and which it makes due no more. Work is reducing, orienting and overlapping.
+-- Which jobs a commit makes due, and which it makes due no more; whose cost it changes, and which rules are in use. Work is reducing, orienting and overlapping.
 use Rattle.std.specs.Prelude.{ℕ, Bool, not, true, false, ◌<◌, List, ◌≡◌, ◌≢◌, ⊤, IsTrue, IsFalse, Contains}
 use Rattle.std.specs.declared.option.Option.TheVariants.{Some}
 use Rattle.kb_term.specs.Tree.{Tree}

@@ -1,4 +1,4 @@
-//! Which processes a commit of the shared board moves, which jobs it makes due or not, which job comes first, and how processes end.
+//! Which processes a commit of the shared board moves, which jobs it makes due or not, whose cost and which rules in use it changes, which job comes first, and how processes end.
 //!
 //! Each function has an empty body: its clauses are theorems over the definitions of this crate and of `mkb_model`.
 #![tactic(auto)]
