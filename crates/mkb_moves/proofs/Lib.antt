@@ -14,3 +14,6 @@ mod DueWork
 mod DueJobsKept
 mod EndedWork
 mod OpenedWork
+mod RewrittenWork
+mod SameCosts
+mod RulesInUse

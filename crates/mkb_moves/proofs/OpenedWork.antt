@@ -139,7 +139,7 @@ unjoined_opens P n past b run w t p ds next f =
 
 -- ---- a new rule
 
-bit_below : (d : ℕ) → d < 2 → IsBit d
+pub bit_below : (d : ℕ) → d < 2 → IsBit d
 bit_below zero h = inl refl
 bit_below (suc zero) h = inr refl
 bit_below (suc (suc d)) h = absurd (omega (arith, h))

@@ -97,12 +97,16 @@ refusals_gains_rule a l xs = refusals_trans xs (loses a.node E l xs) (gains_rule
 refusals_with_node : (q : Pair) (o : Origin) (xs : List PlainNode) → SameRefusals xs (with_node q o xs)
 refusals_with_node q o xs m = label-with_node q o xs m X
 
-pub refusals_added : (l : List Name) (ds : List Deduced) (xs : List PlainNode) → SameRefusals xs (added l ds xs)
-refusals_added l [] xs = λ m. refl
-refusals_added l (x ∷ ds) xs =
+-- pairs that are gained change the equations alone
+pub labels_added : (l : List Name) (ds : List Deduced) (xs : List PlainNode) (m : ℕ) (j : LabelKind) → j ≢ E → label_at (added l ds xs) m j ≡ label_at xs m j
+labels_added l [] xs m j h = refl
+labels_added l (x ∷ ds) xs m j h =
     let ys : List PlainNode = with_node x.pair (ByOverlap x.outer x.inner x.position) xs in
-    let zs : List PlainNode = gains_equation (node_of ys x.pair) l ys in
-    refusals_trans xs zs (added l ds zs) (refusals_trans xs ys zs (refusals_with_node x.pair (ByOverlap x.outer x.inner x.position) xs) (refusals_gains_equation (node_of ys x.pair) l ys)) (refusals_added l ds zs)
+    let k : ℕ = node_of ys x.pair in
+    labels_added l ds (gains_equation k l ys) m j h ∙ put_other ys k m E j (join (label_at ys k E) (minus (minus l (label_at ys k R0)) (label_at ys k R1))) (inr h) ∙ label-with_node x.pair (ByOverlap x.outer x.inner x.position) xs m j
+
+pub refusals_added : (l : List Name) (ds : List Deduced) (xs : List PlainNode) → SameRefusals xs (added l ds xs)
+refusals_added l ds xs m = labels_added l ds xs m X (λ e. equation_kept (sym e))
 
 refusals_moved : (q : Option Pair) (o : Origin) (rest result : Tree) (le lr ll : List Name) (xs : List PlainNode) → SameRefusals xs (moved_to q o rest result le lr ll xs)
 refusals_moved None o rest result le lr ll xs = λ m. refl
@@ -114,7 +118,7 @@ refusals_moved (Some q) o rest result le lr ll xs =
     let y2 : List PlainNode = gains_equation n le y1 in
     refusals_trans xs ws (gains_equation n ll y2) (refusals_with_node q o xs) (refusals_trans ws y1 (gains_equation n ll y2) (refusals_gains_rule a lr ws) (refusals_trans y1 y2 (gains_equation n ll y2) (refusals_gains_equation n le y1) (refusals_gains_equation n ll y2)))
 
-refusals_rewritten : (l : List Name) (n w : ℕ) (at : List ℕ) (a : RuleRef) (kind : Found) (u : Tree) (q : Pair) (xs : List PlainNode) → SameRefusals xs (rewritten l n w at a kind u q xs)
+pub refusals_rewritten : (l : List Name) (n w : ℕ) (at : List ℕ) (a : RuleRef) (kind : Found) (u : Tree) (q : Pair) (xs : List PlainNode) → SameRefusals xs (rewritten l n w at a kind u q xs)
 refusals_rewritten l n w at a kind u q xs =
     let x1 : List PlainNode = loses n (rule_kind w) (if_strict kind l) xs in
     let x2 : List PlainNode = loses n (rule_kind (other w)) l x1 in

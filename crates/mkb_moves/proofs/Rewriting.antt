@@ -95,7 +95,7 @@ module _ (b c : Plain) (p : Name) (n : ℕ) (rest u : Tree) where
 
 -- what the proposal read
 module _ (before b : Plain) (keeps : KeepsPairs before.nodes b.nodes) (m : NodeId) (w : ℕ) (at : List ℕ) (a : RuleRef) (kind : Found) (t : Term) where
-  read : (j : Job) → Proposes before j (Rewrite m w at a kind t) → IsRewriteOn b.nodes m.0 w at a kind (tree_of t) × IsBit w × IsBit a.dir
+  pub read : (j : Job) → Proposes before j (Rewrite m w at a kind t) → IsRewriteOn b.nodes m.0 w at a kind (tree_of t) × IsBit w × IsBit a.dir
   read (Reduce p n) h =
       let r = h.1.2.first.is_redex in (
         rewrite_ready before b p n m w at a kind t h keeps,

@@ -59,7 +59,7 @@ IsMoved xs ys p n w kind o rest u =
     ⊎ ((IsOn xs p n (rule_kind (other w)) × IsComposed xs ys p n (other w) o rest u)
     ⊎ ((kind ≡ Strict) × IsOn xs p n (rule_kind w) × IsCollapsed xs ys p n w o))
 
-other-rule : (w : ℕ) → rule_kind w ≢ rule_kind (other w)
+pub other-rule : (w : ℕ) → rule_kind w ≢ rule_kind (other w)
 other-rule zero e = omega (arith, ap kind_number e)
 other-rule (suc w) e = omega (arith, ap kind_number e)
 
@@ -79,19 +79,21 @@ gained x3 y3 p k z fits there eqs others m = (
       o),
 )
 
--- the pair of the result has a node
-pub result_there : (l : List Name) (n w : ℕ) (at : List ℕ) (a : RuleRef) (kind : Found) (u : Tree) (q : Pair) (xs : List PlainNode) (o : Option Pair) (z : Pair) → o ≡ Some z → (k : ℕ) × (pair_in (moved_nodes l n w at a kind u q o xs) k ≡ Some z)
-result_there l n w at a kind u q xs None z e = none_some e
-result_there l n w at a kind u q xs (Some y) z e =
+-- the pair of the result has the node that gains it
+pub result_at : (l : List Name) (n w : ℕ) (at : List ℕ) (a : RuleRef) (kind : Found) (u : Tree) (q : Pair) (xs : List PlainNode) (y : Pair)
+    → pair_in (moved_nodes l n w at a kind u q (Some y) xs) (node_of (with_node y (ByRewrite n w at a) (lost_nodes l n w kind xs)) y) ≡ Some y
+result_at l n w at a kind u q xs y =
     let ws : List PlainNode = with_node y (ByRewrite n w at a) (lost_nodes l n w kind xs) in
     let k : ℕ = node_of ws y in
     let r : RuleRef = record { node = k; dir = direction (other_side q w) u y } in
     let y1 : List PlainNode = gains_rule r (meet l (label_at xs n (rule_kind (other w)))) ws in
-    let y2 : List PlainNode = gains_equation k (meet l (label_at xs n E)) y1 in (
-      k,
-      pairs-gains_equation k (if_strict kind (meet l (label_at xs n (rule_kind w)))) y2 k ∙ pairs-gains_equation k (meet l (label_at xs n E)) y1 k ∙ pairs-gains_rule r (meet l (label_at xs n (rule_kind (other w)))) ws k
-          ∙ (node-with_node y (ByRewrite n w at a) (lost_nodes l n w kind xs)).0 ∙ e,
-    )
+    let y2 : List PlainNode = gains_equation k (meet l (label_at xs n E)) y1 in
+    pairs-gains_equation k (if_strict kind (meet l (label_at xs n (rule_kind w)))) y2 k ∙ pairs-gains_equation k (meet l (label_at xs n E)) y1 k ∙ pairs-gains_rule r (meet l (label_at xs n (rule_kind (other w)))) ws k
+    ∙ (node-with_node y (ByRewrite n w at a) (lost_nodes l n w kind xs)).0
+
+pub result_there : (l : List Name) (n w : ℕ) (at : List ℕ) (a : RuleRef) (kind : Found) (u : Tree) (q : Pair) (xs : List PlainNode) (o : Option Pair) (z : Pair) → o ≡ Some z → (k : ℕ) × (pair_in (moved_nodes l n w at a kind u q o xs) k ≡ Some z)
+result_there l n w at a kind u q xs None z e = none_some e
+result_there l n w at a kind u q xs (Some y) z e = (node_of (with_node y (ByRewrite n w at a) (lost_nodes l n w kind xs)) y, result_at l n w at a kind u q xs y ∙ e)
 
 module _ (xs : List PlainNode) (p : Name) (l : List Name) (named : has l p ≡ true) (n w : ℕ) (at : List ℕ) (a : RuleRef) (kind : Found) (u : Tree) (q : Pair) (one : OneRole xs p) where
   abbrev x3 : List PlainNode

@@ -1,5 +1,5 @@
 -- An orientation turns an equation of its process into a rule; of a fork, each child gets its own.
-use Rattle.std.proofs.Common.{ℕ, ◌≡◌, ◌≢◌, inl, inr, refl, sym, ap, ◌∙◌, subst, arith, List, [], ◌∷◌, length, length-append, Bool, true, false, ⊎_elim, Contains}
+use Rattle.std.proofs.Common.{ℕ, ◌≡◌, ◌⊎◌, ◌≢◌, inl, inr, refl, sym, ap, ◌∙◌, subst, arith, List, [], ◌∷◌, length, length-append, Bool, true, false, ⊎_elim, Contains}
 use Rattle.kb_term.specs.Signature.{Problem}
 use Rattle.kb_term.specs.declared.origin.RuleRef.{RuleRef}
 use Rattle.kb_cert.specs.declared.certificate.Certificate.{Certificate}
@@ -12,7 +12,6 @@ use Rattle.kb_node.specs.declared.node.LabelKind.TheVariants.{E, X}
 use Rattle.kb_node.specs.declared.job.Job.{Job}
 use Rattle.kb_node.specs.declared.job.Job.TheVariants.{Reduce, Orient, Overlap, Close}
 use Rattle.mkb_model.specs.Plain.{Plain, label, label_at, rule_kind, constraint_kind, rules_of, constraints_of, view}
-use Rattle.mkb_model.specs.Effects.{gains, applied}
 use Rattle.mkb_model.specs.Proposals.{Proposes}
 use Rattle.mkb_model.specs.Journals.{Moment, IsPossibleRun, IsCommitting}
 use Rattle.mkb_model.specs.Ready.{IsOn}
@@ -107,15 +106,23 @@ module _ (P : Problem) (n : Settings) (past : List Moment) (b : Plain) (run : Is
     second = turned b next p (child p true) (record { node = m.0; dir = 1 }) (inr refl) on (child_roles true);
   }
 
--- a refusal is noted, and changes nothing else of its process
+-- a refusal changes no other label
+pub refusal_labels : (past : List Moment) (b : Plain) (w t : ℕ) (p : Name) (n : NodeId) (next : Plain) → IsCommitting past b w t (Made (Refuse p n)) next → (m : ℕ) (j : LabelKind) → (m ≢ n.0) ⊎ (j ≢ X) → label next m j ≡ label b m j
+refusal_labels past b w t p n next f m j h = ap (λ (z : Plain). label z m j) (making past b w t (Refuse p n) next f).leads_to ∙ put_other b.nodes n.0 m X j (join (label_at b.nodes n.0 X) (p ∷ [])) h
+
+-- and each process sees what it saw
+pub refusal_seen : (past : List Moment) (b : Plain) (w t : ℕ) (p : Name) (n : NodeId) (next : Plain) → IsCommitting past b w t (Made (Refuse p n)) next → (q : Name) → view next q ≡ view b q
+refusal_seen past b w t p n next f q = same_seen b next q q (λ m. other m E (λ e. omega (arith, ap kind_number e))) (λ d m. other m (rule_kind d) (refused-no_rule d)) (λ d m. other m (constraint_kind d) (refused-no_constraint d))
+  where
+    other : (m : ℕ) (j : LabelKind) → j ≢ X → has (label next m j) q ≡ has (label b m j) q
+    other m j h = ap (λ l. has l q) (refusal_labels past b w t p n next f m j (inr h))
+
+-- it is noted, and its process sees what it saw
 pub refusal_noted : (past : List Moment) (b : Plain) (w t : ℕ) (p : Name) (n : NodeId) (next : Plain) → IsCommitting past b w t (Made (Refuse p n)) next → (has (label next n.0 X) p ≡ true) × (view next p ≡ view b p)
-refusal_noted past b w t p n next f = subst {A = Plain} (λ z. (has (label z n.0 X) p ≡ true) × (view z p ≡ view b p)) (sym k.leads_to) (
-  (on-gains n.0 X (p ∷ []) b.nodes p n.0 X).1 (inr ((refl, refl), on_there b.nodes p n.0 E (orients b p n.0 k.acts), self p)),
-  same_seen b (applied b (Refuse p n)) p p (λ m. other m E (λ e. omega (arith, ap kind_number e))) (λ d m. other m (rule_kind d) (refused-no_rule d)) (λ d m. other m (constraint_kind d) (refused-no_constraint d)),
+refusal_noted past b w t p n next f = (
+  subst {A = Plain} (λ z. has (label z n.0 X) p ≡ true) (sym k.leads_to) ((on-gains n.0 X (p ∷ []) b.nodes p n.0 X).1 (inr ((refl, refl), on_there b.nodes p n.0 E (orients b p n.0 k.acts), self p))),
+  refusal_seen past b w t p n next f p,
 )
   where
     k : IsMaking past b w t (Refuse p n) next
     k = making past b w t (Refuse p n) next f
-
-    other : (m : ℕ) (j : LabelKind) → j ≢ X → has (label_at (gains n.0 X (p ∷ []) b.nodes) m j) p ≡ has (label_at b.nodes m j) p
-    other m j h = ap (λ l. has l p) (put_other b.nodes n.0 m X j (join (label_at b.nodes n.0 X) (p ∷ [])) (inr h))

@@ -1,19 +1,28 @@
--- Which jobs a commit makes due, and which it makes due no more. Work is reducing, orienting and overlapping.
-use Rattle.std.specs.Prelude.{ℕ, true, false, ◌<◌, List, ◌≡◌, ◌≢◌, ⊤, IsTrue, IsFalse, Contains}
+-- Which jobs a commit makes due, and which it makes due no more; whose cost it changes, and which rules are in use. Work is reducing, orienting and overlapping.
+use Rattle.std.specs.Prelude.{ℕ, Bool, not, true, false, ◌<◌, List, ◌≡◌, ◌≢◌, ⊤, IsTrue, IsFalse, Contains}
 use Rattle.std.specs.declared.option.Option.TheVariants.{Some}
+use Rattle.kb_term.specs.Tree.{Tree}
+use Rattle.kb_term.specs.View.{tree_of}
+use Rattle.kb_term.specs.Pair.{Pair}
+use Rattle.kb_term.specs.declared.term.Term.{Term}
 use Rattle.kb_term.specs.declared.origin.RuleRef.{RuleRef}
-use Rattle.kb_label.specs.Names.{Name, has, child}
+use Rattle.kb_term.specs.declared.origin.Found.{Found}
+use Rattle.kb_overlap.specs.Trace.{other_side}
+use Rattle.kb_label.specs.Names.{Name, has, child, is_empty}
 use Rattle.kb_node.specs.declared.node.NodeId.{NodeId}
 use Rattle.kb_node.specs.declared.job.Job.{Job}
 use Rattle.kb_node.specs.declared.job.Job.TheVariants.{Reduce, Orient, Overlap}
 use Rattle.kb_node.specs.declared.job.Fact.{Fact}
 use Rattle.kb_node.specs.declared.job.Deduced.{Deduced}
 use Rattle.mkb_model.specs.Jobs.{process_of}
-use Rattle.mkb_model.specs.Plain.{Plain, pair_at}
+use Rattle.mkb_model.specs.Plain.{Plain, label, rule_kind, other, is_equation, is_rule, pair_at, job_nodes, cost}
 use Rattle.mkb_model.specs.DueJobs.{is_work_due, is_due, due_jobs_of}
-use Rattle.mkb_model.specs.Effects.{effect_label, overlap_label}
+use Rattle.mkb_model.specs.Effects.{effect_label, overlap_label, rewrite_label}
+use Rattle.mkb_model.specs.Runs.{OfEachLimitedCommit}
+use Rattle.mkb_model.specs.declared.entry.Effect.TheVariants.{Made}
 use Rattle.mkb_model.specs.declared.proposed.Proposed.{Proposed}
-use Rattle.mkb_model.specs.declared.proposed.Proposed.TheVariants.{Facts}
+use Rattle.mkb_model.specs.declared.proposed.Proposed.TheVariants.{Facts, Rewrite}
+use Rattle.mkb_moves.specs.Moves.{IsNodeOf}
 
 -- ---- whose jobs are as before
 
@@ -105,3 +114,56 @@ pub record SharesWork (b : Plain) (p : Name) (c : Plain) (n : ℕ) : Type 0 wher
   pub gone : HasNoJob c p
   pub first : LeavesOtherWork b p c (child p false) (record { node = n; dir = 0 })
   pub second : LeavesOtherWork b p c (child p true) (record { node = n; dir = 1 })
+
+-- ---- what a rewriting ends
+
+-- the node is neither the rewritten one nor that of the equation of the result and the rest
+abbrev pub IsElsewhere : Plain → ℕ → Tree → Tree → ℕ → Type 0
+IsElsewhere c n rest result k = (k ≢ n) × ¬ IsNodeOf c result rest k
+
+-- p has no work on the rewritten node; orienting and overlapping elsewhere stays, and so do overlaps with rules of the new equation, but where a rule is composed; reducing elsewhere stays where an equation is simplified, and opens nowhere where a rule is collapsed
+pub record LeavesWorkElsewhere (b c : Plain) (p : Name) (n w : ℕ) (rest result : Tree) : Type 0 where
+  pub ended : (j : Job) → process_of j ≡ p → Contains (job_nodes j) n → IsFalse (is_work_due c j)
+  pub orients : (k : NodeId) → IsElsewhere c n rest result k.0 → IsDueAsBefore b c (Orient p k)
+  pub overlaps : (e f : RuleRef) → IsElsewhere c n rest result e.node → IsElsewhere c n rest result f.node → IsDueAsBefore b c (Overlap p e f)
+  pub uncomposed : IsFalse (is_rule b p (record { node = n; dir = other w })) → (e f : RuleRef) → e.node ≢ n → f.node ≢ n → IsDueAsBefore b c (Overlap p e f)
+  pub simplified : IsTrue (is_equation b p n) → (k : NodeId) → IsElsewhere c n rest result k.0 → IsDueAsBefore b c (Reduce p k)
+  pub collapsed : IsTrue (is_rule b p (record { node = n; dir = w })) → (k : NodeId) → IsElsewhere c n rest result k.0 → IsTrue (is_work_due c (Reduce p k)) → IsTrue (is_work_due b (Reduce p k))
+
+-- the node has a pair, of which this holds for each process of the label of the rewriting
+abbrev pub LeavesLabelsWork : Plain → Plain → NodeId → ℕ → RuleRef → Found → Term → Type 0
+LeavesLabelsWork b c n w a found result =
+    (pair : Pair) × (pair_at b n.0 ≡ Some pair) × ((p : Name) → IsTrue (has (rewrite_label b n.0 w a found) p) → LeavesWorkElsewhere b c p n.0 w (other_side pair w) (tree_of result))
+
+-- in each possible run of a problem within the limits, this holds of each commit of this rewriting
+abbrev pub LeavesWorkAtEach : NodeId → ℕ → List ℕ → RuleRef → Found → Term → Type 0
+LeavesWorkAtEach n w at a found result = OfEachLimitedCommit (Made (Rewrite n w at a found result)) (λ board next _. LeavesLabelsWork board next n w a found result)
+
+-- ---- whose cost is as before
+
+-- each process costs what it did
+abbrev pub KeepsCosts : Plain → Plain → Type 0
+KeepsCosts b c = (p : Name) → cost c p ≡ cost b p
+
+-- each living process that the effect label does not name costs what it did
+abbrev pub OthersKeepCosts : Plain → Plain → Proposed → Type 0
+OthersKeepCosts b c x = (p : Name) → IsTrue (has b.living p) → IsFalse (has (effect_label b x) p) → cost c p ≡ cost b p
+
+-- ---- which rules are in use
+
+-- some process has the rule
+abbrev pub is_in_use : Plain → RuleRef → Bool
+is_in_use b a = not (is_empty (label b a.node (rule_kind a.dir)))
+
+-- the rule is in use after the commit just where it was before
+abbrev pub IsUsedAsBefore : Plain → Plain → RuleRef → Type 0
+IsUsedAsBefore b c a = is_in_use c a ≡ is_in_use b a
+
+-- each rule is in use just where it was
+abbrev pub KeepsRulesInUse : Plain → Plain → Type 0
+KeepsRulesInUse b c = (a : RuleRef) → IsUsedAsBefore b c a
+
+-- each rule of other nodes than the rewritten one and that of the result is in use just where it was
+abbrev pub KeepsRulesElsewhere : Plain → Plain → NodeId → ℕ → Term → Type 0
+KeepsRulesElsewhere b c n w result =
+    (pair : Pair) → pair_at b n.0 ≡ Some pair → (a : RuleRef) → IsElsewhere c n.0 (other_side pair w) (tree_of result) a.node → IsUsedAsBefore b c a

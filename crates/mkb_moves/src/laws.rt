@@ -1,5 +1,5 @@
 // The laws. A run lists its moments, each a board and the entry made on it, the newest first.
-ghost use Rattle.std.specs.Prelude.{◌≡◌, ◌++◌, ℕ, List, [], Contains, Some, None, IsTrue, IsFalse};
+ghost use Rattle.std.specs.Prelude.{◌≡◌, ◌≢◌, ◌++◌, ℕ, List, [], Contains, Some, None, IsTrue, IsFalse};
 ghost use Rattle.kb_term.specs.declared.term.Term.{Term};
 ghost use Rattle.kb_term.specs.declared.origin.RuleRef.{RuleRef};
 ghost use Rattle.kb_term.specs.declared.origin.Found.{Found};
@@ -22,8 +22,8 @@ ghost use Rattle.mkb_model.specs.Verdicts.{verdict};
 ghost use Rattle.mkb_model.specs.Runs.{OfEachRun, OfEachLimitedRun, OfAnyCommit, OfEachCommit};
 ghost use Rattle.mkb_model.specs.declared.entry.Effect.{Effect};
 ghost use Rattle.mkb_model.specs.declared.entry.Effect.TheVariants.{Over, Made};
-ghost use Rattle.mkb_model.specs.declared.proposed.Proposed.TheVariants.{Facts, One, Both, Refuse, Deduce, Unjoined, Closed};
-ghost use Rattle.mkb_moves.specs.Changes.{IsNotOfFacts, OthersKeepJobs, OpensNoWork, ReducesNodeOf, IsDueAsBefore, EndsOneJob, KeepsWork, HasNoJob, EndsOverlapByBoth, OpensPairs, LeavesOtherWork, SharesWork};
+ghost use Rattle.mkb_model.specs.declared.proposed.Proposed.TheVariants.{Facts, Rewrite, One, Both, Refuse, Deduce, Unjoined, Closed};
+ghost use Rattle.mkb_moves.specs.Changes.{IsNotOfFacts, OthersKeepJobs, OpensNoWork, ReducesNodeOf, IsDueAsBefore, EndsOneJob, KeepsWork, HasNoJob, EndsOverlapByBoth, OpensPairs, LeavesOtherWork, SharesWork, LeavesWorkAtEach, IsAnother, KeepsCosts, OthersKeepCosts, IsUsedAsBefore, KeepsRulesInUse, KeepsRulesElsewhere};
 ghost use Rattle.mkb_moves.specs.Moves.{IsLeftAlone, Orients, Forks, Deduces, DeducesByBoth, MovesItsLabel, GivesUp};
 ghost use Rattle.mkb_moves.specs.Order.{IsLeastFree, MayBeTaken, IsFirstOver};
 ghost use Rattle.mkb_moves.specs.Stuck.{IsUnorientable, IsStuck};
@@ -141,4 +141,38 @@ pub fn deductions_open_their_nodes()
 pub fn new_rules_leave_other_work()
     ensures one { (p : Name) (n : NodeId) (d : ℕ) (c : Certificate) → OfAnyCommit (Made (One p n d c)) (λ board next. LeavesOtherWork board p next p (record { node = n.0; dir = d })) }
     ensures both { (p : Name) (n : NodeId) (c0 c1 : Certificate) → OfEachCommit (Made (Both p n c0 c1)) (λ board next _. SharesWork board p next n.0) }
+{}
+
+/// In each possible run of a problem within the limits, where a rewriting has its effect, no work on its node is due any more for a
+/// process of its label. Nodes but this one and that of the new equation it is to orient, and their rules to overlap, just where it
+/// was; where it had no rule with the rewritten side on the right, so too the rules of the new equation's node. Where it had the node
+/// as an equation, it is to reduce those nodes just where it was, and where it had the rule with the rewritten side on the left, only
+/// where it was.
+pub fn rewritings_leave_other_work()
+    ensures { (n : NodeId) (w : ℕ) (at : List ℕ) (a : RuleRef) (found : Found) (t : Term) → LeavesWorkAtEach n w at a found t }
+{}
+
+/// In each possible run each commit leaves the costs of the living processes that its effect label does not name. Where facts, a
+/// refusal or a closing have their effect, and where a commit comes to a limit, each process costs what it did.
+pub fn others_keep_their_cost()
+    ensures others { (effect : Effect) → OfEachCommit effect (λ board next proposal. OthersKeepCosts board next proposal) }
+    ensures facts { (facts : List Fact) → OfAnyCommit (Made (Facts facts)) (λ board next. KeepsCosts board next) }
+    ensures refused { (p : Name) (n : NodeId) → OfAnyCommit (Made (Refuse p n)) (λ board next. KeepsCosts board next) }
+    ensures closed { (p : Name) → OfAnyCommit (Made (Closed p)) (λ board next. KeepsCosts board next) }
+    ensures limits { (reason : Reason) → OfAnyCommit (Over reason) (λ board next. KeepsCosts board next) }
+{}
+
+/// Which rules some process has, at any commit. Facts, refusals, closings, deduced pairs and limits leave this of each rule. An
+/// orientation leaves it of each rule but its own, a fork of each but the two of its node, and a rewriting of each but those of its
+/// node and of that of the new equation.
+pub fn rules_in_use_change_where_the_effect_is()
+    ensures facts { (facts : List Fact) → OfAnyCommit (Made (Facts facts)) (λ board next. KeepsRulesInUse board next) }
+    ensures refused { (p : Name) (n : NodeId) → OfAnyCommit (Made (Refuse p n)) (λ board next. KeepsRulesInUse board next) }
+    ensures closed { (p : Name) → OfAnyCommit (Made (Closed p)) (λ board next. KeepsRulesInUse board next) }
+    ensures overlaps { (a c : RuleRef) (pairs : List Deduced) → OfAnyCommit (Made (Deduce a c pairs)) (λ board next. KeepsRulesInUse board next) }
+    ensures unjoined { (p : Name) (pairs : List Deduced) → OfAnyCommit (Made (Unjoined p pairs)) (λ board next. KeepsRulesInUse board next) }
+    ensures limits { (reason : Reason) → OfAnyCommit (Over reason) (λ board next. KeepsRulesInUse board next) }
+    ensures one { (p : Name) (n : NodeId) (d : ℕ) (c : Certificate) → OfAnyCommit (Made (One p n d c)) (λ board next. (a : RuleRef) → IsAnother (record { node = n.0; dir = d }) a → IsUsedAsBefore board next a) }
+    ensures both { (p : Name) (n : NodeId) (c0 c1 : Certificate) → OfAnyCommit (Made (Both p n c0 c1)) (λ board next. (a : RuleRef) → a.node ≢ n.0 → IsUsedAsBefore board next a) }
+    ensures rewritten { (n : NodeId) (w : ℕ) (at : List ℕ) (a : RuleRef) (found : Found) (t : Term) → OfAnyCommit (Made (Rewrite n w at a found t)) (λ board next. KeepsRulesElsewhere board next n w t) }
 {}
