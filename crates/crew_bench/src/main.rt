@@ -14,6 +14,7 @@ use mkb_board::Board;
 use mkb_model::Settings;
 use std::alloc::Global;
 use std::env;
+use std::mem::drop;
 use std::process::ExitCode;
 use std::sync::Wait;
 use std::thread::Threads;
@@ -111,7 +112,9 @@ fn commits<R: Threads + Wait + Clock + Sync>(
             work_together_by(rt, alloc, board, request.workers, &OpenGate, &anew)
         }
     };
-    crew.board.commits()
+    let count = crew.board.commits();
+    drop(crew);
+    count
 }
 
 // How many commits are made on the problem that is read.
