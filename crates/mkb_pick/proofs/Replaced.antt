@@ -194,6 +194,28 @@ cost_set old new n d e is k cost rest m c r = (
 )
 
 -- it rests now, or does not
+-- a process that has the cost already
+pub cost_had : (q : Queue) → IsQueue q → (n : Name) (k : ℕ) (d : Entry) → Has q.entries d → d.name ≡ n → d.cost ≡ k → (m : Name) (c : ℕ) (r : Bool) → Sits q m c r ↔ (((m ≡ n) × (c ≡ k) × ((b : ℕ) × Sits q m b r)) ⊎ ((¬ (m ≡ n)) × Sits q m c r))
+cost_had q is n k d there name cost m c r = (
+  λ s.
+      elim (names_decide m n) [
+        | inl e ↦ inl (e, own c s e, (c, s))
+        | inr e ↦ inr (e, s)
+      ],
+  λ x.
+      elim x [
+        | inl y ↦ subst (λ z. Sits q m z r) (own y.2.0 y.2.1 y.0 ∙ sym y.1) y.2.1
+        | inr y ↦ y.1
+      ],
+)
+  where
+    own : (b : ℕ) → Sits q m b r → m ≡ n → b ≡ k
+    own b s e = sym s.3 ∙ ap (λ (z : Entry). z.cost) (one_entry q.entries is.entries s.0 d s.1 there (s.2 ∙ e ∙ sym name)) ∙ cost
+
+-- a task that is not there
+pub task_lacked : (q : Queue) (n : Name) (x : Task) → ¬ HasTask q n x → (m : Name) (t : Task) → HasTask q m t ↔ (HasTask q m t × ¬ ((m ≡ n) × (t ≡ x)))
+task_lacked q n x none m t = ((λ h. (h, λ e. none (subst (λ z. HasTask q z x) e.0 (subst (HasTask q m) e.1 h)))), λ h. h.0)
+
 pub rest_set : (old new : Queue) (n : Name) (d e : Entry) → IsReplaced old new n d e → (k : Bool) → e.cost ≡ d.cost → e.resting ≡ k → (m : Name) (c : ℕ) (r : Bool) → Sits new m c r ↔ (((m ≡ n) × (r ≡ k) × ((b : Bool) × Sits old m c b)) ⊎ ((¬ (m ≡ n)) × Sits old m c r))
 rest_set old new n d e is k cost rest m c r = (
   λ h.

@@ -139,6 +139,24 @@ impl Agenda {
         self.queue.remove_task(&process_of(job), &task)
     }
 
+    /// Whether a job is listed under the weight. It takes no memory.
+    pub fn has(&self, job: &Job, weight: u32) -> bool
+        ensures { IsTrue result ↔ HasJob self.now.processes job.now weight }
+    {
+        let task = Task {
+            work: Work::of(job),
+            weight,
+        };
+        self.queue.has_task(&process_of(job), &task)
+    }
+
+    /// Whether no job of a process is listed. It takes no memory.
+    pub fn is_idle(&self, process: &Process) -> bool
+        ensures { IsTrue result ↔ ((j : Job) (w : ℕ) → process_of j ≡ process.now → ¬ HasJob self.now.processes j w) }
+    {
+        self.queue.is_idle(process)
+    }
+
     /// Gives a listed process another cost. It takes no memory.
     pub fn set_cost(&mut self, process: &Process, cost: u64)
         requires { IsProcess self.old.processes process.now }

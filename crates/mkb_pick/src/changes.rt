@@ -6,6 +6,7 @@ ghost use Rattle.mkb_pick.specs.Tasks.{task_cmp};
 ghost use Rattle.mkb_pick.specs.Listings.{IsChild};
 ghost use Rattle.mkb_pick.specs.Queues.{IsQueue, IsSeated, HasTask, Sits};
 ghost use Rattle.mkb_pick.specs.Stores.{IsStocked};
+ghost use Rattle.mkb_pick.specs.declared.queue.Entry.{Entry as Listed};
 
 use crate::queue::{Entry, Queue, Seat};
 use crate::stores::Stores;
@@ -38,6 +39,10 @@ impl Queue {
         ensures tasks { (n : Name) (t : Task) → HasTask self.new n t ↔ (HasTask self.old n t × ¬ ((n ≡ name.now) × (t ≡ task.now))) }
         ensures queue { IsQueue self.new }
     {
+        // To find that a task isn't there is cheaper than to take its process out and put it back.
+        if !self.has_task(name, task) {
+            return false;
+        }
         let Some(mut seat) = self.take_out(name) else {
             return false;
         };
@@ -54,11 +59,25 @@ impl Queue {
         ensures tasks { (n : Name) (t : Task) → HasTask self.new n t ↔ HasTask self.old n t }
         ensures queue { IsQueue self.new }
     {
+        if self.has_cost(name, cost) {
+            return;
+        }
         let Some(mut seat) = self.take_out(name) else {
             unreachable!()
         };
         seat.entry.item.cost = cost;
         self.put_in(seat);
+    }
+
+    // Whether a process is there with the cost.
+    fn has_cost(&self, name: &Process, cost: u64) -> bool
+        requires { IsQueue self.now }
+        ensures { IsTrue result → (e : Listed) × Has self.now.entries e × (e.name ≡ name.now) × (e.cost ≡ cost) }
+    {
+        match find(&self.entries, &Entry::bare(*name)) {
+            Some(entry) => entry.cost == cost,
+            None => false,
+        }
     }
 
     /// Lets a process rest, or wakes it.
@@ -98,6 +117,28 @@ impl Queue {
         }
     }
 
+    /// Whether a process has a task.
+    pub(crate) fn has_task(&self, name: &Process, task: &Task) -> bool
+        requires { IsQueue self.now }
+        ensures { IsTrue result ↔ HasTask self.now name.now task.now }
+    {
+        match find(&self.entries, &Entry::bare(*name)) {
+            Some(entry) => is_in(&entry.tasks, task),
+            None => false,
+        }
+    }
+
+    /// Whether a process has no task.
+    pub(crate) fn is_idle(&self, name: &Process) -> bool
+        requires { IsQueue self.now }
+        ensures { IsTrue result ↔ ((t : Task) → ¬ HasTask self.now name.now t) }
+    {
+        match find(&self.entries, &Entry::bare(*name)) {
+            Some(entry) => is_bare(&entry.tasks),
+            None => true,
+        }
+    }
+
     /// Puts the two children of a process in its place.
     pub(crate) fn fork(&mut self, name: &Process, jobs: usize, other: Seat, stores: &mut Stores)
         requires queue { IsQueue self.old }
@@ -120,6 +161,27 @@ impl Queue {
         let twin = filled(other, twin_of(&seat, name.child(true), jobs, stores));
         self.put_in(renamed(seat, name.child(false)));
         self.put_in(twin);
+    }
+}
+
+// Whether a task is there.
+fn is_in(tasks: &Tree<Task>, task: &Task) -> bool
+    requires { IsOrdered task_cmp tasks.now }
+    ensures { IsTrue result ↔ Has tasks.now task.now }
+{
+    match find(tasks, task) {
+        Some(_) => true,
+        None => false,
+    }
+}
+
+// Whether there is no task.
+fn is_bare(tasks: &Tree<Task>) -> bool
+    ensures { IsTrue result ↔ ((t : Task) → ¬ Has tasks.now t) }
+{
+    match tasks {
+        Tree::Leaf => true,
+        Tree::Fork(_) => false,
     }
 }
 

@@ -1,7 +1,8 @@
 use Rattle.std.proofs.Common.{sym, ap, ◌∙◌, subst}
+use Rattle.mkb_model.proofs.Lists.{clash}
 use Rattle.mkb_pick.specs.Trees.{Has}
 use Rattle.mkb_pick.specs.declared.queue.Entry.{Entry}
-use Rattle.mkb_pick.proofs.Replaced.{replaced, seats_stay, task_removed, off, found_task}
+use Rattle.mkb_pick.proofs.Replaced.{replaced, seats_stay, task_removed, off, found_task, task_lacked}
 use Rattle.mkb_pick.proofs.queue.Queue.remove_task.Goals as goal
 
 pub returns-clause-seats : goal.returns-clause-seats
@@ -27,3 +28,6 @@ returns-clause-found c =
       λ h. f.1 (subst (λ v. Has v t) same (c.remove_from-found.ensures.found.0 h)),
       λ h. c.remove_from-found.ensures.found.1 (subst (λ v. Has v t) (sym same) (f.0 h)),
     )
+
+pub returns-then-not-has_task-clause-tasks : goal.returns-then-not-has_task-clause-tasks
+returns-then-not-has_task-clause-tasks c = task_lacked c.args.self.now c.args.name.now c.args.task.now (λ h. clash (c.has_task.ensures.1 h) c.if-not-has_task.true)
