@@ -1,19 +1,19 @@
-mod FirstJob
-mod FirstOver
-mod Sight
-mod Makes
-mod Others
-mod Turning
-mod Added
-mod Stopped
-mod Sources
-mod Rewriting
-mod Refused
-mod Stuck
-mod DueWork
-mod DueJobsKept
-mod EndedWork
-mod OpenedWork
-mod RewrittenWork
-mod SameCosts
-mod RulesInUse
+pub mod FirstJob
+pub mod FirstOver
+pub mod Sight
+pub mod Makes
+pub mod Others
+pub mod Turning
+pub mod Added
+pub mod Stopped
+pub mod Sources
+pub mod Rewriting
+pub mod Refused
+pub mod Stuck
+pub mod DueWork
+pub mod DueJobsKept
+pub mod EndedWork
+pub mod OpenedWork
+pub mod RewrittenWork
+pub mod SameCosts
+pub mod RulesInUse
