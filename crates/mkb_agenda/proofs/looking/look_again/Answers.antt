@@ -1,0 +1,42 @@
+use Rattle.std.proofs.Common.{ℕ, subst}
+use Rattle.std.proofs.lemmas.Result.{on_ok_weaker}
+use Rattle.mkb_model.proofs.Lists.{clash}
+use Rattle.mkb_pick.specs.Listings.{SetsCost}
+use Rattle.mkb_agenda.specs.Looking.{touched_jobs}
+use Rattle.mkb_agenda.proofs.Anew.{process_kept}
+use Rattle.mkb_agenda.proofs.Again.{not_listed, looked_again, left_others, process_set, touched_own}
+use Rattle.mkb_agenda.proofs.looking.look_again.Goals as goal
+
+pub returns-then-not-is_listed-clause-exact : goal.returns-then-not-is_listed-clause-exact
+returns-then-not-is_listed-clause-exact c b p l f = not_listed b p c.args.state.now c.args.touched.now.process.now (touched_jobs c.args.state.now c.args.touched.now) c.args.agenda.now.processes (λ h. clash (c.is_listed.ensures.1 h) c.if-not-is_listed.true) l f
+
+pub set_cost-requires : goal.set_cost-requires
+set_cost-requires c = process_kept c.args.agenda.now.processes c.look_at_work.new.agenda.processes c.look_at_work.ensures.processes c.args.touched.now.process.now (c.is_listed.ensures.0 c.if-not-is_listed.false)
+
+pub look_at_closing-requires : goal.look_at_closing-requires
+look_at_closing-requires c = record {
+  listed = process_set c.look_at_work.new.agenda.processes c.set_cost.new.self.processes c.args.touched.now.process.now c.in-Some-Some.cost c.set_cost.ensures.processes
+      (process_kept c.args.agenda.now.processes c.look_at_work.new.agenda.processes c.look_at_work.ensures.processes c.args.touched.now.process.now (c.is_listed.ensures.0 c.if-not-is_listed.false));
+}
+
+pub returns-clause-exact : goal.returns-clause-exact
+returns-clause-exact c =
+    let b = c.args.state.now in
+    let t = c.args.touched.now in
+    let q = t.process.now in
+    let mid = c.look_at_work.new.agenda.processes in
+    let next = c.set_cost.new.self.processes in
+    on_ok_weaker c.look_at_closing.result (λ closing x p l f. looked_again b q (touched_jobs b t) (touched_own b t c.requires) c.args.agenda.now.processes mid next c.look_at_closing.new.agenda.processes
+    c.look_at_work.ensures.processes c.in_ok-look_at_work.ensures.jobs (subst {A = ℕ} (λ z. SetsCost mid q z next) c.in-Some-Some.ensures' c.set_cost.ensures.processes) c.set_cost.ensures.jobs
+    c.look_at_closing.ensures.processes c.look_at_closing.ensures.others closing x p (c.is_listed.ensures.0 c.if-not-is_listed.false) l f) c.look_at_closing.ensures.closing
+
+pub returns-clause-others : goal.returns-clause-others
+returns-clause-others c =
+    let b = c.args.state.now in
+    let t = c.args.touched.now in
+    let q = t.process.now in
+    let mid = c.look_at_work.new.agenda.processes in
+    let next = c.set_cost.new.self.processes in
+    on_ok_weaker c.look_at_closing.result (λ closing x p r n l. left_others b q (touched_jobs b t) (touched_own b t c.requires) c.args.agenda.now.processes mid next c.look_at_closing.new.agenda.processes
+    c.look_at_work.ensures.processes c.in_ok-look_at_work.ensures.jobs (subst {A = ℕ} (λ z. SetsCost mid q z next) c.in-Some-Some.ensures' c.set_cost.ensures.processes) c.set_cost.ensures.jobs
+    c.look_at_closing.ensures.processes c.look_at_closing.ensures.others closing x p r n l) c.look_at_closing.ensures.closing

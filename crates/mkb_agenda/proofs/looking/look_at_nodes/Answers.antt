@@ -1,0 +1,21 @@
+use Rattle.std.proofs.Common.{[], ◌∷◌}
+use Rattle.kb_node.specs.declared.node.NodeId.{NodeId}
+use Rattle.kb_node.specs.declared.job.Job.TheVariants.{Reduce, Orient}
+use Rattle.mkb_agenda.specs.Looking.{jobs_on}
+use Rattle.mkb_agenda.proofs.Anew.{anew_flat, anew_whole, same_both, process_kept}
+use Rattle.mkb_agenda.proofs.looking.look_at_nodes.Goals as goal
+
+pub look_at_node-requires-clause-listed : goal.look_at_node-requires-clause-listed
+look_at_node-requires-clause-listed c = process_kept c.args.agenda.now.processes c.loop-i.agenda.processes c.loop-i.invariant.processes c.args.seen.now.process.now c.requires.listed
+
+pub returns-in_err-look_at_node-clause-processes : goal.returns-in_err-look_at_node-clause-processes
+returns-in_err-look_at_node-clause-processes c = same_both c.args.agenda.now.processes c.loop-i.agenda.processes c.look_at_node.new.agenda.processes c.loop-i.invariant.processes c.look_at_node.ensures.processes
+
+pub loop-i-preserved : goal.loop-i-preserved
+loop-i-preserved c = record {
+  processes = same_both c.args.agenda.now.processes c.loop-i.agenda.processes c.look_at_node.new.agenda.processes c.loop-i.invariant.processes c.look_at_node.ensures.processes;
+  jobs = anew_flat (λ (n : NodeId). Reduce c.args.seen.now.process.now n ∷ Orient c.args.seen.now.process.now n ∷ []) c.args.seen.now.state.now c.args.nodes.now c.loop-i.i (record { 0 = 0 }) c.args.agenda.now.processes c.loop-i.agenda.processes c.look_at_node.new.agenda.processes c.loop-i-test.true c.loop-i.invariant.jobs c.in_ok-look_at_node.ensures.jobs;
+}
+
+pub returns-clause-jobs : goal.returns-clause-jobs
+returns-clause-jobs c = anew_whole (jobs_on c.args.seen.now.process.now) c.args.seen.now.state.now c.args.nodes.now c.loop-i.i c.args.agenda.now.processes c.loop-i.agenda.processes c.loop-i-test.false c.loop-i.invariant.jobs

@@ -1,0 +1,3 @@
+pub mod Agendas
+pub mod Looking
+pub mod Following

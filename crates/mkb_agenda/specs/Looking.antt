@@ -1,0 +1,102 @@
+-- Which jobs of a process are looked at again.
+use Rattle.std.specs.Prelude.{ℕ, ◌≡◌, ◌≢◌, ◌⊎◌, ◌↔◌, List, [], ◌∷◌, ◌++◌, map, if◌then◌else◌, All, Contains, IsTrue, Option, Some, None}
+use Rattle.std.specs.List.{flat_map}
+use Rattle.std.specs.Option.{option_map_or}
+use Rattle.kb_label.specs.Names.{Name, has}
+use Rattle.kb_node.specs.declared.node.NodeId.{NodeId}
+use Rattle.kb_node.specs.declared.job.Job.{Job}
+use Rattle.kb_node.specs.declared.job.Job.TheVariants.{Reduce, Orient, Overlap, Close}
+use Rattle.kb_term.specs.declared.origin.RuleRef.{RuleRef}
+use Rattle.mkb_model.specs.Jobs.{process_of, ref_le}
+use Rattle.mkb_model.specs.Plain.{Plain, rules_of, weight}
+use Rattle.mkb_model.specs.DueJobs.{is_working, is_work_due}
+use Rattle.mkb_rules.specs.Named.{IsThere, IsRuleThere}
+use Rattle.mkb_rules.specs.Roles.{held_of}
+use Rattle.mkb_pick.specs.Tasks.{job_of, work_of}
+use Rattle.mkb_pick.specs.Listings.{Listed, HasJob}
+use Rattle.mkb_agenda.specs.Agendas.{IsDueJob, IsListedAs, ListsJobsAs}
+use Rattle.mkb_agenda.specs.declared.due.Seen.{Seen}
+use Rattle.mkb_agenda.specs.declared.looking.Touched.{Touched}
+
+-- ---- what is looked at
+
+-- the rules are those of the process
+abbrev pub IsSeen : Seen → Type 0
+IsSeen s = s.rules.now ≡ rules_of s.state.now s.process.now
+
+-- the nodes and rules that the job names are there
+abbrev pub HasJobThere : Plain → Job → Type 0
+HasJobThere b (Reduce p n) = IsThere b n.0
+HasJobThere b (Orient p n) = IsThere b n.0
+HasJobThere b (Overlap p a c) = IsThere b a.node × IsThere b c.node
+HasJobThere b (Close p) = Unit {0}
+
+-- ---- jobs that are looked at again
+
+-- the overlap of two rules, in their order
+abbrev pub overlap_of : Name → RuleRef → RuleRef → Job
+overlap_of p a e = if ref_le a e then Overlap p a e else Overlap p e a
+
+-- reducing and orienting each of the nodes
+abbrev pub jobs_on : Name → List NodeId → List Job
+jobs_on p ns = flat_map (λ (n : NodeId). Reduce p n ∷ Orient p n ∷ []) ns
+
+-- reducing each node that the process has
+abbrev pub reductions_of : Plain → Name → List Job
+reductions_of b p = map (λ n. Reduce p (record { 0 = n })) (held_of b p)
+
+-- the overlaps of each of the rules with each of the process's, and with each other
+abbrev pub overlaps_with : Plain → Name → List RuleRef → List Job
+overlaps_with b p rules = flat_map (λ (a : RuleRef). map (overlap_of p a) (rules_of b p ++ rules)) rules
+
+-- the overlap of two rules, if there are two
+abbrev pub overlap_if : Name → Option (RuleRef × RuleRef) → List Job
+overlap_if p overlap = option_map_or (λ (o : RuleRef × RuleRef). Overlap p o.0 o.1 ∷ []) overlap []
+
+-- the jobs, but for closing, that are looked at again
+abbrev pub touched_jobs : Plain → Touched → List Job
+touched_jobs b t =
+    jobs_on t.process.now t.nodes.now
+    ++ ((if t.is_wide then reductions_of b t.process.now else [])
+    ++ (overlaps_with b t.process.now t.rules.now
+    ++ overlap_if t.process.now t.overlap))
+
+-- the rules of the overlap, if there is one, are there
+abbrev pub HasOverlapThere : Plain → Option (RuleRef × RuleRef) → Type 0
+HasOverlapThere b None = Unit {0}
+HasOverlapThere b (Some o) = IsRuleThere b o.0 × IsRuleThere b o.1
+
+-- the nodes and the rules that are named are there
+pub record AreThere (b : Plain) (t : Touched) : Type 0 where
+  pub nodes : All (λ (n : NodeId). IsThere b n.0) t.nodes.now
+  pub rules : All (IsRuleThere b) t.rules.now
+  pub overlap : HasOverlapThere b t.overlap
+
+-- ---- what looking again changes
+
+-- of these jobs those that are due by what their process sees are listed, each under its weight, and no other; each other job is listed as before
+abbrev pub ListsAnew : Plain → List Job → List Listed → List Listed → Type 0
+ListsAnew b js ps qs = (j : Job) (w : ℕ) → HasJob qs j w ↔ ((Contains js j × (IsTrue (is_work_due b j) × (w ≡ weight b j))) ⊎ (HasJob ps j w × ¬ (Contains js j × (w ≡ weight b j))))
+
+-- the work that is due for the process is listed, each job under its weight; nothing is said of its closing
+abbrev pub ListsWork : Plain → Name → List Listed → Type 0
+ListsWork b p ps = (j : Job) (w : ℕ) → process_of j ≡ p → j ≢ Close p → HasJob ps j w ↔ (IsDueJob b j × (w ≡ weight b j))
+
+-- q has the jobs due on board c that p has on board b, but for these and for closing; and each weighs what it did
+pub record DiffersAt (b : Plain) (p : Name) (c : Plain) (q : Name) (js : List Job) : Type 0 where
+  pub jobs : (j : Job) → process_of j ≡ q → j ≢ Close q → ¬ Contains js j → IsDueJob c j ↔ IsDueJob b (job_of p (work_of j))
+  pub weights : (j : Job) → IsDueJob b j → weight c j ≡ weight b j
+
+-- q works and sleeps on board c where p does on board b, and has the jobs that p had but for these and its closing
+pub record ComesFrom (b : Plain) (p : Name) (c : Plain) (q : Name) (js : List Job) : Type 0 where
+  pub working : is_working c q ≡ is_working b p
+  pub asleep : has c.asleep q ≡ has b.asleep p
+  pub differs : DiffersAt b p c q js
+
+-- a process that is listed as it was on some board, or as its parent was, comes to be listed as on board c, where these jobs alone may differ
+abbrev pub BringsOne : Plain → Name → List Job → List Listed → List Listed → Type 0
+BringsOne c q js ps qs = (b : Plain) (p : Name) → IsListedAs b p q ps → ComesFrom b p c q js → IsListedAs c q q qs
+
+-- where the other work of a working process is listed, and its closing at most without weight, its closing comes to be listed as it is due
+abbrev pub ListsClosing : Plain → Name → List Listed → List Listed → Type 0
+ListsClosing b p ps qs = IsTrue (is_working b p) → ListsWork b p ps → ((w : ℕ) → HasJob ps (Close p) w → w ≡ 0) → ListsJobsAs b p p qs

@@ -1,0 +1,13 @@
+//! The agenda of a board, kept exact from commit to commit: it lists the processes that live and have not given up, and the
+//! jobs that are due for them.
+#![tactic(auto)]
+
+mod due;
+mod following;
+mod laws;
+mod looking;
+mod opening;
+
+pub use following::{Commit, follow, target_of};
+pub use laws::what_is_offered_first_is_the_first_job;
+pub use opening::agenda_of;

@@ -1,0 +1,268 @@
+// Looking again at jobs of a process: those that are due are listed, and no other.
+ghost use Rattle.std.specs.Prelude.{ℕ, Bool, ◌≡◌, ◌≢◌, ◌↔◌, ◌∷◌, [], All, map, None, false, OnOk, if◌then◌else◌};
+ghost use Rattle.kb_label.specs.Names.{Name};
+ghost use Rattle.kb_node.specs.declared.node.NodeId.{NodeId as Numbered};
+ghost use Rattle.kb_term.specs.declared.origin.RuleRef.{RuleRef as Reference};
+ghost use Rattle.kb_node.specs.declared.job.Job.{Job as Work};
+ghost use Rattle.kb_node.specs.declared.job.Job.TheVariants as jobs;
+ghost use Rattle.mkb_model.specs.Jobs.{process_of};
+ghost use Rattle.mkb_rules.specs.Named.{IsThere, IsRuleThere};
+ghost use Rattle.mkb_rules.specs.Roles.{held_of};
+ghost use Rattle.mkb_pick.specs.Listings.{IsListed, IsProcess, HasJob};
+ghost use Rattle.mkb_agenda.specs.Agendas.{LeavesOthers};
+ghost use Rattle.mkb_agenda.specs.Looking.{AreThere, HasJobThere, IsSeen, ListsAnew, HasOverlapThere, jobs_on, overlap_of, overlaps_with, reductions_of, touched_jobs, BringsOne, ListsClosing, overlap_if};
+
+use crate::due::{Seen, weight_of};
+use kb_label::Process;
+use kb_node::{Job, NodeId};
+use kb_term::{Memory, RuleRef};
+use mkb_pick::Agenda;
+use mkb_rules::{State, is_ordered};
+
+/// A process and what a commit may have changed of its jobs: those on nodes, the overlaps with rules, one overlap, and, where it is
+/// wide, the reducing of each node that the process has.
+#[derive(Clone, Copy)]
+pub(crate) struct Touched<'a> {
+    pub(crate) process: &'a Process,
+    pub(crate) nodes: &'a [NodeId],
+    pub(crate) rules: &'a [RuleRef],
+    pub(crate) overlap: Option<(RuleRef, RuleRef)>,
+    pub(crate) is_wide: bool,
+}
+
+impl<'a> Touched<'a> {
+    /// The process, with nothing but its closing.
+    pub(crate) fn none_of(process: &'a Process) -> Touched<'a>
+        ensures process { result.process.now ≡ process.now }
+        ensures nodes { result.nodes.now ≡ [] }
+        ensures rules { result.rules.now ≡ [] }
+        ensures overlap { result.overlap ≡ None }
+        ensures narrow { result.is_wide ≡ false }
+    {
+        Touched {
+            process,
+            nodes: &[],
+            rules: &[],
+            overlap: None,
+            is_wide: false,
+        }
+    }
+}
+
+/// Looks again at the jobs of a process that a commit may have changed, at its cost, and at its closing. A process that is not listed
+/// has given up, and nothing is changed.
+///
+/// # Errors
+///
+/// Want of memory, also where the state lacks what it keeps of each process where memory allows. What is listed for the process is
+/// then of no board.
+pub(crate) fn look_again(
+    agenda: &mut Agenda,
+    state: &State,
+    touched: &Touched,
+) -> Result<(), Memory>
+    requires { AreThere state.now touched.now }
+    ensures exact { OnOk result (BringsOne state.now touched.now.process.now (touched_jobs state.now touched.now) agenda.old.processes agenda.new.processes) }
+    ensures others { OnOk result (LeavesOthers touched.now.process.now agenda.old.processes agenda.new.processes) }
+{
+    let process = touched.process;
+    if !agenda.is_listed(process) {
+        return Ok(());
+    }
+    let Ok(place) = state.log().processes().binary_search(process) else {
+        return Err(Memory);
+    };
+    let (Some(kept), Some(cost)) = (state.kept(place, process), state.kept_cost(place, process))
+    else {
+        return Err(Memory);
+    };
+    let seen = Seen {
+        state,
+        process,
+        rules: kept.rules,
+    };
+    look_at_work(agenda, &seen, touched, kept.nodes)?;
+    agenda.set_cost(process, cost as u64);
+    look_at_closing(agenda, state, process)
+}
+
+// All jobs but the closing that a commit may have changed, of a process that has these nodes.
+fn look_at_work(
+    agenda: &mut Agenda,
+    seen: &Seen,
+    touched: &Touched,
+    held: &[NodeId],
+) -> Result<(), Memory>
+    requires seen { IsSeen seen.now }
+    requires own { seen.now.process.now ≡ touched.now.process.now }
+    requires there { AreThere seen.now.state.now touched.now }
+    requires held { map (λ (n : Numbered). n.0) held.now ≡ held_of seen.now.state.now seen.now.process.now }
+    requires listed { IsProcess agenda.old.processes seen.now.process.now }
+    ensures processes { (n : Name) (c : ℕ) (r : Bool) → IsListed agenda.new.processes n c r ↔ IsListed agenda.old.processes n c r }
+    ensures jobs { OnOk result (ListsAnew seen.now.state.now (touched_jobs seen.now.state.now touched.now) agenda.old.processes agenda.new.processes) }
+{
+    look_at_nodes(agenda, seen, touched.nodes)?;
+    look_at_held(agenda, seen, held, touched.is_wide)?;
+    look_at_overlaps(agenda, seen, touched.rules)?;
+    look_at_overlap(agenda, seen, touched.overlap)
+}
+
+// Reducing of each of the nodes that the process has, if that is wanted.
+fn look_at_held(
+    agenda: &mut Agenda,
+    seen: &Seen,
+    held: &[NodeId],
+    is_wide: bool,
+) -> Result<(), Memory>
+    requires seen { IsSeen seen.now }
+    requires held { map (λ (n : Numbered). n.0) held.now ≡ held_of seen.now.state.now seen.now.process.now }
+    requires listed { IsProcess agenda.old.processes seen.now.process.now }
+    ensures processes { (n : Name) (c : ℕ) (r : Bool) → IsListed agenda.new.processes n c r ↔ IsListed agenda.old.processes n c r }
+    ensures jobs { OnOk result (ListsAnew seen.now.state.now (if is_wide then reductions_of seen.now.state.now seen.now.process.now else []) agenda.old.processes agenda.new.processes) }
+{
+    if is_wide {
+        look_at_reductions(agenda, seen, held)
+    } else {
+        Ok(())
+    }
+}
+
+// The overlap, if there is one.
+fn look_at_overlap(
+    agenda: &mut Agenda,
+    seen: &Seen,
+    overlap: Option<(RuleRef, RuleRef)>,
+) -> Result<(), Memory>
+    requires seen { IsSeen seen.now }
+    requires there { HasOverlapThere seen.now.state.now overlap }
+    requires listed { IsProcess agenda.old.processes seen.now.process.now }
+    ensures processes { (n : Name) (c : ℕ) (r : Bool) → IsListed agenda.new.processes n c r ↔ IsListed agenda.old.processes n c r }
+    ensures jobs { OnOk result (ListsAnew seen.now.state.now (overlap_if seen.now.process.now overlap) agenda.old.processes agenda.new.processes) }
+{
+    match overlap {
+        Some((a, c)) => look_at(agenda, seen, &Job::Overlap(*seen.process, a, c)),
+        None => Ok(()),
+    }
+}
+
+// Reducing and orienting of each of the nodes.
+fn look_at_nodes(agenda: &mut Agenda, seen: &Seen, nodes: &[NodeId]) -> Result<(), Memory>
+    requires seen { IsSeen seen.now }
+    requires there { All (λ (n : Numbered). IsThere seen.now.state.now n.0) nodes.now }
+    requires listed { IsProcess agenda.old.processes seen.now.process.now }
+    ensures processes { (n : Name) (c : ℕ) (r : Bool) → IsListed agenda.new.processes n c r ↔ IsListed agenda.old.processes n c r }
+    ensures jobs { OnOk result (ListsAnew seen.now.state.now (jobs_on seen.now.process.now nodes.now) agenda.old.processes agenda.new.processes) }
+{
+    for i in 0..nodes.len() {
+        look_at_node(agenda, seen, nodes[i])?;
+    }
+    Ok(())
+}
+
+// Reducing and orienting of the node.
+fn look_at_node(agenda: &mut Agenda, seen: &Seen, n: NodeId) -> Result<(), Memory>
+    requires seen { IsSeen seen.now }
+    requires there { IsThere seen.now.state.now n.0 }
+    requires listed { IsProcess agenda.old.processes seen.now.process.now }
+    ensures processes { (m : Name) (c : ℕ) (r : Bool) → IsListed agenda.new.processes m c r ↔ IsListed agenda.old.processes m c r }
+    ensures jobs { OnOk result (ListsAnew seen.now.state.now (jobs.Reduce seen.now.process.now n ∷ jobs.Orient seen.now.process.now n ∷ []) agenda.old.processes agenda.new.processes) }
+{
+    look_at(agenda, seen, &Job::Reduce(*seen.process, n))?;
+    look_at(agenda, seen, &Job::Orient(*seen.process, n))
+}
+
+// Reducing of each of the nodes.
+fn look_at_reductions(agenda: &mut Agenda, seen: &Seen, nodes: &[NodeId]) -> Result<(), Memory>
+    requires seen { IsSeen seen.now }
+    requires there { All (λ (n : Numbered). IsThere seen.now.state.now n.0) nodes.now }
+    requires listed { IsProcess agenda.old.processes seen.now.process.now }
+    ensures processes { (n : Name) (c : ℕ) (r : Bool) → IsListed agenda.new.processes n c r ↔ IsListed agenda.old.processes n c r }
+    ensures jobs { OnOk result (ListsAnew seen.now.state.now (map (jobs.Reduce seen.now.process.now) nodes.now) agenda.old.processes agenda.new.processes) }
+{
+    for i in 0..nodes.len() {
+        look_at(agenda, seen, &Job::Reduce(*seen.process, nodes[i]))?;
+    }
+    Ok(())
+}
+
+// The overlaps of each of the rules with each of the process's, and with each other.
+fn look_at_overlaps(agenda: &mut Agenda, seen: &Seen, rules: &[RuleRef]) -> Result<(), Memory>
+    requires seen { IsSeen seen.now }
+    requires there { All (IsRuleThere seen.now.state.now) rules.now }
+    requires listed { IsProcess agenda.old.processes seen.now.process.now }
+    ensures processes { (n : Name) (c : ℕ) (r : Bool) → IsListed agenda.new.processes n c r ↔ IsListed agenda.old.processes n c r }
+    ensures jobs { OnOk result (ListsAnew seen.now.state.now (overlaps_with seen.now.state.now seen.now.process.now rules.now) agenda.old.processes agenda.new.processes) }
+{
+    for i in 0..rules.len() {
+        look_at_row(agenda, seen, rules[i], seen.rules)?;
+        look_at_row(agenda, seen, rules[i], rules)?;
+    }
+    Ok(())
+}
+
+// The overlaps of the rule with each of the others.
+fn look_at_row(
+    agenda: &mut Agenda,
+    seen: &Seen,
+    rule: RuleRef,
+    others: &[RuleRef],
+) -> Result<(), Memory>
+    requires seen { IsSeen seen.now }
+    requires there { IsThere seen.now.state.now rule.node }
+    requires others { All (λ (a : Reference). IsThere seen.now.state.now a.node) others.now }
+    requires listed { IsProcess agenda.old.processes seen.now.process.now }
+    ensures processes { (n : Name) (c : ℕ) (r : Bool) → IsListed agenda.new.processes n c r ↔ IsListed agenda.old.processes n c r }
+    ensures jobs { OnOk result (ListsAnew seen.now.state.now (map (overlap_of seen.now.process.now rule) others.now) agenda.old.processes agenda.new.processes) }
+{
+    for i in 0..others.len() {
+        look_at(agenda, seen, &overlap_of(seen.process, rule, others[i]))?;
+    }
+    Ok(())
+}
+
+// The overlap of two rules, in their order.
+fn overlap_of(process: &Process, a: RuleRef, c: RuleRef) -> Job
+    ensures { result ≡ overlap_of process.now a c }
+{
+    if is_ordered(a, c) {
+        Job::Overlap(*process, a, c)
+    } else {
+        Job::Overlap(*process, c, a)
+    }
+}
+
+// Lists the job, or takes it off the list, where it is due or not.
+fn look_at(agenda: &mut Agenda, seen: &Seen, job: &Job) -> Result<(), Memory>
+    requires seen { IsSeen seen.now }
+    requires own { process_of job.now ≡ seen.now.process.now }
+    requires there { HasJobThere seen.now.state.now job.now }
+    requires listed { IsProcess agenda.old.processes seen.now.process.now }
+    ensures processes { (n : Name) (c : ℕ) (r : Bool) → IsListed agenda.new.processes n c r ↔ IsListed agenda.old.processes n c r }
+    ensures jobs { OnOk result (ListsAnew seen.now.state.now (job.now ∷ []) agenda.old.processes agenda.new.processes) }
+{
+    let weight = weight_of(seen.state, job);
+    if !seen.is_due(job) {
+        agenda.remove(job, weight);
+        return Ok(());
+    }
+    if agenda.has(job, weight) {
+        return Ok(());
+    }
+    agenda.add(job, weight)
+}
+
+// Lists the closing of the process where it has no other job and is not closed, and else takes it off the list.
+fn look_at_closing(agenda: &mut Agenda, state: &State, process: &Process) -> Result<(), Memory>
+    requires listed { IsProcess agenda.old.processes process.now }
+    ensures processes { (n : Name) (c : ℕ) (r : Bool) → IsListed agenda.new.processes n c r ↔ IsListed agenda.old.processes n c r }
+    ensures others { (j : Work) (w : ℕ) → j ≢ jobs.Close process.now → HasJob agenda.new.processes j w ↔ HasJob agenda.old.processes j w }
+    ensures closing { OnOk result (ListsClosing state.now process.now agenda.old.processes agenda.new.processes) }
+{
+    let closing = Job::Close(*process);
+    agenda.remove(&closing, 0);
+    if agenda.is_idle(process) && !state.is_closed(process) {
+        agenda.add(&closing, 0)
+    } else {
+        Ok(())
+    }
+}
