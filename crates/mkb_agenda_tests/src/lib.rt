@@ -1,0 +1,7 @@
+//! Tests of agendas that follow commits on small states, each with ample memory.
+#![tactic(auto)]
+
+#[cfg(test)]
+mod steps;
+#[cfg(test)]
+mod tests;
