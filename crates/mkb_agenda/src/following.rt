@@ -52,51 +52,55 @@ pub fn follow(
     requires { HasNodesOf state.now commit.now.proposal.now }
     ensures { OnOk result ((b : Plain) → IsCommitOn b commit.now state.now → IsAgendaOf b agenda.old.processes → IsAgendaOf state.now agenda.new.processes) }
 {
-    match (commit.applied, commit.proposal) {
-        (Applied::Over(_), _) => {
+    match commit.applied {
+        Applied::Over(_) => {
             stop(agenda, commit.names);
             Ok(())
         }
-        (Applied::Done, Proposed::Facts(facts)) => know(agenda, state, facts.items()),
-        (
-            Applied::Done,
-            Proposed::Rewrite {
-                node,
-                side,
-                result: outcome,
-                ..
-            },
-        ) => {
+        Applied::Done => follow_effect(alloc, agenda, state, commit),
+    }
+}
+
+// The same where the proposal had its effect.
+fn follow_effect(
+    alloc: Global,
+    agenda: &mut Agenda,
+    state: &State,
+    commit: &Commit,
+) -> Result<(), Memory>
+    requires done { commit.now.applied ≡ Applied.Done }
+    requires nodes { HasNodesOf state.now commit.now.proposal.now }
+    ensures { OnOk result ((b : Plain) → IsCommitOn b commit.now state.now → IsAgendaOf b agenda.old.processes → IsAgendaOf state.now agenda.new.processes) }
+{
+    match commit.proposal {
+        Proposed::Facts(facts) => know(agenda, state, facts.items()),
+        Proposed::Rewrite {
+            node,
+            side,
+            result: outcome,
+            ..
+        } => {
             let target = target_of(alloc, state, *node, *side, outcome)?;
             rewrite(agenda, state, commit.names, *node, target)
         }
-        (
-            Applied::Done,
-            Proposed::One {
-                process,
-                node,
-                dir,
-                ..
-            },
-        ) => orient(agenda, state, process, *node, *dir),
-        (Applied::Done, Proposed::Both { process, node, .. }) => {
-            fork(agenda, state, process, *node)
-        }
-        (Applied::Done, Proposed::Refuse { process, node }) => {
-            look_at_nodes(agenda, state, process, &[*node])
-        }
-        (Applied::Done, Proposed::Deduce { a, b, pairs }) => {
+        Proposed::One {
+            process,
+            node,
+            dir,
+            ..
+        } => orient(agenda, state, process, *node, *dir),
+        Proposed::Both { process, node, .. } => fork(agenda, state, process, *node),
+        Proposed::Refuse { process, node } => look_at_nodes(agenda, state, process, &[*node]),
+        Proposed::Deduce { a, b, pairs } => {
             let nodes = nodes_of(alloc, state, pairs.items())?;
             deduce(agenda, state, commit.names, (*a, *b), nodes.as_slice())
         }
-        (Applied::Done, Proposed::Unjoined { process, pairs }) => {
+        Proposed::Unjoined { process, pairs } => {
             let nodes = nodes_of(alloc, state, pairs.items())?;
             look_at_nodes(agenda, state, process, nodes.as_slice())
         }
-        (Applied::Done, Proposed::Closed { process }) => {
-            look_at_nodes(agenda, state, process, &[])
-        }
-        (Applied::Done, Proposed::Limit { .. }) => Ok(()),
+        Proposed::Closed { process } => look_at_nodes(agenda, state, process, &[]),
+        Proposed::Limit { .. } => Ok(()),
     }
 }
 
