@@ -1,4 +1,4 @@
-//! Tests of agendas that follow commits on small states, each with ample memory.
+//! Tests of agendas and of indices of rules that follow commits on small states, each with ample memory.
 #![tactic(auto)]
 
 #[cfg(test)]

@@ -12,11 +12,12 @@ use kb_label::{Living, Process};
 use kb_lpo::Precedence;
 use kb_node::{Fact, Job, LimitCause, NodeId};
 use kb_syntax::{parse_problem, spelled_problems_are_within_limits};
-use kb_term::{Found, Problem, RuleRef, Symbol};
+use kb_term::{Found, Problem, RuleRef, Symbol, Term, Terms};
 use mkb_agenda::{Commit, agenda_of, follow};
 use mkb_model::{FactList, Proposed, Settings};
 use mkb_pick::Agenda;
 use mkb_rules::{Applied, State};
+use rules_in_use::RulesInUse;
 use std::alloc::Global;
 use std::mem::drop;
 use std::process::Abort;
@@ -120,6 +121,45 @@ pub(crate) fn orient(
     there(rt, state, n);
     go_along(rt, alloc, state, agenda, (&proposal, applied, *p));
     drop(proposal);
+}
+
+/// The same, followed by the index of the rules in use.
+pub(crate) fn orient_in_index(
+    rt: &impl Abort,
+    alloc: Global,
+    state: &mut State,
+    rules: &mut RulesInUse,
+    (p, n): (&Process, u16),
+) {
+    let proposal = one(p, n, above(rt, alloc, 0, 1));
+    ready(rt, state);
+    there(rt, state, n);
+    living(rt, state, p);
+    let applied = state.apply(alloc, &proposal).expect(rt, "memory");
+    there(rt, state, n);
+    let names = [*p];
+    let commit = Commit {
+        proposal: &proposal,
+        applied,
+        names: &names,
+    };
+    rules.follow(state, &commit).expect(rt, "memory");
+    drop(proposal);
+}
+
+/// How many rules the index finds at the symbol applied to nothing, and at symbol 0 applied to symbol 1.
+pub(crate) fn found(rt: &impl Abort, alloc: Global, rules: &RulesInUse, symbol: u8) -> usize {
+    let bare = Term::App(Symbol(symbol), Terms::new(Vec::new(alloc)));
+    let mut items = Vec::new(alloc);
+    let inner = Term::App(Symbol(1), Terms::new(Vec::new(alloc)));
+    items.push(inner).expect(rt, "memory");
+    let applied = Term::App(Symbol(0), Terms::new(items));
+    let at_bare = rules.index().candidates(&bare).expect(rt, "memory");
+    let at_applied = rules.index().candidates(&applied).expect(rt, "memory");
+    let count = at_bare.len().saturating_add(at_applied.len());
+    drop(bare);
+    drop(applied);
+    count
 }
 
 // The process forks at the node.

@@ -1,10 +1,14 @@
 // Agendas that follow commits offer what one that is made anew offers. What is large is dropped by a call: to let it go at the end of
 // a function makes its proof slow.
-use crate::steps::{close, drain, fork, give_up, know, listed, opened, orient, refuse};
+use crate::steps::{
+    close, drain, fork, found, give_up, know, listed, opened, orient, orient_in_index, refuse,
+};
 use kb_label::Process;
 use kb_node::{Job, NodeId};
+use mkb_agenda::what_is_offered_first_is_the_first_job;
 use mkb_pick::Agenda;
 use mkb_rules::State;
+use rules_in_use::RulesInUse;
 use std::alloc::Global;
 use std::mem::drop;
 use std::process::Abort;
@@ -29,6 +33,7 @@ fn a_new_rule_and_facts_are_followed(rt: HostRuntime) {
     orient_and_know(&rt, alloc, &mut state, &mut agenda);
     // Orienting node 1, and overlapping the rule with itself.
     assert!(rt; drain(&rt, alloc, &state, &mut agenda) == 2);
+    what_is_offered_first_is_the_first_job();
     drop(agenda);
     drop(state);
 }
@@ -83,5 +88,22 @@ fn who_gives_up_is_listed_no_more(rt: HostRuntime) {
     assert!(rt; !agenda.is_listed(&p));
     assert!(rt; drain(&rt, alloc, &state, &mut agenda) == 0);
     drop(agenda);
+    drop(state);
+}
+
+// No rule is found at f(a) or b before the first process orients their equation, and one afterwards.
+fn find_after_orienting(rt: &impl Abort, alloc: Global, state: &mut State, rules: &mut RulesInUse) {
+    assert!(rt; found(rt, alloc, rules, 2) == 0);
+    orient_in_index(rt, alloc, state, rules, (&Process::root(), 0));
+    assert!(rt; found(rt, alloc, rules, 2) == 1);
+}
+
+#[test]
+fn a_rule_that_comes_into_use_is_found(rt: HostRuntime) {
+    let alloc = rt.alloc();
+    let mut state = opened(&rt, alloc, TWO_VALUES);
+    let mut rules = RulesInUse::of(alloc, &state).expect(&rt, "memory");
+    find_after_orienting(&rt, alloc, &mut state, &mut rules);
+    drop(rules);
     drop(state);
 }
