@@ -1,7 +1,2 @@
 pub mod Places
-pub mod Turns
-pub mod Offered
-pub mod Viewed
-pub mod Replaced
 pub mod Tasks
-pub mod Firsts

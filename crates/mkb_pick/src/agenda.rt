@@ -5,12 +5,10 @@ ghost use Rattle.kb_node.specs.declared.job.Job.{Job};
 ghost use Rattle.mkb_model.specs.Jobs.{process_of};
 ghost use Rattle.mkb_pick.specs.Listings.{Listed, IsListed, IsProcess, HasJob, IsLeastOffered, SetsCost, SetsRest, SplitsProcess, SplitsJobs};
 
-use crate::changes::filled;
 use crate::queue::{Entry, Queue};
 use crate::search::next_job;
 use crate::stores::Stores;
 use crate::task::{Task, Work, process_of};
-use crate::tree::Tree;
 use kb_label::{MAX_BITS, Process};
 use kb_node::Job;
 use kb_term::Memory;
@@ -20,9 +18,10 @@ use std::marker::Model;
 /// The jobs that are due, by their processes, and which of them is next.
 ///
 /// Contracts see the listed processes in the order of their names, each with its cost, whether it rests, and its jobs with
-/// their weights; and two spare numbers, for how many more jobs and processes there is room. Behind it stand trees: one of
-/// the processes by name, one of them by cost and name, and one of the jobs of each process by kind, weight and numbers.
-/// A call goes down a tree or two; `split` and `unlist` also go over the jobs of their process.
+/// their weights; and two spare numbers, for how many more jobs and processes there is room. Behind it stand the names in
+/// their order, and a tree of the jobs of each process by kind, weight and numbers.
+/// A call finds its process where the last one was, next to it, or by a search, and goes down its tree; `list`, `unlist`
+/// and `split` move the processes behind; `split` and `unlist` also go over the jobs of their process.
 #[derive(Drop)]
 pub struct Agenda {
     alloc: Global,
@@ -50,10 +49,7 @@ impl Agenda {
     {
         Agenda {
             alloc,
-            queue: Queue {
-                entries: Tree::Leaf,
-                turns: Tree::Leaf,
-            },
+            queue: Queue::new(alloc),
             stores: Stores::new(alloc),
         }
     }
@@ -68,8 +64,12 @@ impl Agenda {
         ensures err { OnErr result (self.new ≡ self.old) }
         ensures room { jobs ≤ self.old.spare_jobs → processes ≤ self.old.spare_processes → IsOk result }
     {
-        self.stores
-            .stock(self.alloc, jobs as usize, processes as usize)
+        self.stores.stock(
+            self.alloc,
+            &mut self.queue,
+            jobs as usize,
+            processes as usize,
+        )
     }
 
     /// Whether a process is listed. It takes no memory.
@@ -93,9 +93,8 @@ impl Agenda {
         ensures err { OnErr result (self.new ≡ self.old) }
         ensures room { 0 < self.old.spare_processes → IsOk result }
     {
-        self.stores.stock(self.alloc, 0, 1)?;
-        let seat = filled(self.stores.take_seat(), Entry::awake(process, cost));
-        self.queue.put_in(seat);
+        self.queue.stock(1)?;
+        self.queue.put_in(process, Entry::awake(cost));
         Ok(())
     }
 
@@ -114,7 +113,7 @@ impl Agenda {
         ensures err { OnErr result (self.new ≡ self.old) }
         ensures room { 0 < self.old.spare_jobs → IsOk result }
     {
-        self.stores.stock(self.alloc, 1, 0)?;
+        self.stores.stock(self.alloc, &mut self.queue, 1, 0)?;
         let mut node = self.stores.take_job();
         node.item = Task {
             work: Work::of(job),
@@ -198,7 +197,7 @@ impl Agenda {
         ensures spare_jobs { self.new.spare_jobs ≡ self.old.spare_jobs }
         ensures spare_processes { self.new.spare_processes ≡ self.old.spare_processes }
     {
-        let _ = self.queue.take_out(process);
+        self.queue.strike(process);
     }
 
     /// Puts the two children of a listed process in its place: each has its cost, rests where it rests, and has its jobs.
@@ -222,9 +221,8 @@ impl Agenda {
             // So many nodes cannot be set aside.
             return Err(Memory);
         }
-        self.stores.stock(self.alloc, jobs, 1)?;
-        let other = self.stores.take_seat();
-        self.queue.fork(process, jobs, other, &mut self.stores);
+        self.stores.stock(self.alloc, &mut self.queue, jobs, 1)?;
+        self.queue.fork(process, jobs, &mut self.stores);
         Ok(())
     }
 
@@ -232,10 +230,10 @@ impl Agenda {
     /// among those that clash with none in flight and whose process does not rest; none where there is none.
     /// It takes no memory.
     ///
-    /// It goes down the trees, and passes over the processes with something in flight and the jobs that clash, one by one.
+    /// It goes over the processes once, and into the jobs of those that don't rest and cost less than the best one so far.
     pub fn next(&self, flight: &[Job]) -> Option<Job>
         ensures { IsLeastOffered self.now.processes flight.now result }
     {
-        next_job(&self.queue.turns, &self.queue.entries, flight)
+        next_job(&self.queue, flight)
     }
 }

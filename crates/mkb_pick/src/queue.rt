@@ -1,149 +1,171 @@
-// The listed processes, found by name and by turn.
-ghost use Rattle.std.specs.Prelude.{◌≡◌, ◌⊎◌, ◌↔◌, MatchOption, false};
+// The listed processes in the order of their names.
+ghost use Rattle.std.specs.Prelude.{ℕ, ◌≡◌, ◌⊎◌, ◌↔◌, ◌+◌, ◌-◌, ◌<◌, ◌≤◌, max, List, [], length, get_or, insert, false, IsTrue, OnOk, OnErr, IsOk, MatchOption, vec_len, vec_capacity};
 ghost use Rattle.mkb_pick.specs.declared.tree.Tree.{Leaf};
-ghost use Rattle.mkb_pick.specs.Trees.{Has, IsOrdered};
+ghost use Rattle.kb_label.specs.Names.{Name, has, add, IsInNameOrder};
+ghost use Rattle.mkb_pick.specs.Trees.{IsOrdered};
 ghost use Rattle.mkb_pick.specs.Tasks.{task_cmp};
-ghost use Rattle.mkb_pick.specs.Queues.{IsQueue, IsUnseated, turn_of};
+ghost use Rattle.mkb_pick.specs.Queues.{IsQueue, IsAt, IsSeated};
 
 use crate::task::Task;
-use crate::tree::{Node, Placed, Tree, put, take};
+use crate::tree::Tree;
 use kb_label::Process;
-use std::cmp::Ordering;
+use kb_term::Memory;
+use std::alloc::Global;
 
-/// A listed process with its tasks.
+/// What a listed process has.
 #[derive(Drop)]
 pub(crate) struct Entry {
-    pub(crate) name: Process,
     pub(crate) cost: u64,
     pub(crate) resting: bool,
     pub(crate) tasks: Tree<Task>,
 }
 
 impl Entry {
-    /// A process without tasks, which does not rest.
-    pub(crate) fn awake(name: Process, cost: u64) -> Entry
-        ensures { result ≡ record { name = name; cost = cost; resting = false; tasks = Leaf } }
+    /// No task, and no rest.
+    pub(crate) fn awake(cost: u64) -> Entry
+        ensures { result ≡ record { cost = cost; resting = false; tasks = Leaf } }
     {
         Entry {
-            name,
             cost,
             resting: false,
             tasks: Tree::Leaf,
         }
     }
-
-    /// What stands at the place of a name.
-    pub(crate) fn bare(name: Process) -> Entry
-        ensures name { result.name ≡ name }
-    {
-        Entry::awake(name, 0)
-    }
-
-    fn turn(&self) -> Turn
-        ensures { result ≡ turn_of self.now }
-    {
-        Turn {
-            resting: self.resting,
-            cost: self.cost,
-            name: self.name,
-        }
-    }
 }
 
-impl Placed for Entry {
-    ghost use Rattle.std.specs.Cmp.{on_total};
-    ghost use Rattle.kb_label.specs.NameOrder.{name_cmp-total};
-    ghost use Rattle.mkb_pick.specs.Queues.{entry_cmp};
-
-    ghost place_cmp = { entry_cmp };
-
-    fn place(&self, other: &Entry) -> Ordering {
-        self.name.cmp(&other.name)
-    }
-
-    fn blank() -> Entry {
-        Entry::bare(Process::root())
-    }
-
-    ghost total = { on_total (λ e. e.name) name_cmp-total };
-}
-
-/// When a process comes: those that rest come last; then by cost and name.
-#[derive(Clone, Copy)]
-pub(crate) struct Turn {
-    pub(crate) resting: bool,
-    pub(crate) cost: u64,
-    pub(crate) name: Process,
-}
-
-impl Placed for Turn {
-    ghost use Rattle.std.specs.Cmp.{on_total, then_total, nat_cmp_total, bool_cmp_total};
-    ghost use Rattle.kb_label.specs.NameOrder.{name_cmp-total};
-    ghost use Rattle.mkb_pick.specs.Queues.{turn_cmp};
-
-    ghost place_cmp = { turn_cmp };
-
-    fn place(&self, other: &Turn) -> Ordering {
-        match self.resting.cmp(&other.resting) {
-            Ordering::Equal => match self.cost.cmp(&other.cost) {
-                Ordering::Equal => self.name.cmp(&other.name),
-                by_cost => by_cost,
-            },
-            by_rest => by_rest,
-        }
-    }
-
-    fn blank() -> Turn {
-        Turn {
-            resting: false,
-            cost: 0,
-            name: Process::root(),
-        }
-    }
-
-    ghost total = { then_total (on_total (λ t. t.resting) bool_cmp_total) (then_total (on_total (λ t. t.cost) nat_cmp_total) (on_total (λ t. t.name) name_cmp-total)) };
-}
-
-/// The two nodes of a listed process.
-#[derive(Drop)]
-pub(crate) struct Seat {
-    pub(crate) entry: Box<Node<Entry>>,
-    pub(crate) turn: Box<Node<Turn>>,
-}
-
-/// The listed processes, by name and by turn.
+/// The listed processes in the order of their names, and what each has. There is room for so many more as are told.
 #[derive(Drop)]
 pub(crate) struct Queue {
-    pub(crate) entries: Tree<Entry>,
-    pub(crate) turns: Tree<Turn>,
+    pub(crate) names: Vec<Process>,
+    pub(crate) entries: Vec<Entry>,
+    pub(crate) spare: usize,
+    // Where a process was found last: a hint alone.
+    last: usize,
 }
 
 impl Queue {
-    /// Takes a process out.
-    pub(crate) fn take_out(&mut self, name: &Process) -> Option<Seat>
-        requires { IsQueue self.old }
-        ensures seat { MatchOption result (IsUnseated self.old name.now) (λ seat. Has self.old.entries seat.entry.value.item × (seat.entry.value.item.name ≡ name.now)) }
-        ensures entries { (e : Entry) → Has self.new.entries e ↔ (Has self.old.entries e × ¬ (e.name ≡ name.now)) }
-        ensures queue { IsQueue self.new }
+    /// No process, and room for none.
+    pub(crate) fn new(alloc: Global) -> Queue
+        ensures names { result.names.items ≡ [] }
+        ensures spare { result.spare ≡ 0 }
+        ensures queue { IsQueue result }
     {
-        let entry = take(&mut self.entries, &Entry::bare(*name))?;
-        match take(&mut self.turns, &entry.item.turn()) {
-            Some(turn) => Some(Seat { entry, turn }),
-            None => unreachable!(),
+        Queue {
+            names: Vec::new(alloc),
+            entries: Vec::new(alloc),
+            spare: 0,
+            last: 0,
         }
     }
 
-    /// Puts a process in.
-    pub(crate) fn put_in(&mut self, seat: Seat)
-        requires queue { IsQueue self.old }
-        requires free { IsUnseated self.old seat.entry.value.item.name }
-        requires tasks { IsOrdered task_cmp seat.entry.value.item.tasks }
-        ensures entries { (e : Entry) → Has self.new.entries e ↔ ((e ≡ seat.entry.value.item) ⊎ Has self.old.entries e) }
+    /// Makes room for so many more processes, unless there is as much.
+    pub(crate) fn stock(&mut self, processes: usize) -> Result<(), Memory>
+        requires { IsQueue self.old }
+        ensures names { self.new.names.items ≡ self.old.names.items }
+        ensures entries { self.new.entries.items ≡ self.old.entries.items }
+        ensures ok { OnOk result (self.new.spare ≡ max self.old.spare processes) }
+        ensures err { OnErr result (self.new.spare ≡ self.old.spare) }
+        ensures room { processes ≤ self.old.spare → IsOk result }
         ensures queue { IsQueue self.new }
     {
-        let Seat { entry, mut turn } = seat;
-        turn.item = entry.item.turn();
-        put(&mut self.entries, entry);
-        put(&mut self.turns, turn);
+        if self.spare < processes {
+            self.names.reserve(processes)?;
+            self.entries.reserve(processes)?;
+            self.spare = processes;
+        }
+        Ok(())
     }
+
+    /// The place of a process.
+    pub(crate) fn place_of(&self, name: &Process) -> Option<usize>
+        requires { IsQueue self.now }
+        ensures { MatchOption result (¬ IsSeated self.now name.now) (λ k. (k < length self.now.names.items) × (get_or self.now.names.items k name.now ≡ name.now)) }
+    {
+        let next = self.last.saturating_add(1);
+        if self.stands_at(self.last, name) {
+            return Some(self.last);
+        }
+        if self.stands_at(next, name) {
+            return Some(next);
+        }
+        self.names.as_slice().binary_search(name).ok()
+    }
+
+    // Whether a process stands at a place.
+    fn stands_at(&self, place: usize, name: &Process) -> bool
+        ensures { IsTrue result → (place < length self.now.names.items) × (get_or self.now.names.items place name.now ≡ name.now) }
+    {
+        place < self.names.len() && self.names[place] == *name
+    }
+
+    /// The place of a process, where the next search begins.
+    pub(crate) fn seek(&mut self, name: &Process) -> Option<usize>
+        requires { IsQueue self.old }
+        ensures place { MatchOption result (¬ IsSeated self.old name.now) (λ k. (k < length self.old.names.items) × (get_or self.old.names.items k name.now ≡ name.now)) }
+        ensures names { self.new.names ≡ self.old.names }
+        ensures entries { self.new.entries ≡ self.old.entries }
+        ensures spare { self.new.spare ≡ self.old.spare }
+    {
+        let place = self.place_of(name)?;
+        self.last = place;
+        Some(place)
+    }
+
+    /// Takes a process out, whose room is spare then.
+    pub(crate) fn take_out(&mut self, name: &Process) -> Entry
+        requires queue { IsQueue self.old }
+        requires seated { IsSeated self.old name.now }
+        ensures entry { IsAt self.old name.now result }
+        ensures entries { (n : Name) (e : Entry) → IsAt self.new n e ↔ (IsAt self.old n e × ¬ (n ≡ name.now)) }
+        ensures spare { self.new.spare ≡ self.old.spare + 1 }
+        ensures queue { IsQueue self.new }
+    {
+        let Some(place) = self.seek(name) else {
+            unreachable!()
+        };
+        self.spare += 1;
+        let _ = self.names.remove(place);
+        self.entries.remove(place)
+    }
+
+    /// Puts a process in, for which there is room.
+    pub(crate) fn put_in(&mut self, name: Process, entry: Entry)
+        requires queue { IsQueue self.old }
+        requires free { ¬ IsSeated self.old name }
+        requires room { 0 < self.old.spare }
+        requires tasks { IsOrdered task_cmp entry.tasks }
+        ensures entries { (n : Name) (e : Entry) → IsAt self.new n e ↔ (((n ≡ name) × (e ≡ entry)) ⊎ IsAt self.old n e) }
+        ensures spare { self.new.spare + 1 ≡ self.old.spare }
+        ensures queue { IsQueue self.new }
+    {
+        let place = free_place(self.names.as_slice(), &name);
+        self.spare -= 1;
+        insert_at(&mut self.names, place, name);
+        insert_at(&mut self.entries, place, entry);
+        self.last = place;
+    }
+}
+
+// Where a name that isn't there has to be put.
+fn free_place(names: &[Process], name: &Process) -> usize
+    requires in_order { IsInNameOrder names.now }
+    requires free { has names.now name.now ≡ false }
+    ensures within { result ≤ length names.now }
+    ensures added { insert names.now result name.now ≡ add name.now names.now }
+{
+    match names.binary_search(name) {
+        Ok(place) => place,
+        Err(place) => place,
+    }
+}
+
+// Inserts an item, for which there is room.
+fn insert_at<T: Drop>(items: &mut Vec<T>, place: usize, item: T)
+    requires within { place ≤ vec_len items.old }
+    requires room { vec_len items.old < vec_capacity items.old }
+    ensures items { items.new.items ≡ insert items.old.items place item }
+    ensures len { vec_len items.new ≡ vec_len items.old + 1 }
+    ensures capacity { vec_capacity items.old ≤ vec_capacity items.new }
+{
+    let _ = items.insert(place, item);
 }

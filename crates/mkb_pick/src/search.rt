@@ -1,13 +1,13 @@
 // The search for the next job.
-ghost use Rattle.std.specs.Prelude.{◌≡◌, true};
-ghost use Rattle.mkb_pick.specs.Trees.{Has, IsOrdered};
+ghost use Rattle.std.specs.Prelude.{◌≡◌, ◌↔◌, ◌<◌, true, length, IsTrue, MatchOption};
+ghost use Rattle.mkb_pick.specs.Trees.{IsOrdered};
 ghost use Rattle.mkb_pick.specs.Tasks.{task_cmp, IsWithin, is_open};
-ghost use Rattle.mkb_pick.specs.Queues.{IsQueue, entry_cmp, turn_cmp};
-ghost use Rattle.mkb_pick.specs.Firsts.{IsFirst, IsFirstOf, IsNext};
+ghost use Rattle.mkb_pick.specs.Queues.{IsQueue};
+ghost use Rattle.mkb_pick.specs.Firsts.{IsFirst, IsNext, IsChoice};
 
-use crate::queue::{Entry, Turn};
+use crate::queue::Queue;
 use crate::task::{Task, is_free};
-use crate::tree::{Tree, find};
+use crate::tree::Tree;
 use kb_label::Process;
 use kb_node::Job;
 
@@ -56,37 +56,52 @@ fn first_task(tasks: &Tree<Task>, process: &Process, flight: &[Job]) -> Option<T
     }
 }
 
-/// The first job of the process that clashes with nothing in flight.
-fn first_of(entries: &Tree<Entry>, process: &Process, flight: &[Job]) -> Option<Job>
-    requires ordered { IsOrdered entry_cmp entries.now }
-    requires tasks { (e : Entry) → Has entries.now e → IsOrdered task_cmp e.tasks }
-    ensures { IsFirstOf entries.now flight.now process.now result }
-{
-    let entry = find(entries, &Entry::bare(*process))?;
-    let task = first_task(&entry.tasks, process, flight)?;
-    Some(task.work.job(process))
+/// The first task of the least process so far: where that stands, and what it costs.
+#[derive(Clone, Copy)]
+pub(crate) struct Choice {
+    pub(crate) place: usize,
+    pub(crate) cost: u64,
+    pub(crate) task: Task,
 }
 
 /// The first job of the first process that does not rest and has one that clashes with nothing in flight.
-///
-/// All that rest come behind, so none of them is looked at but on the way.
-pub(crate) fn next_job(turns: &Tree<Turn>, entries: &Tree<Entry>, flight: &[Job]) -> Option<Job>
-    requires turns { IsOrdered turn_cmp turns.now }
-    requires ordered { IsOrdered entry_cmp entries.now }
-    requires tasks { (e : Entry) → Has entries.now e → IsOrdered task_cmp e.tasks }
-    ensures { IsNext turns.now entries.now flight.now result }
+pub(crate) fn next_job(queue: &Queue, flight: &[Job]) -> Option<Job>
+    requires { IsQueue queue.now }
+    ensures { IsNext queue.now flight.now result }
 {
-    let Tree::Fork(top) = turns else {
-        return None;
-    };
-    if let Some(job) = next_job(&top.left, entries, flight) {
-        return Some(job);
+    let choice = best_choice(queue, flight)?;
+    Some(choice.task.work.job(&queue.names[choice.place]))
+}
+
+// The first task of the first process that is ready. As names rise along the list, a later process comes first only where
+// it costs less.
+fn best_choice(queue: &Queue, flight: &[Job]) -> Option<Choice>
+    requires { IsQueue queue.now }
+    ensures { IsChoice queue.now flight.now (length queue.now.names.items) result }
+{
+    let mut best = None;
+    for place in 0..queue.entries.len() {
+        let entry = &queue.entries[place];
+        if entry.resting || !is_cheaper(entry.cost, &best) {
+            continue;
+        }
+        if let Some(task) = first_task(&entry.tasks, &queue.names[place], flight) {
+            best = Some(Choice {
+                place,
+                cost: entry.cost,
+                task,
+            });
+        }
     }
-    if top.item.resting {
-        return None;
+    best
+}
+
+// Whether the cost is less than that of the choice, or there is none.
+fn is_cheaper(cost: u64, best: &Option<Choice>) -> bool
+    ensures { MatchOption best.now (IsTrue result) (λ c. IsTrue result ↔ (cost < c.cost)) }
+{
+    match best {
+        Some(choice) => cost < choice.cost,
+        None => true,
     }
-    if let Some(job) = first_of(entries, &top.item.name, flight) {
-        return Some(job);
-    }
-    next_job(&top.right, entries, flight)
 }
