@@ -1,2 +1,5 @@
 pub mod Places
+pub mod Seats
+pub mod Viewed
+pub mod Replaced
 pub mod Tasks

@@ -1,5 +1,5 @@
 -- The processes of a queue, in the order of their names.
-use Rattle.std.specs.Prelude.{ℕ, ◌≡◌, ◌<◌, ◌≤◌, ◌+◌, Bool, List, length, get_or, All, vec_len, vec_capacity}
+use Rattle.std.specs.Prelude.{ℕ, ◌≡◌, ◌<◌, ◌≤◌, ◌+◌, Bool, List, length, get_or, All, Contains, vec_len, vec_capacity}
 use Rattle.kb_label.specs.Names.{Name, IsInNameOrder}
 use Rattle.mkb_pick.specs.Trees.{Has, IsOrdered}
 use Rattle.mkb_pick.specs.Tasks.{task_cmp}
@@ -23,14 +23,22 @@ pub record IsQueue (q : Queue) : Type 0 where
   pub room : vec_len q.names + q.spare ≤ vec_capacity q.names
   pub room_beside : vec_len q.entries + q.spare ≤ vec_capacity q.entries
 
+-- the process is listed with an entry that has P
+abbrev pub With : Queue → Name → (Entry → Type 0) → Type 0
+With q n P = (e : Entry) × IsAt q n e × P e
+
+-- the entry has this cost, and rests or not
+abbrev pub Shows : ℕ → Bool → Entry → Type 0
+Shows c r e = (e.cost ≡ c) × (e.resting ≡ r)
+
 -- the process is listed with this cost, and rests or not
 abbrev pub Sits : Queue → Name → ℕ → Bool → Type 0
-Sits q n c r = (e : Entry) × IsAt q n e × (e.cost ≡ c) × (e.resting ≡ r)
+Sits q n c r = With q n (Shows c r)
 
 -- the process is listed and has the task
 abbrev pub HasTask : Queue → Name → Task → Type 0
-HasTask q n t = (e : Entry) × IsAt q n e × Has e.tasks t
+HasTask q n t = With q n (λ e. Has e.tasks t)
 
 -- the process is listed
 abbrev pub IsSeated : Queue → Name → Type 0
-IsSeated q n = (e : Entry) × IsAt q n e
+IsSeated q n = Contains q.names.items n

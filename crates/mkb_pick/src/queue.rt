@@ -1,7 +1,7 @@
 // The listed processes in the order of their names.
-ghost use Rattle.std.specs.Prelude.{ℕ, ◌≡◌, ◌⊎◌, ◌↔◌, ◌+◌, ◌-◌, ◌<◌, ◌≤◌, max, List, [], length, get_or, insert, false, IsTrue, OnOk, OnErr, IsOk, MatchOption, vec_len, vec_capacity};
+ghost use Rattle.std.specs.Prelude.{ℕ, ◌≡◌, ◌⊎◌, ◌↔◌, ◌+◌, ◌-◌, ◌<◌, ◌≤◌, max, List, [], length, get_or, insert, Contains, false, IsTrue, OnOk, OnErr, IsOk, MatchOption, vec_len, vec_capacity};
 ghost use Rattle.mkb_pick.specs.declared.tree.Tree.{Leaf};
-ghost use Rattle.kb_label.specs.Names.{Name, has, add, IsInNameOrder};
+ghost use Rattle.kb_label.specs.Names.{Name, add, IsInNameOrder};
 ghost use Rattle.mkb_pick.specs.Trees.{IsOrdered};
 ghost use Rattle.mkb_pick.specs.Tasks.{task_cmp};
 ghost use Rattle.mkb_pick.specs.Queues.{IsQueue, IsAt, IsSeated};
@@ -149,7 +149,7 @@ impl Queue {
 // Where a name that isn't there has to be put.
 fn free_place(names: &[Process], name: &Process) -> usize
     requires in_order { IsInNameOrder names.now }
-    requires free { has names.now name.now ≡ false }
+    requires free { ¬ Contains names.now name.now }
     ensures within { result ≤ length names.now }
     ensures added { insert names.now result name.now ≡ add name.now names.now }
 {

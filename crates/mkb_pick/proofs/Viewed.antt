@@ -1,0 +1,274 @@
+-- What contracts see of the lists and trees.
+use Rattle.std.proofs.Common.{ℕ, ◌≡◌, refl, sym, ap, ap₂, ◌∙◌, subst, ◌⊎◌, inl, inr, Bool, false, List, ◌∷◌, length, length-append, arith, ◌↔◌}
+use Rattle.std.specs.Prelude.{Contains, zip}
+use Rattle.std.proofs.lemmas.List.Elements.{Contains-append_left, Contains-append_right, Contains-append_cases}
+use Rattle.kb_lemmas.proofs.Membership.{contains_cases, contains_behind, contains_first, contains_map, contains_mapped}
+use Rattle.kb_label.specs.Names.{Name}
+use Rattle.kb_node.specs.declared.job.Job.{Job}
+use Rattle.kb_node.specs.declared.job.Job.TheVariants.{Reduce, Orient, Overlap, Close}
+use Rattle.mkb_pick.specs.declared.task.Work.{Work}
+use Rattle.mkb_pick.specs.declared.task.Work.TheVariants.{Reducing, Orienting, Overlapping, Closing}
+use Rattle.mkb_pick.specs.declared.task.Task.{Task}
+use Rattle.mkb_pick.specs.declared.queue.Entry.{Entry}
+use Rattle.mkb_pick.specs.declared.queue.Queue.{Queue}
+use Rattle.mkb_pick.specs.declared.tree.Tree.{Tree, Leaf, Fork'}
+use Rattle.mkb_pick.specs.Trees.{Has, count, seen}
+use Rattle.mkb_model.specs.Jobs.{process_of}
+use Rattle.mkb_pick.specs.Tasks.{job_of, work_of}
+use Rattle.mkb_pick.specs.Queues.{IsQueue, IsAt, Sits, HasTask, IsSeated}
+use Rattle.mkb_pick.specs.Listings.{Listed, IsListed, IsProcess, HasJob}
+use Rattle.mkb_pick.specs.Views.{job_in, listed_in, processes_of}
+use Rattle.mkb_pick.proofs.Seats.{both_has, entry_of}
+
+-- ---- what is seen of a tree
+
+pub seen_from : {T Y : Type 0} (f : T → Y) (tree : Tree T) (y : Y) → Contains (seen f tree) y → (x : T) × Has tree x × (f x ≡ y)
+seen_from f Leaf y c = absurd (omega arith)
+seen_from f (Fork' p left item w right) y c =
+    elim (Contains-append_cases (seen f left) (f item ∷ seen f right) y c) [
+      | inl a ↦ let r = seen_from f left y a in (r.0, inr (inl r.1), r.2)
+      | inr a ↦
+          elim (contains_cases (f item) (seen f right) y a) [
+            | inl e ↦ (item, inl refl, e)
+            | inr b ↦ let r = seen_from f right y b in (r.0, inr (inr r.1), r.2)
+          ]
+    ]
+
+pub seen_to : {T Y : Type 0} (f : T → Y) (tree : Tree T) (x : T) → Has tree x → Contains (seen f tree) (f x)
+seen_to f Leaf x h = absurd h
+seen_to f (Fork' p left item w right) x h =
+    elim h [
+      | inl e ↦ Contains-append_right (seen f left) (f item ∷ seen f right) (f x) (subst (λ z. Contains (f z ∷ seen f right) (f x)) e (contains_first (f x) (seen f right)))
+      | inr a ↦
+          elim a [
+            | inl b ↦ Contains-append_left (seen f left) (f item ∷ seen f right) (f x) (seen_to f left x b)
+            | inr b ↦ Contains-append_right (seen f left) (f item ∷ seen f right) (f x) (contains_behind (f item) (seen f right) (f x) (seen_to f right x b))
+          ]
+    ]
+
+pub seen_length : {T Y : Type 0} (f : T → Y) (tree : Tree T) → length (seen f tree) ≡ count tree
+seen_length f Leaf = refl
+seen_length f (Fork' p left item w right) = omega (arith, length-append (seen f left) (f item ∷ seen f right), seen_length f left, seen_length f right)
+
+-- ---- jobs and tasks
+
+-- the task of a job
+abbrev pub task_in : Job → ℕ → Task
+task_in j w = record { work = work_of j; weight = w }
+
+pub job_again : (j : Job) → job_of (process_of j) (work_of j) ≡ j
+job_again (Reduce p n) = refl
+job_again (Orient p n) = refl
+job_again (Overlap p a b) = refl
+job_again (Close p) = refl
+
+pub work_again : (p : Name) (w : Work) → work_of (job_of p w) ≡ w
+work_again p (Reducing n) = refl
+work_again p (Orienting n) = refl
+work_again p (Overlapping a b) = refl
+work_again p Closing = refl
+
+pub process_again : (p : Name) (w : Work) → process_of (job_of p w) ≡ p
+process_again p (Reducing n) = refl
+process_again p (Orienting n) = refl
+process_again p (Overlapping a b) = refl
+process_again p Closing = refl
+
+-- ---- the list of processes and the queue
+
+-- these are the processes of the queue
+abbrev pub IsSeen : Queue → List Listed → Type 0
+IsSeen q ps = IsQueue q × (processes_of q ≡ ps)
+
+listed_from : (q : Queue) (ps : List Listed) → IsSeen q ps → (l : Listed) → Contains ps l → (n : Name) × (e : Entry) × IsAt q n e × (listed_in (n, e) ≡ l)
+listed_from q ps is l h =
+    let s = contains_mapped listed_in (zip q.names.items q.entries.items) l (subst (λ xs. Contains xs l) (sym is.1) h) in
+    (s.0.0, s.0.1, (both_has q.names.items q.entries.items is.0.beside s.0.0 s.0.1).0 s.1, s.2)
+
+listed_to : (q : Queue) (ps : List Listed) → IsSeen q ps → (n : Name) (e : Entry) → IsAt q n e → Contains ps (listed_in (n, e))
+listed_to q ps is n e h =
+    subst (λ xs. Contains xs (listed_in (n, e))) is.1 (contains_map listed_in (zip q.names.items q.entries.items) (n, e) ((both_has q.names.items q.entries.items is.0.beside n e).1 h))
+
+pub seat_seen : (q : Queue) (ps : List Listed) → IsSeen q ps → (n : Name) (c : ℕ) (r : Bool) → IsListed ps n c r ↔ Sits q n c r
+seat_seen q ps is n c r = (
+  λ h.
+      let s = listed_from q ps is h.0 h.1 in
+      (s.1, subst (λ z. IsAt q z s.1) (ap (λ l. l.name) s.3 ∙ h.2) s.2, (ap (λ l. l.cost) s.3 ∙ h.3, ap (λ l. l.resting) s.3 ∙ h.4)),
+  λ h. (listed_in (n, h.0), listed_to q ps is n h.0 h.1, refl, h.2.0, h.2.1),
+)
+
+pub job_seen : (q : Queue) (ps : List Listed) → IsSeen q ps → (j : Job) (w : ℕ) → HasJob ps j w ↔ HasTask q (process_of j) (task_in j w)
+job_seen q ps is j w = (
+  λ h.
+      let s = listed_from q ps is h.0 h.1 in
+      let e : Entry = s.1 in
+      let t = seen_from (job_in s.0) e.tasks (j, w) (subst (λ (l : Listed). Contains l.jobs (j, w)) (sym s.3) h.3) in
+      let work : t.0.work ≡ work_of j = sym (work_again s.0 t.0.work) ∙ ap (λ x. work_of x.0) t.2 in
+      let same : t.0 ≡ task_in j w = ap₂ (λ x y. record { work = x; weight = y }) work (ap (λ x. x.1) t.2) in
+      (e, subst (λ z. IsAt q z e) (ap (λ l. l.name) s.3 ∙ h.2) s.2, subst (Has e.tasks) same t.1),
+  λ h.
+      let e : Entry = h.0 in
+      let pair : job_in (process_of j) (task_in j w) ≡ (j, w) = ap (λ x. (x, w)) (job_again j) in
+      (listed_in (process_of j, e), listed_to q ps is (process_of j) e h.1, refl, subst (Contains (seen (job_in (process_of j)) e.tasks)) pair (seen_to (job_in (process_of j)) e.tasks (task_in j w) h.2)),
+)
+
+pub seated : (q : Queue) (ps : List Listed) → IsSeen q ps → (n : Name) → IsProcess ps n ↔ IsSeated q n
+seated q ps is n = (
+  λ h. let s = listed_from q ps is h.0 h.1 in subst (IsSeated q) (ap (λ l. l.name) s.3 ∙ h.2) (s.2.0, s.2.1.0, s.2.1.1),
+  λ h. let e = entry_of q.names.items q.entries.items is.0.beside n h in (listed_in (n, e.0), listed_to q ps is n e.0 e.1, refl),
+)
+
+-- ---- changes, as contracts see them
+
+pub seats_as_before : (q0 q1 : Queue) (ps : List Listed) → IsSeen q0 ps → IsQueue q1 → ((n : Name) (c : ℕ) (r : Bool) → Sits q1 n c r ↔ Sits q0 n c r) → (n : Name) (c : ℕ) (r : Bool) → IsListed (processes_of q1) n c r ↔ IsListed ps n c r
+seats_as_before q0 q1 ps is new h n c r = (
+  λ x. (seat_seen q0 ps is n c r).1 ((h n c r).0 ((seat_seen q1 (processes_of q1) (new, refl) n c r).0 x)),
+  λ x. (seat_seen q1 (processes_of q1) (new, refl) n c r).1 ((h n c r).1 ((seat_seen q0 ps is n c r).0 x)),
+)
+
+pub jobs_as_before : (q0 q1 : Queue) (ps : List Listed) → IsSeen q0 ps → IsQueue q1 → ((n : Name) (t : Task) → HasTask q1 n t ↔ HasTask q0 n t) → (j : Job) (w : ℕ) → HasJob (processes_of q1) j w ↔ HasJob ps j w
+jobs_as_before q0 q1 ps is new h j w = (
+  λ x. (job_seen q0 ps is j w).1 ((h (process_of j) (task_in j w)).0 ((job_seen q1 (processes_of q1) (new, refl) j w).0 x)),
+  λ x. (job_seen q1 (processes_of q1) (new, refl) j w).1 ((h (process_of j) (task_in j w)).1 ((job_seen q0 ps is j w).0 x)),
+)
+
+same_job : (j k : Job) (v w : ℕ) → process_of j ≡ process_of k → task_in j v ≡ task_in k w → (j ≡ k) × (v ≡ w)
+same_job j k v w p t = (sym (job_again j) ∙ ap₂ job_of p (ap (λ x. x.work) t) ∙ job_again k, ap (λ x. x.weight) t)
+
+pub job_more : (q0 q1 : Queue) (ps : List Listed) → IsSeen q0 ps → IsQueue q1 → (k : Job) (v : ℕ) → ((n : Name) (t : Task) → HasTask q1 n t ↔ (((n ≡ process_of k) × (t ≡ task_in k v)) ⊎ HasTask q0 n t)) → (j : Job) (w : ℕ) → HasJob (processes_of q1) j w ↔ (((j ≡ k) × (w ≡ v)) ⊎ HasJob ps j w)
+job_more q0 q1 ps is new k v h j w = (
+  λ x.
+      elim ((h (process_of j) (task_in j w)).0 ((job_seen q1 (processes_of q1) (new, refl) j w).0 x)) [
+        | inl q ↦ inl (same_job j k w v q.0 q.1)
+        | inr q ↦ inr ((job_seen q0 ps is j w).1 q)
+      ],
+  λ x.
+      (job_seen q1 (processes_of q1) (new, refl) j w).1 ((h (process_of j) (task_in j w)).1
+      (elim x [
+        | inl q ↦ inl (ap process_of q.0, ap₂ task_in q.0 q.1)
+        | inr q ↦ inr ((job_seen q0 ps is j w).0 q)
+      ])),
+)
+
+pub job_less : (q0 q1 : Queue) (ps : List Listed) → IsSeen q0 ps → IsQueue q1 → (k : Job) (v : ℕ) → ((n : Name) (t : Task) → HasTask q1 n t ↔ (HasTask q0 n t × ¬ ((n ≡ process_of k) × (t ≡ task_in k v)))) → (j : Job) (w : ℕ) → HasJob (processes_of q1) j w ↔ (HasJob ps j w × ¬ ((j ≡ k) × (w ≡ v)))
+job_less q0 q1 ps is new k v h j w = (
+  λ x.
+      let q = (h (process_of j) (task_in j w)).0 ((job_seen q1 (processes_of q1) (new, refl) j w).0 x) in
+      ((job_seen q0 ps is j w).1 q.0, λ e. q.1 (ap process_of e.0, ap₂ task_in e.0 e.1)),
+  λ x.
+      (job_seen q1 (processes_of q1) (new, refl) j w).1 ((h (process_of j) (task_in j w)).1 ((job_seen q0 ps is j w).0 x.0, λ e. x.1 (same_job j k w v e.0 e.1))),
+)
+
+pub cost_seen : (q0 q1 : Queue) (ps : List Listed) → IsSeen q0 ps → IsQueue q1 → (p : Name) (k : ℕ) → ((n : Name) (c : ℕ) (r : Bool) → Sits q1 n c r ↔ (((n ≡ p) × (c ≡ k) × ((d : ℕ) × Sits q0 n d r)) ⊎ ((¬ (n ≡ p)) × Sits q0 n c r))) → (n : Name) (c : ℕ) (r : Bool) → IsListed (processes_of q1) n c r ↔ (((n ≡ p) × (c ≡ k) × ((d : ℕ) × IsListed ps n d r)) ⊎ ((¬ (n ≡ p)) × IsListed ps n c r))
+cost_seen q0 q1 ps is new p k h n c r = (
+  λ x.
+      elim ((h n c r).0 ((seat_seen q1 (processes_of q1) (new, refl) n c r).0 x)) [
+        | inl q ↦ inl (q.0, q.1, (q.2.0, (seat_seen q0 ps is n q.2.0 r).1 q.2.1))
+        | inr q ↦ inr (q.0, (seat_seen q0 ps is n c r).1 q.1)
+      ],
+  λ x.
+      (seat_seen q1 (processes_of q1) (new, refl) n c r).1 ((h n c r).1
+      (elim x [
+        | inl q ↦ inl (q.0, q.1, (q.2.0, (seat_seen q0 ps is n q.2.0 r).0 q.2.1))
+        | inr q ↦ inr (q.0, (seat_seen q0 ps is n c r).0 q.1)
+      ])),
+)
+
+pub rest_seen : (q0 q1 : Queue) (ps : List Listed) → IsSeen q0 ps → IsQueue q1 → (p : Name) (k : Bool) → ((n : Name) (c : ℕ) (r : Bool) → Sits q1 n c r ↔ (((n ≡ p) × (r ≡ k) × ((s : Bool) × Sits q0 n c s)) ⊎ ((¬ (n ≡ p)) × Sits q0 n c r))) → (n : Name) (c : ℕ) (r : Bool) → IsListed (processes_of q1) n c r ↔ (((n ≡ p) × (r ≡ k) × ((s : Bool) × IsListed ps n c s)) ⊎ ((¬ (n ≡ p)) × IsListed ps n c r))
+rest_seen q0 q1 ps is new p k h n c r = (
+  λ x.
+      elim ((h n c r).0 ((seat_seen q1 (processes_of q1) (new, refl) n c r).0 x)) [
+        | inl q ↦ inl (q.0, q.1, (q.2.0, (seat_seen q0 ps is n c q.2.0).1 q.2.1))
+        | inr q ↦ inr (q.0, (seat_seen q0 ps is n c r).1 q.1)
+      ],
+  λ x.
+      (seat_seen q1 (processes_of q1) (new, refl) n c r).1 ((h n c r).1
+      (elim x [
+        | inl q ↦ inl (q.0, q.1, (q.2.0, (seat_seen q0 ps is n c q.2.0).0 q.2.1))
+        | inr q ↦ inr (q.0, (seat_seen q0 ps is n c r).0 q.1)
+      ])),
+)
+
+pub gone_seen : (q0 q1 : Queue) (ps : List Listed) → IsSeen q0 ps → IsQueue q1 → (p : Name) → ((n : Name) (c : ℕ) (r : Bool) → Sits q1 n c r ↔ (Sits q0 n c r × ¬ (n ≡ p))) → (n : Name) (c : ℕ) (r : Bool) → IsListed (processes_of q1) n c r ↔ (IsListed ps n c r × ¬ (n ≡ p))
+gone_seen q0 q1 ps is new p h n c r = (
+  λ x. let q = (h n c r).0 ((seat_seen q1 (processes_of q1) (new, refl) n c r).0 x) in ((seat_seen q0 ps is n c r).1 q.0, q.1),
+  λ x. (seat_seen q1 (processes_of q1) (new, refl) n c r).1 ((h n c r).1 ((seat_seen q0 ps is n c r).0 x.0, x.1)),
+)
+
+pub jobs_gone_seen : (q0 q1 : Queue) (ps : List Listed) → IsSeen q0 ps → IsQueue q1 → (p : Name) → ((n : Name) (t : Task) → HasTask q1 n t ↔ (HasTask q0 n t × ¬ (n ≡ p))) → (j : Job) (w : ℕ) → HasJob (processes_of q1) j w ↔ (HasJob ps j w × ¬ (process_of j ≡ p))
+jobs_gone_seen q0 q1 ps is new p h j w = (
+  λ x. let q = (h (process_of j) (task_in j w)).0 ((job_seen q1 (processes_of q1) (new, refl) j w).0 x) in ((job_seen q0 ps is j w).1 q.0, q.1),
+  λ x. (job_seen q1 (processes_of q1) (new, refl) j w).1 ((h (process_of j) (task_in j w)).1 ((job_seen q0 ps is j w).0 x.0, x.1)),
+)
+
+pub come_seen : (q0 q1 : Queue) (ps : List Listed) → IsSeen q0 ps → IsQueue q1 → (p : Name) (k : ℕ) → ((n : Name) (c : ℕ) (r : Bool) → Sits q1 n c r ↔ (((n ≡ p) × (k ≡ c) × (false ≡ r)) ⊎ Sits q0 n c r)) → (n : Name) (c : ℕ) (r : Bool) → IsListed (processes_of q1) n c r ↔ (((n ≡ p) × (c ≡ k) × (r ≡ false)) ⊎ IsListed ps n c r)
+come_seen q0 q1 ps is new p k h n c r = (
+  λ x.
+      elim ((h n c r).0 ((seat_seen q1 (processes_of q1) (new, refl) n c r).0 x)) [
+        | inl q ↦ inl (q.0, sym q.1, sym q.2)
+        | inr q ↦ inr ((seat_seen q0 ps is n c r).1 q)
+      ],
+  λ x.
+      (seat_seen q1 (processes_of q1) (new, refl) n c r).1 ((h n c r).1
+      (elim x [
+        | inl q ↦ inl (q.0, sym q.1, sym q.2)
+        | inr q ↦ inr ((seat_seen q0 ps is n c r).0 q)
+      ])),
+)
+
+pub jobs_come_seen : (q0 q1 : Queue) (ps : List Listed) → IsSeen q0 ps → IsQueue q1 → (p : Name) → ((n : Name) (t : Task) → HasTask q1 n t ↔ (((n ≡ p) × ⊥) ⊎ HasTask q0 n t)) → (j : Job) (w : ℕ) → HasJob (processes_of q1) j w ↔ HasJob ps j w
+jobs_come_seen q0 q1 ps is new p h j w = (
+  λ x.
+      elim ((h (process_of j) (task_in j w)).0 ((job_seen q1 (processes_of q1) (new, refl) j w).0 x)) [
+        | inl q ↦ absurd q.1
+        | inr q ↦ (job_seen q0 ps is j w).1 q
+      ],
+  λ x. (job_seen q1 (processes_of q1) (new, refl) j w).1 ((h (process_of j) (task_in j w)).1 (inr ((job_seen q0 ps is j w).0 x))),
+)
+
+pub parted_seen : (q0 q1 : Queue) (ps : List Listed) → IsSeen q0 ps → IsQueue q1 → (p m0 m1 : Name) → ((n : Name) (c : ℕ) (r : Bool) → Sits q1 n c r ↔ ((((n ≡ m0) ⊎ (n ≡ m1)) × Sits q0 p c r) ⊎ ((¬ (n ≡ p)) × Sits q0 n c r))) → (n : Name) (c : ℕ) (r : Bool) → IsListed (processes_of q1) n c r ↔ ((((n ≡ m0) ⊎ (n ≡ m1)) × IsListed ps p c r) ⊎ ((¬ (n ≡ p)) × IsListed ps n c r))
+parted_seen q0 q1 ps is new p m0 m1 h n c r = (
+  λ x.
+      elim ((h n c r).0 ((seat_seen q1 (processes_of q1) (new, refl) n c r).0 x)) [
+        | inl q ↦ inl (q.0, (seat_seen q0 ps is p c r).1 q.1)
+        | inr q ↦ inr (q.0, (seat_seen q0 ps is n c r).1 q.1)
+      ],
+  λ x.
+      (seat_seen q1 (processes_of q1) (new, refl) n c r).1 ((h n c r).1
+      (elim x [
+        | inl q ↦ inl (q.0, (seat_seen q0 ps is p c r).0 q.1)
+        | inr q ↦ inr (q.0, (seat_seen q0 ps is n c r).0 q.1)
+      ])),
+)
+
+-- the same job of another process
+pub job_of_other : (q : Queue) (ps : List Listed) → IsSeen q ps → (p : Name) (j : Job) (w : ℕ) → HasJob ps (job_of p (work_of j)) w ↔ HasTask q p (task_in j w)
+job_of_other q ps is p j w =
+    let s = job_seen q ps is (job_of p (work_of j)) w in
+    let n = process_again p (work_of j) in
+    let t : task_in (job_of p (work_of j)) w ≡ task_in j w = ap (λ x. record { work = x; weight = w }) (work_again p (work_of j)) in (
+      λ h. subst (λ m. HasTask q m (task_in j w)) n (subst (HasTask q (process_of (job_of p (work_of j)))) t (s.0 h)),
+      λ h. s.1 (subst (HasTask q (process_of (job_of p (work_of j)))) (sym t) (subst (λ m. HasTask q m (task_in j w)) (sym n) h)),
+    )
+
+pub jobs_parted_seen : (q0 q1 : Queue) (ps : List Listed) → IsSeen q0 ps → IsQueue q1 → (p m0 m1 : Name) → ((n : Name) (t : Task) → HasTask q1 n t ↔ ((((n ≡ m0) ⊎ (n ≡ m1)) × HasTask q0 p t) ⊎ ((¬ (n ≡ p)) × HasTask q0 n t))) → (j : Job) (w : ℕ) → HasJob (processes_of q1) j w ↔ ((((process_of j ≡ m0) ⊎ (process_of j ≡ m1)) × HasJob ps (job_of p (work_of j)) w) ⊎ ((¬ (process_of j ≡ p)) × HasJob ps j w))
+jobs_parted_seen q0 q1 ps is new p m0 m1 h j w = (
+  λ x.
+      elim ((h (process_of j) (task_in j w)).0 ((job_seen q1 (processes_of q1) (new, refl) j w).0 x)) [
+        | inl q ↦ inl (q.0, (job_of_other q0 ps is p j w).1 q.1)
+        | inr q ↦ inr (q.0, (job_seen q0 ps is j w).1 q.1)
+      ],
+  λ x.
+      (job_seen q1 (processes_of q1) (new, refl) j w).1 ((h (process_of j) (task_in j w)).1
+      (elim x [
+        | inl q ↦ inl (q.0, (job_of_other q0 ps is p j w).0 q.1)
+        | inr q ↦ inr (q.0, (job_seen q0 ps is j w).0 q.1)
+      ])),
+)
+
+-- as many jobs are seen of a process as its entry has tasks
+pub count_seen : (q : Queue) (ps : List Listed) → IsSeen q ps → (n : Name) (l : Listed) → Contains ps l → l.name ≡ n → (e : Entry) × IsAt q n e × (length l.jobs ≡ count e.tasks)
+count_seen q ps is n l h named =
+    let s = listed_from q ps is l h in
+    let e : Entry = s.1 in
+    (e, subst (λ z. IsAt q z e) (ap (λ x. x.name) s.3 ∙ named) s.2, ap (λ (x : Listed). length x.jobs) (sym s.3) ∙ seen_length (job_in s.0) e.tasks)

@@ -1,0 +1,18 @@
+use Rattle.std.proofs.Common.{refl, ap}
+use Rattle.mkb_pick.specs.declared.queue.Entry.{Entry}
+use Rattle.mkb_pick.proofs.Replaced.{changed, replaced, seats_stay, task_added}
+use Rattle.mkb_pick.proofs.queue.Queue.add_task.Goals as goal
+
+pub returns-clause-seats : goal.returns-clause-seats
+returns-clause-seats c =
+    let d : Entry = c.index_mut.result.now in
+    let e : Entry = record { cost = d.cost; resting = d.resting; tasks = c.put.new.tree } in
+    let is = replaced c.args.self.now c.seek.new.self c.args.name.now c.in-Some.place d e c.requires.queue c.seek.ensures.names c.seek.ensures.entries c.in-Some.ensures.place c.index_mut.ensures.value in
+    seats_stay c.args.self.now (changed c.seek.new.self c.in-Some.place e) c.args.name.now d e is refl refl
+
+pub returns-clause-tasks : goal.returns-clause-tasks
+returns-clause-tasks c =
+    let d : Entry = c.index_mut.result.now in
+    let e : Entry = record { cost = d.cost; resting = d.resting; tasks = c.put.new.tree } in
+    let is = replaced c.args.self.now c.seek.new.self c.args.name.now c.in-Some.place d e c.requires.queue c.seek.ensures.names c.seek.ensures.entries c.in-Some.ensures.place c.index_mut.ensures.value in
+    task_added c.args.self.now (changed c.seek.new.self c.in-Some.place e) c.args.name.now d e is c.args.node.value.item c.put.ensures.items
