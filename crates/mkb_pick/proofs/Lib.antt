@@ -3,3 +3,4 @@ pub mod Seats
 pub mod Viewed
 pub mod Replaced
 pub mod Tasks
+pub mod Firsts

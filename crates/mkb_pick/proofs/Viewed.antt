@@ -1,6 +1,6 @@
 -- What contracts see of the lists and trees.
 use Rattle.std.proofs.Common.{ℕ, ◌≡◌, refl, sym, ap, ap₂, ◌∙◌, subst, ◌⊎◌, inl, inr, Bool, false, List, ◌∷◌, length, length-append, arith, ◌↔◌}
-use Rattle.std.specs.Prelude.{Contains, zip}
+use Rattle.std.specs.Prelude.{Contains, map, zip}
 use Rattle.std.proofs.lemmas.List.Elements.{Contains-append_left, Contains-append_right, Contains-append_cases}
 use Rattle.kb_lemmas.proofs.Membership.{contains_cases, contains_behind, contains_first, contains_map, contains_mapped}
 use Rattle.kb_label.specs.Names.{Name}
@@ -118,6 +118,10 @@ seated q ps is n = (
   λ h. let e = entry_of q.names.items q.entries.items is.0.beside n h in (listed_in (n, e.0), listed_to q ps is n e.0 e.1, refl),
 )
 
+-- a queue of the same lists has the same processes
+pub still_seen : (q0 q1 : Queue) (ps : List Listed) → IsSeen q0 ps → IsQueue q1 → q1.names.items ≡ q0.names.items → q1.entries.items ≡ q0.entries.items → IsSeen q1 ps
+still_seen q0 q1 ps is new names entries = (new, ap₂ (λ ns es. map listed_in (zip ns es)) names entries ∙ is.1)
+
 -- ---- changes, as contracts see them
 
 pub seats_as_before : (q0 q1 : Queue) (ps : List Listed) → IsSeen q0 ps → IsQueue q1 → ((n : Name) (c : ℕ) (r : Bool) → Sits q1 n c r ↔ Sits q0 n c r) → (n : Name) (c : ℕ) (r : Bool) → IsListed (processes_of q1) n c r ↔ IsListed ps n c r
@@ -201,17 +205,17 @@ jobs_gone_seen q0 q1 ps is new p h j w = (
   λ x. (job_seen q1 (processes_of q1) (new, refl) j w).1 ((h (process_of j) (task_in j w)).1 ((job_seen q0 ps is j w).0 x.0, x.1)),
 )
 
-pub come_seen : (q0 q1 : Queue) (ps : List Listed) → IsSeen q0 ps → IsQueue q1 → (p : Name) (k : ℕ) → ((n : Name) (c : ℕ) (r : Bool) → Sits q1 n c r ↔ (((n ≡ p) × (k ≡ c) × (false ≡ r)) ⊎ Sits q0 n c r)) → (n : Name) (c : ℕ) (r : Bool) → IsListed (processes_of q1) n c r ↔ (((n ≡ p) × (c ≡ k) × (r ≡ false)) ⊎ IsListed ps n c r)
+pub come_seen : (q0 q1 : Queue) (ps : List Listed) → IsSeen q0 ps → IsQueue q1 → (p : Name) (k : ℕ) → ((n : Name) (c : ℕ) (r : Bool) → Sits q1 n c r ↔ (((n ≡ p) × ((k ≡ c) × (false ≡ r))) ⊎ Sits q0 n c r)) → (n : Name) (c : ℕ) (r : Bool) → IsListed (processes_of q1) n c r ↔ (((n ≡ p) × (c ≡ k) × (r ≡ false)) ⊎ IsListed ps n c r)
 come_seen q0 q1 ps is new p k h n c r = (
   λ x.
       elim ((h n c r).0 ((seat_seen q1 (processes_of q1) (new, refl) n c r).0 x)) [
-        | inl q ↦ inl (q.0, sym q.1, sym q.2)
+        | inl q ↦ inl (q.0, sym q.1.0, sym q.1.1)
         | inr q ↦ inr ((seat_seen q0 ps is n c r).1 q)
       ],
   λ x.
       (seat_seen q1 (processes_of q1) (new, refl) n c r).1 ((h n c r).1
       (elim x [
-        | inl q ↦ inl (q.0, sym q.1, sym q.2)
+        | inl q ↦ inl (q.0, (sym q.1, sym q.2))
         | inr q ↦ inr ((seat_seen q0 ps is n c r).0 q)
       ])),
 )

@@ -1,5 +1,5 @@
 // The search for the next job.
-ghost use Rattle.std.specs.Prelude.{◌≡◌, ◌↔◌, ◌<◌, true, length, IsTrue, MatchOption};
+ghost use Rattle.std.specs.Prelude.{◌≡◌, ◌↔◌, ◌<◌, ◌+◌, true, length, IsTrue, MatchOption};
 ghost use Rattle.mkb_pick.specs.Trees.{IsOrdered};
 ghost use Rattle.mkb_pick.specs.Tasks.{task_cmp, IsWithin, is_open};
 ghost use Rattle.mkb_pick.specs.Queues.{IsQueue};
@@ -73,27 +73,41 @@ pub(crate) fn next_job(queue: &Queue, flight: &[Job]) -> Option<Job>
     Some(choice.task.work.job(&queue.names[choice.place]))
 }
 
-// The first task of the first process that is ready. As names rise along the list, a later process comes first only where
-// it costs less.
+// The first task of the first process that is ready.
 fn best_choice(queue: &Queue, flight: &[Job]) -> Option<Choice>
     requires { IsQueue queue.now }
     ensures { IsChoice queue.now flight.now (length queue.now.names.items) result }
 {
     let mut best = None;
     for place in 0..queue.entries.len() {
-        let entry = &queue.entries[place];
-        if entry.resting || !is_cheaper(entry.cost, &best) {
-            continue;
-        }
-        if let Some(task) = first_task(&entry.tasks, &queue.names[place], flight) {
-            best = Some(Choice {
-                place,
-                cost: entry.cost,
-                task,
-            });
-        }
+        consider(queue, place, flight, &mut best);
     }
     best
+}
+
+// Chooses the process at a place, where it is ready and comes before the choice so far. As names rise along the list, it
+// does only where it costs less.
+fn consider(queue: &Queue, place: usize, flight: &[Job], best: &mut Option<Choice>)
+    requires queue { IsQueue queue.now }
+    requires within { place < length queue.now.names.items }
+    requires so_far { IsChoice queue.now flight.now place best.old }
+    ensures { IsChoice queue.now flight.now (place + 1) best.new }
+{
+    let entry = &queue.entries[place];
+    if entry.resting {
+        return;
+    }
+    if !is_cheaper(entry.cost, best) {
+        return;
+    }
+    let Some(task) = first_task(&entry.tasks, &queue.names[place], flight) else {
+        return;
+    };
+    *best = Some(Choice {
+        place,
+        cost: entry.cost,
+        task,
+    });
 }
 
 // Whether the cost is less than that of the choice, or there is none.
