@@ -1,5 +1,6 @@
 pub mod Places
 pub mod Seats
+pub mod Offered
 pub mod Viewed
 pub mod Replaced
 pub mod Tasks

@@ -44,7 +44,7 @@ abbrev pub Standing : List Name → List Entry → Name → Entry → Type 0
 Standing ns es n e = (k : ℕ) × Stands ns es k n e
 
 -- each place of a list has an item
-item_at : {X : Type 0} (xs : List X) (k : ℕ) → k < length xs → (x : X) × (get_or xs k x ≡ x)
+pub item_at : {X : Type 0} (xs : List X) (k : ℕ) → k < length xs → (x : X) × (get_or xs k x ≡ x)
 item_at [] k h = absurd (omega (arith, h))
 item_at (x ∷ xs) zero h = (x, refl)
 item_at (x ∷ xs) (suc k) h = item_at xs k (omega (arith, h))
