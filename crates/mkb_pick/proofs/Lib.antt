@@ -1,4 +1,3 @@
-pub mod Places
 pub mod Seats
 pub mod Offered
 pub mod Viewed

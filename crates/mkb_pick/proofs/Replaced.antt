@@ -1,12 +1,12 @@
 -- What a change of one process does to the queue.
-use Rattle.std.proofs.Common.{ℕ, ◌≡◌, ◌<◌, refl, sym, ap, ◌∙◌, subst, ◌⊎◌, inl, inr, Bool, true, false, [], ◌∷◌, ◌↔◌, length, get_or, set}
+use Rattle.std.proofs.Common.{ℕ, ◌≡◌, ◌<◌, refl, sym, ap, ◌∙◌, subst, ◌⊎◌, inl, inr, Bool, true, false, [], ◌∷◌, ◌↔◌, length, get_or}
 use Rattle.std.specs.Vec.{with_item}
 use Rattle.std.specs.declared.cmp.Ordering.{Ordering}
 use Rattle.std.specs.declared.cmp.Ordering.TheVariants.{Less, Equal, Greater}
 use Rattle.kb_label.specs.Names.{Name, name_cmp, child}
 use Rattle.kb_label.specs.NameOrder.{name_cmp-equal, name_cmp-same}
 use Rattle.mkb_pick.specs.declared.task.Task.{Task}
-use Rattle.mkb_pick.specs.declared.tree.Tree.{Tree, Leaf}
+use Rattle.mkb_pick.specs.declared.tree.Tree.{Leaf}
 use Rattle.mkb_pick.specs.declared.queue.Entry.{Entry}
 use Rattle.mkb_pick.specs.declared.queue.Queue.{Queue}
 use Rattle.mkb_pick.specs.Trees.{Has}
@@ -249,10 +249,6 @@ with_parted old mid most new n m0 m1 d f is P same m =
             | inr q ↦ two.1 (inr (one.1 (inr (gone.1 (q.1, q.0)))))
           ],
     )
-
--- what was put into a tree, by the tree that it stood for
-pub onto : (new old was : Tree Task) (x : Task) → old ≡ was → ((t : Task) → Has new t ↔ ((t ≡ x) ⊎ Has old t)) → (t : Task) → Has new t ↔ ((t ≡ x) ⊎ Has was t)
-onto new old was x e h t = subst (λ v. Has new t ↔ ((t ≡ x) ⊎ Has v t)) e (h t)
 
 children_apart : (p : Name) → child p false ≡ child p true → ⊥
 children_apart [] e = cc

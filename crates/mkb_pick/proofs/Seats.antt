@@ -134,9 +134,11 @@ module _ (ns : List Name) (es : List Entry) (n : Name) (k : ℕ) (beside : lengt
                         let next : h.0.0 - 1 + 1 ≡ h.0.0 = omega (arith, b) in
                         let from : k ≤ h.0.0 - 1 = omega (arith, b) in (
                           h.0.0 - 1,
-                          (omega (arith, shorter, b, h.0.1.0),
-                          get_or-remove_above ns k m (h.0.0 - 1) from within ∙ ap (λ i. get_or ns i m) next ∙ h.0.1.1,
-                          get_or-remove_above es k x (h.0.0 - 1) from lies ∙ ap (λ i. get_or es i x) next ∙ h.0.1.2),
+                          (
+                            omega (arith, shorter, b, h.0.1.0),
+                            get_or-remove_above ns k m (h.0.0 - 1) from within ∙ ap (λ i. get_or ns i m) next ∙ h.0.1.1,
+                            get_or-remove_above es k x (h.0.0 - 1) from lies ∙ ap (λ i. get_or es i x) next ∙ h.0.1.2,
+                          ),
                         )
                   ]
             ],
@@ -158,9 +160,11 @@ after_insert ns es n e k beside within m x =
                       let from : k ≤ h.0 - 1 = omega (arith, b) in
                       inr (
                         h.0 - 1,
-                        (omega (arith, longer, b, h.1.0),
-                        sym (get_or-insert_above ns k n m (h.0 - 1) from within) ∙ ap (λ i. get_or (insert ns k n) i m) next ∙ h.1.1,
-                        sym (get_or-insert_above es k e x (h.0 - 1) from lies) ∙ ap (λ i. get_or (insert es k e) i x) next ∙ h.1.2),
+                        (
+                          omega (arith, longer, b, h.1.0),
+                          sym (get_or-insert_above ns k n m (h.0 - 1) from within) ∙ ap (λ i. get_or (insert ns k n) i m) next ∙ h.1.1,
+                          sym (get_or-insert_above es k e x (h.0 - 1) from lies) ∙ ap (λ i. get_or (insert es k e) i x) next ∙ h.1.2,
+                        ),
                       )
                 ]
           ],

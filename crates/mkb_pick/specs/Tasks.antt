@@ -1,5 +1,5 @@
 -- Tasks: jobs without their processes, with their weights.
-use Rattle.std.specs.Prelude.{ℕ, List, [], ◌∷◌, Bool, ◌≡◌, ◌≤◌, false}
+use Rattle.std.specs.Prelude.{ℕ, List, [], ◌∷◌, Bool, ◌≤◌}
 use Rattle.std.specs.Ordering.{nat_cmp}
 use Rattle.std.specs.Cmp.Lexicographic.{slice_cmp}
 use Rattle.std.specs.declared.cmp.Ordering.{Ordering}
@@ -50,7 +50,3 @@ IsWithin low high t = (low ≤ work_kind t.work) × (work_kind t.work ≤ high)
 -- the task of the process clashes with none of the jobs in flight
 abbrev pub is_open : List Job → Name → Task → Bool
 is_open flight p t = is_free flight (job_of p t.work)
-
--- the process has an Orient or a Close in flight
-abbrev pub IsHeld : List Job → Name → Type 0
-IsHeld flight p = is_free flight (Close p) ≡ false

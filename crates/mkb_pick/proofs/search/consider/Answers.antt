@@ -1,4 +1,4 @@
-use Rattle.std.proofs.Common.{ℕ, ◌≡◌, ◌<◌, ◌≤◌, ◌↔◌, inl, inr, refl, sym, true, false}
+use Rattle.std.proofs.Common.{ℕ, ◌<◌, ◌≤◌, ◌↔◌, inl, inr, refl, sym, true, false}
 use Rattle.std.specs.Prelude.{MatchOption, Option, Some, None, IsTrue}
 use Rattle.std.proofs.lemmas.Bool.{cases_lt}
 use Rattle.mkb_pick.specs.declared.search.Choice.{Choice}

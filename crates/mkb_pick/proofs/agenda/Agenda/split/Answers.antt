@@ -1,4 +1,4 @@
-use Rattle.std.proofs.Common.{ℕ, ◌≡◌, ◌≤◌, ◌<◌, ◌+◌, vec_len, ap, ◌∙◌, true, false, arith, length}
+use Rattle.std.proofs.Common.{ℕ, ◌≡◌, ◌≤◌, ◌<◌, ◌+◌, vec_len, ap, true, false, arith, length}
 use Rattle.std.specs.Prelude.{min, max, ◌-◌, ◌^◌}
 use Rattle.kb_label.specs.Names.{child}
 use Rattle.mkb_pick.specs.Trees.{count}

@@ -1,4 +1,4 @@
-use Rattle.std.proofs.Common.{refl, ap}
+use Rattle.std.proofs.Common.{refl}
 use Rattle.mkb_pick.specs.declared.queue.Entry.{Entry}
 use Rattle.mkb_pick.proofs.Replaced.{changed, replaced, seats_stay, task_added}
 use Rattle.mkb_pick.proofs.queue.Queue.add_task.Goals as goal

@@ -1,7 +1,7 @@
-use Rattle.std.proofs.Common.{◌≡◌, ◌∙◌, ◌↔◌, ◌⊎◌, sym, subst, refl, false, true}
+use Rattle.std.proofs.Common.{◌≡◌, ◌∙◌, ◌↔◌, ◌⊎◌, sym, subst, false, true}
 use Rattle.kb_label.specs.Names.{Name, child}
 use Rattle.mkb_pick.specs.Trees.{Has}
-use Rattle.mkb_pick.specs.Queues.{IsQueue, IsAt, IsSeated, Shows}
+use Rattle.mkb_pick.specs.Queues.{IsQueue, IsAt, Shows}
 use Rattle.mkb_pick.specs.declared.queue.Entry.{Entry}
 use Rattle.mkb_pick.specs.declared.queue.Queue.{Queue}
 use Rattle.mkb_pick.proofs.Replaced.{IsParted, with_parted, first_free, second_free}

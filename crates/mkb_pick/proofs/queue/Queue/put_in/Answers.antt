@@ -1,4 +1,4 @@
-use Rattle.std.proofs.Common.{◌≡◌, ◌≤◌, ap, sym, ◌∙◌, subst, insert, length, arith}
+use Rattle.std.proofs.Common.{◌≡◌, ◌≤◌, sym, ◌∙◌, subst, insert, length, arith}
 use Rattle.kb_label.specs.Names.{add, IsInNameOrder}
 use Rattle.kb_label.proofs.Ordered.{ordered-add}
 use Rattle.mkb_pick.specs.Trees.{IsOrdered}

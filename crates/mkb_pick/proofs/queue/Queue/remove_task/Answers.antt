@@ -1,7 +1,7 @@
-use Rattle.std.proofs.Common.{refl, sym, ap}
+use Rattle.std.proofs.Common.{refl}
 use Rattle.mkb_pick.specs.Trees.{Has}
 use Rattle.mkb_pick.specs.declared.queue.Entry.{Entry}
-use Rattle.mkb_pick.proofs.Replaced.{changed, replaced, seats_stay, task_removed, task_lacked, found_with, none_with}
+use Rattle.mkb_pick.proofs.Replaced.{changed, replaced, seats_stay, task_removed, found_with}
 use Rattle.mkb_pick.proofs.queue.Queue.remove_task.Goals as goal
 
 pub returns-in-Some-clause-found : goal.returns-in-Some-clause-found

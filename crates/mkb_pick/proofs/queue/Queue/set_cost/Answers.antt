@@ -1,6 +1,6 @@
 use Rattle.std.proofs.Common.{refl}
 use Rattle.mkb_pick.specs.declared.queue.Entry.{Entry}
-use Rattle.mkb_pick.proofs.Replaced.{IsReplaced, changed, replaced, tasks_stay, cost_set}
+use Rattle.mkb_pick.proofs.Replaced.{changed, replaced, tasks_stay, cost_set}
 use Rattle.mkb_pick.proofs.queue.Queue.set_cost.Goals as goal
 
 pub returns-clause-seats : goal.returns-clause-seats

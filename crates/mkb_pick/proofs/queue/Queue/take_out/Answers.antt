@@ -1,4 +1,4 @@
-use Rattle.std.proofs.Common.{ap, ◌∙◌, remove, length, arith}
+use Rattle.std.proofs.Common.{ap, ◌∙◌, remove, arith}
 use Rattle.mkb_pick.specs.Trees.{IsOrdered}
 use Rattle.mkb_pick.specs.Tasks.{task_cmp}
 use Rattle.mkb_pick.proofs.Seats.{order_after_remove, stands_after_remove, all_after_remove}
