@@ -24,7 +24,7 @@ use Rattle.mkb_pick.specs.Tasks.{job_of, work_of}
 use Rattle.mkb_pick.specs.Listings.{Listed, IsListed, IsProcess, HasJob, SetsCost}
 use Rattle.mkb_pick.proofs.Viewed.{job_again, process_again}
 use Rattle.mkb_agenda.specs.Agendas.{IsDueJob, IsListedAs, ListsJobsAs}
-use Rattle.mkb_agenda.specs.Looking.{AreThere, HasOverlapThere, ListsAnew, ListsWork, ComesFrom, jobs_on, reductions_of, overlaps_with, overlap_of, touched_jobs}
+use Rattle.mkb_agenda.specs.Looking.{AreThere, HasOverlapThere, ListsAnew, ListsClosing, ListsWork, ComesFrom, jobs_on, reductions_of, overlaps_with, overlap_of, touched_jobs}
 use Rattle.mkb_agenda.specs.declared.looking.Touched.{Touched}
 use Rattle.mkb_agenda.proofs.DueJobs.{IsProper, due_is, is_listed_due}
 use Rattle.mkb_agenda.proofs.Anew.{SameProcesses, process_of_listed, jobs_decide, jobs_listed, rules_there}
@@ -213,57 +213,68 @@ work_own c q j h = ⊎_elim (λ d. sym (ap process_of (contains_mapped (λ n. Re
     (Contains-append_cases (map (λ n. Orient q (record { 0 = n })) (node_numbers c)) (flat_map (λ (a : RuleRef). map (Overlap q a) (rules_of c q)) (rules_of c q)) j d))
     (Contains-append_cases (map (λ n. Reduce q (record { 0 = n })) (node_numbers c)) (map (λ n. Orient q (record { 0 = n })) (node_numbers c) ++ flat_map (λ (a : RuleRef). map (Overlap q a) (rules_of c q)) (rules_of c q)) j h)
 
-module _ (c : Plain) (q : Name) (ps ms : List Listed) (removed : (j : Job) (w : ℕ) → HasJob ms j w ↔ (HasJob ps j w × ¬ ((j ≡ Close q) × (w ≡ 0)))) where
-  pub removed_others : (j : Job) (w : ℕ) → j ≢ Close q → HasJob ms j w ↔ HasJob ps j w
-  removed_others j w n = ((λ h. ((removed j w).0 h).0), (λ h. (removed j w).1 (h, λ k. n k.0)))
+-- a closing that is taken off the list leaves each other job
+pub removed_others : (q : Name) (ps ms : List Listed) → ((j : Job) (w : ℕ) → HasJob ms j w ↔ (HasJob ps j w × ¬ ((j ≡ Close q) × (w ≡ 0)))) → (j : Job) (w : ℕ) → j ≢ Close q → HasJob ms j w ↔ HasJob ps j w
+removed_others q ps ms removed j w n = ((λ h. ((removed j w).0 h).0), (λ h. (removed j w).1 (h, λ k. n k.0)))
 
-  module _ (working : IsTrue (is_working c q)) (lists : ListsWork c q ps) (zero : (w : ℕ) → HasJob ps (Close q) w → w ≡ 0) where
-    none_closing : (w : ℕ) → ¬ HasJob ms (Close q) w
-    none_closing w h = let r = (removed (Close q) w).0 h in r.1 (refl, zero w r.0)
+-- what lists the closing where it has been taken off the list lists it
+pub closing_after : (c : Plain) (q : Name) (ps ms qs : List Listed) → ((j : Job) (w : ℕ) → HasJob ms j w ↔ (HasJob ps j w × ¬ ((j ≡ Close q) × (w ≡ 0)))) → ListsClosing c q ms qs → ListsClosing c q ps qs
+closing_after c q ps ms qs removed h working lists zero = h working
+    (λ j w e n. let u = removed_others q ps ms removed j w n in ((λ x. (lists j w e n).0 (u.0 x)), (λ x. u.1 ((lists j w e n).1 x))))
+    (λ w x. zero w ((removed (Close q) w).0 x).0)
 
-    -- no job is listed where no work is due
-    idle_none : list_any (is_work_due c) (all_work c q) ≡ false → (j : Job) (w : ℕ) → process_of j ≡ q → ¬ HasJob ms j w
-    idle_none none j w e h = ⊎_elim (λ i. none_closing w (subst {A = Job} (λ z. HasJob ms z w) i h)) (λ n.
-        let d = due_work c q j e n ((lists j w e n).0 ((removed_others j w n).0 h)).0 in
-        clash d.1 (any_none (is_work_due c) (all_work c q) none j d.0)) (jobs_decide j (Close q))
+module _ (c : Plain) (q : Name) (ps : List Listed) (absent : ¬ HasJob ps (Close q) 0) (working : IsTrue (is_working c q)) (lists : ListsWork c q ps) (zero : (w : ℕ) → HasJob ps (Close q) w → w ≡ 0) where
+  none_closing : (w : ℕ) → ¬ HasJob ps (Close q) w
+  none_closing w h = absent (subst {A = ℕ} (HasJob ps (Close q)) (zero w h) h)
 
-    none_idle : ((j : Job) (w : ℕ) → process_of j ≡ q → ¬ HasJob ms j w) → list_any (is_work_due c) (all_work c q) ≡ false
-    none_idle h = none_any (is_work_due c) (all_work c q) (λ j i. false_unless (is_work_due c j) (λ d.
-        let e = work_own c q j i in
-        let n : j ≢ Close q = λ k. clash d (ap (is_work_due c) k) in
-        let k : IsDueJob c j = subst {A = Name} (λ z. Contains (all_work c z ++ Close z ∷ []) j → IsDueJob c j) e (λ m. in_filter (is_due c) (all_work c (process_of j) ++ Close (process_of j) ∷ []) j m (work_is_due c j (ap (is_working c) e ∙ working) d)) (Contains-append_left (all_work c q) (Close q ∷ []) j i) in
-        h j (weight c j) e ((removed_others j (weight c j) n).1 ((lists j (weight c j) e n).1 (k, refl)))))
+  -- no job is listed where no work is due
+  idle_none : list_any (is_work_due c) (all_work c q) ≡ false → (j : Job) (w : ℕ) → process_of j ≡ q → ¬ HasJob ps j w
+  idle_none none j w e h = ⊎_elim (λ i. none_closing w (subst {A = Job} (λ z. HasJob ps z w) i h)) (λ n.
+      let d = due_work c q j e n ((lists j w e n).0 h).0 in
+      clash d.1 (any_none (is_work_due c) (all_work c q) none j d.0)) (jobs_decide j (Close q))
 
-    lists_with : (qs : List Listed) → ((j : Job) (w : ℕ) → j ≢ Close q → HasJob qs j w ↔ HasJob ps j w) → ((w : ℕ) → HasJob qs (Close q) w ↔ (IsTrue (is_close_due c q) × (w ≡ 0))) → ListsJobsAs c q q qs
-    lists_with qs others close j w e = ⊎_elim (λ i. subst {A = Job} (λ z. HasJob qs z w ↔ (IsDueJob c (job_of q (work_of z)) × (w ≡ weight c z))) (sym i) at_close) (λ n. (
-      (λ h. let r = (lists j w e n).0 ((others j w n).0 h) in (subst {A = Job} (IsDueJob c) (sym named) r.0, r.1)),
-      (λ h. (others j w n).1 ((lists j w e n).1 (subst {A = Job} (IsDueJob c) named h.0, h.1))),
-    )) (jobs_decide j (Close q))
-      where
-        named : job_of q (work_of j) ≡ j
-        named = ap (λ (z : Name). job_of z (work_of j)) (sym e) ∙ job_again j
+  none_idle : ((j : Job) (w : ℕ) → process_of j ≡ q → ¬ HasJob ps j w) → list_any (is_work_due c) (all_work c q) ≡ false
+  none_idle h = none_any (is_work_due c) (all_work c q) (λ j i. false_unless (is_work_due c j) (λ d.
+      let e = work_own c q j i in
+      let n : j ≢ Close q = λ k. clash d (ap (is_work_due c) k) in
+      let k : IsDueJob c j = subst {A = Name} (λ z. Contains (all_work c z ++ Close z ∷ []) j → IsDueJob c j) e (λ m. in_filter (is_due c) (all_work c (process_of j) ++ Close (process_of j) ∷ []) j m (work_is_due c j (ap (is_working c) e ∙ working) d)) (Contains-append_left (all_work c q) (Close q ∷ []) j i) in
+      h j (weight c j) e ((lists j (weight c j) e n).1 (k, refl))))
 
-        at_close : HasJob qs (Close q) w ↔ (IsDueJob c (Close q) × (w ≡ weight c (Close q)))
-        at_close = (
-          (λ h. let r = (close w).0 h in (is_listed_due c (Close q) (and_from (is_working c q) (is_close_due c q) working r.0) tt, r.1 ∙ sym (close_weight c q))),
-          (λ h. (close w).1 (and_gives_right (is_working c q) (is_close_due c q) (due_is c (Close q) h.0).0, h.1 ∙ close_weight c q)),
-        )
+  lists_with : (qs : List Listed) → ((j : Job) (w : ℕ) → j ≢ Close q → HasJob qs j w ↔ HasJob ps j w) → ((w : ℕ) → HasJob qs (Close q) w ↔ (IsTrue (is_close_due c q) × (w ≡ 0))) → ListsJobsAs c q q qs
+  lists_with qs others close j w e = ⊎_elim (λ i. subst {A = Job} (λ z. HasJob qs z w ↔ (IsDueJob c (job_of q (work_of z)) × (w ≡ weight c z))) (sym i) at_close) (λ n. (
+    (λ h. let r = (lists j w e n).0 ((others j w n).0 h) in (subst {A = Job} (IsDueJob c) (sym named) r.0, r.1)),
+    (λ h. (others j w n).1 ((lists j w e n).1 (subst {A = Job} (IsDueJob c) named h.0, h.1))),
+  )) (jobs_decide j (Close q))
+    where
+      named : job_of q (work_of j) ≡ j
+      named = ap (λ (z : Name). job_of z (work_of j)) (sym e) ∙ job_again j
 
-    -- the closing is not listed where other jobs are, or where the process is closed
-    pub lists_none : (idle closed : Bool) → (IsTrue idle ↔ ((j : Job) (w : ℕ) → process_of j ≡ q → ¬ HasJob ms j w)) → closed ≡ has c.closed q → (idle && not closed) ≡ false → ListsJobsAs c q q ms
-    lists_none idle closed is_idle is_closed h = lists_with ms removed_others (λ w. (
-      (λ k. absurd (none_closing w k)),
-      (λ k. clash (and_from idle (not closed) (is_idle.1 (idle_none (not_true (and_gives_left (not (list_any (is_work_due c) (all_work c q))) (not (has c.closed q)) k.0))))
-          (ap not is_closed ∙ and_gives_right (not (list_any (is_work_due c) (all_work c q))) (not (has c.closed q)) k.0)) h),
-    ))
+      at_close : HasJob qs (Close q) w ↔ (IsDueJob c (Close q) × (w ≡ weight c (Close q)))
+      at_close = (
+        (λ h. let r = (close w).0 h in (is_listed_due c (Close q) (and_from (is_working c q) (is_close_due c q) working r.0) tt, r.1 ∙ sym (close_weight c q))),
+        (λ h. (close w).1 (and_gives_right (is_working c q) (is_close_due c q) (due_is c (Close q) h.0).0, h.1 ∙ close_weight c q)),
+      )
 
-    -- and else it is
-    pub lists_close : (qs : List Listed) (idle closed : Bool) → (IsTrue idle ↔ ((j : Job) (w : ℕ) → process_of j ≡ q → ¬ HasJob ms j w)) → closed ≡ has c.closed q → idle ≡ true → closed ≡ false
-        → ((j : Job) (w : ℕ) → HasJob qs j w ↔ (((j ≡ Close q) × (w ≡ 0)) ⊎ HasJob ms j w)) → ListsJobsAs c q q qs
-    lists_close qs idle closed is_idle is_closed h k added = lists_with qs (λ j w n. (
-      (λ x. (removed_others j w n).0 (⊎_elim (λ d. absurd (n d.0)) (λ d. d) ((added j w).0 x))),
-      (λ x. (added j w).1 (inr ((removed_others j w n).1 x))),
-    )) (λ w. (
-      (λ x. (and_from (not (list_any (is_work_due c) (all_work c q))) (not (has c.closed q)) (not_of_false (none_idle (is_idle.0 h))) (ap not (sym is_closed) ∙ not_of_false k), ⊎_elim (λ d. d.1) (λ d. absurd (none_closing w d)) ((added (Close q) w).0 x))),
-      (λ x. (added (Close q) w).1 (inl (refl, x.1))),
-    ))
+  -- the closing is not listed where other jobs are, or where the process is closed
+  pub lists_none : (idle closed : Bool) → (IsTrue idle ↔ ((j : Job) (w : ℕ) → process_of j ≡ q → ¬ HasJob ps j w)) → closed ≡ has c.closed q → (idle && not closed) ≡ false → ListsJobsAs c q q ps
+  lists_none idle closed is_idle is_closed h = lists_with ps (λ j w n. ((λ x. x), (λ x. x))) (λ w. (
+    (λ k. absurd (none_closing w k)),
+    (λ k. clash (and_from idle (not closed) (is_idle.1 (idle_none (not_true (and_gives_left (not (list_any (is_work_due c) (all_work c q))) (not (has c.closed q)) k.0))))
+        (ap not is_closed ∙ and_gives_right (not (list_any (is_work_due c) (all_work c q))) (not (has c.closed q)) k.0)) h),
+  ))
+
+  -- and else it is
+  pub lists_close : (qs : List Listed) (idle closed : Bool) → (IsTrue idle ↔ ((j : Job) (w : ℕ) → process_of j ≡ q → ¬ HasJob ps j w)) → closed ≡ has c.closed q → idle ≡ true → closed ≡ false
+      → ((j : Job) (w : ℕ) → HasJob qs j w ↔ (((j ≡ Close q) × (w ≡ 0)) ⊎ HasJob ps j w)) → ListsJobsAs c q q qs
+  lists_close qs idle closed is_idle is_closed h k added = lists_with qs (λ j w n. (
+    (λ x. ⊎_elim (λ d. absurd (n d.0)) (λ d. d) ((added j w).0 x)),
+    (λ x. (added j w).1 (inr x)),
+  )) (λ w. (
+    (λ x. (and_from (not (list_any (is_work_due c) (all_work c q))) (not (has c.closed q)) (not_of_false (none_idle (is_idle.0 h))) (ap not (sym is_closed) ∙ not_of_false k), ⊎_elim (λ d. d.1) (λ d. absurd (none_closing w d)) ((added (Close q) w).0 x))),
+    (λ x. (added (Close q) w).1 (inl (refl, x.1))),
+  ))
+
+-- where another job of the process is listed and the closing is not, nothing is to be listed
+pub lists_busy : (c : Plain) (q : Name) (ps ms : List Listed) → ((j : Job) (w : ℕ) → HasJob ms j w ↔ (HasJob ps j w × ¬ ((j ≡ Close q) × (w ≡ 0)))) → ¬ HasJob ps (Close q) 0 → ¬ ((j : Job) (w : ℕ) → process_of j ≡ q → ¬ HasJob ps j w) → ListsClosing c q ps ms
+lists_busy c q ps ms removed absent busy = closing_after c q ps ms ms removed (λ working lists zero. lists_none c q ms (λ h. ((removed (Close q) 0).0 h).1 (refl, refl)) working lists zero false (has c.closed q)
+    ((λ h. clash h refl), (λ none. absurd (busy (λ j w e h. none j w e ((removed j w).1 (h, λ k. absent (subst {A = ℕ} (HasJob ps (Close q)) k.1 (subst {A = Job} (λ z. HasJob ps z w) k.0 h)))))))) refl refl)

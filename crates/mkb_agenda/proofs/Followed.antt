@@ -24,8 +24,8 @@ use Rattle.mkb_pick.specs.Listings.{Listed, IsListed}
 use Rattle.mkb_pick.specs.Tasks.{job_of, work_of}
 use Rattle.mkb_pick.proofs.Viewed.{job_again}
 use Rattle.mkb_agenda.specs.Agendas.{IsDueJob, IsAgendaOf, IsListedAs, LeavesOthers}
-use Rattle.mkb_agenda.specs.Looking.{ComesFrom, jobs_on, BringsOne}
-use Rattle.mkb_agenda.specs.Following.{Brings, BringsChildren, ForksFrom, IsBetween, IsCommitOn}
+use Rattle.mkb_agenda.specs.Looking.{ComesFrom, BringsOne}
+use Rattle.mkb_agenda.specs.Following.{Brings, BringsChildren, BringsHolders, ForksFrom, IsBetween, IsCommitOn}
 use Rattle.mkb_agenda.specs.declared.following.Commit.{Commit}
 use Rattle.mkb_agenda.proofs.Brought.{known_or_not, only_name, no_name}
 use Rattle.mkb_agenda.proofs.Splitting.{named_first, off_is_listed}
@@ -161,7 +161,7 @@ module _ (c : Plain) (x : Commit) (ps qs : List Listed) where
   -- ---- facts
 
   facts_followed : (fs : List Fact) → x.applied ≡ Done → x.proposal.now ≡ Facts fs → (fs ≡ [] → qs ≡ ps)
-      → ((b : Plain) (f : Fact) (gs : List Fact) → fs ≡ f ∷ gs → ((p : Name) → ComesFrom b p c p (jobs_on p (f.node ∷ []))) → IsBetween b c ps → IsBetween b c qs × ((p : Name) → IsTrue (is_node_of c p f.node.0) → IsListedAs c p p qs)) → Follows
+      → ((b : Plain) (f : Fact) (gs : List Fact) → fs ≡ f ∷ gs → BringsHolders b c f.node ps qs) → Follows
   facts_followed [] done f none some b k a = subst {A = List Listed} (IsAgendaOf c) (sym (none refl)) (agenda_of_each c ps (λ p. facts_leave b c x k [] f p (λ g m. none_in m) ps (listed_each b ps a p)))
   facts_followed (f ∷ gs) done is none some b k a = agenda_of_each c qs (λ p. ⊎_elim (known.1 p) (λ e. ⊎_elim (facts_leave b c x k (f ∷ gs) is p (apart p e) qs) (λ l. l) (known.0 p)) (known_or_not (is_node_of c p f.node.0)))
     where
@@ -172,7 +172,7 @@ module _ (c : Plain) (x : Commit) (ps qs : List Listed) where
       apart p e g m = ap (λ (n : NodeId). is_node_of c p n.0) (facts_of_one_node b c x k (f ∷ gs) is g f m (contains_first f gs)) ∙ e
 
   pub facts_if_ok : (fs : List Fact) → x.applied ≡ Done → x.proposal.now ≡ Facts fs → (fs ≡ [] → qs ≡ ps) → (r : Result (Unit {0}) Memory)
-      → OnOk r ((b : Plain) (f : Fact) (gs : List Fact) → fs ≡ f ∷ gs → ((p : Name) → ComesFrom b p c p (jobs_on p (f.node ∷ []))) → IsBetween b c ps → IsBetween b c qs × ((p : Name) → IsTrue (is_node_of c p f.node.0) → IsListedAs c p p qs)) → OnOk r Follows
+      → OnOk r ((b : Plain) (f : Fact) (gs : List Fact) → fs ≡ f ∷ gs → BringsHolders b c f.node ps qs) → OnOk r Follows
   facts_if_ok fs done f none (Ok t) some = facts_followed fs done f none some
   facts_if_ok fs done f none (Err e) some = tt
 

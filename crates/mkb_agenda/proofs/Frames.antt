@@ -45,11 +45,11 @@ use Rattle.mkb_rules.specs.declared.applied.Applied.TheVariants.{Done, Over}
 use Rattle.mkb_pick.specs.Listings.{Listed}
 use Rattle.mkb_pick.specs.Tasks.{job_of, work_of}
 use Rattle.mkb_agenda.specs.Agendas.{IsDueJob, IsListedAs}
-use Rattle.mkb_agenda.specs.Looking.{ComesFrom, jobs_on}
+use Rattle.mkb_agenda.specs.Looking.{ComesFrom, MayEnd, jobs_on}
 use Rattle.mkb_agenda.specs.Following.{ForksFrom, IsCommitOn, jobs_by_rule}
 use Rattle.mkb_agenda.specs.declared.following.Commit.{Commit}
 use Rattle.mkb_agenda.proofs.DueJobs.{IsProper, due_is}
-use Rattle.mkb_agenda.proofs.Alike.{own_work, due_alike}
+use Rattle.mkb_agenda.proofs.Alike.{due_alike, listed_same}
 use Rattle.mkb_agenda.proofs.Committed.{as_effect, none_limits, stops, made, board_is, on_board, work_next, cost_next, weights, comes, comes_on}
 use Rattle.mkb_agenda.proofs.ByRule.{work_by_rule}
 use Rattle.mkb_agenda.proofs.NodeWork.{orient_on}
@@ -209,45 +209,7 @@ module _ (b c : Plain) (x : Commit) (k : IsCommitOn b x c) where
       board : c ≡ record (counted (applied b (Closed p))) { flight = [] }
       board = board_is b c x k e (Closed p) f
 
-  pub facts_come : x.applied ≡ Done → (f : Fact) (fs : List Fact) → x.proposal.now ≡ Facts (f ∷ fs) → (p : Name) → ComesFrom b p c p (jobs_on p (f.node ∷ []))
-  facts_come e f fs g p = comes_on b c x k p (jobs_on p (f.node ∷ [])) (ap (λ z. is_working z p) board) (ap (λ (z : Plain). has z.asleep p) board)
-      (λ j own o. facts_leave_others k.past b k.worker k.ticket (f ∷ fs) k.next commit j (λ h. o (reduced j own h)))
-    where
-      commit : IsCommitting k.past b k.worker k.ticket (Made (Facts (f ∷ fs))) k.next
-      commit = made b c x k e (Facts (f ∷ fs)) g
-
-      m : IsMaking k.past b k.worker k.ticket (Facts (f ∷ fs)) k.next
-      m = making k.past b k.worker k.ticket (Facts (f ∷ fs)) k.next commit
-
-      board : c ≡ record (counted (applied b (Facts (f ∷ fs)))) { flight = [] }
-      board = board_is b c x k e (Facts (f ∷ fs)) g
-
-      reduced : (j : Job) → process_of j ≡ p → ReducesNodeOf (f ∷ fs) j → Contains (jobs_on p (f.node ∷ [])) j
-      reduced (Reduce q n) own h =
-          let r = facts_of_one m.finishing.before m.job (f ∷ fs) m.finishing.proposed in
-          let i : f.node.0 ≡ n.0 = r.1 f (contains_first f fs) ∙ sym (r.1 h.0 h.1) ∙ ap (λ (z : NodeId). z.0) h.2 in
-          subst {A = Job} (Contains (jobs_on p (f.node ∷ []))) (ap₂ (λ (z : Name) (m : ℕ). Reduce z (record { 0 = m })) (sym own) i) (contains_first (Reduce p f.node) (Orient p f.node ∷ []))
-      reduced (Orient q n) own h = absurd h
-      reduced (Overlap q a d) own h = absurd h
-      reduced (Close q) own h = absurd h
-
   -- ---- who is not named
-
-  -- a process that is as before is listed as before
-  listed_same : (p : Name) → is_working c p ≡ is_working b p → (is_working b p ≡ true → cost c p ≡ cost b p) → has c.asleep p ≡ has b.asleep p → ((j : Job) → process_of j ≡ p → IsDueJob c j ↔ IsDueJob b j) → (ps : List Listed) → IsListedAs b p p ps → IsListedAs c p p ps
-  listed_same p works costs sleeps due ps l = record {
-    listed = λ m r. (
-      (λ i. let u = (l.listed m r).0 i in (works ∙ u.0, u.1 ∙ sym (costs u.0), u.2 ∙ sym sleeps)),
-      λ u. let d = sym works ∙ u.0 in (l.listed m r).1 (d, u.1 ∙ costs d, u.2 ∙ sleeps),
-    );
-    jobs = λ j w own. (
-      (λ i. let u = (l.jobs j w own).0 i in ((mine j own).1 u.0, u.1 ∙ sym (weights b c x k j (subst {A = Job} (IsDueJob b) (own_work p j own) u.0)))),
-      λ u. let d = (mine j own).0 u.0 in (l.jobs j w own).1 (d, u.1 ∙ weights b c x k j (subst {A = Job} (IsDueJob b) (own_work p j own) d)),
-    );
-  }
-    where
-      mine : (j : Job) → process_of j ≡ p → IsDueJob c (job_of p (work_of j)) ↔ IsDueJob b (job_of p (work_of j))
-      mine j own = due (job_of p (work_of j)) (ap process_of (own_work p j own) ∙ own)
 
   -- a fork names the process that it forks
   not_forked : (p : Name) → has (effect_label b y) p ≡ false → (q : Name) (n : NodeId) (c0 c1 : Certificate) → y ≡ Both q n c0 c1 → p ≢ q
@@ -282,8 +244,8 @@ module _ (b c : Plain) (x : Commit) (k : IsCommitOn b x c) where
 
     -- it is listed as before where its jobs are due as before if it lives
     left_alone : (has b.living p ≡ true → (j : Job) → process_of j ≡ p → IsDueJob c j ↔ IsDueJob b j) → (ps : List Listed) → IsListedAs b p p ps → IsListedAs c p p ps
-    left_alone due = listed_same p works_same costs_same places.0
-        (λ j own. ⊎_elim {C = IsDueJob c j ↔ IsDueJob b j} (λ lives. due lives j own) (λ dead. ((λ h. absurd (none_due c (places.1 ∙ dead) j own h)), λ h. absurd (none_due b dead j own h))) (decide (has b.living p)))
+    left_alone due ps = listed_same b c p works_same costs_same places.0
+        (λ j own. ⊎_elim {C = IsDueJob c j ↔ IsDueJob b j} (λ lives. due lives j own) (λ dead. ((λ h. absurd (none_due c (places.1 ∙ dead) j own h)), λ h. absurd (none_due b dead j own h))) (decide (has b.living p))) (weights b c x k) ps
 
     same_jobs : IsNotOfFacts y → has b.living p ≡ true → (j : Job) → process_of j ≡ p → IsDueJob c j ↔ IsDueJob b j
     same_jobs none lives j own =
@@ -299,19 +261,53 @@ module _ (b c : Plain) (x : Commit) (k : IsCommitOn b x c) where
       unnamed : has (effect_label b y) p ≡ false
       unnamed = sym (ap (λ l. has l p) k.names) ∙ h
 
+  -- ---- facts
+
+  -- facts are of no process
+  module _ (fs : List Fact) (f : x.proposal.now ≡ Facts fs) (p : Name) where
+    is_facts : y ≡ Facts fs
+    is_facts = sym k.proposal ∙ f
+
+    none_named : has (effect_label b y) p ≡ false
+    none_named = ap (λ z. has (effect_label b z) p) is_facts
+
+    unforked : IsApart p y
+    unforked q n c0 c1 e = let r : Facts fs ≡ Both q n c0 c1 = sym is_facts ∙ e in absurd (cc)
+
+  -- reducing the node of the facts may end
+  pub facts_come : x.applied ≡ Done → (f : Fact) (fs : List Fact) → x.proposal.now ≡ Facts (f ∷ fs) → (p : Name) → MayEnd b c p f.node
+  facts_come e f fs g p = record {
+    working = ap (λ z. is_working z p) board;
+    asleep = ap (λ (z : Plain). has z.asleep p) board;
+    closed = ap (λ (z : Plain). has z.closed p) board;
+    cost = costs_same p (none_named (f ∷ fs) g p) (unforked (f ∷ fs) g p);
+    work = λ j own apart. work_next b c x k j ∙ facts_leave_others k.past b k.worker k.ticket (f ∷ fs) k.next commit j (λ h. apart (reduced j own h));
+    ended = λ d. facts_open_none k.past b k.worker k.ticket (f ∷ fs) k.next commit (Reduce p f.node) (sym (work_next b c x k (Reduce p f.node)) ∙ d);
+    weights = weights b c x k;
+  }
+    where
+      commit : IsCommitting k.past b k.worker k.ticket (Made (Facts (f ∷ fs))) k.next
+      commit = made b c x k e (Facts (f ∷ fs)) g
+
+      m : IsMaking k.past b k.worker k.ticket (Facts (f ∷ fs)) k.next
+      m = making k.past b k.worker k.ticket (Facts (f ∷ fs)) k.next commit
+
+      board : c ≡ record (counted (applied b (Facts (f ∷ fs)))) { flight = [] }
+      board = board_is b c x k e (Facts (f ∷ fs)) g
+
+      reduced : (j : Job) → process_of j ≡ p → ReducesNodeOf (f ∷ fs) j → j ≡ Reduce p f.node
+      reduced (Reduce q n) own h =
+          let r = facts_of_one m.finishing.before m.job (f ∷ fs) m.finishing.proposed in
+          let i : f.node.0 ≡ n.0 = r.1 f (contains_first f fs) ∙ sym (r.1 h.0 h.1) ∙ ap (λ (z : NodeId). z.0) h.2 in
+          ap₂ (λ (z : Name) (m : ℕ). Reduce z (record { 0 = m })) own (sym i)
+      reduced (Orient q n) own h = absurd h
+      reduced (Overlap q a d) own h = absurd h
+      reduced (Close q) own h = absurd h
+
   -- where facts are noted, so is a process that doesn't have the node of any of them
   pub facts_leave : (fs : List Fact) → x.proposal.now ≡ Facts fs → (p : Name) → ((f : Fact) → Contains fs f → is_node_of c p f.node.0 ≡ false) → (ps : List Listed) → IsListedAs b p p ps → IsListedAs c p p ps
-  facts_leave fs f p apart ps l = left_alone p unnamed unforked (λ lives. due_alike b c p (works_same p unnamed unforked) (λ j own _. work (limit_of b y) refl j own) (closed_same p unnamed unforked lives)) ps l
+  facts_leave fs f p apart ps l = left_alone p (none_named fs f p) (unforked fs f p) (λ lives. due_alike b c p (works_same p (none_named fs f p) (unforked fs f p)) (λ j own _. work (limit_of b y) refl j own) (closed_same p (none_named fs f p) (unforked fs f p) lives)) ps l
     where
-      is_facts : y ≡ Facts fs
-      is_facts = sym k.proposal ∙ f
-
-      unnamed : has (effect_label b y) p ≡ false
-      unnamed = ap (λ z. has (effect_label b z) p) is_facts
-
-      unforked : IsApart p y
-      unforked q n c0 c1 e = let r : Facts fs ≡ Both q n c0 c1 = sym is_facts ∙ e in absurd (cc)
-
       not_reduced : x.applied ≡ Done → (j : Job) → process_of j ≡ p → is_work_due b j ≡ true → ¬ ReducesNodeOf fs j
       not_reduced e (Reduce q n) own d h = clash (and_gives_left (is_node_of b q n.0) (is_reducible b q n.0) d)
           (ap₂ (λ (z : Name) (m : NodeId). is_node_of b z m.0) own (sym h.2) ∙ sym (ap (λ z. is_node_of z p h.0.node.0) (board_is b c x k e (Facts fs) f)) ∙ apart h.0 h.1)

@@ -11,6 +11,7 @@ mod NodeWork
 mod Frames
 mod NodeFrames
 mod Brought
+mod Ended
 mod Splitting
 mod Found
 mod LimitFrames

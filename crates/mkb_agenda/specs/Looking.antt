@@ -8,10 +8,10 @@ use Rattle.kb_node.specs.declared.job.Job.{Job}
 use Rattle.kb_node.specs.declared.job.Job.TheVariants.{Reduce, Orient, Overlap, Close}
 use Rattle.kb_term.specs.declared.origin.RuleRef.{RuleRef}
 use Rattle.mkb_model.specs.Jobs.{process_of, ref_le}
-use Rattle.mkb_model.specs.Plain.{Plain, rules_of, weight}
+use Rattle.mkb_model.specs.Plain.{Plain, cost, rules_of, weight}
 use Rattle.mkb_model.specs.DueJobs.{is_working, is_work_due}
 use Rattle.mkb_rules.specs.Named.{IsThere, IsRuleThere}
-use Rattle.mkb_rules.specs.Roles.{held_of}
+use Rattle.mkb_rules.specs.Roles.{AreRolesOf, held_of}
 use Rattle.mkb_pick.specs.Tasks.{job_of, work_of}
 use Rattle.mkb_pick.specs.Listings.{Listed, HasJob}
 use Rattle.mkb_agenda.specs.Agendas.{IsDueJob, IsListedAs, ListsJobsAs}
@@ -20,9 +20,11 @@ use Rattle.mkb_agenda.specs.declared.looking.Touched.{Touched}
 
 -- ---- what is looked at
 
--- the rules are those of the process
-abbrev pub IsSeen : Seen → Type 0
-IsSeen s = s.rules.now ≡ rules_of s.state.now s.process.now
+-- the nodes, the roles and the rules are those of the process
+pub record IsSeen (s : Seen) : Type 0 where
+  pub nodes : map (λ (n : NodeId). n.0) s.nodes.now ≡ held_of s.state.now s.process.now
+  pub roles : AreRolesOf s.state.now.nodes s.process.now s.roles.now
+  pub rules : s.rules.now ≡ rules_of s.state.now s.process.now
 
 -- the nodes and rules that the job names are there
 abbrev pub HasJobThere : Plain → Job → Type 0
@@ -92,6 +94,16 @@ pub record ComesFrom (b : Plain) (p : Name) (c : Plain) (q : Name) (js : List Jo
   pub working : is_working c q ≡ is_working b p
   pub asleep : has c.asleep q ≡ has b.asleep p
   pub differs : DiffersAt b p c q js
+
+-- p stands on board c as it does on board b, but that its reducing of the node may be due no more
+pub record MayEnd (b c : Plain) (p : Name) (n : NodeId) : Type 0 where
+  pub working : is_working c p ≡ is_working b p
+  pub asleep : has c.asleep p ≡ has b.asleep p
+  pub closed : has c.closed p ≡ has b.closed p
+  pub cost : IsTrue (is_working b p) → cost c p ≡ cost b p
+  pub work : (j : Job) → process_of j ≡ p → j ≢ Reduce p n → is_work_due c j ≡ is_work_due b j
+  pub ended : IsTrue (is_work_due c (Reduce p n)) → IsTrue (is_work_due b (Reduce p n))
+  pub weights : (j : Job) → IsDueJob b j → weight c j ≡ weight b j
 
 -- a process that is listed as it was on some board, or as its parent was, comes to be listed as on board c, where these jobs alone may differ
 abbrev pub BringsOne : Plain → Name → List Job → List Listed → List Listed → Type 0

@@ -6,11 +6,11 @@ ghost use Rattle.kb_term.specs.declared.origin.RuleRef.{RuleRef as Reference};
 ghost use Rattle.kb_node.specs.declared.job.Job.{Job as Work};
 ghost use Rattle.kb_node.specs.declared.job.Job.TheVariants as jobs;
 ghost use Rattle.mkb_model.specs.Jobs.{process_of};
+ghost use Rattle.mkb_model.specs.Plain.{Plain};
 ghost use Rattle.mkb_rules.specs.Named.{IsThere, IsRuleThere};
-ghost use Rattle.mkb_rules.specs.Roles.{held_of};
 ghost use Rattle.mkb_pick.specs.Listings.{IsListed, IsProcess, HasJob};
-ghost use Rattle.mkb_agenda.specs.Agendas.{LeavesOthers};
-ghost use Rattle.mkb_agenda.specs.Looking.{AreThere, HasJobThere, IsSeen, ListsAnew, HasOverlapThere, jobs_on, overlap_of, overlaps_with, reductions_of, touched_jobs, BringsOne, ListsClosing, overlap_if};
+ghost use Rattle.mkb_agenda.specs.Agendas.{IsListedAs, LeavesOthers};
+ghost use Rattle.mkb_agenda.specs.Looking.{AreThere, BringsOne, HasJobThere, HasOverlapThere, IsSeen, ListsAnew, ListsClosing, MayEnd, jobs_on, overlap_if, overlap_of, overlaps_with, reductions_of, touched_jobs};
 
 use crate::due::{Seen, weight_of};
 use kb_label::Process;
@@ -50,7 +50,8 @@ impl<'a> Touched<'a> {
 }
 
 /// Looks again at the jobs of a process that a commit may have changed, at its cost, and at its closing. A process that is not listed
-/// has given up, and nothing is changed.
+/// has given up, and nothing is changed. Among the living the process is first looked for at the place, which comes to be the one
+/// behind it.
 ///
 /// # Errors
 ///
@@ -60,6 +61,7 @@ pub(crate) fn look_again(
     agenda: &mut Agenda,
     state: &State,
     touched: &Touched,
+    place: &mut usize,
 ) -> Result<(), Memory>
     requires { AreThere state.now touched.now }
     ensures exact { OnOk result (BringsOne state.now touched.now.process.now (touched_jobs state.now touched.now) agenda.old.processes agenda.new.processes) }
@@ -69,59 +71,71 @@ pub(crate) fn look_again(
     if !agenda.is_listed(process) {
         return Ok(());
     }
-    let Ok(place) = state.log().processes().binary_search(process) else {
+    let seen = Seen::look(state, process, *place)?;
+    *place = seen.place.saturating_add(1);
+    let Some(cost) = state.kept_cost(seen.place, process) else {
         return Err(Memory);
     };
-    let (Some(kept), Some(cost)) = (state.kept(place, process), state.kept_cost(place, process))
-    else {
-        return Err(Memory);
-    };
-    let seen = Seen {
-        state,
-        process,
-        rules: kept.rules,
-    };
-    look_at_work(agenda, &seen, touched, kept.nodes)?;
+    look_at_work(agenda, &seen, touched)?;
     agenda.set_cost(process, cost as u64);
     look_at_closing(agenda, state, process)
 }
 
-// All jobs but the closing that a commit may have changed, of a process that has these nodes.
-fn look_at_work(
+/// Takes reducing the node off the list of a process, and looks at its closing, where the reducing is listed and not due any more.
+/// Else nothing is changed.
+///
+/// # Errors
+///
+/// As for looking again.
+pub(crate) fn look_whether_ended(
     agenda: &mut Agenda,
-    seen: &Seen,
-    touched: &Touched,
-    held: &[NodeId],
+    state: &State,
+    process: &Process,
+    n: NodeId,
+    place: &mut usize,
 ) -> Result<(), Memory>
+    requires { IsThere state.now n.0 }
+    ensures exact { OnOk result ((b : Plain) → MayEnd b state.now process.now n → IsListedAs b process.now process.now agenda.old.processes → IsListedAs state.now process.now process.now agenda.new.processes) }
+    ensures others { OnOk result (LeavesOthers process.now agenda.old.processes agenda.new.processes) }
+{
+    let reducing = Job::Reduce(*process, n);
+    let weight = weight_of(state, &reducing);
+    if !agenda.has(&reducing, weight) {
+        return Ok(());
+    }
+    let seen = Seen::look(state, process, *place)?;
+    *place = seen.place.saturating_add(1);
+    if seen.is_due(&reducing) {
+        return Ok(());
+    }
+    agenda.remove(&reducing, weight);
+    look_at_closing(agenda, state, process)
+}
+
+// All jobs but the closing that a commit may have changed.
+fn look_at_work(agenda: &mut Agenda, seen: &Seen, touched: &Touched) -> Result<(), Memory>
     requires seen { IsSeen seen.now }
     requires own { seen.now.process.now ≡ touched.now.process.now }
     requires there { AreThere seen.now.state.now touched.now }
-    requires held { map (λ (n : Numbered). n.0) held.now ≡ held_of seen.now.state.now seen.now.process.now }
     requires listed { IsProcess agenda.old.processes seen.now.process.now }
     ensures processes { (n : Name) (c : ℕ) (r : Bool) → IsListed agenda.new.processes n c r ↔ IsListed agenda.old.processes n c r }
     ensures jobs { OnOk result (ListsAnew seen.now.state.now (touched_jobs seen.now.state.now touched.now) agenda.old.processes agenda.new.processes) }
 {
     look_at_nodes(agenda, seen, touched.nodes)?;
-    look_at_held(agenda, seen, held, touched.is_wide)?;
+    look_at_held(agenda, seen, touched.is_wide)?;
     look_at_overlaps(agenda, seen, touched.rules)?;
     look_at_overlap(agenda, seen, touched.overlap)
 }
 
 // Reducing of each of the nodes that the process has, if that is wanted.
-fn look_at_held(
-    agenda: &mut Agenda,
-    seen: &Seen,
-    held: &[NodeId],
-    is_wide: bool,
-) -> Result<(), Memory>
+fn look_at_held(agenda: &mut Agenda, seen: &Seen, is_wide: bool) -> Result<(), Memory>
     requires seen { IsSeen seen.now }
-    requires held { map (λ (n : Numbered). n.0) held.now ≡ held_of seen.now.state.now seen.now.process.now }
     requires listed { IsProcess agenda.old.processes seen.now.process.now }
     ensures processes { (n : Name) (c : ℕ) (r : Bool) → IsListed agenda.new.processes n c r ↔ IsListed agenda.old.processes n c r }
     ensures jobs { OnOk result (ListsAnew seen.now.state.now (if is_wide then reductions_of seen.now.state.now seen.now.process.now else []) agenda.old.processes agenda.new.processes) }
 {
     if is_wide {
-        look_at_reductions(agenda, seen, held)
+        look_at_reductions(agenda, seen, seen.nodes)
     } else {
         Ok(())
     }
@@ -251,17 +265,33 @@ fn look_at(agenda: &mut Agenda, seen: &Seen, job: &Job) -> Result<(), Memory>
     agenda.add(job, weight)
 }
 
-// Lists the closing of the process where it has no other job and is not closed, and else takes it off the list.
+// Lists the closing of the process where it has no other job and is not closed, and else takes it off the list. Where another job is
+// listed and the closing is not, nothing is changed.
 fn look_at_closing(agenda: &mut Agenda, state: &State, process: &Process) -> Result<(), Memory>
     requires listed { IsProcess agenda.old.processes process.now }
     ensures processes { (n : Name) (c : ℕ) (r : Bool) → IsListed agenda.new.processes n c r ↔ IsListed agenda.old.processes n c r }
     ensures others { (j : Work) (w : ℕ) → j ≢ jobs.Close process.now → HasJob agenda.new.processes j w ↔ HasJob agenda.old.processes j w }
     ensures closing { OnOk result (ListsClosing state.now process.now agenda.old.processes agenda.new.processes) }
 {
-    let closing = Job::Close(*process);
-    agenda.remove(&closing, 0);
+    if agenda.is_idle(process) {
+        return list_closing(agenda, state, process);
+    }
+    if agenda.remove(&Job::Close(*process), 0) {
+        return list_closing(agenda, state, process);
+    }
+    Ok(())
+}
+
+// Lists the closing of the process, which is not listed, where it has no job and is not closed.
+fn list_closing(agenda: &mut Agenda, state: &State, process: &Process) -> Result<(), Memory>
+    requires listed { IsProcess agenda.old.processes process.now }
+    requires absent { ¬ HasJob agenda.old.processes (jobs.Close process.now) 0 }
+    ensures processes { (n : Name) (c : ℕ) (r : Bool) → IsListed agenda.new.processes n c r ↔ IsListed agenda.old.processes n c r }
+    ensures others { (j : Work) (w : ℕ) → j ≢ jobs.Close process.now → HasJob agenda.new.processes j w ↔ HasJob agenda.old.processes j w }
+    ensures closing { OnOk result (ListsClosing state.now process.now agenda.old.processes agenda.new.processes) }
+{
     if agenda.is_idle(process) && !state.is_closed(process) {
-        agenda.add(&closing, 0)
+        agenda.add(&Job::Close(*process), 0)
     } else {
         Ok(())
     }

@@ -1,8 +1,9 @@
 use Rattle.std.proofs.Common.{ℕ, subst}
 use Rattle.std.proofs.lemmas.Result.{on_ok_weaker}
 use Rattle.mkb_model.proofs.Lists.{clash}
+use Rattle.mkb_model.specs.Plain.{Plain}
 use Rattle.mkb_pick.specs.Listings.{SetsCost}
-use Rattle.mkb_agenda.specs.Looking.{touched_jobs}
+use Rattle.mkb_agenda.specs.Looking.{ListsAnew, touched_jobs}
 use Rattle.mkb_agenda.proofs.Anew.{process_kept}
 use Rattle.mkb_agenda.proofs.Again.{not_listed, looked_again, left_others, process_set, touched_own}
 use Rattle.mkb_agenda.proofs.looking.look_again.Goals as goal
@@ -15,7 +16,7 @@ set_cost-requires c = process_kept c.args.agenda.now.processes c.look_at_work.ne
 
 pub look_at_closing-requires : goal.look_at_closing-requires
 look_at_closing-requires c = record {
-  listed = process_set c.look_at_work.new.agenda.processes c.set_cost.new.self.processes c.args.touched.now.process.now c.in-Some-Some.cost c.set_cost.ensures.processes
+  listed = process_set c.look_at_work.new.agenda.processes c.set_cost.new.self.processes c.args.touched.now.process.now c.in-Some.cost c.set_cost.ensures.processes
       (process_kept c.args.agenda.now.processes c.look_at_work.new.agenda.processes c.look_at_work.ensures.processes c.args.touched.now.process.now (c.is_listed.ensures.0 c.if-not-is_listed.false));
 }
 
@@ -27,7 +28,7 @@ returns-clause-exact c =
     let mid = c.look_at_work.new.agenda.processes in
     let next = c.set_cost.new.self.processes in
     on_ok_weaker c.look_at_closing.result (λ closing x p l f. looked_again b q (touched_jobs b t) (touched_own b t c.requires) c.args.agenda.now.processes mid next c.look_at_closing.new.agenda.processes
-    c.look_at_work.ensures.processes c.in_ok-look_at_work.ensures.jobs (subst {A = ℕ} (λ z. SetsCost mid q z next) c.in-Some-Some.ensures' c.set_cost.ensures.processes) c.set_cost.ensures.jobs
+    c.look_at_work.ensures.processes (subst {A = Plain} (λ z. ListsAnew z (touched_jobs z t) c.args.agenda.now.processes mid) c.in_ok-seen.ensures.state c.in_ok-look_at_work.ensures.jobs) (subst {A = ℕ} (λ z. SetsCost mid q z next) c.in-Some.ensures c.set_cost.ensures.processes) c.set_cost.ensures.jobs
     c.look_at_closing.ensures.processes c.look_at_closing.ensures.others closing x p (c.is_listed.ensures.0 c.if-not-is_listed.false) l f) c.look_at_closing.ensures.closing
 
 pub returns-clause-others : goal.returns-clause-others
@@ -38,5 +39,5 @@ returns-clause-others c =
     let mid = c.look_at_work.new.agenda.processes in
     let next = c.set_cost.new.self.processes in
     on_ok_weaker c.look_at_closing.result (λ closing x p r n l. left_others b q (touched_jobs b t) (touched_own b t c.requires) c.args.agenda.now.processes mid next c.look_at_closing.new.agenda.processes
-    c.look_at_work.ensures.processes c.in_ok-look_at_work.ensures.jobs (subst {A = ℕ} (λ z. SetsCost mid q z next) c.in-Some-Some.ensures' c.set_cost.ensures.processes) c.set_cost.ensures.jobs
+    c.look_at_work.ensures.processes (subst {A = Plain} (λ z. ListsAnew z (touched_jobs z t) c.args.agenda.now.processes mid) c.in_ok-seen.ensures.state c.in_ok-look_at_work.ensures.jobs) (subst {A = ℕ} (λ z. SetsCost mid q z next) c.in-Some.ensures c.set_cost.ensures.processes) c.set_cost.ensures.jobs
     c.look_at_closing.ensures.processes c.look_at_closing.ensures.others closing x p r n l) c.look_at_closing.ensures.closing
