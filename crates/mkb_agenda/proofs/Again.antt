@@ -24,7 +24,7 @@ use Rattle.mkb_pick.specs.Tasks.{job_of, work_of}
 use Rattle.mkb_pick.specs.Listings.{Listed, IsListed, IsProcess, HasJob, SetsCost}
 use Rattle.mkb_pick.proofs.Viewed.{job_again, process_again}
 use Rattle.mkb_agenda.specs.Agendas.{IsDueJob, IsListedAs, ListsJobsAs}
-use Rattle.mkb_agenda.specs.Looking.{AreThere, HasOverlapThere, ListsAnew, ListsClosing, ListsWork, ComesFrom, jobs_on, reductions_of, overlaps_with, overlap_of, touched_jobs}
+use Rattle.mkb_agenda.specs.Looking.{AreThere, HasOverlapThere, KeepsOthers, ListsAnew, ListsClosing, ListsWork, ComesFrom, jobs_on, reductions_of, overlaps_with, overlap_of, touched_jobs}
 use Rattle.mkb_agenda.specs.declared.looking.Touched.{Touched}
 use Rattle.mkb_agenda.proofs.DueJobs.{IsProper, due_is, is_listed_due}
 use Rattle.mkb_agenda.proofs.Anew.{SameProcesses, process_of_listed, jobs_decide, jobs_listed, rules_there}
@@ -66,7 +66,7 @@ close_weight b q = go b.settings.selection
     go BySize = refl
 
 -- a job weighs the same for each process
-weight_for : (b : Plain) (p : Name) (j : Job) → weight b (job_of p (work_of j)) ≡ weight b j
+pub weight_for : (b : Plain) (p : Name) (j : Job) → weight b (job_of p (work_of j)) ≡ weight b j
 weight_for b p j = go b.settings.selection j
   where
     go : (s : Selection) (j : Job) → weight_by s b (job_of p (work_of j)) ≡ weight_by s b j
@@ -82,7 +82,7 @@ weight_for b p j = go b.settings.selection j
 abbrev pub IsOwn : Name → Job → Type 0
 IsOwn q j = (process_of j ≡ q) × IsProper j
 
-all_has : {X : Type 0} (P : X → Type 0) (xs : List X) → All P xs → (x : X) → Contains xs x → P x
+pub all_has : {X : Type 0} (P : X → Type 0) (xs : List X) → All P xs → (x : X) → Contains xs x → P x
 all_has P xs h x c = subst P c.2 (h c.0 x c.1)
 
 overlap_own : (p : Name) (a e : RuleRef) → a.dir ≤ 1 → e.dir ≤ 1 → IsOwn p (overlap_of p a e)
@@ -92,32 +92,32 @@ overlap_own p a e h k = go (ref_le a e)
     go true = (refl, (omega (arith, h), omega (arith, k)))
     go false = (refl, (omega (arith, k), omega (arith, h)))
 
+pub on_own : (p : Name) (ns : List NodeId) (j : Job) → Contains (jobs_on p ns) j → IsOwn p j
+on_own p ns j d = let r = contains_flat_map_back (λ (n : NodeId). Reduce p n ∷ Orient p n ∷ []) ns j d in
+    ⊎_elim (λ e. subst {A = Job} (IsOwn p) e (refl, tt)) (λ i. subst {A = Job} (IsOwn p) (only_member (Orient p r.0) j i) (refl, tt)) (contains_cases (Reduce p r.0) (Orient p r.0 ∷ []) j r.2)
+
+pub among_own : (b : Plain) (p : Name) (rules : List RuleRef) → All (IsRuleThere b) rules → (j : Job) → Contains (overlaps_with b p rules) j → IsOwn p j
+among_own b p rules h j d =
+    let r = contains_flat_map_back (λ (a : RuleRef). map (overlap_of p a) (rules_of b p ++ rules)) rules j d in
+    let s = contains_mapped (overlap_of p r.0) (rules_of b p ++ rules) j r.2 in
+    subst {A = Job} (IsOwn p) s.2 (overlap_own p r.0 s.0 (all_has (IsRuleThere b) rules h r.0 r.1).1
+    (⊎_elim (λ i. (rules_there b p s.0 i).1) (λ i. (all_has (IsRuleThere b) rules h s.0 i).1) (Contains-append_cases (rules_of b p) rules s.0 s.1)))
+
+pub one_own : (b : Plain) (p : Name) (o : Option (RuleRef × RuleRef)) → HasOverlapThere b o → (j : Job) → Contains (option_map_or (λ (o : RuleRef × RuleRef). Overlap p o.0 o.1 ∷ []) o []) j → IsOwn p j
+one_own b p None k j d = none_in d
+one_own b p (Some o) k j d = subst {A = Job} (IsOwn p) (only_member (Overlap p o.0 o.1) j d) (refl, (omega (arith, k.0.1), omega (arith, k.1.1)))
+
 pub touched_own : (b : Plain) (t : Touched) → AreThere b t → (j : Job) → Contains (touched_jobs b t) j → IsOwn t.process.now j
-touched_own b t h j c = ⊎_elim on (λ d. ⊎_elim (wide t.is_wide) (λ e. ⊎_elim among (one t.overlap h.overlap) (Contains-append_cases (overlaps_with b p t.rules.now) (option_map_or (λ (o : RuleRef × RuleRef). Overlap p o.0 o.1 ∷ []) t.overlap []) j e))
+touched_own b t h j c = ⊎_elim (on_own p t.nodes.now j) (λ d. ⊎_elim (wide t.is_wide) (λ e. ⊎_elim (among_own b p t.rules.now h.rules j) (one_own b p t.overlap h.overlap j) (Contains-append_cases (overlaps_with b p t.rules.now) (option_map_or (λ (o : RuleRef × RuleRef). Overlap p o.0 o.1 ∷ []) t.overlap []) j e))
     (Contains-append_cases (cond t.is_wide (reductions_of b p) []) (overlaps_with b p t.rules.now ++ option_map_or (λ (o : RuleRef × RuleRef). Overlap p o.0 o.1 ∷ []) t.overlap []) j d))
     (Contains-append_cases (jobs_on p t.nodes.now) (cond t.is_wide (reductions_of b p) [] ++ (overlaps_with b p t.rules.now ++ option_map_or (λ (o : RuleRef × RuleRef). Overlap p o.0 o.1 ∷ []) t.overlap [])) j c)
   where
     p : Name
     p = t.process.now
 
-    on : Contains (jobs_on p t.nodes.now) j → IsOwn p j
-    on d = let r = contains_flat_map_back (λ (n : NodeId). Reduce p n ∷ Orient p n ∷ []) t.nodes.now j d in
-        ⊎_elim (λ e. subst {A = Job} (IsOwn p) e (refl, tt)) (λ i. subst {A = Job} (IsOwn p) (only_member (Orient p r.0) j i) (refl, tt)) (contains_cases (Reduce p r.0) (Orient p r.0 ∷ []) j r.2)
-
     wide : (w : Bool) → Contains (cond w (reductions_of b p) []) j → IsOwn p j
     wide true d = let r = contains_mapped (λ n. Reduce p (record { 0 = n })) (held_of b p) j d in subst {A = Job} (IsOwn p) r.2 (refl, tt)
     wide false d = none_in d
-
-    among : Contains (overlaps_with b p t.rules.now) j → IsOwn p j
-    among d =
-        let r = contains_flat_map_back (λ (a : RuleRef). map (overlap_of p a) (rules_of b p ++ t.rules.now)) t.rules.now j d in
-        let s = contains_mapped (overlap_of p r.0) (rules_of b p ++ t.rules.now) j r.2 in
-        subst {A = Job} (IsOwn p) s.2 (overlap_own p r.0 s.0 (all_has (IsRuleThere b) t.rules.now h.rules r.0 r.1).1
-        (⊎_elim (λ i. (rules_there b p s.0 i).1) (λ i. (all_has (IsRuleThere b) t.rules.now h.rules s.0 i).1) (Contains-append_cases (rules_of b p) t.rules.now s.0 s.1)))
-
-    one : (o : Option (RuleRef × RuleRef)) → HasOverlapThere b o → Contains (option_map_or (λ (o : RuleRef × RuleRef). Overlap p o.0 o.1 ∷ []) o []) j → IsOwn p j
-    one None k d = none_in d
-    one (Some o) k d = subst {A = Job} (IsOwn p) (only_member (Overlap p o.0 o.1) j d) (refl, (omega (arith, k.0.1), omega (arith, k.1.1)))
 
 -- ---- a process that is looked at again
 
@@ -138,11 +138,11 @@ not_listed b p c q js ps n l f = record {
     idle h = n (process_of_listed ps q (cost b p) (has b.asleep p) ((l.listed (cost b p) (has b.asleep p)).1 (sym f.working ∙ h, refl, refl)))
 
 module _ (c : Plain) (q : Name) (js : List Job) (own : (j : Job) → Contains js j → IsOwn q j) (ps ms ns qs : List Listed)
-    (same : SameProcesses ps ms) (anew : ListsAnew c js ps ms) (sets : SetsCost ms q (cost c q) ns) (kept : (j : Job) (w : ℕ) → HasJob ns j w ↔ HasJob ms j w)
+    (same : SameProcesses ps ms) (sets : SetsCost ms q (cost c q) ns) (kept : (j : Job) (w : ℕ) → HasJob ns j w ↔ HasJob ms j w)
     (last : SameProcesses ns qs) (others : (j : Job) (w : ℕ) → j ≢ Close q → HasJob qs j w ↔ HasJob ns j w)
     (closing : IsTrue (is_working c q) → ListsWork c q ns → ((w : ℕ) → HasJob ns (Close q) w → w ≡ 0) → ListsJobsAs c q q qs) where
-  pub looked_again : (b : Plain) (p : Name) → IsProcess ps q → IsListedAs b p q ps → ComesFrom b p c q js → IsListedAs c q q qs
-  looked_again b p there l f = record { listed = λ x r. (forth x r, back x r); jobs = closing working lists zero }
+  pub looked_again : ListsAnew c js ps ms → (b : Plain) (p : Name) → IsProcess ps q → IsListedAs b p q ps → ComesFrom b p c q js → IsListedAs c q q qs
+  looked_again anew b p there l f = record { listed = λ x r. (forth x r, back x r); jobs = closing working lists zero }
     where
       was_working : is_working b p ≡ true
       was_working = ((l.listed there.0.cost there.0.resting).0 (there.0, there.1, there.2, refl, refl)).0
@@ -178,15 +178,15 @@ module _ (c : Plain) (q : Name) (js : List Job) (own : (j : Job) → Contains js
         | inr d ↦ ((l.jobs (Close q) w refl).0 d.0).1 ∙ close_weight b q
       ]
 
-  pub left_others : (x : Plain) (p r : Name) → r ≢ q → IsListedAs x p r ps → IsListedAs x p r qs
-  left_others x p r n l = record {
+  pub left_others : KeepsOthers q ps ms → (x : Plain) (p r : Name) → r ≢ q → IsListedAs x p r ps → IsListedAs x p r qs
+  left_others beside x p r n l = record {
     listed = λ k s. (
       (λ h. (l.listed k s).0 ((same r k s).0 (unset k s ((last r k s).0 h)))),
       (λ h. (last r k s).1 ((sets r k s).1 (inr (n, (same r k s).1 ((l.listed k s).1 h))))),
     );
     jobs = λ j w e. (
       (λ h. (l.jobs j w e).0 (old j w e h)),
-      (λ h. (others j w (apart j e)).1 ((kept j w).1 ((anew j w).1 (inr ((l.jobs j w e).1 h, λ k. n (sym e ∙ (own j k.0).0)))))),
+      (λ h. (others j w (apart j e)).1 ((kept j w).1 ((beside j w (λ k. n (sym e ∙ k))).1 ((l.jobs j w e).1 h)))),
     );
   }
     where
@@ -197,7 +197,7 @@ module _ (c : Plain) (q : Name) (js : List Job) (own : (j : Job) → Contains js
       apart j e k = n (sym e ∙ ap process_of k)
 
       old : (j : Job) (w : ℕ) → process_of j ≡ r → HasJob qs j w → HasJob ps j w
-      old j w e h = elim ((anew j w).0 ((kept j w).0 ((others j w (λ k. n (sym e ∙ ap process_of k))).0 h))) [ inl d ↦ absurd (n (sym e ∙ (own j d.0).0)) | inr d ↦ d.0 ]
+      old j w e h = (beside j w (λ k. n (sym e ∙ k))).0 ((kept j w).0 ((others j w (apart j e)).0 h))
 
 -- ---- closing
 

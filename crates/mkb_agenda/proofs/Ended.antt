@@ -75,7 +75,7 @@ module _ (b c : Plain) (p : Name) (n : NodeId) (k : MayEnd b c p n) where
       pub ended_listed : (qs : List Listed) → is_work_due c (Reduce p n) ≡ false → ((j : Job) (w : ℕ) → HasJob ms j w ↔ (HasJob ps j w × ¬ ((j ≡ Reduce p n) × (w ≡ v)))) → SameProcesses ms qs
           → ((j : Job) (w : ℕ) → j ≢ Close p → HasJob qs j w ↔ HasJob ms j w) → ListsClosing c p ms qs → IsListedAs c p p qs
       ended_listed qs idle removed last others closing = looked_again c p (Reduce p n ∷ []) (λ j i. subst {A = Job} (IsOwn p) (only_member (Reduce p n) j i) (refl, tt)) ps ms ms qs
-          same (anew_removed c (Reduce p n) v ps ms weighs idle removed) stands (λ j w. ((λ h. h), (λ h. h))) last others closing b p there l may_come
+          same stands (λ j w. ((λ h. h), (λ h. h))) last others closing (anew_removed c (Reduce p n) v ps ms weighs idle removed) b p there l may_come
 
 -- each other process is left as it was
 pub ended_leaves : (p : Name) (n : NodeId) (v : ℕ) (ps ms qs : List Listed) → SameProcesses ps ms → ((j : Job) (w : ℕ) → HasJob ms j w ↔ (HasJob ps j w × ¬ ((j ≡ Reduce p n) × (w ≡ v))))

@@ -20,7 +20,7 @@ use Rattle.kb_node.specs.declared.job.Fact.{Fact}
 use Rattle.kb_node.specs.declared.job.Job.{Job}
 use Rattle.kb_node.specs.declared.job.Job.TheVariants.{Reduce, Orient, Overlap, Close}
 use Rattle.mkb_model.specs.Jobs.{process_of}
-use Rattle.mkb_model.specs.Plain.{Plain, GivenUp, is_equation, is_rule, is_over, cost}
+use Rattle.mkb_model.specs.Plain.{Plain, PlainNode, GivenUp, is_equation, is_rule, is_over, cost, known}
 use Rattle.mkb_model.specs.DueJobs.{is_node_of, is_reducible, is_working, is_work_due, due_jobs_of}
 use Rattle.mkb_model.specs.Effects.{applied, counted, effect, effect_label, first_some, give_up, is_dropped, is_full, limit_of, most_living, orient_label, some_if}
 use Rattle.mkb_model.specs.Journals.{IsCommitting, IsFreeJob}
@@ -29,9 +29,10 @@ use Rattle.mkb_model.specs.declared.entry.Effect.TheVariants.{Over as OverFor, M
 use Rattle.mkb_model.specs.declared.proposed.Proposed.{Proposed}
 use Rattle.mkb_model.specs.declared.proposed.Proposed.TheVariants.{Facts, Rewrite, One, Both, Refuse, Deduce, Unjoined, Closed, Limit}
 use Rattle.mkb_model.proofs.Lists.{clash, decide, false_unless, not_of_true, same_test}
-use Rattle.mkb_model.proofs.commits.Roles.{has-one, relabel-child, relabel-other}
+use Rattle.mkb_model.proofs.commits.Roles.{has-one, on_there, relabel-child, relabel-other}
 use Rattle.mkb_model.proofs.commits.Bystanders.{IsUnmoved}
-use Rattle.mkb_model.proofs.commits.Commits.{orients}
+use Rattle.mkb_model.proofs.commits.Commits.{bit_number, orients}
+use Rattle.mkb_model.proofs.commits.Orienting.{OrientRoles, orient-roles}
 use Rattle.mkb_model.proofs.closing.LeftAlone.{IsBit}
 use Rattle.mkb_model.proofs.closing.RestInRuns.{Stands, stands_run}
 use Rattle.mkb_model.proofs.labels.LivingNames.{living_forked}
@@ -39,20 +40,21 @@ use Rattle.mkb_model.proofs.labels.NameLists.{IsLabelOf, child_lives}
 use Rattle.mkb_model.proofs.runs.AllFine.{runs_one_role}
 use Rattle.mkb_model.proofs.runs.Simulation.{begins-child}
 use Rattle.mkb_model.proofs.tickets.InFlight.{due_working, unlike}
-use Rattle.mkb_moves.specs.Changes.{IsNotOfFacts, LeavesOtherWork, ReducesNodeOf}
+use Rattle.mkb_moves.specs.Changes.{IsNotOfFacts, LeavesOtherWork, ReducesNodeOf, SharesWork}
 use Rattle.mkb_rules.specs.Applying.{applied_as}
 use Rattle.mkb_rules.specs.declared.applied.Applied.TheVariants.{Done, Over}
 use Rattle.mkb_pick.specs.Listings.{Listed}
 use Rattle.mkb_pick.specs.Tasks.{job_of, work_of}
 use Rattle.mkb_agenda.specs.Agendas.{IsDueJob, IsListedAs}
-use Rattle.mkb_agenda.specs.Looking.{ComesFrom, MayEnd, jobs_on}
-use Rattle.mkb_agenda.specs.Following.{ForksFrom, IsCommitOn, jobs_by_rule}
+use Rattle.mkb_agenda.specs.Looking.{ComesFrom, MayEnd, ReducesBy, jobs_on}
+use Rattle.mkb_agenda.specs.Following.{ComesByRule, ForksFrom, IsCommitOn, jobs_by_rule}
 use Rattle.mkb_agenda.specs.declared.following.Commit.{Commit}
 use Rattle.mkb_agenda.proofs.DueJobs.{IsProper, due_is}
 use Rattle.mkb_agenda.proofs.Alike.{due_alike, listed_same}
 use Rattle.mkb_agenda.proofs.Committed.{as_effect, none_limits, stops, made, board_is, on_board, work_next, cost_next, weights, comes, comes_on}
 use Rattle.mkb_agenda.proofs.ByRule.{work_by_rule}
-use Rattle.mkb_agenda.proofs.NodeWork.{orient_on}
+use Rattle.mkb_agenda.proofs.NodeWork.{node_ref, orient_on}
+use Rattle.mkb_agenda.proofs.Gained.{gained_by_rule}
 use Rattle.mkb_moves.proofs.DueJobsKept.{others_jobs}
 use Rattle.mkb_moves.proofs.EndedWork.{facts_open_none, facts_leave_others, closing_ends, limit_keeps, refusal_ends}
 use Rattle.mkb_moves.proofs.Makes.{IsMaking, making}
@@ -60,7 +62,7 @@ use Rattle.mkb_moves.proofs.OpenedWork.{one_leaves, fork_shares}
 use Rattle.mkb_moves.proofs.Others.{others_unmoved}
 use Rattle.mkb_moves.proofs.SameCosts.{others_costs}
 use Rattle.mkb_moves.proofs.Stopped.{limit_stops}
-use Rattle.mkb_moves.proofs.Turning.{direction_bit, forks}
+use Rattle.mkb_moves.proofs.Turning.{child_roles, direction_bit, forks}
 
 bits_alike : (d : ℕ) → IsBit d → (Q : ℕ → Type 0) → Q 0 → Q 1 → Q d
 bits_alike d (inl e) Q h k = subst {A = ℕ} Q (sym e) h
@@ -143,15 +145,36 @@ module _ (b c : Plain) (x : Commit) (k : IsCommitOn b x c) where
   leaves_come : (p q : Name) (a : RuleRef) → is_rule b p a ≡ false → LeavesOtherWork b p k.next q a → (j : Job) → process_of j ≡ q → ¬ Contains (jobs_by_rule c q a) j → IsProper j → is_work_due c j ≡ is_work_due b (job_of p (work_of j))
   leaves_come p q a new h j e o d = work_next b c x k j ∙ work_by_rule b k.next p q a h new j e (λ i. o (subst {A = List Job} (λ l. Contains l j) (sym (on_board b c x k (λ z. jobs_by_rule z q a) refl)) i)) d
 
-  pub one_comes : x.applied ≡ Done → (p : Name) (n : NodeId) (d : ℕ) (order : Certificate) → x.proposal.now ≡ One p n d order → ComesFrom b p c p (jobs_by_rule c p (record { node = n.0; dir = d }))
-  one_comes e p n d order f = comes b c x k p p (jobs_by_rule c p (record { node = n.0; dir = d })) (ap (λ z. is_working z p) board) (ap (λ (z : Plain). has z.asleep p) board)
-      (λ j own _ o proper. leaves_come p p (record { node = n.0; dir = d }) (no_rule p n d (direction_bit m.finishing.before m.job p n d order m.finishing.proposed) (orients b p n.0 m.acts)) (one_leaves k.past b k.worker k.ticket p n d order k.next commit) j own o proper)
+  -- a new rule alone makes reducings due beyond its node, and ends none
+  rule_reduces : (p q : Name) (a : RuleRef) → IsBit a.dir → OrientRoles b.nodes p c.nodes q a → ((n w : ℕ) (e : RuleRef) → known c n w e ≡ known b n w e) → LeavesOtherWork b p k.next q a → ReducesBy b p c q (record { nodes = record { 0 = a.node } ∷ []; rules = a ∷ []; loses = false })
+  rule_reduces p q a bit roles facts leaves = record {
+    gained = λ n out d. gained_by_rule b c p q a bit roles facts n (apart n out) d;
+    kept = λ e n out d. work_next b c x k (Reduce q n) ∙ leaves.reduces n (apart n out) d;
+  }
     where
+      apart : (n : NodeId) → ¬ Contains (record { 0 = a.node } ∷ []) n → n.0 ≢ a.node
+      apart n out e = out (subst {A = NodeId} (Contains (record { 0 = a.node } ∷ [])) (node_ref n (record { 0 = a.node }) e) (contains_first (record { 0 = a.node }) []))
+
+  pub one_comes : x.applied ≡ Done → (p : Name) (n : NodeId) (d : ℕ) (order : Certificate) → x.proposal.now ≡ One p n d order → ComesByRule b p c p (record { node = n.0; dir = d })
+  one_comes e p n d order f = record {
+    comes = comes b c x k p p (jobs_by_rule c p a) (ap (λ z. is_working z p) board) (ap (λ (z : Plain). has z.asleep p) board) (λ j own _ o proper. leaves_come p p a (no_rule p n d bit (orients b p n.0 m.acts)) left j own o proper);
+    reduces = rule_reduces p p a bit (subst {A = List PlainNode} (λ zs. OrientRoles b.nodes p zs p a) (sym (ap (λ (z : Plain). z.nodes) board)) (orient-roles p a b.nodes (on_there b.nodes p n.0 E (orients b p n.0 m.acts)))) (λ i w r. ap (λ z. known z i w r) board) left;
+  }
+    where
+      a : RuleRef
+      a = record { node = n.0; dir = d }
+
       commit : IsCommitting k.past b k.worker k.ticket (Made (One p n d order)) k.next
       commit = made b c x k e (One p n d order) f
 
       m : IsMaking k.past b k.worker k.ticket (One p n d order) k.next
       m = making k.past b k.worker k.ticket (One p n d order) k.next commit
+
+      bit : IsBit d
+      bit = direction_bit m.finishing.before m.job p n d order m.finishing.proposed
+
+      left : LeavesOtherWork b p k.next p a
+      left = one_leaves k.past b k.worker k.ticket p n d order k.next commit
 
       board : c ≡ record (counted (applied b (One p n d order))) { flight = [] }
       board = board_is b c x k e (One p n d order) f
@@ -159,10 +182,8 @@ module _ (b c : Plain) (x : Commit) (k : IsCommitOn b x c) where
   pub both_comes : x.applied ≡ Done → (p : Name) (n : NodeId) (c0 c1 : Certificate) → x.proposal.now ≡ Both p n c0 c1 → ForksFrom b c p n
   both_comes e p n c0 c1 f = record {
     short = omega (arith, room_to_fork b (nat_le most_living (length b.living)) (is_full b (Both p n c0 c1)) refl (ap (limit_of b) (sym f ∙ k.proposal) ∙ none_limits b c x k e), (leaves-forked b.living (living_forked IsFreeJob k.problem k.settings k.past b k.run).forked).short p lives);
-    first = comes b c x k p (child p false) (jobs_by_rule c (child p false) (record { node = n.0; dir = 0 })) (works false) (sleeps false)
-        (λ j own _ o d. leaves_come p (child p false) (record { node = n.0; dir = 0 }) (no_rule p n 0 (inl refl) on) (fork_shares k.problem k.settings k.past b k.run k.worker k.ticket p n c0 c1 k.next commit).first j own o d);
-    second = comes b c x k p (child p true) (jobs_by_rule c (child p true) (record { node = n.0; dir = 1 })) (works true) (sleeps true)
-        (λ j own _ o d. leaves_come p (child p true) (record { node = n.0; dir = 1 }) (no_rule p n 1 (inr refl) on) (fork_shares k.problem k.settings k.past b k.run k.worker k.ticket p n c0 c1 k.next commit).second j own o d);
+    first = child_comes false (inl refl) shared.first;
+    second = child_comes true (inr refl) shared.second;
     gone = ap (λ z. z && not (is_over c p)) (on_board b c x k (λ (z : Plain). has z.living p) refl ∙ (forks k.problem k.settings k.past b k.run k.worker k.ticket p n c0 c1 k.next commit).gone);
     new = ap (λ z. z && not (is_over b (child p false))) (unborn false);
     also_new = ap (λ z. z && not (is_over b (child p true))) (unborn true);
@@ -173,6 +194,9 @@ module _ (b c : Plain) (x : Commit) (k : IsCommitOn b x c) where
 
       board : c ≡ record (counted (applied b (Both p n c0 c1))) { flight = [] }
       board = board_is b c x k e (Both p n c0 c1) f
+
+      shared : SharesWork b p k.next n.0
+      shared = fork_shares k.problem k.settings k.past b k.run k.worker k.ticket p n c0 c1 k.next commit
 
       on : is_equation b p n.0 ≡ true
       on = orients b p n.0 (making k.past b k.worker k.ticket (Both p n c0 c1) k.next commit).acts
@@ -194,6 +218,14 @@ module _ (b c : Plain) (x : Commit) (k : IsCommitOn b x c) where
 
       sleeps : (bit : Bool) → has c.asleep (child p bit) ≡ has b.asleep p
       sleeps bit = ap (λ (z : Plain). has z.asleep (child p bit)) board ∙ relabel-child p bit b.asleep (fresh bit b.asleep stands.labelled.asleep)
+
+      child_comes : (bit : Bool) → IsBit (bit_number bit) → LeavesOtherWork b p k.next (child p bit) (record { node = n.0; dir = bit_number bit }) → ComesByRule b p c (child p bit) (record { node = n.0; dir = bit_number bit })
+      child_comes bit h left = record {
+        comes = comes b c x k p (child p bit) (jobs_by_rule c (child p bit) (record { node = n.0; dir = bit_number bit })) (works bit) (sleeps bit) (λ j own _ o d. leaves_come p (child p bit) (record { node = n.0; dir = bit_number bit }) (no_rule p n (bit_number bit) h on) left j own o d);
+        reduces = rule_reduces p (child p bit) (record { node = n.0; dir = bit_number bit }) h
+            (subst {A = List PlainNode} (λ zs. OrientRoles b.nodes p zs (child p bit) (record { node = n.0; dir = bit_number bit })) (sym (on_board b c x k (λ (z : Plain). z.nodes) refl)) (child_roles k.problem k.settings k.past b k.run k.worker k.ticket p n c0 c1 k.next commit bit))
+            (λ i w r. ap (λ z. known z i w r) board) left;
+      }
 
   pub refuse_comes : x.applied ≡ Done → (p : Name) (n : NodeId) → x.proposal.now ≡ Refuse p n → ComesFrom b p c p (jobs_on p (n ∷ []))
   refuse_comes e p n f = comes_on b c x k p (jobs_on p (n ∷ [])) (ap (λ z. is_working z p) board) (ap (λ (z : Plain). has z.asleep p) board)

@@ -23,7 +23,7 @@ use Rattle.mkb_rules.specs.Named.{IsThere}
 use Rattle.mkb_rules.specs.Rewriting.{HasFewVariables}
 use Rattle.mkb_pick.specs.Listings.{Listed}
 use Rattle.mkb_agenda.specs.Agendas.{IsListedAs}
-use Rattle.mkb_agenda.specs.Looking.{ComesFrom, MayEnd, jobs_on, overlaps_with, reductions_of}
+use Rattle.mkb_agenda.specs.Looking.{ComesFrom, MayEnd, ReducesBy, jobs_on, overlaps_with, reductions_of}
 use Rattle.mkb_agenda.specs.declared.following.Commit.{Commit}
 use Rattle.mkb_agenda.specs.declared.following.Overlapped.{Overlapped}
 
@@ -61,6 +61,11 @@ HasNodesOf b x = Unit {0}
 abbrev pub jobs_by_rule : Plain → Name → RuleRef → List Job
 jobs_by_rule c p a = jobs_on p (record { 0 = a.node } ∷ []) ++ (reductions_of c p ++ (overlaps_with c p (a ∷ []) ++ []))
 
+-- q comes from p, with a new rule
+pub record ComesByRule (b : Plain) (p : Name) (c : Plain) (q : Name) (a : RuleRef) : Type 0 where
+  pub comes : ComesFrom b p c q (jobs_by_rule c q a)
+  pub reduces : ReducesBy b p c q (record { nodes = record { 0 = a.node } ∷ []; rules = a ∷ []; loses = false })
+
 -- both rules of each of two nodes
 abbrev pub rules_at_both : NodeId → NodeId → List RuleRef
 rules_at_both n m = record { node = n.0; dir = 0 } ∷ record { node = n.0; dir = 1 } ∷ record { node = m.0; dir = 0 } ∷ record { node = m.0; dir = 1 } ∷ []
@@ -73,6 +78,7 @@ jobs_by_nodes c p n m = jobs_on p (n ∷ m ∷ []) ++ (reductions_of c p ++ (ove
 pub record ComesByRewriting (b c : Plain) (n m : NodeId) (p : Name) : Type 0 where
   pub equation : IsTrue (is_equation b p n.0) → ComesFrom b p c p (jobs_on p (n ∷ m ∷ []))
   pub rule : ComesFrom b p c p (jobs_by_nodes c p n m)
+  pub reduces : ReducesBy b p c p (record { nodes = n ∷ m ∷ []; rules = rules_at_both n m; loses = true })
 
 -- each node of the pairs is among these
 abbrev pub AreNodesOf : Plain → List Deduced → List NodeId → Type 0
@@ -125,8 +131,8 @@ pub record BringsChildren (b c : Plain) (p : Name) (ps qs : List Listed) : Type 
 -- p forks: each child has what p had but for its rule of the node; p does not work any more, and its children did not before
 pub record ForksFrom (b c : Plain) (p : Name) (n : NodeId) : Type 0 where
   pub short : length p < MAX_BITS
-  pub first : ComesFrom b p c (child p false) (jobs_by_rule c (child p false) (record { node = n.0; dir = 0 }))
-  pub second : ComesFrom b p c (child p true) (jobs_by_rule c (child p true) (record { node = n.0; dir = 1 }))
+  pub first : ComesByRule b p c (child p false) (record { node = n.0; dir = 0 })
+  pub second : ComesByRule b p c (child p true) (record { node = n.0; dir = 1 })
   pub gone : is_working c p ≡ false
   pub new : is_working b (child p false) ≡ false
   pub also_new : is_working b (child p true) ≡ false

@@ -1,15 +1,15 @@
 // Which work is due for a process by what it sees, and what it weighs.
-ghost use Rattle.std.specs.Prelude.{◌≡◌, not, ◌&&◌, ◌||◌, ◌==◌, IfOk};
+ghost use Rattle.std.specs.Prelude.{◌≡◌, not, ◌&&◌, ◌||◌, ◌==◌, All, IfOk};
 ghost use Rattle.std.specs.List.{list_any};
 ghost use Rattle.kb_node.specs.declared.job.Job.TheVariants as jobs;
 ghost use Rattle.mkb_model.specs.Jobs.{process_of};
 ghost use Rattle.mkb_model.specs.Plain.{is_rule, weight, weight_by};
 ghost use Rattle.mkb_model.specs.declared.settings.Selection.TheVariants as selections;
 ghost use Rattle.mkb_model.specs.DueJobs.{is_work_due};
-ghost use Rattle.mkb_rules.specs.Named.{IsThere};
+ghost use Rattle.mkb_rules.specs.Named.{IsRuleThere, IsThere};
 ghost use Rattle.mkb_rules.specs.Roles.{roles_of};
 ghost use Rattle.mkb_agenda.specs.Open.{is_open_to};
-ghost use Rattle.mkb_agenda.specs.Looking.{HasJobThere, IsSeen};
+ghost use Rattle.mkb_agenda.specs.Looking.{HasJobThere, IsSeen, is_gained};
 
 use crate::roles::{is_open_to, roles_by};
 use kb_label::Process;
@@ -111,6 +111,31 @@ impl<'a> Seen<'a> {
             }
         }
         false
+    }
+
+    /// Whether some of the rules is one of the process, and open to the node.
+    pub(crate) fn is_gained(&self, rules: &[RuleRef], n: NodeId) -> bool
+        requires seen { IsSeen self.now }
+        requires node { IsThere self.now.state.now n.0 }
+        requires there { All (IsRuleThere self.now.state.now) rules.now }
+        ensures { result ≡ is_gained self.now.state.now self.now.process.now rules.now n.0 }
+    {
+        let roles = self.roles_of(n);
+        for i in 0..rules.len() {
+            if self.is_gained_by(roles, n, rules[i]) {
+                return true;
+            }
+        }
+        false
+    }
+
+    // Whether the rule is one of the process, and open to the node in these roles.
+    fn is_gained_by(&self, roles: Roles, n: NodeId, rule: RuleRef) -> bool
+        requires seen { IsSeen self.now }
+        requires there { IsThere self.now.state.now rule.node }
+        ensures { result ≡ (is_rule self.now.state.now self.now.process.now rule && is_open_to self.now.state.now roles n.0 rule) }
+    {
+        self.has_rule(rule) && is_open_to(self.state, roles, n, rule)
     }
 
     // Whether the process has the node as an equation, and was not refused to orient it.

@@ -15,7 +15,7 @@ ghost use Rattle.mkb_rules.specs.Rewriting.{HasFewVariables};
 ghost use Rattle.mkb_pick.specs.Listings.{IsListed, HasJob};
 ghost use Rattle.mkb_agenda.specs.Agendas.{IsAgendaOf, IsListedAs, LeavesOthers};
 ghost use Rattle.mkb_agenda.specs.Looking.{ComesFrom, jobs_on, BringsOne};
-ghost use Rattle.mkb_agenda.specs.Following.{AllMayEnd, AreNodesOf, AreOverlappedThere, Brings, BringsAll, BringsChildren, BringsHolders, BringsIt, ComesByRewriting, ForksFrom, HasNodesOf, IsBetween, IsCommitOn, jobs_by_overlap, jobs_by_rule};
+ghost use Rattle.mkb_agenda.specs.Following.{AllMayEnd, AreNodesOf, AreOverlappedThere, Brings, BringsAll, BringsChildren, BringsHolders, BringsIt, ComesByRewriting, ComesByRule, ForksFrom, HasNodesOf, IsBetween, IsCommitOn, jobs_by_overlap};
 
 use crate::due::weight_of;
 use crate::looking::{Touched, look_again, look_whether_ended};
@@ -133,7 +133,7 @@ fn look_at_nodes(
     place: &mut usize,
 ) -> Result<(), Memory>
     requires { All (λ (n : Numbered). IsThere state.now n.0) nodes.now }
-    ensures exact { OnOk result (BringsOne state.now process.now (jobs_on process.now nodes.now) agenda.old.processes agenda.new.processes) }
+    ensures exact { OnOk result (BringsOne state.now process.now (λ b p. ComesFrom b p state.now process.now (jobs_on process.now nodes.now)) agenda.old.processes agenda.new.processes) }
     ensures others { OnOk result (LeavesOthers process.now agenda.old.processes agenda.new.processes) }
 {
     let touched = Touched {
@@ -193,7 +193,7 @@ fn orient(
     dir: u8,
 ) -> Result<(), Memory>
     requires { IsThere state.now n.0 }
-    ensures exact { dir ≤ 1 → OnOk result (BringsOne state.now process.now (jobs_by_rule state.now process.now (record { node = n.0; dir = dir })) agenda.old.processes agenda.new.processes) }
+    ensures exact { dir ≤ 1 → OnOk result (BringsOne state.now process.now (λ b p. ComesByRule b p state.now process.now (record { node = n.0; dir = dir })) agenda.old.processes agenda.new.processes) }
     ensures others { OnOk result (LeavesOthers process.now agenda.old.processes agenda.new.processes) }
 {
     if dir > 1 {
@@ -272,6 +272,7 @@ fn rewrite_for(
             RuleRef { node: m.0, dir: 1 },
         ],
         is_wide: true,
+        loses_rule: true,
         ..Touched::none_of(process)
     };
     look_again(agenda, state, &touched, place)

@@ -52,6 +52,7 @@ fn list(agenda: &mut Agenda, state: &State, place: usize, process: &Process) -> 
         rules: kept.rules,
         overlap: None,
         is_wide: false,
+        loses_rule: false,
     };
     let mut near = place;
     look_again(agenda, state, &touched, &mut near)
