@@ -13,7 +13,7 @@ use Rattle.kb_node.specs.declared.job.Job.{Job}
 use Rattle.kb_node.specs.declared.job.Job.TheVariants.{Reduce}
 use Rattle.mkb_model.specs.Jobs.{process_of}
 use Rattle.mkb_model.specs.Plain.{Plain, weight, rules_of, rule_kind, node_numbers}
-use Rattle.mkb_model.specs.DueJobs.{is_work_due}
+use Rattle.mkb_model.specs.DueJobs.{is_node_of, is_work_due}
 use Rattle.mkb_model.proofs.Lists.{clash, filter_in, numbers_in}
 use Rattle.mkb_model.proofs.commits.Roles.{on_there}
 use Rattle.mkb_model.proofs.closing.LeftAlone.{rules_in}
@@ -25,7 +25,7 @@ use Rattle.mkb_pick.specs.declared.task.Task.{Task}
 use Rattle.mkb_pick.proofs.Replaced.{names_decide}
 use Rattle.mkb_pick.proofs.Tasks.{task_exact, task_itself}
 use Rattle.mkb_pick.proofs.Viewed.{task_in, job_again}
-use Rattle.mkb_agenda.specs.Looking.{ListsAnew}
+use Rattle.mkb_agenda.specs.Looking.{KeepsOthers, ListsAnew}
 
 -- ---- deciding
 
@@ -137,6 +137,21 @@ anew_map f b xs i d ps ms qs l h k = subst {A = List Job} (λ js. ListsAnew b js
 pub anew_whole : {X : Type 0} (f : List X → List Job) (b : Plain) (xs : List X) (i : ℕ) (ps qs : List Listed) → length xs ≤ i → ListsAnew b (f (take i xs)) ps qs → ListsAnew b (f xs) ps qs
 anew_whole f b xs i ps qs l h = subst {A = List Job} (λ js. ListsAnew b js ps qs) (ap f (take_all i xs l)) h
 
+-- ---- jobs of other processes
+
+pub others_same : (q : Name) (ps : List Listed) → KeepsOthers q ps ps
+others_same q ps j w n = ((λ h. h), (λ h. h))
+
+pub others_both : (q : Name) (ps ms qs : List Listed) → KeepsOthers q ps ms → KeepsOthers q ms qs → KeepsOthers q ps qs
+others_both q ps ms qs h k j w n = ((λ x. (h j w n).0 ((k j w n).0 x)), (λ x. (k j w n).1 ((h j w n).1 x)))
+
+-- looking at jobs of a process leaves those of others
+pub anew_others : (b : Plain) (q : Name) (js : List Job) (ps qs : List Listed) → ((j : Job) → Contains js j → process_of j ≡ q) → ListsAnew b js ps qs → KeepsOthers q ps qs
+anew_others b q js ps qs own h j w n = (
+  (λ x. elim ((h j w).0 x) [ inl d ↦ absurd (n (own j d.0)) | inr d ↦ d.0 ]),
+  (λ x. (h j w).1 (inr (x, λ d. n (own j d.0)))),
+)
+
 -- ---- which processes are listed
 
 -- the same processes are listed, as they were
@@ -162,6 +177,10 @@ held_there b p n c = let r = numbers_in 0 (length b.nodes) n (filter_in (λ m. i
 
 pub held_all : (b : Plain) (p : Name) (ns : List NodeId) → map (λ (n : NodeId). n.0) ns ≡ held_of b p → All (λ (n : NodeId). IsThere b n.0) ns
 held_all b p ns e k d l = held_there b p (get_or ns k d).0 (subst {A = List ℕ} (λ z. Contains z (get_or ns k d).0) e (contains_map (λ (n : NodeId). n.0) ns (get_or ns k d) (Contains-get_or ns k d l)))
+
+-- a node that is held is one of the process
+pub held_is : (b : Plain) (p : Name) (ns : List NodeId) → map (λ (n : NodeId). n.0) ns ≡ held_of b p → (n : NodeId) → Contains ns n → is_node_of b p n.0 ≡ true
+held_is b p ns e n i = (filter_in (λ m. is_in_use (roles_of b p m)) (node_numbers b) n.0 (subst {A = List ℕ} (λ z. Contains z n.0) e (contains_map (λ (n : NodeId). n.0) ns n i))).1
 
 pub rules_all : (b : Plain) (p : Name) (rs : List RuleRef) → rs ≡ rules_of b p → All (IsRuleThere b) rs
 rules_all b p rs e k d l = rules_there b p (get_or rs k d) (subst {A = List RuleRef} (λ z. Contains z (get_or rs k d)) e (Contains-get_or rs k d l))

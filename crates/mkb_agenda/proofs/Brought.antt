@@ -1,5 +1,5 @@
 -- Processes that are listed as on one of two boards, and are brought to the second one after another.
-use Rattle.std.proofs.Common.{arith, ℕ, zero, suc, ◌≡◌, ◌≢◌, ◌<◌, ◌+◌, ◌⊎◌, ◌↔◌, ⊎_elim, inl, inr, refl, sym, ap, subst, ◌∙◌, List, [], ◌∷◌, ◌++◌, length, take, get_or, Bool, true, false, Contains, IsTrue, Some, Result, Ok, Err, OnOk, slice_get}
+use Rattle.std.proofs.Common.{arith, ℕ, zero, suc, ◌≡◌, ◌≢◌, ◌<◌, ◌+◌, ◌⊎◌, ◌↔◌, ⊎_elim, inl, inr, refl, sym, ap, subst, ◌∙◌, List, [], ◌∷◌, ◌++◌, length, take, get_or, Bool, true, false, Contains, Some, Result, Ok, Err, OnOk, slice_get}
 use Rattle.std.specs.Prelude.{◌||◌, not}
 use mathlib.Core.Bool.{true≢false}
 use Rattle.std.proofs.lemmas.List.Elements.{Contains-append_cases}
@@ -19,13 +19,14 @@ use Rattle.kb_node.specs.declared.job.Job.{Job}
 use Rattle.kb_node.specs.declared.job.Job.TheVariants.{Orient, Overlap}
 use Rattle.mkb_model.specs.Jobs.{process_of}
 use Rattle.mkb_model.specs.Plain.{Plain, label, is_equation}
-use Rattle.mkb_model.specs.DueJobs.{is_working, is_node_of, is_due, is_work_due}
+use Rattle.mkb_model.specs.DueJobs.{is_working, is_due, is_work_due}
 use Rattle.mkb_pick.specs.Listings.{Listed, IsListed, IsProcess, HasJob}
 use Rattle.mkb_pick.specs.Tasks.{job_of, work_of}
 use Rattle.mkb_pick.proofs.Viewed.{job_again}
 use Rattle.mkb_agenda.specs.Agendas.{IsDueJob, IsListedAs, LeavesOthers}
-use Rattle.mkb_agenda.specs.Looking.{ComesFrom, jobs_on, BringsOne}
-use Rattle.mkb_agenda.specs.Following.{Brings, IsBetween, jobs_by_overlap}
+use Rattle.mkb_agenda.specs.Looking.{BringsOne, ComesFrom, ComesTouched, Reach, ReducesBy, jobs_on}
+use Rattle.mkb_agenda.specs.declared.looking.Touched.{Touched}
+use Rattle.mkb_agenda.specs.Following.{AllMayEnd, Brings, BringsHolders, IsBetween, jobs_by_overlap}
 use Rattle.mkb_agenda.proofs.DueJobs.{IsProper, due_is}
 
 -- ---- names
@@ -108,6 +109,9 @@ comes_from_itself c p js = record {
     same : (j : Job) → process_of j ≡ p → IsDueJob c j ↔ IsDueJob c (job_of p (work_of j))
     same j e = (subst {A = Job} (IsDueJob c) (sym (again j e)), subst {A = Job} (IsDueJob c) (again j e))
 
+pub reduces_by_itself : (c : Plain) (p : Name) (r : Reach) → ReducesBy c p c p r
+reduces_by_itself c p r = record { gained = λ n out d. inl d; kept = λ e n out d. d }
+
 module _ (b c : Plain) where
   pub brings_none : (ps : List Listed) → Brings b c [] ps ps
   brings_none ps = record { named = λ p h. absurd (true≢false (sym h)); others = λ x p q h l. l }
@@ -134,19 +138,23 @@ module _ (b c : Plain) where
 
 -- ---- a call that looks again
 
-module _ (K : Plain → Type 0) (c : Plain) (p : Name) (js : List Job) (ps qs : List Listed) (comes : (b : Plain) → K b → IsListedAs b p p ps → ComesFrom b p c p js) where
-  pub brings_one : BringsOne c p js ps qs → LeavesOthers p ps qs → (b : Plain) → K b → IsBetween b c ps → Brings b c (p ∷ []) ps qs
+module _ (K : Plain → Type 0) (c : Plain) (p : Name) (C : Plain → Name → Type 0) (ps qs : List Listed) (itself : C c p) (comes : (b : Plain) → K b → IsListedAs b p p ps → C b p) where
+  pub brings_one : BringsOne c p C ps qs → LeavesOthers p ps qs → (b : Plain) → K b → IsBetween b c ps → Brings b c (p ∷ []) ps qs
   brings_one exact apart b k h = record {
     named = λ q e. subst {A = Name} (λ r. IsListedAs c r r qs) (sym (only_name p q e)) brought;
     others = λ x r q e. apart x r q (no_name p q e);
   }
     where
       brought : IsListedAs c p p qs
-      brought = ⊎_elim (λ m. exact b p m (comes b k m)) (λ m. exact c p m (comes_from_itself c p js)) (h p)
+      brought = ⊎_elim (λ m. exact b p m (comes b k m)) (λ m. exact c p m itself) (h p)
 
-  pub brings_if_ok : (r : Result (Unit {0}) Memory) → OnOk r (BringsOne c p js ps qs) → OnOk r (LeavesOthers p ps qs) → OnOk r ((b : Plain) → K b → IsBetween b c ps → Brings b c (p ∷ []) ps qs)
+  pub brings_if_ok : (r : Result (Unit {0}) Memory) → OnOk r (BringsOne c p C ps qs) → OnOk r (LeavesOthers p ps qs) → OnOk r ((b : Plain) → K b → IsBetween b c ps → Brings b c (p ∷ []) ps qs)
   brings_if_ok (Ok t) exact apart = brings_one exact apart
   brings_if_ok (Err e) exact apart = tt
+
+-- a process that comes from there so comes with what is touched
+pub touched_brings : (c : Plain) (t : Touched) (q : Name) (C : Plain → Name → Type 0) (ps qs : List Listed) → t.process.now ≡ q → ((b : Plain) (p : Name) → C b p → ComesTouched b p c t) → BringsOne c t.process.now (λ b p. ComesTouched b p c t) ps qs → BringsOne c q C ps qs
+touched_brings c t q C ps qs e comes exact b p l k = subst {A = Name} (λ z. IsListedAs c z z qs) e (exact b p (subst {A = Name} (λ z. IsListedAs b p z ps) (sym e) l) (comes b p k))
 
 -- ---- processes that are taken off the list
 
@@ -203,19 +211,11 @@ others_stay l ps qs k x p q h m = stays_listed x p q ps qs
 -- ---- the holders of a node
 
 module _ (c : Plain) (n : NodeId) (ps one two three : List Listed) where
-  -- each process has only its work on the node anew
-  abbrev pub HasOnlyNode : Plain → Type 0
-  HasOnlyNode b = (p : Name) → ComesFrom b p c p (jobs_on p (n ∷ []))
-
   -- the processes of a label of the node are brought
   abbrev pub BringsLabel : LabelKind → List Listed → List Listed → Type 0
-  BringsLabel kind xs ys = (b : Plain) → HasOnlyNode b → IsBetween b c xs → Brings b c (label c n.0 kind) xs ys
+  BringsLabel kind xs ys = (b : Plain) → AllMayEnd b c n → IsBetween b c xs → Brings b c (label c n.0 kind) xs ys
 
-  -- each process that has the node is brought
-  abbrev pub BringsHolders : Plain → Type 0
-  BringsHolders b = IsBetween b c three × ((p : Name) → IsTrue (is_node_of c p n.0) → IsListedAs c p p three)
-
-  holders_brought : BringsLabel E ps one → BringsLabel R0 one two → BringsLabel R1 two three → (b : Plain) → HasOnlyNode b → IsBetween b c ps → BringsHolders b
+  holders_brought : BringsLabel E ps one → BringsLabel R0 one two → BringsLabel R1 two three → (b : Plain) → BringsHolders b c n ps three
   holders_brought f g h b k m = (
     still_between b c (label c n.0 R1) two three third at_two,
     λ p e. by_label p (has (label c n.0 E) p) (has (label c n.0 R0) p) refl refl e,
@@ -241,7 +241,7 @@ module _ (c : Plain) (n : NodeId) (ps one two three : List Listed) where
       by_label p false true e r d = still_brought b c (label c n.0 R1) two three third p (second.named p r)
       by_label p false false e r d = third.named p d
 
-  pub holders_if_ok : (t : Result (Unit {0}) Memory) → BringsLabel E ps one → BringsLabel R0 one two → OnOk t (BringsLabel R1 two three) → OnOk t ((b : Plain) → HasOnlyNode b → IsBetween b c ps → BringsHolders b)
+  pub holders_if_ok : (t : Result (Unit {0}) Memory) → BringsLabel E ps one → BringsLabel R0 one two → OnOk t (BringsLabel R1 two three) → OnOk t ((b : Plain) → BringsHolders b c n ps three)
   holders_if_ok (Ok t) f g h = holders_brought f g h
   holders_if_ok (Err e) f g h = tt
 

@@ -24,8 +24,8 @@ use Rattle.mkb_pick.specs.Listings.{Listed, IsListed}
 use Rattle.mkb_pick.specs.Tasks.{job_of, work_of}
 use Rattle.mkb_pick.proofs.Viewed.{job_again}
 use Rattle.mkb_agenda.specs.Agendas.{IsDueJob, IsAgendaOf, IsListedAs, LeavesOthers}
-use Rattle.mkb_agenda.specs.Looking.{ComesFrom, jobs_on, BringsOne}
-use Rattle.mkb_agenda.specs.Following.{Brings, BringsChildren, ForksFrom, IsBetween, IsCommitOn}
+use Rattle.mkb_agenda.specs.Looking.{BringsOne}
+use Rattle.mkb_agenda.specs.Following.{Brings, BringsChildren, BringsHolders, ForksFrom, IsBetween, IsCommitOn}
 use Rattle.mkb_agenda.specs.declared.following.Commit.{Commit}
 use Rattle.mkb_agenda.proofs.Brought.{known_or_not, only_name, no_name}
 use Rattle.mkb_agenda.proofs.Splitting.{named_first, off_is_listed}
@@ -104,16 +104,16 @@ module _ (c : Plain) (x : Commit) (ps qs : List Listed) where
   abbrev pub NamesOnly : Plain → Name → Type 0
   NamesOnly b p = (q : Name) → has (effect_label b x.proposal.now) q ≡ true → q ≡ p
 
-  single_followed : (p : Name) (js : List Job) → acts_by_name x.proposal.now ≡ true → ((b : Plain) → NamesOnly b p) → ((b : Plain) → IsCommitOn b x c → ComesFrom b p c p js) → BringsOne c p js ps qs → LeavesOthers p ps qs → Follows
-  single_followed p js acts only comes exact apart b k a = agenda_of_each c qs (λ q. ⊎_elim (λ e. subst {A = Name} (λ r. IsListedAs c r r qs) (sym (only_name p q e)) (exact b p (listed_each b ps a p) (comes b k)))
+  single_followed : (p : Name) (C : Plain → Name → Type 0) → acts_by_name x.proposal.now ≡ true → ((b : Plain) → NamesOnly b p) → ((b : Plain) → IsCommitOn b x c → C b p) → BringsOne c p C ps qs → LeavesOthers p ps qs → Follows
+  single_followed p C acts only comes exact apart b k a = agenda_of_each c qs (λ q. ⊎_elim (λ e. subst {A = Name} (λ r. IsListedAs c r r qs) (sym (only_name p q e)) (exact b p (listed_each b ps a p) (comes b k)))
       (λ e. unnamed b k acts q (off q (no_name p q e)) (apart b q q (no_name p q e) (listed_each b ps a q))) (known_or_not (has (p ∷ []) q)))
     where
       off : (q : Name) → q ≢ p → has x.names.now q ≡ false
       off q ne = ⊎_elim (λ e. absurd (ne (only b q (sym (ap (λ (l : List Name). has l q) (k.names ∙ ap (effect_label b) (sym k.proposal))) ∙ e)))) (λ e. e) (known_or_not (has x.names.now q))
 
-  pub single_if_ok : (p : Name) (js : List Job) → acts_by_name x.proposal.now ≡ true → ((b : Plain) → NamesOnly b p) → ((b : Plain) → IsCommitOn b x c → ComesFrom b p c p js) → (r : Result (Unit {0}) Memory) → OnOk r (BringsOne c p js ps qs) → OnOk r (LeavesOthers p ps qs) → OnOk r Follows
-  single_if_ok p js acts only comes (Ok t) exact apart = single_followed p js acts only comes exact apart
-  single_if_ok p js acts only comes (Err e) exact apart = tt
+  pub single_if_ok : (p : Name) (C : Plain → Name → Type 0) → acts_by_name x.proposal.now ≡ true → ((b : Plain) → NamesOnly b p) → ((b : Plain) → IsCommitOn b x c → C b p) → (r : Result (Unit {0}) Memory) → OnOk r (BringsOne c p C ps qs) → OnOk r (LeavesOthers p ps qs) → OnOk r Follows
+  single_if_ok p C acts only comes (Ok t) exact apart = single_followed p C acts only comes exact apart
+  single_if_ok p C acts only comes (Err e) exact apart = tt
 
   -- ---- an orientation
 
@@ -122,9 +122,9 @@ module _ (c : Plain) (x : Commit) (ps qs : List Listed) where
   one_way b k p n d order f = ⊎_elim (λ e. omega (arith, e)) (λ e. omega (arith, e))
       (direction_bit k.commit.finishing.before k.commit.job p n d order (subst {A = Proposed} (Proposes k.commit.finishing.before k.commit.job) (sym k.proposal ∙ f) k.commit.finishing.proposed))
 
-  pub one_if_ok : (p : Name) (n : NodeId) (d : ℕ) (order : Certificate) (js : List Job) → x.proposal.now ≡ One p n d order → ((b : Plain) → NamesOnly b p) → ((b : Plain) → IsCommitOn b x c → ComesFrom b p c p js) → (r : Result (Unit {0}) Memory) → (d ≤ 1 → OnOk r (BringsOne c p js ps qs)) → OnOk r (LeavesOthers p ps qs) → OnOk r Follows
-  one_if_ok p n d order js f only comes (Ok t) exact apart = λ b k a. single_followed p js (ap acts_by_name f) only comes (exact (one_way b k p n d order f)) apart b k a
-  one_if_ok p n d order js f only comes (Err e) exact apart = tt
+  pub one_if_ok : (p : Name) (n : NodeId) (d : ℕ) (order : Certificate) (C : Plain → Name → Type 0) → x.proposal.now ≡ One p n d order → ((b : Plain) → NamesOnly b p) → ((b : Plain) → IsCommitOn b x c → C b p) → (r : Result (Unit {0}) Memory) → (d ≤ 1 → OnOk r (BringsOne c p C ps qs)) → OnOk r (LeavesOthers p ps qs) → OnOk r Follows
+  one_if_ok p n d order C f only comes (Ok t) exact apart = λ b k a. single_followed p C (ap acts_by_name f) only comes (exact (one_way b k p n d order f)) apart b k a
+  one_if_ok p n d order C f only comes (Err e) exact apart = tt
 
   -- ---- a fork
 
@@ -161,7 +161,7 @@ module _ (c : Plain) (x : Commit) (ps qs : List Listed) where
   -- ---- facts
 
   facts_followed : (fs : List Fact) → x.applied ≡ Done → x.proposal.now ≡ Facts fs → (fs ≡ [] → qs ≡ ps)
-      → ((b : Plain) (f : Fact) (gs : List Fact) → fs ≡ f ∷ gs → ((p : Name) → ComesFrom b p c p (jobs_on p (f.node ∷ []))) → IsBetween b c ps → IsBetween b c qs × ((p : Name) → IsTrue (is_node_of c p f.node.0) → IsListedAs c p p qs)) → Follows
+      → ((b : Plain) (f : Fact) (gs : List Fact) → fs ≡ f ∷ gs → BringsHolders b c f.node ps qs) → Follows
   facts_followed [] done f none some b k a = subst {A = List Listed} (IsAgendaOf c) (sym (none refl)) (agenda_of_each c ps (λ p. facts_leave b c x k [] f p (λ g m. none_in m) ps (listed_each b ps a p)))
   facts_followed (f ∷ gs) done is none some b k a = agenda_of_each c qs (λ p. ⊎_elim (known.1 p) (λ e. ⊎_elim (facts_leave b c x k (f ∷ gs) is p (apart p e) qs) (λ l. l) (known.0 p)) (known_or_not (is_node_of c p f.node.0)))
     where
@@ -172,7 +172,7 @@ module _ (c : Plain) (x : Commit) (ps qs : List Listed) where
       apart p e g m = ap (λ (n : NodeId). is_node_of c p n.0) (facts_of_one_node b c x k (f ∷ gs) is g f m (contains_first f gs)) ∙ e
 
   pub facts_if_ok : (fs : List Fact) → x.applied ≡ Done → x.proposal.now ≡ Facts fs → (fs ≡ [] → qs ≡ ps) → (r : Result (Unit {0}) Memory)
-      → OnOk r ((b : Plain) (f : Fact) (gs : List Fact) → fs ≡ f ∷ gs → ((p : Name) → ComesFrom b p c p (jobs_on p (f.node ∷ []))) → IsBetween b c ps → IsBetween b c qs × ((p : Name) → IsTrue (is_node_of c p f.node.0) → IsListedAs c p p qs)) → OnOk r Follows
+      → OnOk r ((b : Plain) (f : Fact) (gs : List Fact) → fs ≡ f ∷ gs → BringsHolders b c f.node ps qs) → OnOk r Follows
   facts_if_ok fs done f none (Ok t) some = facts_followed fs done f none some
   facts_if_ok fs done f none (Err e) some = tt
 

@@ -20,7 +20,7 @@ use Rattle.kb_node.specs.declared.job.Fact.{Fact}
 use Rattle.kb_node.specs.declared.job.Job.{Job}
 use Rattle.kb_node.specs.declared.job.Job.TheVariants.{Reduce, Orient, Overlap, Close}
 use Rattle.mkb_model.specs.Jobs.{process_of}
-use Rattle.mkb_model.specs.Plain.{Plain, GivenUp, is_equation, is_rule, is_over, cost}
+use Rattle.mkb_model.specs.Plain.{Plain, PlainNode, GivenUp, is_equation, is_rule, is_over, cost, known}
 use Rattle.mkb_model.specs.DueJobs.{is_node_of, is_reducible, is_working, is_work_due, due_jobs_of}
 use Rattle.mkb_model.specs.Effects.{applied, counted, effect, effect_label, first_some, give_up, is_dropped, is_full, limit_of, most_living, orient_label, some_if}
 use Rattle.mkb_model.specs.Journals.{IsCommitting, IsFreeJob}
@@ -29,9 +29,10 @@ use Rattle.mkb_model.specs.declared.entry.Effect.TheVariants.{Over as OverFor, M
 use Rattle.mkb_model.specs.declared.proposed.Proposed.{Proposed}
 use Rattle.mkb_model.specs.declared.proposed.Proposed.TheVariants.{Facts, Rewrite, One, Both, Refuse, Deduce, Unjoined, Closed, Limit}
 use Rattle.mkb_model.proofs.Lists.{clash, decide, false_unless, not_of_true, same_test}
-use Rattle.mkb_model.proofs.commits.Roles.{has-one, relabel-child, relabel-other}
+use Rattle.mkb_model.proofs.commits.Roles.{has-one, on_there, relabel-child, relabel-other}
 use Rattle.mkb_model.proofs.commits.Bystanders.{IsUnmoved}
-use Rattle.mkb_model.proofs.commits.Commits.{orients}
+use Rattle.mkb_model.proofs.commits.Commits.{bit_number, orients}
+use Rattle.mkb_model.proofs.commits.Orienting.{OrientRoles, orient-roles}
 use Rattle.mkb_model.proofs.closing.LeftAlone.{IsBit}
 use Rattle.mkb_model.proofs.closing.RestInRuns.{Stands, stands_run}
 use Rattle.mkb_model.proofs.labels.LivingNames.{living_forked}
@@ -39,20 +40,21 @@ use Rattle.mkb_model.proofs.labels.NameLists.{IsLabelOf, child_lives}
 use Rattle.mkb_model.proofs.runs.AllFine.{runs_one_role}
 use Rattle.mkb_model.proofs.runs.Simulation.{begins-child}
 use Rattle.mkb_model.proofs.tickets.InFlight.{due_working, unlike}
-use Rattle.mkb_moves.specs.Changes.{IsNotOfFacts, LeavesOtherWork, ReducesNodeOf}
+use Rattle.mkb_moves.specs.Changes.{IsNotOfFacts, LeavesOtherWork, ReducesNodeOf, SharesWork}
 use Rattle.mkb_rules.specs.Applying.{applied_as}
 use Rattle.mkb_rules.specs.declared.applied.Applied.TheVariants.{Done, Over}
 use Rattle.mkb_pick.specs.Listings.{Listed}
 use Rattle.mkb_pick.specs.Tasks.{job_of, work_of}
 use Rattle.mkb_agenda.specs.Agendas.{IsDueJob, IsListedAs}
-use Rattle.mkb_agenda.specs.Looking.{ComesFrom, jobs_on}
-use Rattle.mkb_agenda.specs.Following.{ForksFrom, IsCommitOn, jobs_by_rule}
+use Rattle.mkb_agenda.specs.Looking.{ComesFrom, MayEnd, ReducesBy, jobs_on}
+use Rattle.mkb_agenda.specs.Following.{ComesByRule, ForksFrom, IsCommitOn, jobs_by_rule}
 use Rattle.mkb_agenda.specs.declared.following.Commit.{Commit}
 use Rattle.mkb_agenda.proofs.DueJobs.{IsProper, due_is}
-use Rattle.mkb_agenda.proofs.Alike.{own_work, due_alike}
+use Rattle.mkb_agenda.proofs.Alike.{due_alike, listed_same}
 use Rattle.mkb_agenda.proofs.Committed.{as_effect, none_limits, stops, made, board_is, on_board, work_next, cost_next, weights, comes, comes_on}
 use Rattle.mkb_agenda.proofs.ByRule.{work_by_rule}
-use Rattle.mkb_agenda.proofs.NodeWork.{orient_on}
+use Rattle.mkb_agenda.proofs.NodeWork.{node_ref, orient_on}
+use Rattle.mkb_agenda.proofs.Gained.{gained_by_rule}
 use Rattle.mkb_moves.proofs.DueJobsKept.{others_jobs}
 use Rattle.mkb_moves.proofs.EndedWork.{facts_open_none, facts_leave_others, closing_ends, limit_keeps, refusal_ends}
 use Rattle.mkb_moves.proofs.Makes.{IsMaking, making}
@@ -60,7 +62,7 @@ use Rattle.mkb_moves.proofs.OpenedWork.{one_leaves, fork_shares}
 use Rattle.mkb_moves.proofs.Others.{others_unmoved}
 use Rattle.mkb_moves.proofs.SameCosts.{others_costs}
 use Rattle.mkb_moves.proofs.Stopped.{limit_stops}
-use Rattle.mkb_moves.proofs.Turning.{direction_bit, forks}
+use Rattle.mkb_moves.proofs.Turning.{child_roles, direction_bit, forks}
 
 bits_alike : (d : ℕ) → IsBit d → (Q : ℕ → Type 0) → Q 0 → Q 1 → Q d
 bits_alike d (inl e) Q h k = subst {A = ℕ} Q (sym e) h
@@ -143,15 +145,36 @@ module _ (b c : Plain) (x : Commit) (k : IsCommitOn b x c) where
   leaves_come : (p q : Name) (a : RuleRef) → is_rule b p a ≡ false → LeavesOtherWork b p k.next q a → (j : Job) → process_of j ≡ q → ¬ Contains (jobs_by_rule c q a) j → IsProper j → is_work_due c j ≡ is_work_due b (job_of p (work_of j))
   leaves_come p q a new h j e o d = work_next b c x k j ∙ work_by_rule b k.next p q a h new j e (λ i. o (subst {A = List Job} (λ l. Contains l j) (sym (on_board b c x k (λ z. jobs_by_rule z q a) refl)) i)) d
 
-  pub one_comes : x.applied ≡ Done → (p : Name) (n : NodeId) (d : ℕ) (order : Certificate) → x.proposal.now ≡ One p n d order → ComesFrom b p c p (jobs_by_rule c p (record { node = n.0; dir = d }))
-  one_comes e p n d order f = comes b c x k p p (jobs_by_rule c p (record { node = n.0; dir = d })) (ap (λ z. is_working z p) board) (ap (λ (z : Plain). has z.asleep p) board)
-      (λ j own _ o proper. leaves_come p p (record { node = n.0; dir = d }) (no_rule p n d (direction_bit m.finishing.before m.job p n d order m.finishing.proposed) (orients b p n.0 m.acts)) (one_leaves k.past b k.worker k.ticket p n d order k.next commit) j own o proper)
+  -- a new rule alone makes reducings due beyond its node, and ends none
+  rule_reduces : (p q : Name) (a : RuleRef) → IsBit a.dir → OrientRoles b.nodes p c.nodes q a → ((n w : ℕ) (e : RuleRef) → known c n w e ≡ known b n w e) → LeavesOtherWork b p k.next q a → ReducesBy b p c q (record { nodes = record { 0 = a.node } ∷ []; rules = a ∷ []; loses = false })
+  rule_reduces p q a bit roles facts leaves = record {
+    gained = λ n out d. gained_by_rule b c p q a bit roles facts n (apart n out) d;
+    kept = λ e n out d. work_next b c x k (Reduce q n) ∙ leaves.reduces n (apart n out) d;
+  }
     where
+      apart : (n : NodeId) → ¬ Contains (record { 0 = a.node } ∷ []) n → n.0 ≢ a.node
+      apart n out e = out (subst {A = NodeId} (Contains (record { 0 = a.node } ∷ [])) (node_ref n (record { 0 = a.node }) e) (contains_first (record { 0 = a.node }) []))
+
+  pub one_comes : x.applied ≡ Done → (p : Name) (n : NodeId) (d : ℕ) (order : Certificate) → x.proposal.now ≡ One p n d order → ComesByRule b p c p (record { node = n.0; dir = d })
+  one_comes e p n d order f = record {
+    comes = comes b c x k p p (jobs_by_rule c p a) (ap (λ z. is_working z p) board) (ap (λ (z : Plain). has z.asleep p) board) (λ j own _ o proper. leaves_come p p a (no_rule p n d bit (orients b p n.0 m.acts)) left j own o proper);
+    reduces = rule_reduces p p a bit (subst {A = List PlainNode} (λ zs. OrientRoles b.nodes p zs p a) (sym (ap (λ (z : Plain). z.nodes) board)) (orient-roles p a b.nodes (on_there b.nodes p n.0 E (orients b p n.0 m.acts)))) (λ i w r. ap (λ z. known z i w r) board) left;
+  }
+    where
+      a : RuleRef
+      a = record { node = n.0; dir = d }
+
       commit : IsCommitting k.past b k.worker k.ticket (Made (One p n d order)) k.next
       commit = made b c x k e (One p n d order) f
 
       m : IsMaking k.past b k.worker k.ticket (One p n d order) k.next
       m = making k.past b k.worker k.ticket (One p n d order) k.next commit
+
+      bit : IsBit d
+      bit = direction_bit m.finishing.before m.job p n d order m.finishing.proposed
+
+      left : LeavesOtherWork b p k.next p a
+      left = one_leaves k.past b k.worker k.ticket p n d order k.next commit
 
       board : c ≡ record (counted (applied b (One p n d order))) { flight = [] }
       board = board_is b c x k e (One p n d order) f
@@ -159,10 +182,8 @@ module _ (b c : Plain) (x : Commit) (k : IsCommitOn b x c) where
   pub both_comes : x.applied ≡ Done → (p : Name) (n : NodeId) (c0 c1 : Certificate) → x.proposal.now ≡ Both p n c0 c1 → ForksFrom b c p n
   both_comes e p n c0 c1 f = record {
     short = omega (arith, room_to_fork b (nat_le most_living (length b.living)) (is_full b (Both p n c0 c1)) refl (ap (limit_of b) (sym f ∙ k.proposal) ∙ none_limits b c x k e), (leaves-forked b.living (living_forked IsFreeJob k.problem k.settings k.past b k.run).forked).short p lives);
-    first = comes b c x k p (child p false) (jobs_by_rule c (child p false) (record { node = n.0; dir = 0 })) (works false) (sleeps false)
-        (λ j own _ o d. leaves_come p (child p false) (record { node = n.0; dir = 0 }) (no_rule p n 0 (inl refl) on) (fork_shares k.problem k.settings k.past b k.run k.worker k.ticket p n c0 c1 k.next commit).first j own o d);
-    second = comes b c x k p (child p true) (jobs_by_rule c (child p true) (record { node = n.0; dir = 1 })) (works true) (sleeps true)
-        (λ j own _ o d. leaves_come p (child p true) (record { node = n.0; dir = 1 }) (no_rule p n 1 (inr refl) on) (fork_shares k.problem k.settings k.past b k.run k.worker k.ticket p n c0 c1 k.next commit).second j own o d);
+    first = child_comes false (inl refl) shared.first;
+    second = child_comes true (inr refl) shared.second;
     gone = ap (λ z. z && not (is_over c p)) (on_board b c x k (λ (z : Plain). has z.living p) refl ∙ (forks k.problem k.settings k.past b k.run k.worker k.ticket p n c0 c1 k.next commit).gone);
     new = ap (λ z. z && not (is_over b (child p false))) (unborn false);
     also_new = ap (λ z. z && not (is_over b (child p true))) (unborn true);
@@ -173,6 +194,9 @@ module _ (b c : Plain) (x : Commit) (k : IsCommitOn b x c) where
 
       board : c ≡ record (counted (applied b (Both p n c0 c1))) { flight = [] }
       board = board_is b c x k e (Both p n c0 c1) f
+
+      shared : SharesWork b p k.next n.0
+      shared = fork_shares k.problem k.settings k.past b k.run k.worker k.ticket p n c0 c1 k.next commit
 
       on : is_equation b p n.0 ≡ true
       on = orients b p n.0 (making k.past b k.worker k.ticket (Both p n c0 c1) k.next commit).acts
@@ -195,6 +219,14 @@ module _ (b c : Plain) (x : Commit) (k : IsCommitOn b x c) where
       sleeps : (bit : Bool) → has c.asleep (child p bit) ≡ has b.asleep p
       sleeps bit = ap (λ (z : Plain). has z.asleep (child p bit)) board ∙ relabel-child p bit b.asleep (fresh bit b.asleep stands.labelled.asleep)
 
+      child_comes : (bit : Bool) → IsBit (bit_number bit) → LeavesOtherWork b p k.next (child p bit) (record { node = n.0; dir = bit_number bit }) → ComesByRule b p c (child p bit) (record { node = n.0; dir = bit_number bit })
+      child_comes bit h left = record {
+        comes = comes b c x k p (child p bit) (jobs_by_rule c (child p bit) (record { node = n.0; dir = bit_number bit })) (works bit) (sleeps bit) (λ j own _ o d. leaves_come p (child p bit) (record { node = n.0; dir = bit_number bit }) (no_rule p n (bit_number bit) h on) left j own o d);
+        reduces = rule_reduces p (child p bit) (record { node = n.0; dir = bit_number bit }) h
+            (subst {A = List PlainNode} (λ zs. OrientRoles b.nodes p zs (child p bit) (record { node = n.0; dir = bit_number bit })) (sym (on_board b c x k (λ (z : Plain). z.nodes) refl)) (child_roles k.problem k.settings k.past b k.run k.worker k.ticket p n c0 c1 k.next commit bit))
+            (λ i w r. ap (λ z. known z i w r) board) left;
+      }
+
   pub refuse_comes : x.applied ≡ Done → (p : Name) (n : NodeId) → x.proposal.now ≡ Refuse p n → ComesFrom b p c p (jobs_on p (n ∷ []))
   refuse_comes e p n f = comes_on b c x k p (jobs_on p (n ∷ [])) (ap (λ z. is_working z p) board) (ap (λ (z : Plain). has z.asleep p) board)
       (λ j own o. (refusal_ends k.past b k.worker k.ticket p n k.next (made b c x k e (Refuse p n) f)).1 j (λ i. o (subst {A = Job} (Contains (jobs_on p (n ∷ []))) (sym i) (orient_on p (n ∷ []) n (contains_first n [])))))
@@ -209,45 +241,7 @@ module _ (b c : Plain) (x : Commit) (k : IsCommitOn b x c) where
       board : c ≡ record (counted (applied b (Closed p))) { flight = [] }
       board = board_is b c x k e (Closed p) f
 
-  pub facts_come : x.applied ≡ Done → (f : Fact) (fs : List Fact) → x.proposal.now ≡ Facts (f ∷ fs) → (p : Name) → ComesFrom b p c p (jobs_on p (f.node ∷ []))
-  facts_come e f fs g p = comes_on b c x k p (jobs_on p (f.node ∷ [])) (ap (λ z. is_working z p) board) (ap (λ (z : Plain). has z.asleep p) board)
-      (λ j own o. facts_leave_others k.past b k.worker k.ticket (f ∷ fs) k.next commit j (λ h. o (reduced j own h)))
-    where
-      commit : IsCommitting k.past b k.worker k.ticket (Made (Facts (f ∷ fs))) k.next
-      commit = made b c x k e (Facts (f ∷ fs)) g
-
-      m : IsMaking k.past b k.worker k.ticket (Facts (f ∷ fs)) k.next
-      m = making k.past b k.worker k.ticket (Facts (f ∷ fs)) k.next commit
-
-      board : c ≡ record (counted (applied b (Facts (f ∷ fs)))) { flight = [] }
-      board = board_is b c x k e (Facts (f ∷ fs)) g
-
-      reduced : (j : Job) → process_of j ≡ p → ReducesNodeOf (f ∷ fs) j → Contains (jobs_on p (f.node ∷ [])) j
-      reduced (Reduce q n) own h =
-          let r = facts_of_one m.finishing.before m.job (f ∷ fs) m.finishing.proposed in
-          let i : f.node.0 ≡ n.0 = r.1 f (contains_first f fs) ∙ sym (r.1 h.0 h.1) ∙ ap (λ (z : NodeId). z.0) h.2 in
-          subst {A = Job} (Contains (jobs_on p (f.node ∷ []))) (ap₂ (λ (z : Name) (m : ℕ). Reduce z (record { 0 = m })) (sym own) i) (contains_first (Reduce p f.node) (Orient p f.node ∷ []))
-      reduced (Orient q n) own h = absurd h
-      reduced (Overlap q a d) own h = absurd h
-      reduced (Close q) own h = absurd h
-
   -- ---- who is not named
-
-  -- a process that is as before is listed as before
-  listed_same : (p : Name) → is_working c p ≡ is_working b p → (is_working b p ≡ true → cost c p ≡ cost b p) → has c.asleep p ≡ has b.asleep p → ((j : Job) → process_of j ≡ p → IsDueJob c j ↔ IsDueJob b j) → (ps : List Listed) → IsListedAs b p p ps → IsListedAs c p p ps
-  listed_same p works costs sleeps due ps l = record {
-    listed = λ m r. (
-      (λ i. let u = (l.listed m r).0 i in (works ∙ u.0, u.1 ∙ sym (costs u.0), u.2 ∙ sym sleeps)),
-      λ u. let d = sym works ∙ u.0 in (l.listed m r).1 (d, u.1 ∙ costs d, u.2 ∙ sleeps),
-    );
-    jobs = λ j w own. (
-      (λ i. let u = (l.jobs j w own).0 i in ((mine j own).1 u.0, u.1 ∙ sym (weights b c x k j (subst {A = Job} (IsDueJob b) (own_work p j own) u.0)))),
-      λ u. let d = (mine j own).0 u.0 in (l.jobs j w own).1 (d, u.1 ∙ weights b c x k j (subst {A = Job} (IsDueJob b) (own_work p j own) d)),
-    );
-  }
-    where
-      mine : (j : Job) → process_of j ≡ p → IsDueJob c (job_of p (work_of j)) ↔ IsDueJob b (job_of p (work_of j))
-      mine j own = due (job_of p (work_of j)) (ap process_of (own_work p j own) ∙ own)
 
   -- a fork names the process that it forks
   not_forked : (p : Name) → has (effect_label b y) p ≡ false → (q : Name) (n : NodeId) (c0 c1 : Certificate) → y ≡ Both q n c0 c1 → p ≢ q
@@ -282,8 +276,8 @@ module _ (b c : Plain) (x : Commit) (k : IsCommitOn b x c) where
 
     -- it is listed as before where its jobs are due as before if it lives
     left_alone : (has b.living p ≡ true → (j : Job) → process_of j ≡ p → IsDueJob c j ↔ IsDueJob b j) → (ps : List Listed) → IsListedAs b p p ps → IsListedAs c p p ps
-    left_alone due = listed_same p works_same costs_same places.0
-        (λ j own. ⊎_elim {C = IsDueJob c j ↔ IsDueJob b j} (λ lives. due lives j own) (λ dead. ((λ h. absurd (none_due c (places.1 ∙ dead) j own h)), λ h. absurd (none_due b dead j own h))) (decide (has b.living p)))
+    left_alone due ps = listed_same b c p works_same costs_same places.0
+        (λ j own. ⊎_elim {C = IsDueJob c j ↔ IsDueJob b j} (λ lives. due lives j own) (λ dead. ((λ h. absurd (none_due c (places.1 ∙ dead) j own h)), λ h. absurd (none_due b dead j own h))) (decide (has b.living p))) (weights b c x k) ps
 
     same_jobs : IsNotOfFacts y → has b.living p ≡ true → (j : Job) → process_of j ≡ p → IsDueJob c j ↔ IsDueJob b j
     same_jobs none lives j own =
@@ -299,19 +293,53 @@ module _ (b c : Plain) (x : Commit) (k : IsCommitOn b x c) where
       unnamed : has (effect_label b y) p ≡ false
       unnamed = sym (ap (λ l. has l p) k.names) ∙ h
 
+  -- ---- facts
+
+  -- facts are of no process
+  module _ (fs : List Fact) (f : x.proposal.now ≡ Facts fs) (p : Name) where
+    is_facts : y ≡ Facts fs
+    is_facts = sym k.proposal ∙ f
+
+    none_named : has (effect_label b y) p ≡ false
+    none_named = ap (λ z. has (effect_label b z) p) is_facts
+
+    unforked : IsApart p y
+    unforked q n c0 c1 e = let r : Facts fs ≡ Both q n c0 c1 = sym is_facts ∙ e in absurd (cc)
+
+  -- reducing the node of the facts may end
+  pub facts_come : x.applied ≡ Done → (f : Fact) (fs : List Fact) → x.proposal.now ≡ Facts (f ∷ fs) → (p : Name) → MayEnd b c p f.node
+  facts_come e f fs g p = record {
+    working = ap (λ z. is_working z p) board;
+    asleep = ap (λ (z : Plain). has z.asleep p) board;
+    closed = ap (λ (z : Plain). has z.closed p) board;
+    cost = costs_same p (none_named (f ∷ fs) g p) (unforked (f ∷ fs) g p);
+    work = λ j own apart. work_next b c x k j ∙ facts_leave_others k.past b k.worker k.ticket (f ∷ fs) k.next commit j (λ h. apart (reduced j own h));
+    ended = λ d. facts_open_none k.past b k.worker k.ticket (f ∷ fs) k.next commit (Reduce p f.node) (sym (work_next b c x k (Reduce p f.node)) ∙ d);
+    weights = weights b c x k;
+  }
+    where
+      commit : IsCommitting k.past b k.worker k.ticket (Made (Facts (f ∷ fs))) k.next
+      commit = made b c x k e (Facts (f ∷ fs)) g
+
+      m : IsMaking k.past b k.worker k.ticket (Facts (f ∷ fs)) k.next
+      m = making k.past b k.worker k.ticket (Facts (f ∷ fs)) k.next commit
+
+      board : c ≡ record (counted (applied b (Facts (f ∷ fs)))) { flight = [] }
+      board = board_is b c x k e (Facts (f ∷ fs)) g
+
+      reduced : (j : Job) → process_of j ≡ p → ReducesNodeOf (f ∷ fs) j → j ≡ Reduce p f.node
+      reduced (Reduce q n) own h =
+          let r = facts_of_one m.finishing.before m.job (f ∷ fs) m.finishing.proposed in
+          let i : f.node.0 ≡ n.0 = r.1 f (contains_first f fs) ∙ sym (r.1 h.0 h.1) ∙ ap (λ (z : NodeId). z.0) h.2 in
+          ap₂ (λ (z : Name) (m : ℕ). Reduce z (record { 0 = m })) own (sym i)
+      reduced (Orient q n) own h = absurd h
+      reduced (Overlap q a d) own h = absurd h
+      reduced (Close q) own h = absurd h
+
   -- where facts are noted, so is a process that doesn't have the node of any of them
   pub facts_leave : (fs : List Fact) → x.proposal.now ≡ Facts fs → (p : Name) → ((f : Fact) → Contains fs f → is_node_of c p f.node.0 ≡ false) → (ps : List Listed) → IsListedAs b p p ps → IsListedAs c p p ps
-  facts_leave fs f p apart ps l = left_alone p unnamed unforked (λ lives. due_alike b c p (works_same p unnamed unforked) (λ j own _. work (limit_of b y) refl j own) (closed_same p unnamed unforked lives)) ps l
+  facts_leave fs f p apart ps l = left_alone p (none_named fs f p) (unforked fs f p) (λ lives. due_alike b c p (works_same p (none_named fs f p) (unforked fs f p)) (λ j own _. work (limit_of b y) refl j own) (closed_same p (none_named fs f p) (unforked fs f p) lives)) ps l
     where
-      is_facts : y ≡ Facts fs
-      is_facts = sym k.proposal ∙ f
-
-      unnamed : has (effect_label b y) p ≡ false
-      unnamed = ap (λ z. has (effect_label b z) p) is_facts
-
-      unforked : IsApart p y
-      unforked q n c0 c1 e = let r : Facts fs ≡ Both q n c0 c1 = sym is_facts ∙ e in absurd (cc)
-
       not_reduced : x.applied ≡ Done → (j : Job) → process_of j ≡ p → is_work_due b j ≡ true → ¬ ReducesNodeOf fs j
       not_reduced e (Reduce q n) own d h = clash (and_gives_left (is_node_of b q n.0) (is_reducible b q n.0) d)
           (ap₂ (λ (z : Name) (m : NodeId). is_node_of b z m.0) own (sym h.2) ∙ sym (ap (λ z. is_node_of z p h.0.node.0) (board_is b c x k e (Facts fs) f)) ∙ apart h.0 h.1)

@@ -1,16 +1,19 @@
 mod DueJobs
-mod OpenRules
+pub mod OpenRules
 mod Anew
 mod Alike
 mod Again
 mod Opened
 mod FirstOffered
+mod Gained
 mod Committed
 mod ByRule
 mod NodeWork
+mod Nearly
 mod Frames
 mod NodeFrames
 mod Brought
+mod Ended
 mod Splitting
 mod Found
 mod LimitFrames

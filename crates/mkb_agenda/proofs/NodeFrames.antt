@@ -1,5 +1,5 @@
 -- What rewritings and new pairs leave of the jobs of each process.
-use Rattle.std.proofs.Common.{ℕ, ◌≡◌, refl, sym, ap, ◌∙◌, subst, List, [], ◌∷◌, true, Some, Contains}
+use Rattle.std.proofs.Common.{ℕ, ◌≡◌, inl, inr, ⊎_elim, refl, sym, ap, ◌∙◌, subst, List, [], ◌∷◌, true, Some, Contains}
 use Rattle.std.proofs.lemmas.List.Elements.{Contains-append_left, Contains-append_right}
 use Rattle.kb_lemmas.proofs.Membership.{contains_first}
 use Rattle.kb_lemmas.proofs.Options.{some_is}
@@ -14,8 +14,8 @@ use Rattle.kb_label.specs.Names.{Name, has}
 use Rattle.kb_node.specs.declared.node.NodeId.{NodeId}
 use Rattle.kb_node.specs.declared.job.Deduced.{Deduced}
 use Rattle.kb_node.specs.declared.job.Job.{Job}
-use Rattle.kb_node.specs.declared.job.Job.TheVariants.{Overlap}
-use Rattle.mkb_model.specs.Plain.{Plain, pair_at}
+use Rattle.kb_node.specs.declared.job.Job.TheVariants.{Overlap, Reduce}
+use Rattle.mkb_model.specs.Plain.{Plain, known, pair_at}
 use Rattle.mkb_model.specs.DueJobs.{is_working}
 use Rattle.mkb_model.specs.Effects.{applied, counted, effect_label, rewrite_label}
 use Rattle.mkb_model.specs.Journals.{IsCommitting}
@@ -23,6 +23,7 @@ use Rattle.mkb_model.specs.Ready.{OneRole}
 use Rattle.mkb_model.specs.declared.entry.Effect.TheVariants.{Made}
 use Rattle.mkb_model.specs.declared.proposed.Proposed.{Proposed}
 use Rattle.mkb_model.specs.declared.proposed.Proposed.TheVariants.{Rewrite, Deduce, Unjoined}
+use Rattle.mkb_model.proofs.Lists.{clash}
 use Rattle.mkb_model.proofs.runs.AllFine.{goes}
 use Rattle.mkb_moves.specs.Moves.{IsNodeOf, RewritesLabel}
 use Rattle.mkb_moves.specs.Changes.{IsOnPairs, LeavesLabelsWork, LeavesWorkElsewhere, OpensPairs, EndsOverlap}
@@ -31,11 +32,11 @@ use Rattle.mkb_pick.specs.declared.task.Work.{Work}
 use Rattle.mkb_pick.specs.declared.task.Work.TheVariants.{Reducing, Orienting, Overlapping, Closing}
 use Rattle.mkb_pick.specs.Tasks.{job_of}
 use Rattle.mkb_pick.proofs.Viewed.{process_again}
-use Rattle.mkb_agenda.specs.Looking.{ComesFrom, jobs_on}
-use Rattle.mkb_agenda.specs.Following.{AreNodesOf, ComesByRewriting, IsCommitOn, jobs_by_overlap, jobs_by_nodes}
+use Rattle.mkb_agenda.specs.Looking.{ComesFrom, is_gained, jobs_on}
+use Rattle.mkb_agenda.specs.Following.{AreNodesOf, ComesByRewriting, IsCommitOn, jobs_by_overlap, jobs_by_nodes, rules_at_both}
 use Rattle.mkb_agenda.specs.declared.following.Commit.{Commit}
-use Rattle.mkb_agenda.proofs.Committed.{made, board_is, on_board, keeps, comes_by}
-use Rattle.mkb_agenda.proofs.NodeWork.{KeepsElsewhere, rewriting_keeps, equation_work, rule_work, reduce_on, orient_on}
+use Rattle.mkb_agenda.proofs.Committed.{made, board_is, on_board, keeps, comes_by, work_next}
+use Rattle.mkb_agenda.proofs.NodeWork.{KeepsElsewhere, gained_aside, rewriting_keeps, equation_work, rule_work, reduce_on, orient_on}
 use Rattle.mkb_moves.proofs.OpenedWork.{deduce_opens, unjoined_opens}
 use Rattle.mkb_moves.proofs.Rewriting.{rewriting_moves}
 use Rattle.mkb_moves.proofs.RewrittenWork.{rewriting_leaves}
@@ -62,6 +63,11 @@ module _ (b c : Plain) (x : Commit) (k : IsCommitOn b x c) where
   rewrite_comes e n w at a found t f m target p h = record {
     equation = λ on. comes_by b c x k p (jobs_on p (n ∷ m ∷ [])) works sleeps (λ i out _. equation_work b k.next p n m w rest (tree_of t) one here leaves kept on i out);
     rule = subst {A = List Job} (ComesFrom b p c p) (sym (on_board b c x k (λ z. jobs_by_nodes z p n m) refl)) (comes_by b c x k p (jobs_by_nodes k.next p n m) works sleeps (rule_work b k.next p n m w rest (tree_of t) one here leaves kept));
+    reduces = record {
+      gained = λ i out d. ⊎_elim (λ h. inl h) (λ h. inr (on_board b c x k (λ z. is_gained z p (rules_at_both n m) i.0) refl ∙ h))
+          (gained_aside b k.next p n m w rest (tree_of t) one here leaves kept (λ i v r. sym (on_board b c x k (λ z. known z i v r) refl) ∙ ap (λ z. known z i v r) board) i out (sym (work_next b c x k (Reduce p i)) ∙ d));
+      kept = λ e. clash refl e;
+    };
   }
     where
       y : Proposed

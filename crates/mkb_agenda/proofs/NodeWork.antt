@@ -1,5 +1,5 @@
 -- The work of a process that a rewriting of one of its nodes leaves as it was.
-use Rattle.std.proofs.Common.{ℕ, ◌≡◌, ◌≢◌, ◌⊎◌, ◌↔◌, inl, inr, refl, sym, ap, ◌∙◌, subst, arith, List, [], ◌∷◌, ◌++◌, map, Contains, true, false, not, ◌&&◌, ◌||◌, ⊎_elim}
+use Rattle.std.proofs.Common.{ℕ, zero, suc, ◌≡◌, ◌≢◌, ◌⊎◌, ◌↔◌, inl, inr, refl, sym, ap, ◌∙◌, subst, arith, List, [], ◌∷◌, ◌++◌, map, Contains, true, false, not, ◌&&◌, ◌||◌, ⊎_elim}
 use Rattle.std.proofs.lemmas.Bool.{and_right, or_left, or_right, or_cases}
 use Rattle.std.proofs.lemmas.List.Elements.{Contains-append_left, Contains-append_right}
 use Rattle.kb_lemmas.proofs.Membership.{contains_first, contains_behind, contains_map, contains_flat_map}
@@ -14,7 +14,7 @@ use Rattle.kb_node.specs.declared.node.LabelKind.TheVariants.{E}
 use Rattle.kb_node.specs.declared.job.Job.{Job}
 use Rattle.kb_node.specs.declared.job.Job.TheVariants.{Reduce, Orient, Overlap}
 use Rattle.mkb_model.specs.Jobs.{ref_le}
-use Rattle.mkb_model.specs.Plain.{Plain, other, rule_kind, is_equation, is_rule, equations_of, rules_of, done_of}
+use Rattle.mkb_model.specs.Plain.{Plain, other, rule_kind, is_equation, is_rule, equations_of, rules_of, done_of, known}
 use Rattle.mkb_model.specs.DueJobs.{is_node_of, is_reducible, is_work_due}
 use Rattle.mkb_model.specs.Ready.{IsOn, OneRole}
 use Rattle.mkb_model.proofs.Lists.{clash, decide, false_unless}
@@ -26,11 +26,13 @@ use Rattle.mkb_moves.specs.Changes.{IsElsewhere, LeavesWorkElsewhere}
 use Rattle.mkb_pick.specs.declared.task.Work.{Work}
 use Rattle.mkb_pick.specs.declared.task.Work.TheVariants.{Reducing, Orienting, Overlapping, Closing}
 use Rattle.mkb_pick.specs.Tasks.{job_of}
-use Rattle.mkb_agenda.specs.Looking.{jobs_on, overlap_of, overlaps_with, reductions_of}
+use Rattle.mkb_agenda.specs.Looking.{is_gained, jobs_on, overlap_of, overlaps_with, reductions_of}
 use Rattle.mkb_agenda.specs.Following.{jobs_by_nodes, rules_at_both}
 use Rattle.mkb_agenda.proofs.DueJobs.{IsProper}
 use Rattle.mkb_agenda.proofs.ByRule.{overlap_first, overlap_second, reduces_own}
-use Rattle.mkb_moves.proofs.Sight.{equations_are, rules_are, rule_ref}
+use Rattle.mkb_agenda.proofs.Gained.{gained_by}
+use Rattle.mkb_moves.proofs.DueWork.{IsSameAt}
+use Rattle.mkb_moves.proofs.Sight.{equations_are, kept_test, rules_are, rule_ref}
 use Rattle.mkb_moves.proofs.OpenedWork.{bit_below}
 
 -- ---- jobs on nodes
@@ -125,6 +127,23 @@ module _ (b c : Plain) (p : Name) (n m : NodeId) (w : ℕ) (rest u : Tree) (one 
       go (inr i) (inl j) (inl d) = inl (subst {A = RuleRef} (Contains (rules_at_both n m)) (sym (rule_ref (r m 0) e j d)) (2, omega arith, refl))
       go (inr i) (inl j) (inr d) = inl (subst {A = RuleRef} (Contains (rules_at_both n m)) (sym (rule_ref (r m 1) e j d)) (3, omega arith, refl))
       go (inr i) (inr j) d = inr (away e.node i j)
+
+  equation_aside : (k : ℕ) → IsElsewhere c n.0 rest u k → IsSameAt b c p p k E
+  equation_aside k out = kept_test b.nodes c.nodes p p k E ((λ o. (equations_are b p k).0 ((keeps.equations k out).0 ((equations_are c p k).1 o))), λ o. (equations_are c p k).0 ((keeps.equations k out).1 ((equations_are b p k).1 o)))
+
+  bit_aside : (k : ℕ) → IsElsewhere c n.0 rest u k → (d : ℕ) → IsBit d → IsSameAt b c p p k (rule_kind d)
+  bit_aside k out d bit =
+      let e : RuleRef = record { node = k; dir = d } in
+      kept_test b.nodes c.nodes p p k (rule_kind d) ((λ o. ((rules_are b p e).0 ((keeps.rules e out).0 ((rules_are c p e).1 (bit, o)))).1), λ o. ((rules_are c p e).0 ((keeps.rules e out).1 ((rules_are b p e).1 (bit, o)))).1)
+
+  rule_aside : (k : ℕ) → IsElsewhere c n.0 rest u k → (d : ℕ) → IsSameAt b c p p k (rule_kind d)
+  rule_aside k out zero = bit_aside k out 0 (inl refl)
+  rule_aside k out (suc d) = bit_aside k out 1 (inr refl)
+
+  -- another node comes to be reduced by a rule of one of the two alone
+  pub gained_aside : ((i v : ℕ) (a : RuleRef) → known c i v a ≡ known b i v a) → (k : NodeId) → ¬ Contains (n ∷ m ∷ []) k → is_work_due c (Reduce p k) ≡ true → (is_work_due b (Reduce p k) ≡ true) ⊎ (is_gained c p (rules_at_both n m) k.0 ≡ true)
+  gained_aside facts k out = gained_by b c p p (rules_at_both n m) facts k (equation_aside k.0 (aside k out)) (rule_aside k.0 (aside k out))
+      (λ e i. ⊎_elim (λ o. inl o) (λ o. inr ((keeps.rules e o).0 i)) (placed e ((rules_are c p e).0 i).0))
 
   -- where the process had the rule elsewhere, it has it
   rule_gone : (e : RuleRef) → IsBit e.dir → IsElsewhere c n.0 rest u e.node → is_rule c p e ≡ false → is_rule b p e ≡ false

@@ -173,7 +173,7 @@ never_due : (b : Plain) (p : Name) → is_working b p ≡ false → (j : Job) �
 never_due b p h j d = clash (ap (is_working b) (sym (process_again p (work_of j))) ∙ due_working b (job_of p (work_of j)) (due_is b (job_of p (work_of j)) d).0) h
 
 -- a process that works on neither board is listed on one as on the other
-idle_same : (b c : Plain) (p : Name) (ps : List Listed) → is_working b p ≡ false → is_working c p ≡ false → IsListedAs b p p ps → IsListedAs c p p ps
+pub idle_same : (b c : Plain) (p : Name) (ps : List Listed) → is_working b p ≡ false → is_working c p ≡ false → IsListedAs b p p ps → IsListedAs c p p ps
 idle_same b c p ps h k l = record {
   listed = λ x r. ((λ y. clash ((l.listed x r).0 y).0 h), (λ y. clash y.0 k));
   jobs = λ j w e. ((λ y. absurd (never_due b p h j ((l.jobs j w e).0 y).0)), (λ y. absurd (never_due c p k j y.0)));

@@ -18,8 +18,8 @@ use Rattle.mkb_pick.specs.Listings.{Listed, IsListed, IsProcess, HasJob, SplitsP
 use Rattle.mkb_pick.specs.Tasks.{job_of, work_of}
 use Rattle.mkb_pick.proofs.Viewed.{work_again, process_again}
 use Rattle.mkb_agenda.specs.Agendas.{IsDueJob, IsListedAs, LeavesOthers}
-use Rattle.mkb_agenda.specs.Looking.{ComesFrom, BringsOne}
-use Rattle.mkb_agenda.specs.Following.{IsBetween, BringsChildren, ForksFrom, jobs_by_rule}
+use Rattle.mkb_agenda.specs.Looking.{BringsOne}
+use Rattle.mkb_agenda.specs.Following.{IsBetween, BringsChildren, ComesByRule, ForksFrom}
 use Rattle.mkb_agenda.proofs.DueJobs.{due_is}
 use Rattle.mkb_agenda.proofs.Brought.{known_or_not, stays_listed, is_process, is_owner}
 
@@ -136,11 +136,11 @@ no_fork b c p ps idle off gone new same h = record {
 }
 
 -- the process is split, and each child is looked at again
-pub forks : (b c : Plain) (p : Name) (js ks : List Job) (ps qs rs ss : List Listed) → SplitsProcess ps p qs → SplitsJobs ps p qs
+pub forks : (b c : Plain) (p : Name) (C D : Plain → Name → Type 0) (ps qs rs ss : List Listed) → SplitsProcess ps p qs → SplitsJobs ps p qs
     → is_working c p ≡ false → ((x : Bool) → ¬ IsProcess ps (child p x)) → IsListedAs b p p ps
-    → ComesFrom b p c (child p false) js → ComesFrom b p c (child p true) ks
-    → BringsOne c (child p false) js qs rs → LeavesOthers (child p false) qs rs → BringsOne c (child p true) ks rs ss → LeavesOthers (child p true) rs ss → BringsChildren b c p ps ss
-forks b c p js ks ps qs rs ss processes jobs gone free l first second exact apart exact_too apart_too = record {
+    → C b p → D b p
+    → BringsOne c (child p false) C qs rs → LeavesOthers (child p false) qs rs → BringsOne c (child p true) D rs ss → LeavesOthers (child p true) rs ss → BringsChildren b c p ps ss
+forks b c p C D ps qs rs ss processes jobs gone free l first second exact apart exact_too apart_too = record {
   parent = apart_too c p p (λ e. child_apart p true (sym e)) (apart c p p (λ e. child_apart p false (sym e)) (off_is_listed c p p qs gone (parent_off p ps qs processes jobs)));
   first = apart_too c (child p false) (child p false) (children_apart p) (exact b p (child_listed p ps qs processes jobs b (child p false) (inl refl) (free false) l) first);
   second = exact_too b p (apart b p (child p true) (λ e. children_apart p (sym e)) (child_listed p ps qs processes jobs b (child p true) (inr refl) (free true) l)) second;
@@ -156,20 +156,20 @@ either h = ⊎_elim (λ a. a) (λ a. a) h
 
 module _ (c : Plain) (p l r : Name) (n : NodeId) (ps qs rs ss : List Listed) (left : l ≡ child p false) (right : r ≡ child p true)
     (free_left : ¬ IsProcess ps l) (free_right : ¬ IsProcess ps r) (processes : SplitsProcess ps p qs) (jobs : SplitsJobs ps p qs)
-    (exact : BringsOne c l (jobs_by_rule c l (record { node = n.0; dir = 0 })) qs rs) (apart : LeavesOthers l qs rs) where
+    (exact : BringsOne c l (λ b z. ComesByRule b z c l (record { node = n.0; dir = 0 })) qs rs) (apart : LeavesOthers l qs rs) where
   free : (x : Bool) → ¬ IsProcess ps (child p x)
   free false h = free_left (subst {A = Name} (IsProcess ps) (sym left) h)
   free true h = free_right (subst {A = Name} (IsProcess ps) (sym right) h)
 
-  all_forked : BringsOne c r (jobs_by_rule c r (record { node = n.0; dir = 1 })) rs ss → LeavesOthers r rs ss → (b : Plain) → ForksFrom b c p n → IsBetween b b ps → BringsChildren b c p ps ss
-  all_forked exact_too apart_too b k h = forks b c p (jobs_by_rule c (child p false) (record { node = n.0; dir = 0 })) (jobs_by_rule c (child p true) (record { node = n.0; dir = 1 })) ps qs rs ss processes jobs
+  all_forked : BringsOne c r (λ b z. ComesByRule b z c r (record { node = n.0; dir = 1 })) rs ss → LeavesOthers r rs ss → (b : Plain) → ForksFrom b c p n → IsBetween b b ps → BringsChildren b c p ps ss
+  all_forked exact_too apart_too b k h = forks b c p (λ x z. ComesByRule x z c (child p false) (record { node = n.0; dir = 0 })) (λ x z. ComesByRule x z c (child p true) (record { node = n.0; dir = 1 })) ps qs rs ss processes jobs
       k.gone free (either (h p)) k.first k.second
-      (subst {A = Name} (λ q. BringsOne c q (jobs_by_rule c q (record { node = n.0; dir = 0 })) qs rs) left exact)
+      (subst {A = Name} (λ q. BringsOne c q (λ x z. ComesByRule x z c q (record { node = n.0; dir = 0 })) qs rs) left exact)
       (subst {A = Name} (λ q. LeavesOthers q qs rs) left apart)
-      (subst {A = Name} (λ q. BringsOne c q (jobs_by_rule c q (record { node = n.0; dir = 1 })) rs ss) right exact_too)
+      (subst {A = Name} (λ q. BringsOne c q (λ x z. ComesByRule x z c q (record { node = n.0; dir = 1 })) rs ss) right exact_too)
       (subst {A = Name} (λ q. LeavesOthers q rs ss) right apart_too)
 
-  pub forks_if_ok : (t : Result (Unit {0}) Memory) → OnOk t (BringsOne c r (jobs_by_rule c r (record { node = n.0; dir = 1 })) rs ss) → OnOk t (LeavesOthers r rs ss) → OnOk t ((b : Plain) → ForksFrom b c p n → IsBetween b b ps → BringsChildren b c p ps ss)
+  pub forks_if_ok : (t : Result (Unit {0}) Memory) → OnOk t (BringsOne c r (λ b z. ComesByRule b z c r (record { node = n.0; dir = 1 })) rs ss) → OnOk t (LeavesOthers r rs ss) → OnOk t ((b : Plain) → ForksFrom b c p n → IsBetween b b ps → BringsChildren b c p ps ss)
   forks_if_ok (Ok t) exact_too apart_too = all_forked exact_too apart_too
   forks_if_ok (Err e) exact_too apart_too = tt
 
@@ -182,8 +182,8 @@ no_forks c p n ps off b k h = no_fork b c p ps (idle_where_off b p p ps (either 
     new true = k.also_new
 
     same : (x : Bool) → is_working c (child p x) ≡ is_working b p
-    same false = k.first.working
-    same true = k.second.working
+    same false = k.first.comes.working
+    same true = k.second.comes.working
 
 -- before a fork neither child is listed
 pub none_before : (b c : Plain) (p : Name) (n : NodeId) (ps : List Listed) → ForksFrom b c p n → IsBetween b b ps → (x : Bool) → ¬ IsProcess ps (child p x)

@@ -1,5 +1,5 @@
 -- Commits that an agenda follows.
-use Rattle.std.specs.Prelude.{ℕ, List, [], ◌∷◌, ◌++◌, true, false, length, ◌<◌, ◌≡◌, ◌⊎◌, Contains, IsTrue}
+use Rattle.std.specs.Prelude.{ℕ, List, [], ◌∷◌, ◌++◌, true, false, length, ◌<◌, ◌≡◌, ◌⊎◌, All, Contains, IsTrue}
 use Rattle.kb_label.specs.Names.{Name, has, child}
 use Rattle.kb_label.specs.declared.process.TheConstants.{MAX_BITS}
 use Rattle.kb_term.specs.Signature.{Problem, IsWithinLimits}
@@ -23,8 +23,9 @@ use Rattle.mkb_rules.specs.Named.{IsThere}
 use Rattle.mkb_rules.specs.Rewriting.{HasFewVariables}
 use Rattle.mkb_pick.specs.Listings.{Listed}
 use Rattle.mkb_agenda.specs.Agendas.{IsListedAs}
-use Rattle.mkb_agenda.specs.Looking.{ComesFrom, jobs_on, overlaps_with, reductions_of}
+use Rattle.mkb_agenda.specs.Looking.{ComesFrom, MayEnd, ReducesBy, jobs_on, overlaps_with, reductions_of}
 use Rattle.mkb_agenda.specs.declared.following.Commit.{Commit}
+use Rattle.mkb_agenda.specs.declared.following.Overlapped.{Overlapped}
 
 -- ---- commits
 
@@ -60,6 +61,11 @@ HasNodesOf b x = Unit {0}
 abbrev pub jobs_by_rule : Plain → Name → RuleRef → List Job
 jobs_by_rule c p a = jobs_on p (record { 0 = a.node } ∷ []) ++ (reductions_of c p ++ (overlaps_with c p (a ∷ []) ++ []))
 
+-- q comes from p, with a new rule
+pub record ComesByRule (b : Plain) (p : Name) (c : Plain) (q : Name) (a : RuleRef) : Type 0 where
+  pub comes : ComesFrom b p c q (jobs_by_rule c q a)
+  pub reduces : ReducesBy b p c q (record { nodes = record { 0 = a.node } ∷ []; rules = a ∷ []; loses = false })
+
 -- both rules of each of two nodes
 abbrev pub rules_at_both : NodeId → NodeId → List RuleRef
 rules_at_both n m = record { node = n.0; dir = 0 } ∷ record { node = n.0; dir = 1 } ∷ record { node = m.0; dir = 0 } ∷ record { node = m.0; dir = 1 } ∷ []
@@ -72,10 +78,17 @@ jobs_by_nodes c p n m = jobs_on p (n ∷ m ∷ []) ++ (reductions_of c p ++ (ove
 pub record ComesByRewriting (b c : Plain) (n m : NodeId) (p : Name) : Type 0 where
   pub equation : IsTrue (is_equation b p n.0) → ComesFrom b p c p (jobs_on p (n ∷ m ∷ []))
   pub rule : ComesFrom b p c p (jobs_by_nodes c p n m)
+  pub reduces : ReducesBy b p c p (record { nodes = n ∷ m ∷ []; rules = rules_at_both n m; loses = true })
 
 -- each node of the pairs is among these
 abbrev pub AreNodesOf : Plain → List Deduced → List NodeId → Type 0
 AreNodesOf c pairs ns = (m : ℕ) → IsNodeOfOne c pairs m → Contains ns (record { 0 = m })
+
+-- the two rules and the nodes of their pairs are there
+pub record AreOverlappedThere (b : Plain) (o : Overlapped) : Type 0 where
+  pub first : IsThere b o.first.node
+  pub second : IsThere b o.second.node
+  pub nodes : All (λ (n : NodeId). IsThere b n.0) o.nodes.now
 
 -- the jobs that the pairs of an overlap may change
 abbrev pub jobs_by_overlap : Name → RuleRef → RuleRef → List NodeId → List Job
@@ -100,13 +113,13 @@ BringsAll c l Comes ps qs = (b : Plain) → ((p : Name) → has l p ≡ true →
 abbrev pub BringsIt : Plain → Name → (Plain → Type 0) → List Listed → List Listed → Type 0
 BringsIt c q Comes ps qs = (b : Plain) → Comes b → IsBetween b c ps → Brings b c (q ∷ []) ps qs
 
--- each process comes from there, with what it had but for jobs on the node
-abbrev pub AllComeOn : Plain → Plain → NodeId → Type 0
-AllComeOn b c n = (p : Name) → ComesFrom b p c p (jobs_on p (n ∷ []))
+-- each process stands as before, but that its reducing of the node may be due no more
+abbrev pub AllMayEnd : Plain → Plain → NodeId → Type 0
+AllMayEnd b c n = (p : Name) → MayEnd b c p n
 
 -- where each process comes from board b so, each that has the node is brought to board c
 abbrev pub BringsHolders : Plain → Plain → NodeId → List Listed → List Listed → Type 0
-BringsHolders b c n ps qs = AllComeOn b c n → IsBetween b c ps → IsBetween b c qs × ((p : Name) → IsTrue (is_node_of c p n.0) → IsListedAs c p p qs)
+BringsHolders b c n ps qs = AllMayEnd b c n → IsBetween b c ps → IsBetween b c qs × ((p : Name) → IsTrue (is_node_of c p n.0) → IsListedAs c p p qs)
 
 -- the two children take the place of the process, and each other process is listed as before
 pub record BringsChildren (b c : Plain) (p : Name) (ps qs : List Listed) : Type 0 where
@@ -118,8 +131,8 @@ pub record BringsChildren (b c : Plain) (p : Name) (ps qs : List Listed) : Type 
 -- p forks: each child has what p had but for its rule of the node; p does not work any more, and its children did not before
 pub record ForksFrom (b c : Plain) (p : Name) (n : NodeId) : Type 0 where
   pub short : length p < MAX_BITS
-  pub first : ComesFrom b p c (child p false) (jobs_by_rule c (child p false) (record { node = n.0; dir = 0 }))
-  pub second : ComesFrom b p c (child p true) (jobs_by_rule c (child p true) (record { node = n.0; dir = 1 }))
+  pub first : ComesByRule b p c (child p false) (record { node = n.0; dir = 0 })
+  pub second : ComesByRule b p c (child p true) (record { node = n.0; dir = 1 })
   pub gone : is_working c p ≡ false
   pub new : is_working b (child p false) ≡ false
   pub also_new : is_working b (child p true) ≡ false

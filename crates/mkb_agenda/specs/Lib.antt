@@ -1,3 +1,4 @@
 pub mod Agendas
+pub mod Open
 pub mod Looking
 pub mod Following

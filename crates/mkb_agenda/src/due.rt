@@ -1,28 +1,81 @@
 // Which work is due for a process by what it sees, and what it weighs.
-ghost use Rattle.std.specs.Prelude.{◌≡◌, not, ◌&&◌, ◌||◌, ◌==◌};
+ghost use Rattle.std.specs.Prelude.{◌≡◌, not, ◌&&◌, ◌||◌, ◌==◌, All, IfOk};
+ghost use Rattle.std.specs.List.{list_any};
 ghost use Rattle.kb_node.specs.declared.job.Job.TheVariants as jobs;
 ghost use Rattle.mkb_model.specs.Jobs.{process_of};
-ghost use Rattle.mkb_model.specs.Plain.{is_equation, is_rule, known, weight, weight_by};
+ghost use Rattle.mkb_model.specs.Plain.{is_rule, weight, weight_by};
 ghost use Rattle.mkb_model.specs.declared.settings.Selection.TheVariants as selections;
-ghost use Rattle.mkb_model.specs.DueJobs.{is_node_of, is_open, is_reducible, is_work_due};
-ghost use Rattle.mkb_rules.specs.Named.{IsThere};
-ghost use Rattle.mkb_agenda.specs.Looking.{HasJobThere, IsSeen};
+ghost use Rattle.mkb_model.specs.DueJobs.{is_work_due};
+ghost use Rattle.mkb_rules.specs.Named.{IsRuleThere, IsThere};
+ghost use Rattle.mkb_rules.specs.Roles.{roles_of};
+ghost use Rattle.mkb_agenda.specs.Open.{is_open_to};
+ghost use Rattle.mkb_agenda.specs.Looking.{HasJobThere, IsSeen, is_gained};
 
+use crate::roles::{is_open_to, roles_by};
 use kb_label::Process;
-use kb_node::{Job, LabelKind, NodeId};
-use kb_term::{Found, RuleRef};
+use kb_node::{Job, NodeId};
+use kb_term::{Memory, RuleRef};
 use mkb_model::Selection;
-use mkb_rules::{State, is_ordered};
+use mkb_rules::{Roles, State, is_ordered};
 
-/// A process with its rules.
+/// A process, where it stands among the living, and what is kept of it: its nodes, how it has each of the first ones, and its rules.
 #[derive(Clone, Copy)]
 pub(crate) struct Seen<'a> {
     pub(crate) state: &'a State,
     pub(crate) process: &'a Process,
+    pub(crate) place: usize,
+    pub(crate) nodes: &'a [NodeId],
+    pub(crate) roles: &'a [Roles],
     pub(crate) rules: &'a [RuleRef],
 }
 
+// How many places are looked at before the process is searched for among all that live.
+const NEAR: usize = 4;
+
+// Where the process stands among the living, or would stand, where it is first looked for at some places from this one on.
+fn place_from(state: &State, process: &Process, place: usize) -> usize {
+    let living = state.log().processes();
+    for near in place..place.saturating_add(NEAR) {
+        match living.get(near) {
+            Some(found) if *found == *process => return near,
+            _ => {}
+        }
+    }
+    match living.binary_search(process) {
+        Ok(found) => found,
+        Err(between) => between,
+    }
+}
+
 impl<'a> Seen<'a> {
+    /// The process, which is first looked for at a place among the living.
+    ///
+    /// # Errors
+    ///
+    /// Where what is kept of it is not there. It is for each living process, where memory allows.
+    pub(crate) fn look(
+        state: &'a State,
+        process: &'a Process,
+        place: usize,
+    ) -> Result<Seen<'a>, Memory>
+        ensures state { IfOk result (λ seen. seen.state.now ≡ state.now) }
+        ensures process { IfOk result (λ seen. seen.process.now ≡ process.now) }
+        ensures seen { IfOk result (λ seen. IsSeen seen) }
+    {
+        let place = place_from(state, process, place);
+        match state.kept(place, process) {
+            Some(kept) => Ok(Seen {
+                state,
+                process,
+                place,
+                nodes: kept.nodes,
+                roles: kept.roles,
+                rules: kept.rules,
+            }),
+            None => Err(Memory),
+        }
+    }
+
     /// Whether the work is due by what the process sees; closing is none of it. For a reducing it goes over the rules.
     pub(crate) fn is_due(&self, job: &Job) -> bool
         requires seen { IsSeen self.now }
@@ -31,63 +84,72 @@ impl<'a> Seen<'a> {
         ensures { result ≡ is_work_due self.now.state.now job.now }
     {
         match job {
-            Job::Reduce(_, n) => self.has_node(*n) && self.has_open_rule(*n),
-            Job::Orient(_, n) => self.has_equation(*n) && !self.state.is_refused(self.process, *n),
+            Job::Reduce(_, n) => self.may_reduce(*n),
+            Job::Orient(_, n) => self.may_orient(*n),
             Job::Overlap(_, a, c) => self.may_overlap(*a, *c),
             Job::Close(_) => false,
         }
     }
 
-    // Whether the process has the node as an equation or as a rule.
-    fn has_node(&self, n: NodeId) -> bool
-        requires { IsThere self.now.state.now n.0 }
-        ensures { result ≡ is_node_of self.now.state.now self.now.process.now n.0 }
-    {
-        let forth = RuleRef { node: n.0, dir: 0 };
-        let back = RuleRef { node: n.0, dir: 1 };
-        self.has_equation(n) || (self.has_rule(forth) || self.has_rule(back))
-    }
-
-    // Whether some side of the node and some rule elsewhere are still open.
-    fn has_open_rule(&self, n: NodeId) -> bool
+    // Whether the process has the node, and some rule of its is open to it.
+    fn may_reduce(&self, n: NodeId) -> bool
         requires seen { IsSeen self.now }
         requires there { IsThere self.now.state.now n.0 }
-        ensures { result ≡ is_reducible self.now.state.now self.now.process.now n.0 }
+        ensures { result ≡ is_work_due self.now.state.now (jobs.Reduce self.now.process.now n) }
+    {
+        let roles = self.roles_of(n);
+        roles.is_in_use() && self.has_open_rule(roles, n)
+    }
+
+    // Whether some rule of the process is open to the node in these roles.
+    fn has_open_rule(&self, roles: Roles, n: NodeId) -> bool
+        ensures { result ≡ list_any (is_open_to self.now.state.now roles n.0) self.now.rules.now }
     {
         for i in 0..self.rules.len() {
-            if self.is_open_rule(n, self.rules[i]) {
+            if is_open_to(self.state, roles, n, self.rules[i]) {
                 return true;
             }
         }
         false
     }
 
-    // Whether the rule stands in another node and is open to a side of this one.
-    fn is_open_rule(&self, n: NodeId, rule: RuleRef) -> bool
-        requires { IsThere self.now.state.now n.0 }
-        ensures { result ≡ (not (rule.node == n.0) && (is_open self.now.state.now self.now.process.now n.0 0 (known self.now.state.now n.0 0 rule) || is_open self.now.state.now self.now.process.now n.0 1 (known self.now.state.now n.0 1 rule))) }
+    /// Whether some of the rules is one of the process, and open to the node.
+    pub(crate) fn is_gained(&self, rules: &[RuleRef], n: NodeId) -> bool
+        requires seen { IsSeen self.now }
+        requires node { IsThere self.now.state.now n.0 }
+        requires there { All (IsRuleThere self.now.state.now) rules.now }
+        ensures { result ≡ is_gained self.now.state.now self.now.process.now rules.now n.0 }
     {
-        rule.node != n.0 && (self.is_open(n, 0, rule) || self.is_open(n, 1, rule))
+        let roles = self.roles_of(n);
+        for i in 0..rules.len() {
+            if self.is_gained_by(roles, n, rules[i]) {
+                return true;
+            }
+        }
+        false
     }
 
-    // Whether nothing is known of the side and the rule, or a redex that the process may rewrite.
-    fn is_open(&self, n: NodeId, side: u8, rule: RuleRef) -> bool
-        requires { IsThere self.now.state.now n.0 }
-        ensures { result ≡ is_open self.now.state.now self.now.process.now n.0 side (known self.now.state.now n.0 side rule) }
+    // Whether the rule is one of the process, and open to the node in these roles.
+    fn is_gained_by(&self, roles: Roles, n: NodeId, rule: RuleRef) -> bool
+        requires seen { IsSeen self.now }
+        requires there { IsThere self.now.state.now rule.node }
+        ensures { result ≡ (is_rule self.now.state.now self.now.process.now rule && is_open_to self.now.state.now roles n.0 rule) }
     {
-        match self.state.known(n, side, rule) {
-            None => true,
-            Some(Found::No) => false,
-            Some(Found::Variant) => {
-                let dir = if side == 0 { 1 } else { 0 };
-                self.has_equation(n) || self.has_rule(RuleRef { node: n.0, dir })
-            }
-            Some(Found::Strict) => true,
-        }
+        self.has_rule(rule) && is_open_to(self.state, roles, n, rule)
+    }
+
+    // Whether the process has the node as an equation, and was not refused to orient it.
+    fn may_orient(&self, n: NodeId) -> bool
+        requires seen { IsSeen self.now }
+        requires there { IsThere self.now.state.now n.0 }
+        ensures { result ≡ is_work_due self.now.state.now (jobs.Orient self.now.process.now n) }
+    {
+        self.roles_of(n).equation && !self.state.is_refused(self.process, n)
     }
 
     // Whether the process has both rules, in this order, and has not overlapped them.
     fn may_overlap(&self, a: RuleRef, c: RuleRef) -> bool
+        requires seen { IsSeen self.now }
         requires first { IsThere self.now.state.now a.node }
         requires second { IsThere self.now.state.now c.node }
         ensures { result ≡ is_work_due self.now.state.now (jobs.Overlap self.now.process.now a c) }
@@ -96,25 +158,27 @@ impl<'a> Seen<'a> {
             && (is_ordered(a, c) && !self.state.is_done(self.process, a, c))
     }
 
-    // Whether the process has the node as an equation.
-    fn has_equation(&self, n: NodeId) -> bool
-        requires { IsThere self.now.state.now n.0 }
-        ensures { result ≡ is_equation self.now.state.now self.now.process.now n.0 }
+    // How the process has the node.
+    fn roles_of(&self, n: NodeId) -> Roles
+        requires seen { IsSeen self.now }
+        requires there { IsThere self.now.state.now n.0 }
+        ensures { result ≡ roles_of self.now.state.now self.now.process.now n.0 }
     {
-        self.state.has_label(self.process, n, LabelKind::E)
+        roles_by(self.state, self.roles, self.process, n)
     }
 
     // Whether the process has the rule.
     fn has_rule(&self, rule: RuleRef) -> bool
-        requires { IsThere self.now.state.now rule.node }
+        requires seen { IsSeen self.now }
+        requires there { IsThere self.now.state.now rule.node }
         ensures { result ≡ is_rule self.now.state.now self.now.process.now rule }
     {
-        let kind = if rule.dir == 0 {
-            LabelKind::R0
+        let roles = self.roles_of(NodeId(rule.node));
+        if rule.dir == 0 {
+            roles.first
         } else {
-            LabelKind::R1
-        };
-        self.state.has_label(self.process, NodeId(rule.node), kind)
+            roles.second
+        }
     }
 }
 

@@ -15,10 +15,10 @@ ghost use Rattle.mkb_rules.specs.Rewriting.{HasFewVariables};
 ghost use Rattle.mkb_pick.specs.Listings.{IsListed, HasJob};
 ghost use Rattle.mkb_agenda.specs.Agendas.{IsAgendaOf, IsListedAs, LeavesOthers};
 ghost use Rattle.mkb_agenda.specs.Looking.{ComesFrom, jobs_on, BringsOne};
-ghost use Rattle.mkb_agenda.specs.Following.{AreNodesOf, Brings, BringsChildren, ComesByRewriting, ForksFrom, HasNodesOf, IsBetween, IsCommitOn, jobs_by_overlap, jobs_by_rule, AllComeOn, BringsAll, BringsHolders, BringsIt};
+ghost use Rattle.mkb_agenda.specs.Following.{AllMayEnd, AreNodesOf, AreOverlappedThere, Brings, BringsAll, BringsChildren, BringsHolders, BringsIt, ComesByRewriting, ComesByRule, ForksFrom, HasNodesOf, IsBetween, IsCommitOn, jobs_by_overlap};
 
 use crate::due::weight_of;
-use crate::looking::{Touched, look_again};
+use crate::looking::{Touched, look_again, look_whether_ended};
 use kb_label::{Labels, MAX_BITS, Process};
 use kb_node::{Deduced, Fact, Job, LabelKind, NodeId};
 use kb_overlap::other_side_of;
@@ -90,16 +90,23 @@ fn follow_effect(
             ..
         } => orient(agenda, state, process, *node, *dir),
         Proposed::Both { process, node, .. } => fork(agenda, state, process, *node),
-        Proposed::Refuse { process, node } => look_at_nodes(agenda, state, process, &[*node]),
+        Proposed::Refuse { process, node } => {
+            look_at_nodes(agenda, state, process, &[*node], &mut 0)
+        }
         Proposed::Deduce { a, b, pairs } => {
             let nodes = nodes_of(alloc, state, pairs.items())?;
-            deduce(agenda, state, commit.names, (*a, *b), nodes.as_slice())
+            let made = Overlapped {
+                first: *a,
+                second: *b,
+                nodes: nodes.as_slice(),
+            };
+            deduce(agenda, state, commit.names, &made)
         }
         Proposed::Unjoined { process, pairs } => {
             let nodes = nodes_of(alloc, state, pairs.items())?;
-            look_at_nodes(agenda, state, process, nodes.as_slice())
+            look_at_nodes(agenda, state, process, nodes.as_slice(), &mut 0)
         }
-        Proposed::Closed { process } => look_at_nodes(agenda, state, process, &[]),
+        Proposed::Closed { process } => look_at_nodes(agenda, state, process, &[], &mut 0),
         Proposed::Limit { .. } => Ok(()),
     }
 }
@@ -123,16 +130,17 @@ fn look_at_nodes(
     state: &State,
     process: &Process,
     nodes: &[NodeId],
+    place: &mut usize,
 ) -> Result<(), Memory>
     requires { All (λ (n : Numbered). IsThere state.now n.0) nodes.now }
-    ensures exact { OnOk result (BringsOne state.now process.now (jobs_on process.now nodes.now) agenda.old.processes agenda.new.processes) }
+    ensures exact { OnOk result (BringsOne state.now process.now (λ b p. ComesFrom b p state.now process.now (jobs_on process.now nodes.now)) agenda.old.processes agenda.new.processes) }
     ensures others { OnOk result (LeavesOthers process.now agenda.old.processes agenda.new.processes) }
 {
     let touched = Touched {
         nodes,
         ..Touched::none_of(process)
     };
-    look_again(agenda, state, &touched)
+    look_again(agenda, state, &touched, place)
 }
 
 // Reducing the node of which facts are noted may be due no more, for each process that has it. All facts of a commit are of one node.
@@ -146,7 +154,7 @@ fn know(agenda: &mut Agenda, state: &State, facts: &[Fact]) -> Result<(), Memory
     }
 }
 
-// Looks again at the node for each process that has it.
+// Looks whether reducing the node is still due for each process that has it.
 fn look_for_holders(agenda: &mut Agenda, state: &State, n: NodeId) -> Result<(), Memory>
     ensures { OnOk result ((b : Plain) → BringsHolders b state.now n agenda.old.processes agenda.new.processes) }
 {
@@ -158,7 +166,7 @@ fn look_for_holders(agenda: &mut Agenda, state: &State, n: NodeId) -> Result<(),
     look_for_all(agenda, state, n, LabelKind::R1)
 }
 
-// Looks again at the node for each process that its label of this kind names.
+// Looks whether reducing the node is still due for each process that its label of this kind names. The names rise, as the living do.
 fn look_for_all(
     agenda: &mut Agenda,
     state: &State,
@@ -166,11 +174,12 @@ fn look_for_all(
     kind: LabelKind,
 ) -> Result<(), Memory>
     requires { IsThere state.now n.0 }
-    ensures { OnOk result ((b : Plain) → AllComeOn b state.now n → IsBetween b state.now agenda.old.processes → Brings b state.now (label state.now n.0 kind) agenda.old.processes agenda.new.processes) }
+    ensures { OnOk result ((b : Plain) → AllMayEnd b state.now n → IsBetween b state.now agenda.old.processes → Brings b state.now (label state.now n.0 kind) agenda.old.processes agenda.new.processes) }
 {
     let names = state.nodes().label(n, kind).names(state.log())?;
+    let mut place = 0;
     for i in 0..names.len() {
-        look_at_nodes(agenda, state, &names[i], &[n])?;
+        look_whether_ended(agenda, state, &names[i], n, &mut place)?;
     }
     Ok(())
 }
@@ -184,7 +193,7 @@ fn orient(
     dir: u8,
 ) -> Result<(), Memory>
     requires { IsThere state.now n.0 }
-    ensures exact { dir ≤ 1 → OnOk result (BringsOne state.now process.now (jobs_by_rule state.now process.now (record { node = n.0; dir = dir })) agenda.old.processes agenda.new.processes) }
+    ensures exact { dir ≤ 1 → OnOk result (BringsOne state.now process.now (λ b p. ComesByRule b p state.now process.now (record { node = n.0; dir = dir })) agenda.old.processes agenda.new.processes) }
     ensures others { OnOk result (LeavesOthers process.now agenda.old.processes agenda.new.processes) }
 {
     if dir > 1 {
@@ -196,7 +205,7 @@ fn orient(
         is_wide: true,
         ..Touched::none_of(process)
     };
-    look_again(agenda, state, &touched)
+    look_again(agenda, state, &touched, &mut 0)
 }
 
 // Two children take the place of the process, each with a rule of its own.
@@ -230,27 +239,29 @@ fn rewrite(
     ensures { OnOk result (BringsAll state.now names.now (λ b. ComesByRewriting b state.now n (unwrap_or target n)) agenda.old.processes agenda.new.processes) }
 {
     let m = target.unwrap_or(n);
+    let mut place = 0;
     for i in 0..names.len() {
-        rewrite_for(agenda, state, &names[i], n, m)?;
+        rewrite_for(agenda, state, &names[i], (n, m), &mut place)?;
     }
     Ok(())
 }
 
-// A node is rewritten for the process. Where it was to orient the node, none of its rules changes.
+// The first node is rewritten to the second one for the process. Where it was to orient the first one, none of its rules changes.
 fn rewrite_for(
     agenda: &mut Agenda,
     state: &State,
     process: &Process,
-    n: NodeId,
-    m: NodeId,
+    nodes: (NodeId, NodeId),
+    place: &mut usize,
 ) -> Result<(), Memory>
-    requires node { IsThere state.now n.0 }
-    requires target { IsThere state.now m.0 }
-    ensures { OnOk result (BringsIt state.now process.now (λ b. ComesByRewriting b state.now n m process.now) agenda.old.processes agenda.new.processes) }
+    requires node { IsThere state.now nodes.0.0 }
+    requires target { IsThere state.now nodes.1.0 }
+    ensures { OnOk result (BringsIt state.now process.now (λ b. ComesByRewriting b state.now nodes.0 nodes.1 process.now) agenda.old.processes agenda.new.processes) }
 {
+    let (n, m) = nodes;
     let orienting = Job::Orient(*process, n);
     if agenda.has(&orienting, weight_of(state, &orienting)) {
-        return look_at_nodes(agenda, state, process, &[n, m]);
+        return look_at_nodes(agenda, state, process, &[n, m], place);
     }
     let touched = Touched {
         nodes: &[n, m],
@@ -261,26 +272,33 @@ fn rewrite_for(
             RuleRef { node: m.0, dir: 1 },
         ],
         is_wide: true,
+        loses_rule: true,
         ..Touched::none_of(process)
     };
-    look_again(agenda, state, &touched)
+    look_again(agenda, state, &touched, place)
 }
 
-// Two rules have been overlapped for these processes, and the pairs have these nodes.
+// Two rules that have been overlapped, and the nodes of their pairs.
+#[derive(Clone, Copy)]
+struct Overlapped<'a> {
+    first: RuleRef,
+    second: RuleRef,
+    nodes: &'a [NodeId],
+}
+
+// Two rules have been overlapped for these processes.
 fn deduce(
     agenda: &mut Agenda,
     state: &State,
     names: &[Process],
-    overlap: (RuleRef, RuleRef),
-    nodes: &[NodeId],
+    made: &Overlapped,
 ) -> Result<(), Memory>
-    requires first { IsThere state.now overlap.0.node }
-    requires second { IsThere state.now overlap.1.node }
-    requires nodes { All (λ (n : Numbered). IsThere state.now n.0) nodes.now }
-    ensures { OnOk result (BringsAll state.now names.now (λ b p. ComesFrom b p state.now p (jobs_by_overlap p overlap.0 overlap.1 nodes.now)) agenda.old.processes agenda.new.processes) }
+    requires { AreOverlappedThere state.now made.now }
+    ensures { OnOk result (BringsAll state.now names.now (λ b p. ComesFrom b p state.now p (jobs_by_overlap p made.now.first made.now.second made.now.nodes.now)) agenda.old.processes agenda.new.processes) }
 {
+    let mut place = 0;
     for i in 0..names.len() {
-        deduce_for(agenda, state, &names[i], overlap, nodes)?;
+        deduce_for(agenda, state, &names[i], made, &mut place)?;
     }
     Ok(())
 }
@@ -290,26 +308,24 @@ fn deduce_for(
     agenda: &mut Agenda,
     state: &State,
     process: &Process,
-    overlap: (RuleRef, RuleRef),
-    nodes: &[NodeId],
+    made: &Overlapped,
+    place: &mut usize,
 ) -> Result<(), Memory>
-    requires first { IsThere state.now overlap.0.node }
-    requires second { IsThere state.now overlap.1.node }
-    requires nodes { All (λ (n : Numbered). IsThere state.now n.0) nodes.now }
-    ensures { OnOk result (BringsIt state.now process.now (λ b. ComesFrom b process.now state.now process.now (jobs_by_overlap process.now overlap.0 overlap.1 nodes.now)) agenda.old.processes agenda.new.processes) }
+    requires { AreOverlappedThere state.now made.now }
+    ensures { OnOk result (BringsIt state.now process.now (λ b. ComesFrom b process.now state.now process.now (jobs_by_overlap process.now made.now.first made.now.second made.now.nodes.now)) agenda.old.processes agenda.new.processes) }
 {
-    if overlap.0.dir > 1 {
-        return look_at_nodes(agenda, state, process, nodes);
+    if made.first.dir > 1 {
+        return look_at_nodes(agenda, state, process, made.nodes, place);
     }
-    if overlap.1.dir > 1 {
-        return look_at_nodes(agenda, state, process, nodes);
+    if made.second.dir > 1 {
+        return look_at_nodes(agenda, state, process, made.nodes, place);
     }
     let touched = Touched {
-        nodes,
-        overlap: Some(overlap),
+        nodes: made.nodes,
+        overlap: Some((made.first, made.second)),
         ..Touched::none_of(process)
     };
-    look_again(agenda, state, &touched)
+    look_again(agenda, state, &touched, place)
 }
 
 /// The node of the equation of the result of a rewriting and the side that is not rewritten, where there is one.

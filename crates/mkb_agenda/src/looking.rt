@@ -1,16 +1,17 @@
 // Looking again at jobs of a process: those that are due are listed, and no other.
-ghost use Rattle.std.specs.Prelude.{ℕ, Bool, ◌≡◌, ◌≢◌, ◌↔◌, ◌∷◌, [], All, map, None, false, OnOk, if◌then◌else◌};
+ghost use Rattle.std.specs.Prelude.{ℕ, Bool, ◌≡◌, ◌≢◌, ◌↔◌, ◌∷◌, [], All, map, None, false, IsTrue, OnOk, if◌then◌else◌};
 ghost use Rattle.kb_label.specs.Names.{Name};
 ghost use Rattle.kb_node.specs.declared.node.NodeId.{NodeId as Numbered};
 ghost use Rattle.kb_term.specs.declared.origin.RuleRef.{RuleRef as Reference};
 ghost use Rattle.kb_node.specs.declared.job.Job.{Job as Work};
 ghost use Rattle.kb_node.specs.declared.job.Job.TheVariants as jobs;
 ghost use Rattle.mkb_model.specs.Jobs.{process_of};
+ghost use Rattle.mkb_model.specs.Plain.{Plain};
+ghost use Rattle.mkb_model.specs.DueJobs.{is_node_of};
 ghost use Rattle.mkb_rules.specs.Named.{IsThere, IsRuleThere};
-ghost use Rattle.mkb_rules.specs.Roles.{held_of};
 ghost use Rattle.mkb_pick.specs.Listings.{IsListed, IsProcess, HasJob};
-ghost use Rattle.mkb_agenda.specs.Agendas.{LeavesOthers};
-ghost use Rattle.mkb_agenda.specs.Looking.{AreThere, HasJobThere, IsSeen, ListsAnew, HasOverlapThere, jobs_on, overlap_of, overlaps_with, reductions_of, touched_jobs, BringsOne, ListsClosing, overlap_if};
+ghost use Rattle.mkb_agenda.specs.Agendas.{IsListedAs, LeavesOthers};
+ghost use Rattle.mkb_agenda.specs.Looking.{AreThere, BringsOne, ComesTouched, HasJobThere, HasOverlapThere, IsNearlyListed, IsSeen, KeepsOthers, ListsAnew, ListsClosing, MayEnd, bare_reach_of, jobs_on, overlap_if, overlap_of, overlaps_with, reach_of, reductions_of, touched_jobs};
 
 use crate::due::{Seen, weight_of};
 use kb_label::Process;
@@ -20,7 +21,7 @@ use mkb_pick::Agenda;
 use mkb_rules::{State, is_ordered};
 
 /// A process and what a commit may have changed of its jobs: those on nodes, the overlaps with rules, one overlap, and, where it is
-/// wide, the reducing of each node that the process has.
+/// wide, the reducing of each node that the process has. There a new rule is one of the rules, and one that is lost is told of.
 #[derive(Clone, Copy)]
 pub(crate) struct Touched<'a> {
     pub(crate) process: &'a Process,
@@ -28,6 +29,7 @@ pub(crate) struct Touched<'a> {
     pub(crate) rules: &'a [RuleRef],
     pub(crate) overlap: Option<(RuleRef, RuleRef)>,
     pub(crate) is_wide: bool,
+    pub(crate) loses_rule: bool,
 }
 
 impl<'a> Touched<'a> {
@@ -38,6 +40,7 @@ impl<'a> Touched<'a> {
         ensures rules { result.rules.now ≡ [] }
         ensures overlap { result.overlap ≡ None }
         ensures narrow { result.is_wide ≡ false }
+        ensures keeps { result.loses_rule ≡ false }
     {
         Touched {
             process,
@@ -45,12 +48,14 @@ impl<'a> Touched<'a> {
             rules: &[],
             overlap: None,
             is_wide: false,
+            loses_rule: false,
         }
     }
 }
 
 /// Looks again at the jobs of a process that a commit may have changed, at its cost, and at its closing. A process that is not listed
-/// has given up, and nothing is changed.
+/// has given up, and nothing is changed. Among the living the process is first looked for at the place, which comes to be the one
+/// behind it.
 ///
 /// # Errors
 ///
@@ -60,68 +65,84 @@ pub(crate) fn look_again(
     agenda: &mut Agenda,
     state: &State,
     touched: &Touched,
+    place: &mut usize,
 ) -> Result<(), Memory>
     requires { AreThere state.now touched.now }
-    ensures exact { OnOk result (BringsOne state.now touched.now.process.now (touched_jobs state.now touched.now) agenda.old.processes agenda.new.processes) }
+    ensures exact { OnOk result (BringsOne state.now touched.now.process.now (λ b p. ComesTouched b p state.now touched.now) agenda.old.processes agenda.new.processes) }
     ensures others { OnOk result (LeavesOthers touched.now.process.now agenda.old.processes agenda.new.processes) }
 {
     let process = touched.process;
     if !agenda.is_listed(process) {
         return Ok(());
     }
-    let Ok(place) = state.log().processes().binary_search(process) else {
+    let seen = Seen::look(state, process, *place)?;
+    *place = seen.place.saturating_add(1);
+    let Some(cost) = state.kept_cost(seen.place, process) else {
         return Err(Memory);
     };
-    let (Some(kept), Some(cost)) = (state.kept(place, process), state.kept_cost(place, process))
-    else {
-        return Err(Memory);
-    };
-    let seen = Seen {
-        state,
-        process,
-        rules: kept.rules,
-    };
-    look_at_work(agenda, &seen, touched, kept.nodes)?;
+    look_at_work(agenda, &seen, touched)?;
     agenda.set_cost(process, cost as u64);
     look_at_closing(agenda, state, process)
 }
 
-// All jobs but the closing that a commit may have changed, of a process that has these nodes.
-fn look_at_work(
+/// Takes reducing the node off the list of a process, and looks at its closing, where the reducing is listed and not due any more.
+/// Else nothing is changed.
+///
+/// # Errors
+///
+/// As for looking again.
+pub(crate) fn look_whether_ended(
     agenda: &mut Agenda,
-    seen: &Seen,
-    touched: &Touched,
-    held: &[NodeId],
+    state: &State,
+    process: &Process,
+    n: NodeId,
+    place: &mut usize,
 ) -> Result<(), Memory>
+    requires { IsThere state.now n.0 }
+    ensures exact { OnOk result ((b : Plain) → MayEnd b state.now process.now n → IsListedAs b process.now process.now agenda.old.processes → IsListedAs state.now process.now process.now agenda.new.processes) }
+    ensures others { OnOk result (LeavesOthers process.now agenda.old.processes agenda.new.processes) }
+{
+    let reducing = Job::Reduce(*process, n);
+    let weight = weight_of(state, &reducing);
+    if !agenda.has(&reducing, weight) {
+        return Ok(());
+    }
+    let seen = Seen::look(state, process, *place)?;
+    *place = seen.place.saturating_add(1);
+    if seen.is_due(&reducing) {
+        return Ok(());
+    }
+    agenda.remove(&reducing, weight);
+    look_at_closing(agenda, state, process)
+}
+
+// All jobs but the closing that a commit may have changed.
+fn look_at_work(agenda: &mut Agenda, seen: &Seen, touched: &Touched) -> Result<(), Memory>
     requires seen { IsSeen seen.now }
     requires own { seen.now.process.now ≡ touched.now.process.now }
     requires there { AreThere seen.now.state.now touched.now }
-    requires held { map (λ (n : Numbered). n.0) held.now ≡ held_of seen.now.state.now seen.now.process.now }
     requires listed { IsProcess agenda.old.processes seen.now.process.now }
     ensures processes { (n : Name) (c : ℕ) (r : Bool) → IsListed agenda.new.processes n c r ↔ IsListed agenda.old.processes n c r }
-    ensures jobs { OnOk result (ListsAnew seen.now.state.now (touched_jobs seen.now.state.now touched.now) agenda.old.processes agenda.new.processes) }
+    ensures others { OnOk result (KeepsOthers seen.now.process.now agenda.old.processes agenda.new.processes) }
+    ensures jobs { OnOk result ((IsTrue touched.now.is_wide → IsNearlyListed seen.now.state.now seen.now.process.now (reach_of touched.now) agenda.old.processes) → ListsAnew seen.now.state.now (touched_jobs seen.now.state.now touched.now) agenda.old.processes agenda.new.processes) }
 {
     look_at_nodes(agenda, seen, touched.nodes)?;
-    look_at_held(agenda, seen, held, touched.is_wide)?;
+    look_at_held(agenda, seen, touched)?;
     look_at_overlaps(agenda, seen, touched.rules)?;
     look_at_overlap(agenda, seen, touched.overlap)
 }
 
 // Reducing of each of the nodes that the process has, if that is wanted.
-fn look_at_held(
-    agenda: &mut Agenda,
-    seen: &Seen,
-    held: &[NodeId],
-    is_wide: bool,
-) -> Result<(), Memory>
+fn look_at_held(agenda: &mut Agenda, seen: &Seen, touched: &Touched) -> Result<(), Memory>
     requires seen { IsSeen seen.now }
-    requires held { map (λ (n : Numbered). n.0) held.now ≡ held_of seen.now.state.now seen.now.process.now }
+    requires there { All (IsRuleThere seen.now.state.now) touched.now.rules.now }
     requires listed { IsProcess agenda.old.processes seen.now.process.now }
     ensures processes { (n : Name) (c : ℕ) (r : Bool) → IsListed agenda.new.processes n c r ↔ IsListed agenda.old.processes n c r }
-    ensures jobs { OnOk result (ListsAnew seen.now.state.now (if is_wide then reductions_of seen.now.state.now seen.now.process.now else []) agenda.old.processes agenda.new.processes) }
+    ensures others { OnOk result (KeepsOthers seen.now.process.now agenda.old.processes agenda.new.processes) }
+    ensures jobs { OnOk result ((IsTrue touched.now.is_wide → IsNearlyListed seen.now.state.now seen.now.process.now (bare_reach_of touched.now) agenda.old.processes) → ListsAnew seen.now.state.now (if touched.now.is_wide then reductions_of seen.now.state.now seen.now.process.now else []) agenda.old.processes agenda.new.processes) }
 {
-    if is_wide {
-        look_at_reductions(agenda, seen, held)
+    if touched.is_wide {
+        look_at_reductions(agenda, seen, touched)
     } else {
         Ok(())
     }
@@ -171,17 +192,52 @@ fn look_at_node(agenda: &mut Agenda, seen: &Seen, n: NodeId) -> Result<(), Memor
     look_at(agenda, seen, &Job::Orient(*seen.process, n))
 }
 
-// Reducing of each of the nodes.
-fn look_at_reductions(agenda: &mut Agenda, seen: &Seen, nodes: &[NodeId]) -> Result<(), Memory>
+// Reducing of each of the nodes that the process has.
+fn look_at_reductions(agenda: &mut Agenda, seen: &Seen, touched: &Touched) -> Result<(), Memory>
     requires seen { IsSeen seen.now }
-    requires there { All (λ (n : Numbered). IsThere seen.now.state.now n.0) nodes.now }
+    requires there { All (IsRuleThere seen.now.state.now) touched.now.rules.now }
     requires listed { IsProcess agenda.old.processes seen.now.process.now }
     ensures processes { (n : Name) (c : ℕ) (r : Bool) → IsListed agenda.new.processes n c r ↔ IsListed agenda.old.processes n c r }
-    ensures jobs { OnOk result (ListsAnew seen.now.state.now (map (jobs.Reduce seen.now.process.now) nodes.now) agenda.old.processes agenda.new.processes) }
+    ensures others { OnOk result (KeepsOthers seen.now.process.now agenda.old.processes agenda.new.processes) }
+    ensures jobs { OnOk result (IsNearlyListed seen.now.state.now seen.now.process.now (bare_reach_of touched.now) agenda.old.processes → ListsAnew seen.now.state.now (map (jobs.Reduce seen.now.process.now) seen.now.nodes.now) agenda.old.processes agenda.new.processes) }
 {
-    for i in 0..nodes.len() {
-        look_at(agenda, seen, &Job::Reduce(*seen.process, nodes[i]))?;
+    for i in 0..seen.nodes.len() {
+        look_at_reduction(agenda, seen, touched, seen.nodes[i])?;
     }
+    Ok(())
+}
+
+// Reducing the node, which the process has: one of the rules alone can have made it due, and it can be due no more only where a rule
+// is lost.
+fn look_at_reduction(
+    agenda: &mut Agenda,
+    seen: &Seen,
+    touched: &Touched,
+    n: NodeId,
+) -> Result<(), Memory>
+    requires seen { IsSeen seen.now }
+    requires held { IsTrue (is_node_of seen.now.state.now seen.now.process.now n.0) }
+    requires there { All (IsRuleThere seen.now.state.now) touched.now.rules.now }
+    requires listed { IsProcess agenda.old.processes seen.now.process.now }
+    ensures processes { (n : Name) (c : ℕ) (r : Bool) → IsListed agenda.new.processes n c r ↔ IsListed agenda.old.processes n c r }
+    ensures others { OnOk result (KeepsOthers seen.now.process.now agenda.old.processes agenda.new.processes) }
+    ensures jobs { OnOk result (IsNearlyListed seen.now.state.now seen.now.process.now (bare_reach_of touched.now) agenda.old.processes → ListsAnew seen.now.state.now (jobs.Reduce seen.now.process.now n ∷ []) agenda.old.processes agenda.new.processes) }
+{
+    let reducing = Job::Reduce(*seen.process, n);
+    let weight = weight_of(seen.state, &reducing);
+    if !agenda.has(&reducing, weight) {
+        if !seen.is_gained(touched.rules, n) {
+            return Ok(());
+        }
+        return agenda.add(&reducing, weight);
+    }
+    if !touched.loses_rule {
+        return Ok(());
+    }
+    if seen.is_due(&reducing) {
+        return Ok(());
+    }
+    agenda.remove(&reducing, weight);
     Ok(())
 }
 
@@ -251,17 +307,33 @@ fn look_at(agenda: &mut Agenda, seen: &Seen, job: &Job) -> Result<(), Memory>
     agenda.add(job, weight)
 }
 
-// Lists the closing of the process where it has no other job and is not closed, and else takes it off the list.
+// Lists the closing of the process where it has no other job and is not closed, and else takes it off the list. Where another job is
+// listed and the closing is not, nothing is changed.
 fn look_at_closing(agenda: &mut Agenda, state: &State, process: &Process) -> Result<(), Memory>
     requires listed { IsProcess agenda.old.processes process.now }
     ensures processes { (n : Name) (c : ℕ) (r : Bool) → IsListed agenda.new.processes n c r ↔ IsListed agenda.old.processes n c r }
     ensures others { (j : Work) (w : ℕ) → j ≢ jobs.Close process.now → HasJob agenda.new.processes j w ↔ HasJob agenda.old.processes j w }
     ensures closing { OnOk result (ListsClosing state.now process.now agenda.old.processes agenda.new.processes) }
 {
-    let closing = Job::Close(*process);
-    agenda.remove(&closing, 0);
+    if agenda.is_idle(process) {
+        return list_closing(agenda, state, process);
+    }
+    if agenda.remove(&Job::Close(*process), 0) {
+        return list_closing(agenda, state, process);
+    }
+    Ok(())
+}
+
+// Lists the closing of the process, which is not listed, where it has no job and is not closed.
+fn list_closing(agenda: &mut Agenda, state: &State, process: &Process) -> Result<(), Memory>
+    requires listed { IsProcess agenda.old.processes process.now }
+    requires absent { ¬ HasJob agenda.old.processes (jobs.Close process.now) 0 }
+    ensures processes { (n : Name) (c : ℕ) (r : Bool) → IsListed agenda.new.processes n c r ↔ IsListed agenda.old.processes n c r }
+    ensures others { (j : Work) (w : ℕ) → j ≢ jobs.Close process.now → HasJob agenda.new.processes j w ↔ HasJob agenda.old.processes j w }
+    ensures closing { OnOk result (ListsClosing state.now process.now agenda.old.processes agenda.new.processes) }
+{
     if agenda.is_idle(process) && !state.is_closed(process) {
-        agenda.add(&closing, 0)
+        agenda.add(&Job::Close(*process), 0)
     } else {
         Ok(())
     }

@@ -52,8 +52,10 @@ fn list(agenda: &mut Agenda, state: &State, place: usize, process: &Process) -> 
         rules: kept.rules,
         overlap: None,
         is_wide: false,
+        loses_rule: false,
     };
-    look_again(agenda, state, &touched)
+    let mut near = place;
+    look_again(agenda, state, &touched, &mut near)
 }
 
 // Lists a process, which sleeps or not, with no cost and no job.

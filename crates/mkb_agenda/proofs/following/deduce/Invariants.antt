@@ -7,4 +7,4 @@ use Rattle.mkb_agenda.proofs.following.deduce.Given as goal
 
 -- the first names are brought to the later board
 abbrev pub invariant-loop-i : goal.invariant-loop-i
-invariant-loop-i l = (b : Plain) → ((p : Name) → has l.names p ≡ true → ComesFrom b p l.state p (jobs_by_overlap p l.overlap.0 l.overlap.1 l.nodes)) → IsBetween b l.state l.initial.agenda.processes → Brings b l.state (take l.i l.names) l.initial.agenda.processes l.agenda.processes
+invariant-loop-i l = (b : Plain) → ((p : Name) → has l.names p ≡ true → ComesFrom b p l.state p (jobs_by_overlap p l.made.first l.made.second l.made.nodes.now)) → IsBetween b l.state l.initial.agenda.processes → Brings b l.state (take l.i l.names) l.initial.agenda.processes l.agenda.processes

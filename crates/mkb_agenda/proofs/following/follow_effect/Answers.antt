@@ -8,7 +8,7 @@ use Rattle.mkb_model.specs.Effects.{effect_label}
 use Rattle.mkb_model.specs.declared.proposed.Proposed.{Proposed}
 use Rattle.mkb_model.specs.declared.proposed.Proposed.TheVariants.{Facts}
 use Rattle.mkb_agenda.specs.Looking.{ComesFrom, jobs_on}
-use Rattle.mkb_agenda.specs.Following.{AreNodesOf, ComesByRewriting, jobs_by_overlap, jobs_by_rule}
+use Rattle.mkb_agenda.specs.Following.{AreNodesOf, ComesByRewriting, ComesByRule, jobs_by_overlap}
 use Rattle.mkb_agenda.proofs.Brought.{only_name}
 use Rattle.mkb_agenda.proofs.Frames.{one_comes, refuse_comes, closed_comes}
 use Rattle.mkb_agenda.proofs.NodeFrames.{rewrite_comes, deduce_comes, unjoined_comes}
@@ -34,7 +34,7 @@ returns-in-One c =
     let p = c.in-One.process in
     let n = c.in-One.node in
     let f = c.in-One.is in
-    one_if_ok c.args.state.now c.args.commit.now c.args.agenda.now.processes c.orient.new.agenda.processes p n c.in-One.dir c.in-One.cert (jobs_by_rule c.args.state.now p (record { node = n.0; dir = c.in-One.dir })) f
+    one_if_ok c.args.state.now c.args.commit.now c.args.agenda.now.processes c.orient.new.agenda.processes p n c.in-One.dir c.in-One.cert (λ (b : Plain) (z : Name). ComesByRule b z c.args.state.now p (record { node = n.0; dir = c.in-One.dir })) f
     (λ b q h. oriented_only b p n.0 q (subst {A = Proposed} (λ y. has (effect_label b y) q ≡ true) f h))
     (λ b k. one_comes b c.args.state.now c.args.commit.now k c.requires.done p n c.in-One.dir c.in-One.cert f)
     c.orient.result c.orient.ensures.exact c.orient.ensures.others
@@ -53,7 +53,7 @@ returns-in-Refuse c =
     let p = c.in-Refuse.process in
     let n = c.in-Refuse.node in
     let f = c.in-Refuse.is in
-    single_if_ok c.args.state.now c.args.commit.now c.args.agenda.now.processes c.look_at_nodes.new.agenda.processes p (jobs_on p (n ∷ [])) (ap acts_by_name f)
+    single_if_ok c.args.state.now c.args.commit.now c.args.agenda.now.processes c.look_at_nodes.new.agenda.processes p (λ (b : Plain) (z : Name). ComesFrom b z c.args.state.now p (jobs_on p (n ∷ []))) (ap acts_by_name f)
     (λ b q h. oriented_only b p n.0 q (subst {A = Proposed} (λ y. has (effect_label b y) q ≡ true) f h))
     (λ b k. refuse_comes b c.args.state.now c.args.commit.now k c.requires.done p n f)
     c.look_at_nodes.result c.look_at_nodes.ensures.exact c.look_at_nodes.ensures.others
@@ -73,7 +73,7 @@ returns-in_ok-nodes-in-Unjoined c =
     let p = x.process in
     let ns = c.as_slice-in-Unjoined.result.now in
     let nodes = subst {A = List NodeId} (AreNodesOf c.args.state.now x.pairs) (sym c.as_slice-in-Unjoined.ensures.value) (subst {A = List Deduced} (λ z. AreNodesOf c.args.state.now z c.in_ok-nodes-in-Unjoined.nodes.items) c.items-in-Unjoined.ensures c.in_ok-nodes-in-Unjoined.ensures.nodes) in
-    single_if_ok c.args.state.now c.args.commit.now c.args.agenda.now.processes c.look_at_nodes-in-Unjoined.new.agenda.processes p (jobs_on p ns) (ap acts_by_name x.is)
+    single_if_ok c.args.state.now c.args.commit.now c.args.agenda.now.processes c.look_at_nodes-in-Unjoined.new.agenda.processes p (λ (b : Plain) (z : Name). ComesFrom b z c.args.state.now p (jobs_on p ns)) (ap acts_by_name x.is)
     (λ b q h. only_name p q (subst {A = Proposed} (λ y. has (effect_label b y) q ≡ true) x.is h))
     (λ b k. unjoined_comes b c.args.state.now c.args.commit.now k c.requires.done p x.pairs x.is ns nodes)
     c.look_at_nodes-in-Unjoined.result c.look_at_nodes-in-Unjoined.ensures.exact c.look_at_nodes-in-Unjoined.ensures.others
@@ -82,7 +82,7 @@ pub returns-in-Closed : goal.returns-in-Closed
 returns-in-Closed c =
     let p = c.in-Closed.process in
     let f = c.in-Closed.is in
-    single_if_ok c.args.state.now c.args.commit.now c.args.agenda.now.processes c.look_at_nodes-in-Closed.new.agenda.processes p (jobs_on p []) (ap acts_by_name f)
+    single_if_ok c.args.state.now c.args.commit.now c.args.agenda.now.processes c.look_at_nodes-in-Closed.new.agenda.processes p (λ (b : Plain) (z : Name). ComesFrom b z c.args.state.now p (jobs_on p [])) (ap acts_by_name f)
     (λ b q h. only_name p q (subst {A = Proposed} (λ y. has (effect_label b y) q ≡ true) f h))
     (λ b k. closed_comes b c.args.state.now c.args.commit.now k c.requires.done p f)
     c.look_at_nodes-in-Closed.result c.look_at_nodes-in-Closed.ensures.exact c.look_at_nodes-in-Closed.ensures.others

@@ -1,11 +1,11 @@
-use Rattle.std.proofs.Common.{◌≡◌, ◌∙◌, ◌<◌, ◌≤◌, arith, ap, subst, List, ◌∷◌, [], length}
+use Rattle.std.proofs.Common.{◌≡◌, ◌∙◌, ◌<◌, ◌≤◌, arith, ap, subst, List, length}
 use Rattle.std.proofs.lemmas.List.{take_all}
 use Rattle.kb_label.specs.Names.{Name}
-use Rattle.mkb_model.specs.Plain.{Plain, PlainNode, label, label_at}
+use Rattle.mkb_model.specs.Plain.{PlainNode, label, label_at}
 use Rattle.mkb_rules.proofs.PutBack.{plain-label}
-use Rattle.mkb_agenda.specs.Looking.{ComesFrom, jobs_on}
 use Rattle.mkb_agenda.specs.Following.{Brings}
-use Rattle.mkb_agenda.proofs.Brought.{brings_none, brings_one, brings_next, still_between}
+use Rattle.mkb_agenda.proofs.Brought.{brings_none, brings_next, still_between}
+use Rattle.mkb_agenda.proofs.Ended.{ended_brings}
 use Rattle.mkb_agenda.proofs.following.look_for_all.Goals as goal
 
 pub loop-i-init : goal.loop-i-init
@@ -17,8 +17,7 @@ loop-i-preserved c b k h =
     let before = c.loop-i.invariant b k h in
     let inside : c.loop-i.i < length c.in_ok-names.names.items = omega (arith, c.loop-i-test.true, c.len-i-end.ensures, c.in_ok-names.names.ok) in
     brings_next b c.args.state.now c.in_ok-names.names.items c.loop-i.i p _ c.loop-i.agenda.processes _ inside c.index.ensures before
-    (brings_one (λ (x : Plain). (q : Name) → ComesFrom x q c.args.state.now q (jobs_on q (c.args.n ∷ []))) c.args.state.now p (jobs_on p (c.args.n ∷ [])) c.loop-i.agenda.processes c.look_at_nodes.new.agenda.processes (λ x m l. m p)
-    c.in_ok-look_at_nodes.ensures.exact c.in_ok-look_at_nodes.ensures.others b k (still_between b c.args.state.now _ _ _ before h))
+    (ended_brings b c.args.state.now p c.args.n (k p) c.loop-i.agenda.processes c.look_whether_ended.new.agenda.processes (c.in_ok-look_whether_ended.ensures.exact) c.in_ok-look_whether_ended.ensures.others (still_between b c.args.state.now _ _ _ before h))
 
 pub returns : goal.returns
 returns c b k h =

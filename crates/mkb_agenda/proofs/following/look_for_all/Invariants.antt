@@ -1,10 +1,8 @@
-use Rattle.std.proofs.Common.{◌∷◌, [], take}
-use Rattle.kb_label.specs.Names.{Name}
+use Rattle.std.proofs.Common.{take}
 use Rattle.mkb_model.specs.Plain.{Plain}
-use Rattle.mkb_agenda.specs.Looking.{ComesFrom, jobs_on}
-use Rattle.mkb_agenda.specs.Following.{Brings, IsBetween}
+use Rattle.mkb_agenda.specs.Following.{AllMayEnd, Brings, IsBetween}
 use Rattle.mkb_agenda.proofs.following.look_for_all.Given as goal
 
 -- the first names are brought to the later board
 abbrev pub invariant-loop-i : goal.invariant-loop-i
-invariant-loop-i l = (b : Plain) → ((p : Name) → ComesFrom b p l.state p (jobs_on p (l.n ∷ []))) → IsBetween b l.state l.initial.agenda.processes → Brings b l.state (take l.i l.names.items) l.initial.agenda.processes l.agenda.processes
+invariant-loop-i l = (b : Plain) → AllMayEnd b l.state l.n → IsBetween b l.state l.initial.agenda.processes → Brings b l.state (take l.i l.names.items) l.initial.agenda.processes l.agenda.processes

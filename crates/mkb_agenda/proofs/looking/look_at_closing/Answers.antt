@@ -1,39 +1,34 @@
-use Rattle.std.proofs.Common.{◌↔◌, inr, ⊎_elim, refl, sym, ap, ap₂, subst, Bool, not, ◌&&◌}
+use Rattle.std.proofs.Common.{refl}
 use Rattle.std.proofs.lemmas.Result.{on_ok_weaker}
 use Rattle.kb_node.specs.declared.job.Job.TheVariants.{Close}
-use Rattle.mkb_pick.specs.Listings.{Listing, HasJob}
+use Rattle.mkb_model.proofs.Lists.{clash}
 use Rattle.mkb_agenda.proofs.Anew.{process_kept, same_both}
-use Rattle.mkb_agenda.proofs.Again.{on_either, removed_others, lists_none, lists_close}
-use Rattle.kb_label.specs.Names.{has}
-use Rattle.mkb_agenda.proofs.looking.look_at_closing.Goals.{else-is_idle-via-then-is_idle+else-not-is_closed, else-is_idle-via-else-is_idle}
+use Rattle.mkb_agenda.proofs.Again.{removed_others, closing_after, lists_busy}
 use Rattle.mkb_agenda.proofs.looking.look_at_closing.Goals as goal
 
-pub add-requires-clause-listed : goal.add-requires-clause-listed
-add-requires-clause-listed c = process_kept c.args.agenda.now.processes c.remove.new.self.processes c.remove.ensures.processes c.args.process.now c.requires.listed
+pub list_closing-requires-clause-absent : goal.list_closing-requires-clause-absent
+list_closing-requires-clause-absent c = (c.is_idle.ensures.0 c.if-is_idle.true) (Close c.args.process.now) 0 refl
 
-pub add-requires-clause-absent : goal.add-requires-clause-absent
-add-requires-clause-absent c h = ((c.remove.ensures.jobs (Close c.args.process.now) 0).0 h).1 (refl, refl)
+pub list_closing-requires-then-remove-clause-listed : goal.list_closing-requires-then-remove-clause-listed
+list_closing-requires-then-remove-clause-listed c = process_kept c.args.agenda.now.processes c.remove.new.self.processes c.remove.ensures.processes c.args.process.now c.requires.listed
 
-pub returns-then-not-is_closed-clause-processes : goal.returns-then-not-is_closed-clause-processes
-returns-then-not-is_closed-clause-processes c = same_both c.args.agenda.now.processes c.remove.new.self.processes c.add.new.self.processes c.remove.ensures.processes c.add.ensures.processes
+pub list_closing-requires-then-remove-clause-absent : goal.list_closing-requires-then-remove-clause-absent
+list_closing-requires-then-remove-clause-absent c h = ((c.remove.ensures.jobs (Close c.args.process.now) 0).0 h).1 (refl, refl)
 
-pub returns-then-not-is_closed-clause-others : goal.returns-then-not-is_closed-clause-others
-returns-then-not-is_closed-clause-others c j w n =
-    let kept = removed_others c.args.state.now c.args.process.now c.args.agenda.now.processes c.remove.new.self.processes c.remove.ensures.jobs j w n in
-    on_either c.add.result c.add.ensures.jobs c.add.ensures.err
-    (λ h. ((λ x. kept.0 (⊎_elim (λ d. absurd (n d.0)) (λ d. d) ((h j w).0 x))), (λ x. (h j w).1 (inr (kept.1 x)))))
-    (λ e. subst {A = Listing} (λ z. HasJob z.processes j w ↔ HasJob c.args.agenda.now.processes j w) (sym e) kept)
+pub returns-then-remove-clause-processes : goal.returns-then-remove-clause-processes
+returns-then-remove-clause-processes c = same_both c.args.agenda.now.processes c.remove.new.self.processes c.list_closing-then-remove.new.agenda.processes c.remove.ensures.processes c.list_closing-then-remove.ensures.processes
 
-pub returns-then-not-is_closed-clause-closing : goal.returns-then-not-is_closed-clause-closing
-returns-then-not-is_closed-clause-closing c = on_ok_weaker c.add.result
-    (λ h working lists zero. lists_close c.args.state.now c.args.process.now c.args.agenda.now.processes c.remove.new.self.processes c.remove.ensures.jobs working lists zero c.add.new.self.processes c.is_idle.result c.is_closed.result c.is_idle.ensures c.is_closed.ensures c.if-is_idle.true c.if-not-is_closed.true h)
-    c.add.ensures.jobs
+pub returns-then-remove-clause-others : goal.returns-then-remove-clause-others
+returns-then-remove-clause-others c j w n =
+    let u = removed_others c.args.process.now c.args.agenda.now.processes c.remove.new.self.processes c.remove.ensures.jobs j w n in
+    let v = c.list_closing-then-remove.ensures.others j w n in
+    ((λ x. u.0 (v.0 x)), (λ x. v.1 (u.1 x)))
 
-pub returns-else-is_idle-clause-others : goal.returns-else-is_idle-clause-others
-returns-else-is_idle-clause-others c = removed_others c.args.state.now c.args.process.now c.args.agenda.now.processes c.remove.new.self.processes c.remove.ensures.jobs
+pub returns-then-remove-clause-closing : goal.returns-then-remove-clause-closing
+returns-then-remove-clause-closing c = on_ok_weaker c.list_closing-then-remove.result (closing_after c.args.state.now c.args.process.now c.args.agenda.now.processes c.remove.new.self.processes c.list_closing-then-remove.new.agenda.processes c.remove.ensures.jobs) c.list_closing-then-remove.ensures.closing
 
-pub returns-else-is_idle-clause-closing : goal.returns-else-is_idle-clause-closing
-returns-else-is_idle-clause-closing c working lists zero = elim c.else-is_idle.branch [
-  | else-is_idle-via-then-is_idle+else-not-is_closed w ↦ lists_none c.args.state.now c.args.process.now c.args.agenda.now.processes c.remove.new.self.processes c.remove.ensures.jobs working lists zero c.is_idle.result w.is_closed.result c.is_idle.ensures w.is_closed.ensures (ap₂ (λ (x y : Bool). x && not y) w.if-is_idle.true w.if-not-is_closed.false)
-  | else-is_idle-via-else-is_idle w ↦ lists_none c.args.state.now c.args.process.now c.args.agenda.now.processes c.remove.new.self.processes c.remove.ensures.jobs working lists zero c.is_idle.result (has c.args.state.now.closed c.args.process.now) c.is_idle.ensures refl (ap (λ (x : Bool). x && not (has c.args.state.now.closed c.args.process.now)) w.if-is_idle.false)
-]
+pub returns-clause-others : goal.returns-clause-others
+returns-clause-others c = removed_others c.args.process.now c.args.agenda.now.processes c.remove.new.self.processes c.remove.ensures.jobs
+
+pub returns-clause-closing : goal.returns-clause-closing
+returns-clause-closing c = lists_busy c.args.state.now c.args.process.now c.args.agenda.now.processes c.remove.new.self.processes c.remove.ensures.jobs (λ h. clash (c.remove.ensures.found.1 h) c.if-remove.false) (λ none. clash (c.is_idle.ensures.1 none) c.if-is_idle.false)

@@ -7,7 +7,7 @@ use Rattle.mkb_agenda.proofs.Anew.{anew_both, anew_flat, anew_whole, same_both, 
 use Rattle.mkb_agenda.proofs.looking.look_at_overlaps.Goals as goal
 
 pub look_at_row-requires-clause-others : goal.look_at_row-requires-clause-others
-look_at_row-requires-clause-others c k d l = (rules_all c.args.seen.now.state.now c.args.seen.now.process.now c.args.seen.now.rules.now c.requires.seen k d l).0
+look_at_row-requires-clause-others c k d l = (rules_all c.args.seen.now.state.now c.args.seen.now.process.now c.args.seen.now.rules.now c.requires.seen.rules k d l).0
 
 pub look_at_row-requires-clause-listed : goal.look_at_row-requires-clause-listed
 look_at_row-requires-clause-listed c = process_kept c.args.agenda.now.processes c.loop-i.agenda.processes c.loop-i.invariant.processes c.args.seen.now.process.now c.requires.listed
@@ -42,5 +42,5 @@ pub returns-clause-jobs : goal.returns-clause-jobs
 returns-clause-jobs c =
     let p = c.args.seen.now.process.now in
     let rules = c.args.rules.now in
-    subst {A = List RuleRef} (λ (z : List RuleRef). ListsAnew c.args.seen.now.state.now (flat_map (λ (a : RuleRef). map (overlap_of p a) (z ++ rules)) rules) c.args.agenda.now.processes c.loop-i.agenda.processes) c.requires.seen
+    subst {A = List RuleRef} (λ (z : List RuleRef). ListsAnew c.args.seen.now.state.now (flat_map (λ (a : RuleRef). map (overlap_of p a) (z ++ rules)) rules) c.args.agenda.now.processes c.loop-i.agenda.processes) c.requires.seen.rules
     (anew_whole (flat_map (λ (a : RuleRef). map (overlap_of p a) (c.args.seen.now.rules.now ++ rules))) c.args.seen.now.state.now rules c.loop-i.i c.args.agenda.now.processes c.loop-i.agenda.processes c.loop-i-test.false c.loop-i.invariant.jobs)
