@@ -1,4 +1,4 @@
-use Rattle.std.proofs.Common.{ℕ, ◌<◌, ◌≤◌, ◌↔◌, inl, inr, refl, sym, true, false}
+use Rattle.std.proofs.Common.{rules, ℕ, ◌≡◌, ◌<◌, ◌≤◌, ◌↔◌, inl, inr, refl, sym, true, false}
 use Rattle.std.specs.Prelude.{MatchOption, Option, Some, None, IsTrue}
 use Rattle.std.proofs.lemmas.Bool.{cases_lt}
 use Rattle.mkb_pick.specs.declared.search.Choice.{Choice}
@@ -40,4 +40,5 @@ returns c =
     let q = c.args.queue.now in
     let n = c.index.result.now in
     let e : Entry = c.index-entry.result.now in
-    choice_made q c.requires.queue c.args.flight.now c.args.place n e (c.requires.within, sym c.index.ensures, sym c.index-entry.ensures) c.args.best.now c.requires.so_far (cheaper c.args.best.now e.cost c.if-not-is_cheaper.ensures) c.if-entry.false c.in-Some.task c.in-Some.ensures
+    let awake : e.resting ≡ false = search rules in
+    choice_made q c.requires.queue c.args.flight.now c.args.place n e (c.requires.within, sym c.index.ensures, sym c.index-entry.ensures) c.args.best.now c.requires.so_far (cheaper c.args.best.now e.cost c.if-not-is_cheaper.ensures) awake c.in-Some.task c.in-Some.ensures
