@@ -101,12 +101,14 @@ impl<'a> Seen<'a> {
         roles.is_in_use() && self.has_open_rule(roles, n)
     }
 
-    // Whether some rule of the process is open to the node in these roles.
+    // Whether some rule of the process is open to the node in these roles. The last rules, of which least is known, are asked about
+    // first.
     fn has_open_rule(&self, roles: Roles, n: NodeId) -> bool
         ensures { result ≡ list_any (is_open_to self.now.state.now roles n.0) self.now.rules.now }
     {
-        for i in 0..self.rules.len() {
-            if is_open_to(self.state, roles, n, self.rules[i]) {
+        let count = self.rules.len();
+        for i in 0..count {
+            if is_open_to(self.state, roles, n, self.rules[count - 1 - i]) {
                 return true;
             }
         }
