@@ -15,3 +15,4 @@ mod Splitting
 mod Found
 mod LimitFrames
 mod Followed
+pub mod Sleeping

@@ -9,5 +9,5 @@ mod looking;
 mod opening;
 
 pub use following::{Commit, follow, target_of};
-pub use laws::what_is_offered_first_is_the_first_job;
+pub use laws::{what_is_offered_first_is_the_first_job, who_sleeps_rests};
 pub use opening::agenda_of;
