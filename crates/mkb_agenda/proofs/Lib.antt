@@ -18,3 +18,4 @@ mod Splitting
 mod Found
 mod LimitFrames
 mod Followed
+pub mod Sleeping

@@ -8,7 +8,7 @@ use Rattle.mkb_model.specs.Jobs.{greatest, least}
 use Rattle.mkb_model.specs.Plain.{Plain}
 use Rattle.mkb_model.specs.Sleeping.{most_awake, settled, waiting, with_one_asleep, with_one_awake, working}
 use Rattle.mkb_model.specs.declared.entry.Ticket.{Ticket}
-use Rattle.mkb_board.proofs.Costs.{cost_alike}
+use Rattle.mkb_agenda.proofs.Sleeping.{cost_alike}
 
 -- ---- by the costs of the processes
 

@@ -2,10 +2,7 @@
 use Rattle.std.proofs.Common.{◌≡◌, refl, sym, ◌∙◌, subst, List}
 use Rattle.kb_term.specs.Signature.{Problem}
 use Rattle.kb_label.specs.Names.{Name}
-use Rattle.kb_node.specs.declared.job.Job.{Job}
-use Rattle.kb_node.specs.declared.job.Job.TheVariants.{Reduce, Orient, Overlap, Close}
 use Rattle.mkb_model.specs.Plain.{Plain}
-use Rattle.mkb_model.specs.DueJobs.{is_work_due}
 use Rattle.mkb_model.specs.Journals.{opening}
 use Rattle.mkb_model.specs.declared.entry.Entry.{Entry}
 use Rattle.mkb_model.specs.declared.entry.Ticket.{Ticket}
@@ -13,23 +10,18 @@ use Rattle.mkb_model.specs.declared.settings.Settings.{Settings}
 use Rattle.mkb_model.proofs.Lists.{clash}
 use Rattle.mkb_model.proofs.closing.RestInRuns.{closed_rests}
 use Rattle.mkb_model.proofs.runs.Selections.{legal-possible}
+use Rattle.mkb_agenda.proofs.Sleeping.{work_same}
 use Rattle.mkb_board.specs.Boards.{seen, IsLegalBoard}
 use Rattle.mkb_board.specs.Choosing.{ClosedRest}
 use Rattle.mkb_board.proofs.Sleepers.{DiffersInSleepers}
 
 -- ---- on boards that differ in what flies or who sleeps
 
-due_alike : (b : Plain) (f : List Ticket) (a : List Name) (j : Job) → is_work_due (record b { flight = f; asleep = a }) j ≡ is_work_due b j
-due_alike b f a (Reduce p n) = refl
-due_alike b f a (Orient p n) = refl
-due_alike b f a (Overlap p c d) = refl
-due_alike b f a (Close p) = refl
-
 rest_to : (b : Plain) (f : List Ticket) (a : List Name) → ClosedRest b → ClosedRest (record b { flight = f; asleep = a })
-rest_to b f a h p k = let r = h p k in record { not_over = r.not_over; no_work = λ j i. due_alike b f a j ∙ r.no_work j i }
+rest_to b f a h p k = let r = h p k in record { not_over = r.not_over; no_work = λ j i. work_same b f a j ∙ r.no_work j i }
 
 pub rest_from : (b : Plain) (f : List Ticket) (a : List Name) → ClosedRest (record b { flight = f; asleep = a }) → ClosedRest b
-rest_from b f a h p k = let r = h p k in record { not_over = r.not_over; no_work = λ j i. sym (due_alike b f a j) ∙ r.no_work j i }
+rest_from b f a h p k = let r = h p k in record { not_over = r.not_over; no_work = λ j i. sym (work_same b f a j) ∙ r.no_work j i }
 
 pub same_rest : (b s : Plain) → DiffersInSleepers b s → ClosedRest b → ClosedRest s
 same_rest b s e h = subst {A = Plain} ClosedRest (sym e) (rest_to b b.flight s.asleep h)

@@ -1,5 +1,4 @@
 -- What a process costs, node by node.
-use Rattle.mkb_model.specs.declared.entry.Ticket.{Ticket}
 use Rattle.std.proofs.Common.{ℕ, ◌+◌, ◌*◌, ◌≤◌, ◌≡◌, refl, ap₂, ◌∙◌, arith, List, [], ◌∷◌, length, Bool, true, false, Option, Some, None}
 use Rattle.std.specs.Prelude.{sum_by}
 use Rattle.std.specs.Option.{option_map_or}
@@ -61,12 +60,3 @@ roles_most b p n =
 -- what a node within the limits adds to the cost
 pub share_most : (g : Signature) (b : Plain) (p : Name) → AreLimited g b.nodes → (n : ℕ) → role_count b p n * node_size b n ≤ 5120
 share_most g b p limited n = mul-le (role_count b p n) (node_size b n) 5 1024 (roles_most b p n) (size_most g b limited n)
-
--- ---- what a process costs doesn't depend on who sleeps or what flies
-
-pub cost_alike : (b : Plain) (f : List Ticket) (a : List Name) → cost (record b { flight = f; asleep = a }) ≡ cost b
-cost_alike b f a = (λ i p. (sum_by (node_size b) (equations_of b p) + rule_sizes b (constraints_of b p)) + rule_sizes b (counted_same b.settings.selection p i))
-  where
-    counted_same : (by : Selection) (p : Name) → counted_rules by (record b { flight = f; asleep = a }) p ≡ counted_rules by b p
-    counted_same Stated p = refl
-    counted_same Size p = refl

@@ -1,5 +1,5 @@
 -- The first job is the least of those that the processes would take first.
-use Rattle.mkb_board.proofs.Costs.{cost_alike}
+use Rattle.mkb_agenda.proofs.Sleeping.{cost_alike}
 use Rattle.std.proofs.Common.{◌≡◌, ℕ, refl, ap, ap₂, ◌∙◌, List, [], ◌∷◌, ◌++◌, filter, flat_map, Bool, true, false, cond, ◌&&◌, Option}
 use Rattle.std.proofs.lemmas.List.Elements.{filter-append}
 use Rattle.kb_label.specs.Names.{Name}

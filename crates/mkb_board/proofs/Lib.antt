@@ -12,6 +12,7 @@
 --   working                   Placing
 --   shelf, snapshots          Kept, Viewed, Open
 --   law held_tickets_stay     Held, Others
+--   law commits_can_be_followed  Followable (by Ends, There, Asleep)
 pub mod Asleep
 pub mod Better
 pub mod Cheapest
@@ -46,3 +47,4 @@ pub mod Placing
 pub mod Verdicts
 pub mod Following
 pub mod AnyJob
+pub mod Followable

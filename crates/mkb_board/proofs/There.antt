@@ -49,7 +49,7 @@ use Rattle.mkb_rules.specs.Named.{IsThere, Lives, HasNamed, HasNamedJob, HasRede
 use Rattle.mkb_rules.specs.Applicable.{HasFewVariablesAfter, IsApplicable}
 use Rattle.mkb_model.specs.declared.settings.Settings.{Settings}
 
-at_within : (xs : List PlainNode) (n : ℕ) (q : Pair) → pair_in xs n ≡ Some q → n < length xs
+pub at_within : (xs : List PlainNode) (n : ℕ) (q : Pair) → pair_in xs n ≡ Some q → n < length xs
 at_within [] n q e = none_some e
 at_within (x ∷ xs) zero q e = omega arith
 at_within (x ∷ xs) (suc n) q e = let h = at_within xs n q e in omega (arith, h)

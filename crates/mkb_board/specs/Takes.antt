@@ -1,5 +1,5 @@
 -- What the calls of a board answer and leave.
-use Rattle.std.specs.Prelude.{ℕ, ◌+◌, ◌<◌, List, [], ◌∷◌, ◌++◌, length, ◌≡◌, IsTrue, IsFalse, Some, None}
+use Rattle.std.specs.Prelude.{ℕ, ◌+◌, ◌<◌, List, [], ◌∷◌, ◌++◌, length, ◌≡◌, Contains, IsTrue, IsFalse, Some, None}
 use Rattle.kb_jobs.specs.Working.{IsReadable, IsTaken, job_of}
 use Rattle.kb_jobs.specs.declared.working.Snapshot.{Snapshot}
 use Rattle.mkb_model.specs.Plain.{Plain}
@@ -7,14 +7,15 @@ use Rattle.mkb_model.specs.DueJobs.{first_job}
 use Rattle.mkb_model.specs.Verdicts.{verdict}
 use Rattle.mkb_model.specs.Journals.{After, in_flight, landed}
 use Rattle.mkb_model.specs.Jobs.{process_of}
-use Rattle.mkb_model.specs.Effects.{effect, effect_entry, limit_of, is_dropped}
+use Rattle.mkb_model.specs.Effects.{acted, effect, effect_entry, limit_of, is_dropped}
 use Rattle.mkb_rules.specs.Applying.{applied_as}
+use Rattle.mkb_rules.specs.declared.applied.Applied.{Applied}
 use Rattle.mkb_model.specs.Proposals.{Proposes}
 use Rattle.mkb_model.specs.declared.entry.Ticket.{Ticket}
 use Rattle.mkb_model.specs.declared.entry.Entry.{Entry}
 use Rattle.mkb_model.specs.declared.entry.Entry.TheVariants.{Take, Commit, Drop}
 use Rattle.mkb_model.specs.declared.proposed.Proposed.{Proposed}
-use Rattle.mkb_board.specs.Boards.{Seen, takes_in, has_halt}
+use Rattle.mkb_board.specs.Boards.{Seen, IsLegalBoard, takes_in, has_halt}
 use Rattle.mkb_board.specs.declared.answers.Taken.{Taken}
 use Rattle.mkb_board.specs.declared.answers.Finished.{Finished}
 use Rattle.mkb_board.specs.declared.answers.Finished.TheVariants.{Ended, Dropped, Committed}
@@ -63,3 +64,14 @@ IsFinishedBy old new t x (Dropped p) =
     (verdict old.plain ≡ None) × IsTrue (is_dropped old.plain x) × (p ≡ process_of t.job) × (new.plain ≡ landed t.number old.plain) × (new.journal ≡ old.journal ++ Drop t.worker t.number p ∷ [])
 IsFinishedBy old new t x (Committed a) =
     (verdict old.plain ≡ None) × IsFalse (is_dropped old.plain x) × (a ≡ applied_as (limit_of old.plain x)) × (new.plain ≡ landed t.number (effect old.plain x)) × (new.journal ≡ old.journal ++ Commit t.worker t.number (effect_entry old.plain x) ∷ [])
+
+-- what a commit makes of the board before any process falls asleep or wakes, without what flies
+abbrev pub unsettled : Plain → Proposed → Plain
+unsettled b x = record (acted b x) { flight = [] }
+
+-- on a legal board the ticket, which was in flight, was ended with its proposal; that was committed, and the new board is what it leaves
+pub record IsCommittedBy (old new : Seen) (t : Ticket) (x : Proposed) (a : Applied) : Type 0 where
+  pub legal : IsLegalBoard old
+  pub flying : Contains old.plain.flight t
+  pub proposed : IsProposalOf old t x
+  pub finished : IsFinishedBy old new t x (Committed a)

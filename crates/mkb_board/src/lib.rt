@@ -21,4 +21,4 @@ mod working;
 
 pub use answers::{Finished, Taken};
 pub use board::Board;
-pub use laws::held_tickets_stay;
+pub use laws::{commits_can_be_followed, held_tickets_stay};

@@ -3,7 +3,7 @@ use Rattle.kb_label.specs.Names.{Name}
 use Rattle.mkb_model.specs.Plain.{cost}
 use Rattle.mkb_model.specs.Jobs.{process_of}
 use Rattle.mkb_board.specs.Boards.{Seen}
-use Rattle.mkb_board.proofs.Costs.{cost_alike}
+use Rattle.mkb_agenda.proofs.Sleeping.{cost_alike}
 use Rattle.mkb_board.proofs.Readable.{limited_on}
 use Rattle.mkb_board.proofs.board.Board.cost_of.Goals as goal
 
