@@ -3,4 +3,5 @@ pub mod Offered
 pub mod Viewed
 pub mod Replaced
 pub mod Tasks
+pub mod Marked
 pub mod Firsts

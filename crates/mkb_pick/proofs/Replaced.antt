@@ -8,10 +8,11 @@ use Rattle.kb_label.specs.NameOrder.{name_cmp-equal, name_cmp-same}
 use Rattle.mkb_pick.specs.declared.task.Task.{Task}
 use Rattle.mkb_pick.specs.declared.tree.Tree.{Leaf}
 use Rattle.mkb_pick.specs.declared.queue.Entry.{Entry}
+use Rattle.mkb_pick.specs.declared.marks.Marks.{Marks}
 use Rattle.mkb_pick.specs.declared.queue.Queue.{Queue}
 use Rattle.mkb_pick.specs.Trees.{Has}
 use Rattle.mkb_pick.specs.Queues.{IsQueue, IsAt, IsSeated, With, Shows, Sits, HasTask}
-use Rattle.mkb_pick.proofs.Seats.{one_entry, entry_of, after_set}
+use Rattle.mkb_pick.proofs.Seats.{Standing, one_entry, entry_of, after_set}
 
 pub names_decide : (p q : Name) → (p ≡ q) ⊎ (¬ (p ≡ q))
 names_decide p q = go (name_cmp p q) refl
@@ -194,6 +195,12 @@ none_with q n none P h = none (seat_at q n h.0 h.1)
 pub task_lacked : (q : Queue) (n : Name) (x : Task) → ¬ IsSeated q n → (m : Name) (t : Task) → HasTask q m t ↔ (HasTask q m t × ¬ ((m ≡ n) × (t ≡ x)))
 task_lacked q n x none m t = (λ h. (h, λ e. none (subst (IsSeated q) e.0 (seat_at q m h.0 h.1))), λ h. h.0)
 
+-- a search changes no entry
+pub with_same : (old new : Queue) → new.names ≡ old.names → new.entries ≡ old.entries → (m : Name) (P : Entry → Type 0) → With new m P ↔ With old m P
+with_same old new names entries m P =
+    subst (λ ns. ((e : Entry) × Standing ns.items new.entries.items m e × P e) ↔ With old m P) (sym names)
+    (subst (λ es. ((e : Entry) × Standing old.names.items es.items m e × P e) ↔ With old m P) (sym entries) (λ h. h, λ h. h))
+
 -- a process goes
 pub with_gone : (old new : Queue) (n : Name) → ((m : Name) (x : Entry) → IsAt new m x ↔ (IsAt old m x × ¬ (m ≡ n))) → (m : Name) (P : Entry → Type 0) → With new m P ↔ (With old m P × ¬ (m ≡ n))
 with_gone old new n kept m P = (
@@ -268,5 +275,5 @@ second_free old mid most n m0 m1 d is free out named second one s =
     ]
 
 -- a process that was just listed
-abbrev pub bare_entry : ℕ → Entry
-bare_entry k = record { cost = k; resting = false; tasks = Leaf }
+abbrev pub bare_entry : ℕ → Marks → Entry
+bare_entry k m = record { cost = k; resting = false; tasks = Leaf; marks = m }

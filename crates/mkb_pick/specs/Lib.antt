@@ -1,6 +1,7 @@
 pub mod Trees
 pub mod Jobs
 pub mod Tasks
+pub mod Marks
 pub mod Queues
 pub mod Firsts
 pub mod Stores

@@ -3,6 +3,7 @@ use Rattle.std.specs.Prelude.{ℕ, ◌≡◌, ◌<◌, ◌≤◌, ◌+◌, Bool,
 use Rattle.kb_label.specs.Names.{Name, IsInNameOrder}
 use Rattle.mkb_pick.specs.Trees.{Has, IsOrdered}
 use Rattle.mkb_pick.specs.Tasks.{task_cmp}
+use Rattle.mkb_pick.specs.Marks.{IsTold}
 use Rattle.mkb_pick.specs.declared.task.Task.{Task}
 use Rattle.mkb_pick.specs.declared.queue.Entry.{Entry}
 use Rattle.mkb_pick.specs.declared.queue.Queue.{Queue}
@@ -15,11 +16,15 @@ Stands names entries k n e = (k < length names) × (get_or names k n ≡ n) × (
 abbrev pub IsAt : Queue → Name → Entry → Type 0
 IsAt q n e = (k : ℕ) × Stands q.names.items q.entries.items k n e
 
--- what holds of a queue: the names are in order and have an entry each, the tasks are ordered, and there is as much room as is told
+-- what holds of an entry: the tasks are ordered, and what the marks say of them holds
+abbrev pub IsSound : Entry → Type 0
+IsSound e = IsOrdered task_cmp e.tasks × IsTold e.marks e.tasks
+
+-- what holds of a queue: the names are in order and have an entry each, the entries are sound, and there is as much room as is told
 pub record IsQueue (q : Queue) : Type 0 where
   pub in_order : IsInNameOrder q.names.items
   pub beside : length q.entries.items ≡ length q.names.items
-  pub tasks : All (λ e. IsOrdered task_cmp e.tasks) q.entries.items
+  pub sound : All IsSound q.entries.items
   pub room : vec_len q.names + q.spare ≤ vec_capacity q.names
   pub room_beside : vec_len q.entries + q.spare ≤ vec_capacity q.entries
 

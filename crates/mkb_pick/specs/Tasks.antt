@@ -1,9 +1,11 @@
 -- Tasks: jobs without their processes, with their weights.
 use Rattle.std.specs.Prelude.{ℕ, List, [], ◌∷◌, Bool, ◌≤◌}
-use Rattle.std.specs.Ordering.{nat_cmp}
+use Rattle.std.specs.Ordering.{nat_cmp, ordering_then}
 use Rattle.std.specs.Cmp.Lexicographic.{slice_cmp}
 use Rattle.std.specs.declared.cmp.Ordering.{Ordering}
+use Rattle.std.specs.declared.cmp.Ordering.TheVariants.{Equal}
 use Rattle.kb_label.specs.Names.{Name}
+use Rattle.kb_term.specs.declared.origin.RuleRef.{RuleRef}
 use Rattle.kb_node.specs.declared.job.Job.{Job}
 use Rattle.kb_node.specs.declared.job.Job.TheVariants.{Reduce, Orient, Overlap, Close}
 use Rattle.mkb_pick.specs.declared.task.Work.{Work}
@@ -38,6 +40,17 @@ work_key (Reducing n) w = 0 ∷ w ∷ n.0 ∷ 0 ∷ 0 ∷ 0 ∷ []
 work_key (Orienting n) w = 1 ∷ w ∷ n.0 ∷ 0 ∷ 0 ∷ 0 ∷ []
 work_key (Overlapping a b) w = 2 ∷ w ∷ a.node ∷ a.dir ∷ b.node ∷ b.dir ∷ []
 work_key Closing w = 3 ∷ w ∷ 0 ∷ 0 ∷ 0 ∷ 0 ∷ []
+
+-- the order of rules
+abbrev pub rule_cmp : RuleRef → RuleRef → Ordering
+rule_cmp a b = ordering_then (nat_cmp a.node b.node) (nat_cmp a.dir b.dir)
+
+-- the order of the numbers in two of one kind
+abbrev pub numbers_cmp : Work → Work → Ordering
+numbers_cmp (Reducing n) (Reducing m) = nat_cmp n.0 m.0
+numbers_cmp (Orienting n) (Orienting m) = nat_cmp n.0 m.0
+numbers_cmp (Overlapping a b) (Overlapping c d) = ordering_then (rule_cmp a c) (rule_cmp b d)
+numbers_cmp v w = Equal
 
 -- the order of the tasks of one process
 abbrev pub task_cmp : Task → Task → Ordering

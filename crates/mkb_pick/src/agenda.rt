@@ -2,6 +2,7 @@
 ghost use Rattle.std.specs.Prelude.{ℕ, Bool, ◌≡◌, ◌⊎◌, ◌↔◌, ◌+◌, ◌-◌, ◌<◌, ◌≤◌, max, List, [], length, Contains, true, false, IsTrue, OnOk, OnErr, IsOk};
 ghost use Rattle.kb_label.specs.Names.{Name, child};
 ghost use Rattle.kb_node.specs.declared.job.Job.{Job};
+ghost use Rattle.kb_node.specs.declared.job.Job.TheVariants.{Reduce};
 ghost use Rattle.mkb_model.specs.Jobs.{process_of};
 ghost use Rattle.mkb_pick.specs.Listings.{Listed, IsListed, IsProcess, HasJob, IsLeastOffered, SetsCost, SetsRest, SplitsProcess, SplitsJobs};
 
@@ -10,7 +11,7 @@ use crate::search::next_job;
 use crate::stores::Stores;
 use crate::task::{Task, Work, process_of};
 use kb_label::{MAX_BITS, Process};
-use kb_node::Job;
+use kb_node::{Job, NodeId};
 use kb_term::Memory;
 use std::alloc::Global;
 use std::marker::Model;
@@ -94,7 +95,7 @@ impl Agenda {
         ensures room { 0 < self.old.spare_processes → IsOk result }
     {
         self.queue.stock(1)?;
-        self.queue.put_in(process, Entry::awake(cost));
+        self.queue.put_in(process, Entry::awake(self.alloc, cost));
         Ok(())
     }
 
@@ -147,6 +148,14 @@ impl Agenda {
             weight,
         };
         self.queue.has_task(&process_of(job), &task)
+    }
+
+    /// Whether reducing the node is listed for the process, under whichever weight. It takes no memory, and goes over the
+    /// jobs of the process only where the node was listed under two weights, or memory was wanting for its mark.
+    pub fn is_reducing(&self, process: &Process, n: NodeId) -> bool
+        ensures { IsTrue result ↔ ((w : ℕ) × HasJob self.now.processes (Reduce process.now n) w) }
+    {
+        self.queue.is_reducing(process, n)
     }
 
     /// Whether no job of a process is listed. It takes no memory.

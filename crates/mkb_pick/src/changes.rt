@@ -4,14 +4,16 @@ ghost use Rattle.kb_label.specs.Names.{Name, child};
 ghost use Rattle.mkb_pick.specs.Trees.{Has, IsOrdered, count};
 ghost use Rattle.mkb_pick.specs.Tasks.{task_cmp};
 ghost use Rattle.mkb_pick.specs.Listings.{IsChild};
-ghost use Rattle.mkb_pick.specs.Queues.{IsQueue, IsAt, IsSeated, HasTask, Sits};
+ghost use Rattle.mkb_pick.specs.Marks.{reducing};
+ghost use Rattle.mkb_pick.specs.Queues.{IsQueue, IsSound, IsAt, IsSeated, HasTask, Sits};
 ghost use Rattle.mkb_pick.specs.Stores.{IsStocked};
 
 use crate::queue::{Entry, Queue};
 use crate::stores::Stores;
 use crate::task::Task;
-use crate::tree::{Node, Tree, count, find, put, take};
+use crate::tree::{Node, Tree, count, find};
 use kb_label::{MAX_BITS, Process};
+use kb_node::NodeId;
 
 impl Queue {
     /// Adds a task of a process.
@@ -27,7 +29,7 @@ impl Queue {
         let Some(place) = self.seek(name) else {
             unreachable!()
         };
-        put(&mut self.entries[place].tasks, node);
+        self.entries[place].add(node);
     }
 
     /// Takes out a task of a process: whether it was there.
@@ -40,7 +42,7 @@ impl Queue {
         ensures queue { IsQueue self.new }
     {
         match self.seek(name) {
-            Some(place) => remove_from(&mut self.entries[place].tasks, task),
+            Some(place) => self.entries[place].remove(task),
             None => false,
         }
     }
@@ -101,6 +103,17 @@ impl Queue {
     {
         match self.place_of(name) {
             Some(place) => is_in(&self.entries[place].tasks, task),
+            None => false,
+        }
+    }
+
+    /// Whether a process has a reducing of the node.
+    pub(crate) fn is_reducing(&self, name: &Process, n: NodeId) -> bool
+        requires { IsQueue self.now }
+        ensures { IsTrue result ↔ ((w : ℕ) × HasTask self.now name.now (reducing n.0 w)) }
+    {
+        match self.place_of(name) {
+            Some(place) => self.entries[place].is_reducing(n),
             None => false,
         }
     }
@@ -173,28 +186,16 @@ fn is_bare(tasks: &Tree<Task>) -> bool
     }
 }
 
-// Takes a task out of those of a process: whether it was there.
-fn remove_from(tasks: &mut Tree<Task>, task: &Task) -> bool
-    requires { IsOrdered task_cmp tasks.old }
-    ensures found { IsTrue result ↔ Has tasks.old task.now }
-    ensures items { (t : Task) → Has tasks.new t ↔ (Has tasks.old t × ¬ (t ≡ task.now)) }
-    ensures ordered { IsOrdered task_cmp tasks.new }
-{
-    match take(tasks, task) {
-        Some(_) => true,
-        None => false,
-    }
-}
-
 // What a process has, once more.
 fn twin_of(entry: &Entry, jobs: usize, stores: &mut Stores) -> Entry
+    requires sound { IsSound entry.now }
     requires stocked { IsStocked stores.old }
     requires many { count entry.now.tasks ≡ jobs }
     requires some { jobs ≤ stores.old.spare_jobs }
     ensures cost { result.cost ≡ entry.now.cost }
     ensures resting { result.resting ≡ entry.now.resting }
     ensures tasks { (t : Task) → Has result.tasks t ↔ Has entry.now.tasks t }
-    ensures ordered { IsOrdered task_cmp entry.now.tasks → IsOrdered task_cmp result.tasks }
+    ensures sound { IsSound result }
     ensures jobs { stores.new.spare_jobs + jobs ≡ stores.old.spare_jobs }
     ensures stocked { IsStocked stores.new }
 {
@@ -202,5 +203,6 @@ fn twin_of(entry: &Entry, jobs: usize, stores: &mut Stores) -> Entry
         cost: entry.cost,
         resting: entry.resting,
         tasks: stores.copy_tasks(&entry.tasks, jobs),
+        marks: entry.marks.copy(),
     }
 }

@@ -3,6 +3,8 @@
 
 mod agenda;
 mod changes;
+mod entry;
+mod marks;
 mod pool;
 mod queue;
 mod search;

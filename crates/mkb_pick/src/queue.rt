@@ -2,10 +2,9 @@
 ghost use Rattle.std.specs.Prelude.{ℕ, ◌≡◌, ◌⊎◌, ◌↔◌, ◌+◌, ◌-◌, ◌<◌, ◌≤◌, max, List, [], length, get_or, insert, Contains, false, IsTrue, OnOk, OnErr, IsOk, MatchOption, vec_len, vec_capacity};
 ghost use Rattle.mkb_pick.specs.declared.tree.Tree.{Leaf};
 ghost use Rattle.kb_label.specs.Names.{Name, add, IsInNameOrder};
-ghost use Rattle.mkb_pick.specs.Trees.{IsOrdered};
-ghost use Rattle.mkb_pick.specs.Tasks.{task_cmp};
-ghost use Rattle.mkb_pick.specs.Queues.{IsQueue, IsAt, IsSeated};
+ghost use Rattle.mkb_pick.specs.Queues.{IsQueue, IsSound, IsAt, IsSeated};
 
+use crate::marks::Marks;
 use crate::task::Task;
 use crate::tree::Tree;
 use kb_label::Process;
@@ -18,17 +17,20 @@ pub(crate) struct Entry {
     pub(crate) cost: u64,
     pub(crate) resting: bool,
     pub(crate) tasks: Tree<Task>,
+    pub(crate) marks: Marks,
 }
 
 impl Entry {
     /// No task, and no rest.
-    pub(crate) fn awake(cost: u64) -> Entry
-        ensures { result ≡ record { cost = cost; resting = false; tasks = Leaf } }
+    pub(crate) fn awake(alloc: Global, cost: u64) -> Entry
+        ensures bare { result ≡ record { cost = cost; resting = false; tasks = Leaf; marks = result.marks } }
+        ensures sound { IsSound result }
     {
         Entry {
             cost,
             resting: false,
             tasks: Tree::Leaf,
+            marks: Marks::new(alloc),
         }
     }
 }
@@ -116,6 +118,7 @@ impl Queue {
         requires queue { IsQueue self.old }
         requires seated { IsSeated self.old name.now }
         ensures entry { IsAt self.old name.now result }
+        ensures sound { IsSound result }
         ensures entries { (n : Name) (e : Entry) → IsAt self.new n e ↔ (IsAt self.old n e × ¬ (n ≡ name.now)) }
         ensures spare { self.new.spare ≡ self.old.spare + 1 }
         ensures queue { IsQueue self.new }
@@ -133,7 +136,7 @@ impl Queue {
         requires queue { IsQueue self.old }
         requires free { ¬ IsSeated self.old name }
         requires room { 0 < self.old.spare }
-        requires tasks { IsOrdered task_cmp entry.tasks }
+        requires sound { IsSound entry }
         ensures entries { (n : Name) (e : Entry) → IsAt self.new n e ↔ (((n ≡ name) × (e ≡ entry)) ⊎ IsAt self.old n e) }
         ensures spare { self.new.spare + 1 ≡ self.old.spare }
         ensures queue { IsQueue self.new }

@@ -1,7 +1,7 @@
 // Tasks: jobs without their processes.
 ghost use Rattle.std.specs.Prelude.{◌≡◌, ◌∷◌, []};
 ghost use Rattle.mkb_model.specs.Jobs.{clashes, is_free, process_of};
-ghost use Rattle.mkb_pick.specs.Tasks.{job_of, work_of, work_key, work_kind};
+ghost use Rattle.mkb_pick.specs.Tasks.{job_of, work_of, work_kind, rule_cmp, numbers_cmp};
 
 use crate::tree::Placed;
 use kb_label::Process;
@@ -54,24 +54,26 @@ impl Work {
         }
     }
 
-    // The kind, the weight and the numbers, as many for each kind.
-    fn key(&self, weight: u32) -> [u32; 6]
-        ensures { result ≡ work_key self.now weight }
+    // The order of the numbers in two of one kind.
+    fn numbers_cmp(&self, other: &Work) -> Ordering
+        ensures { result ≡ numbers_cmp self.now other.now }
     {
-        match *self {
-            Work::Reducing(n) => [0, weight, u32::from(n.0), 0, 0, 0],
-            Work::Orienting(n) => [1, weight, u32::from(n.0), 0, 0, 0],
-            Work::Overlapping(a, b) => [
-                2,
-                weight,
-                u32::from(a.node),
-                u32::from(a.dir),
-                u32::from(b.node),
-                u32::from(b.dir),
-            ],
-            Work::Closing => [3, weight, 0, 0, 0, 0],
+        match (self, other) {
+            (Work::Reducing(n), Work::Reducing(m)) => n.0.cmp(&m.0),
+            (Work::Orienting(n), Work::Orienting(m)) => n.0.cmp(&m.0),
+            (Work::Overlapping(a, b), Work::Overlapping(c, d)) => rule_cmp(a, c).then(rule_cmp(
+                b, d,
+            )),
+            _ => Ordering::Equal,
         }
     }
+}
+
+// The order of rules, by their numbers and their directions.
+fn rule_cmp(rule: &RuleRef, other: &RuleRef) -> Ordering
+    ensures { result ≡ rule_cmp rule.now other.now }
+{
+    rule.node.cmp(&other.node).then(rule.dir.cmp(&other.dir))
 }
 
 /// A job of a process with its weight.
@@ -89,9 +91,11 @@ impl Placed for Task {
     ghost place_cmp = { task_cmp };
 
     fn place(&self, other: &Task) -> Ordering {
-        self.work
-            .key(self.weight)
-            .cmp(&other.work.key(other.weight))
+        let by_kind = self.work.kind().cmp(&other.work.kind());
+        let by_weight = self.weight.cmp(&other.weight);
+        by_kind
+            .then(by_weight)
+            .then(self.work.numbers_cmp(&other.work))
     }
 
     fn blank() -> Task {

@@ -1,4 +1,4 @@
-use Rattle.std.proofs.Common.{rules, ℕ, ◌≡◌, ◌<◌, ◌≤◌, ◌↔◌, inl, inr, refl, sym, true, false}
+use Rattle.std.proofs.Common.{rules, ℕ, ◌≡◌, ◌∙◌, ◌<◌, ◌≤◌, ◌↔◌, inl, inr, refl, sym, true, false}
 use Rattle.std.specs.Prelude.{MatchOption, Option, Some, None, IsTrue}
 use Rattle.std.proofs.lemmas.Bool.{cases_lt}
 use Rattle.mkb_pick.specs.declared.search.Choice.{Choice}
@@ -20,6 +20,13 @@ dearer (Some c) cost h =
 cheaper : (best : Option Choice) (cost : ℕ) → MatchOption best (IsTrue true) (λ c. IsTrue true ↔ (cost < c.cost)) → MatchOption best Unit (λ c. cost < c.cost)
 cheaper None cost h = tt
 cheaper (Some c) cost h = h.0 refl
+
+pub returns-then-entry : goal.returns-then-entry
+returns-then-entry c =
+    let q = c.args.queue.now in
+    let n = item_at q.names.items c.args.place c.requires.within in
+    let e : Entry = c.index-entry.result.now in
+    choice_stays q c.requires.queue c.args.flight.now c.args.place n.0 e (c.requires.within, n.1, sym c.index-entry.ensures) c.args.best.now c.requires.so_far (λ r. let t : true ≡ false = sym c.if-entry.true ∙ r.0 in absurd (cc))
 
 pub returns-then-not-is_cheaper : goal.returns-then-not-is_cheaper
 returns-then-not-is_cheaper c =

@@ -1,8 +1,7 @@
 use Rattle.std.proofs.Common.{◌≡◌, ◌≤◌, sym, ◌∙◌, subst, insert, length, arith}
 use Rattle.kb_label.specs.Names.{add, IsInNameOrder}
 use Rattle.kb_label.proofs.Ordered.{ordered-add}
-use Rattle.mkb_pick.specs.Trees.{IsOrdered}
-use Rattle.mkb_pick.specs.Tasks.{task_cmp}
+use Rattle.mkb_pick.specs.Queues.{IsSound}
 use Rattle.mkb_pick.proofs.Seats.{stands_after_insert, all_after_insert}
 use Rattle.mkb_pick.proofs.queue.Queue.put_in.Goals as goal
 
@@ -22,7 +21,7 @@ returns-clause-queue c =
     record {
       in_order = subst IsInNameOrder (sym (c.insert_at.ensures.items ∙ added)) (ordered-add c.args.name q.names.items is.in_order);
       beside = omega (arith, is.beside, q.names.ok.0, q.entries.ok.0, c.insert_at.new.items.ok.0, c.insert_at-2.new.items.ok.0, c.insert_at.ensures.len, c.insert_at-2.ensures.len);
-      tasks = all_after_insert (λ e. IsOrdered task_cmp e.tasks) q.entries.items c.insert_at-2.new.items.items k c.args.entry c.insert_at-2.ensures.items c.requires.tasks is.tasks;
+      sound = all_after_insert IsSound q.entries.items c.insert_at-2.new.items.items k c.args.entry c.insert_at-2.ensures.items c.requires.sound is.sound;
       room = omega (arith, is.room, c.requires.room, c.insert_at.ensures.len, c.insert_at.ensures.capacity);
       room_beside = omega (arith, is.room_beside, c.requires.room, c.insert_at-2.ensures.len, c.insert_at-2.ensures.capacity);
     }

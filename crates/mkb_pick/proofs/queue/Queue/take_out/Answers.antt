@@ -1,6 +1,5 @@
 use Rattle.std.proofs.Common.{ap, ◌∙◌, remove, arith}
-use Rattle.mkb_pick.specs.Trees.{IsOrdered}
-use Rattle.mkb_pick.specs.Tasks.{task_cmp}
+use Rattle.mkb_pick.specs.Queues.{IsSound}
 use Rattle.mkb_pick.proofs.Seats.{order_after_remove, stands_after_remove, all_after_remove}
 use Rattle.mkb_pick.proofs.queue.Queue.take_out.Goals as goal
 
@@ -22,7 +21,7 @@ returns-clause-queue c =
     record {
       in_order = order_after_remove q.names.items q.entries.items c.args.name.now k is.beside is.in_order at.0 at.1 c.remove.new.self.items names;
       beside = omega (arith, is.beside, q.names.ok.0, q.entries.ok.0, c.remove.new.self.ok.0, c.remove-2.new.self.ok.0, c.remove.ensures.len, c.remove-2.ensures.len, ap (λ v. v.len) c.seek.ensures.names, ap (λ v. v.len) c.seek.ensures.entries);
-      tasks = all_after_remove (λ e. IsOrdered task_cmp e.tasks) q.entries.items c.remove-2.new.self.items k entries is.tasks;
+      sound = all_after_remove IsSound q.entries.items c.remove-2.new.self.items k entries is.sound;
       room = omega (arith, is.room, c.remove.ensures.len, c.remove.ensures.capacity, ap (λ v. v.len) c.seek.ensures.names, ap (λ v. v.cap) c.seek.ensures.names, c.seek.ensures.spare);
       room_beside = omega (arith, is.room_beside, c.remove-2.ensures.len, c.remove-2.ensures.capacity, ap (λ v. v.len) c.seek.ensures.entries, ap (λ v. v.cap) c.seek.ensures.entries, c.seek.ensures.spare);
     }

@@ -1,0 +1,102 @@
+// What changes in what a process has.
+ghost use Rattle.std.specs.Prelude.{ℕ, ◌≡◌, ◌⊎◌, ◌↔◌, IsTrue};
+ghost use Rattle.mkb_pick.specs.Trees.{Has, IsOrdered};
+ghost use Rattle.mkb_pick.specs.Tasks.{task_cmp};
+ghost use Rattle.mkb_pick.specs.Marks.{reducing};
+ghost use Rattle.mkb_pick.specs.declared.task.Work.TheVariants.{Reducing};
+ghost use Rattle.mkb_pick.specs.Queues.{IsSound};
+
+use crate::marks::Mark;
+use crate::queue::Entry;
+use crate::task::{Task, Work};
+use crate::tree::{Node, Tree, put, take};
+use kb_node::NodeId;
+
+impl Entry {
+    /// Adds a task.
+    pub(crate) fn add(&mut self, node: Box<Node<Task>>)
+        requires sound { IsSound self.old }
+        requires absent { ¬ Has self.old.tasks node.value.item }
+        ensures cost { self.new.cost ≡ self.old.cost }
+        ensures resting { self.new.resting ≡ self.old.resting }
+        ensures tasks { (t : Task) → Has self.new.tasks t ↔ ((t ≡ node.value.item) ⊎ Has self.old.tasks t) }
+        ensures sound { IsSound self.new }
+    {
+        let work = node.item.work;
+        put(&mut self.tasks, node);
+        if let Work::Reducing(n) = work {
+            self.marks.add(n);
+        }
+    }
+
+    /// Takes out a task: whether it was there.
+    pub(crate) fn remove(&mut self, task: &Task) -> bool
+        requires sound { IsSound self.old }
+        ensures found { IsTrue result ↔ Has self.old.tasks task.now }
+        ensures cost { self.new.cost ≡ self.old.cost }
+        ensures resting { self.new.resting ≡ self.old.resting }
+        ensures tasks { (t : Task) → Has self.new.tasks t ↔ (Has self.old.tasks t × ¬ (t ≡ task.now)) }
+        ensures sound { IsSound self.new }
+    {
+        let found = remove_from(&mut self.tasks, task);
+        if found {
+            if let Work::Reducing(n) = task.work {
+                self.marks.remove(n);
+            }
+        }
+        found
+    }
+
+    /// Whether there is a reducing of the node.
+    pub(crate) fn is_reducing(&self, n: NodeId) -> bool
+        requires { IsSound self.now }
+        ensures { IsTrue result ↔ ((w : ℕ) × Has self.now.tasks (reducing n.0 w)) }
+    {
+        match self.marks.at(n) {
+            Mark::Absent => false,
+            Mark::Single => true,
+            Mark::Unknown => has_reducing(&self.tasks, n),
+        }
+    }
+}
+
+// Takes a task out of those of a process: whether it was there.
+fn remove_from(tasks: &mut Tree<Task>, task: &Task) -> bool
+    requires { IsOrdered task_cmp tasks.old }
+    ensures found { IsTrue result ↔ Has tasks.old task.now }
+    ensures items { (t : Task) → Has tasks.new t ↔ (Has tasks.old t × ¬ (t ≡ task.now)) }
+    ensures ordered { IsOrdered task_cmp tasks.new }
+{
+    match take(tasks, task) {
+        Some(_) => true,
+        None => false,
+    }
+}
+
+// Whether there is a reducing of the node, by a look at each task.
+fn has_reducing(tasks: &Tree<Task>, n: NodeId) -> bool
+    ensures { IsTrue result ↔ ((w : ℕ) × Has tasks.now (reducing n.0 w)) }
+{
+    match tasks {
+        Tree::Leaf => false,
+        Tree::Fork(top) => {
+            if is_reducing(&top.item.work, n) {
+                return true;
+            }
+            if has_reducing(&top.left, n) {
+                return true;
+            }
+            has_reducing(&top.right, n)
+        }
+    }
+}
+
+// Whether the work is reducing the node.
+fn is_reducing(work: &Work, n: NodeId) -> bool
+    ensures { IsTrue result ↔ (work.now ≡ Reducing n) }
+{
+    match *work {
+        Work::Reducing(m) => m.0 == n.0,
+        _ => false,
+    }
+}
