@@ -102,17 +102,16 @@ pub(crate) fn look_whether_ended(
     ensures exact { OnOk result ((b : Plain) → MayEnd b state.now process.now n → IsListedAs b process.now process.now agenda.old.processes → IsListedAs state.now process.now process.now agenda.new.processes) }
     ensures others { OnOk result (LeavesOthers process.now agenda.old.processes agenda.new.processes) }
 {
-    let reducing = Job::Reduce(*process, n);
-    let weight = weight_of(state, &reducing);
-    if !agenda.has(&reducing, weight) {
+    if !agenda.is_reducing(process, n) {
         return Ok(());
     }
     let seen = Seen::look(state, process, *place)?;
     *place = seen.place.saturating_add(1);
+    let reducing = Job::Reduce(*process, n);
     if seen.is_due(&reducing) {
         return Ok(());
     }
-    agenda.remove(&reducing, weight);
+    agenda.remove(&reducing, weight_of(state, &reducing));
     look_at_closing(agenda, state, process)
 }
 
