@@ -100,11 +100,18 @@ impl Marks {
         }
     }
 
-    // Gives a node its mark; where there is no memory for it, the nodes behind the first ones are unknown from then on.
+    // Gives a node its mark, for which no memory is taken where it is unknown. Where there is none, the nodes behind the
+    // first ones are unknown from then on.
     fn set(&mut self, n: NodeId, mark: Mark)
         ensures { IsSet self.old self.new n.0 mark }
     {
         let place = usize::from(n.0);
+        if self.first.len() <= place {
+            if let Mark::Unknown = mark {
+                self.beyond = Mark::Unknown;
+                return;
+            }
+        }
         if self.reaches(place) {
             self.first[place] = mark;
         } else {
