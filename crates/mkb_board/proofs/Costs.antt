@@ -9,7 +9,7 @@ use Rattle.kb_term.specs.Pair.{Pair}
 use Rattle.kb_term.specs.Signature.{Signature}
 use Rattle.kb_label.specs.Names.{Name}
 use Rattle.mkb_model.specs.Limits.{AreLimited}
-use Rattle.mkb_model.specs.Plain.{Plain, node_numbers, is_equation, is_rule, is_constraint, pair_at, pair_size, node_size, rule_sizes, counted_rules, cost, equations_of, constraints_of}
+use Rattle.mkb_model.specs.Plain.{Plain, node_numbers, is_equation, is_rule, is_constraint, pair_at, pair_size, node_size, rule_sizes, counted_rules, cost}
 use Rattle.mkb_model.specs.declared.settings.Selection.{Selection}
 use Rattle.mkb_model.specs.declared.settings.Selection.TheVariants.{Stated, Size}
 use Rattle.mkb_rules.proofs.Costs.{times_of, shares, rule_shares}
