@@ -1,5 +1,5 @@
 -- The parts of a state after a fork.
-use Rattle.std.specs.Prelude.{ℕ, zero, suc, true, false, List, [], ◌∷◌, ◌≡◌, map}
+use Rattle.std.specs.Prelude.{ℕ, zero, suc, true, false, List, [], ◌∷◌, ◌≡◌, map, unwrap_or}
 use Rattle.kb_cert.specs.declared.certificate.Certificate.{Certificate}
 use Rattle.kb_label.specs.Names.{Name, child, relabel}
 use Rattle.mkb_model.specs.Plain.{Plain, PlainNode, Done, GivenUp as OverFor, Certified}
@@ -59,7 +59,7 @@ pub record IsForkOf (b : Plain) (p : Name) (f : Forked) : Type 0 where
   pub done : with_new_names f.done.items b.done ≡ forked_done p b.done
   pub closed : f.closed ≡ relabel p b.closed
   pub over : lists_of f.over ≡ forked_over p b.over
-  pub asleep : f.asleep ≡ relabel p b.asleep
+  pub asleep : unwrap_or f.asleep b.asleep ≡ relabel p b.asleep
 
 -- the board with these parts
 abbrev pub with_parts : Forked → Plain → Plain
@@ -68,5 +68,5 @@ with_parts f b = record b {
   done = with_new_names f.done.items b.done;
   closed = f.closed;
   over = lists_of f.over;
-  asleep = f.asleep;
+  asleep = unwrap_or f.asleep b.asleep;
 }

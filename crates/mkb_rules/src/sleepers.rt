@@ -1,5 +1,5 @@
 // The processes that sleep.
-ghost use Rattle.std.specs.Prelude.{◌≡◌, ◌<◌, ◌≤◌, [], ◌∷◌, length, insert, is_ok, true, IsOk, IfOk, IfErr, IsTrue, OnOk, OnErr};
+ghost use Rattle.std.specs.Prelude.{◌≡◌, ◌<◌, ◌≤◌, [], ◌∷◌, length, insert, is_ok, unwrap_or, true, IsOk, IfOk, IfErr, IsTrue, OnOk, OnErr};
 ghost use Rattle.kb_label.specs.Kept.{AreAfter, AreBefore};
 ghost use Rattle.kb_label.specs.Names.{add, has, minus, relabel};
 
@@ -124,23 +124,23 @@ impl Sleepers {
         self.names.retain(|name| *name != *p);
     }
 
-    /// Who sleeps after a fork: the children of a sleeping process sleep.
+    /// Who sleeps after a fork: the children of a sleeping process sleep. None where the process doesn't sleep, and nothing changes.
     ///
     /// # Errors
     ///
     /// Want of memory.
-    pub(crate) fn forked(&self, p: &Process) -> Result<Sleepers, AllocError>
+    pub(crate) fn forked(&self, p: &Process) -> Result<Option<Sleepers>, AllocError>
         requires { length p.now < MAX_BITS }
-        ensures { IfOk result (λ sleepers. sleepers ≡ relabel p.now self.now) }
+        ensures { IfOk result (λ sleepers. unwrap_or sleepers self.now ≡ relabel p.now self.now) }
     {
-        let mut sleepers = self.copy()?;
         if !self.has(p) {
-            return Ok(sleepers);
+            return Ok(None);
         }
+        let mut sleepers = self.copy()?;
         sleepers.remove(p);
         sleepers.add(&p.child(true))?;
         sleepers.add(&p.child(false))?;
-        Ok(sleepers)
+        Ok(Some(sleepers))
     }
 
     // The same names again, with as much room.

@@ -31,14 +31,14 @@ use kb_term::{Memory, RuleRef};
 use std::alloc::{AllocError, Global};
 use std::mem;
 
-/// Parts of a state after a fork; of the lists of overlapped rules those alone that change.
+/// Parts of a state after a fork; of the lists of overlapped rules those alone that change, and who sleeps only where that changes.
 #[derive(Drop)]
 pub(crate) struct Forked {
     log: NameLog,
     done: Vec<NewNames>,
     closed: ListLabels,
     over: GivenUp,
-    asleep: Sleepers,
+    asleep: Option<Sleepers>,
 }
 
 /// The names that come into the list of overlapped rules at a place.
@@ -135,7 +135,9 @@ impl State {
         put_new_names(&mut self.done, &mut parts.done);
         mem::swap(&mut self.closed, &mut parts.closed);
         mem::swap(&mut self.over, &mut parts.over);
-        mem::swap(&mut self.asleep, &mut parts.asleep);
+        if let Some(asleep) = &mut parts.asleep {
+            mem::swap(&mut self.asleep, asleep);
+        }
         self.commits = counted_up(self.commits, self.settings.budget);
     }
 
