@@ -57,8 +57,9 @@ impl NameList {
         ensures same { IsTrue result → join self.now other.now ≡ self.now }
     {
         let _ = &self.names;
+        let mut place = 0;
         for i in 0..other.names.len() {
-            if !self.has_kept(&other.names[i]) {
+            if !self.has_kept_from(&other.names[i], &mut place) {
                 return false;
             }
         }
@@ -71,8 +72,9 @@ impl NameList {
         ensures same { IsTrue result → minus other.now self.now ≡ other.now }
     {
         let _ = &other.names;
+        let mut place = 0;
         for i in 0..self.names.len() {
-            if other.has_kept(&self.names[i]) {
+            if other.has_kept_from(&self.names[i], &mut place) {
                 return false;
             }
         }
@@ -84,7 +86,7 @@ impl NameList {
         ensures names { IfOk result (λ names. names.items ≡ self.now) }
         ensures in_order { IsInNameOrder self.now }
     {
-        let mut names = Vec::new(*self.names.allocator());
+        let mut names = Vec::with_capacity(*self.names.allocator(), self.names.len())?;
         for kept in self.names.as_slice() {
             names.push(kept.name())?;
         }
@@ -145,7 +147,9 @@ impl NameList {
     pub(crate) fn minus(&mut self, other: &NameList)
         ensures { self.new ≡ minus self.old other.now }
     {
-        self.names.retain(|name| !other.has_kept(name));
+        let mut place = 0;
+        self.names
+            .retain(|name| !other.has_kept_from(name, &mut place));
     }
 
     /// Puts the two children of a process in its place, where it is named.
@@ -277,14 +281,43 @@ impl NameList {
         name.place_in(self.names.as_slice()).is_ok()
     }
 
-    // The same, where the name is first looked for at a place; the place is left behind it.
+    // The same. The search begins at a place, and leaves the place behind the name.
     fn has_kept_from(&self, name: &KeptName, place: &mut usize) -> bool
         ensures { result ≡ has self.now name.now }
     {
-        if *place < self.names.len() && self.names[*place].beside(name).is_eq() {
-            *place += 1;
-            return true;
+        match self.beside_at(name, *place) {
+            Ordering::Equal => {
+                *place = place.saturating_add(1);
+                true
+            }
+            Ordering::Greater if self.are_before_kept(name, *place) => false,
+            _ => self.has_kept_by_search(name, place),
         }
+    }
+
+    // How the name at the place stands to one that is kept elsewhere; behind the last name is what comes after it.
+    fn beside_at(&self, name: &KeptName, place: usize) -> Ordering
+        ensures equal { result ≡ Equal → has self.now name.now ≡ true }
+        ensures greater { result ≡ Greater → AreAfter self.now place name.now }
+    {
+        if place < self.names.len() {
+            self.names[place].beside(name)
+        } else {
+            Ordering::Greater
+        }
+    }
+
+    // Whether the names before the place come before the name: the last of them does.
+    fn are_before_kept(&self, name: &KeptName, place: usize) -> bool
+        ensures { IsTrue result → AreBefore self.now place name.now }
+    {
+        place == 0 || (place <= self.names.len() && self.names[place - 1].beside(name).is_lt())
+    }
+
+    // Whether the name is here. The search leaves the place behind it.
+    fn has_kept_by_search(&self, name: &KeptName, place: &mut usize) -> bool
+        ensures { result ≡ has self.now name.now }
+    {
         match name.place_in(self.names.as_slice()) {
             Ok(at) => {
                 *place = at.saturating_add(1);

@@ -1,8 +1,8 @@
-use Rattle.std.proofs.Common.{◌≡◌, ◌∙◌, ap, rules, List, Bool, not}
+use Rattle.std.proofs.Common.{◌≡◌, ◌∙◌, ap, refl, rules, List, Bool, not}
 use Rattle.std.specs.Prelude.{filter}
-use Rattle.std.proofs.lemmas.Fn.{filter_same}
 use Rattle.kb_label.specs.Names.{Name, has}
 use Rattle.kb_label.proofs.Ordered.{ordered-filter}
+use Rattle.kb_label.proofs.Retained.{filtered_under}
 use Rattle.kb_label.proofs.name_list.NameList.minus.Goals as goal
 
 test : List Name → Name → Bool
@@ -10,7 +10,7 @@ test m = λ q. not (has m q)
 
 kept : (c : goal.After-retain) → c.retain.new.self.items ≡ filter (test c.args.other.now) c.self.inside.names.items
 unfolding test
-kept c = filter_same _ (test c.args.other.now) _ (λ x b f' k. search rules) _ _ c.retain.ensures.filtered
+kept c = filtered_under _ (λ f. f.0 ≡ c.args.other) (test c.args.other.now) (λ f x b g i k. search rules) _ _ _ refl c.retain.ensures.filtered
 
 pub invariant_of-self : goal.invariant_of-self
 invariant_of-self c = rw (kept c) (ordered-filter (test c.args.other.now) c.self.inside.names.items c.self.invariant)
