@@ -1,5 +1,5 @@
 // Comparing signatures and lists of rules.
-ghost use Rattle.std.specs.Prelude.{◌≡◌, All, Contains, IsTrue};
+ghost use Rattle.std.specs.Prelude.{◌≡◌, ◌<◌, length, All, Contains, IfSome, IsTrue};
 
 use kb_term::{Rule, Signature};
 
@@ -24,23 +24,32 @@ pub(crate) fn is_same_signature(a: &Signature, b: &Signature) -> bool
 pub(crate) fn are_among(some: &[Rule], rules: &[Rule]) -> bool
     ensures { IsTrue result → All (Contains rules.now) some.now }
 {
+    let mut next = 0;
     for i in 0..some.len() {
-        if !is_among(&some[i], rules) {
-            return false;
+        match place_from(&some[i], rules, next) {
+            Some(place) => next = place + 1,
+            None => return false,
         }
     }
     true
 }
 
-fn is_among(rule: &Rule, rules: &[Rule]) -> bool
-    ensures { IsTrue result → Contains rules.now rule.now }
+// Where the rule stands among these, looked for from a place on, and then before it.
+fn place_from(rule: &Rule, rules: &[Rule], from: usize) -> Option<usize>
+    ensures there { IfSome result (λ place. place < length rules.now) }
+    ensures found { IfSome result (λ _. Contains rules.now rule.now) }
 {
-    for other in rules {
-        if is_same_rule(rule, other) {
-            return true;
+    for place in from..rules.len() {
+        if is_same_rule(rule, &rules[place]) {
+            return Some(place);
         }
     }
-    false
+    for place in 0..from.min(rules.len()) {
+        if is_same_rule(rule, &rules[place]) {
+            return Some(place);
+        }
+    }
+    None
 }
 
 fn is_same_rule(a: &Rule, b: &Rule) -> bool
