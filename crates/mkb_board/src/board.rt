@@ -16,14 +16,15 @@ ghost use Rattle.mkb_board.specs.Boards.{IsLegalBoard, takes_in, drops_in, has_h
 use crate::choosing;
 use crate::cost::{cost, place_of};
 use crate::finishing::process_of;
-use crate::normal::{Normal, nothing_noted};
 use crate::shelf::Shelf;
 use crate::working::{Placed, first_alone};
 use kb_cert::Certificate;
 use kb_label::{Labels, ListLabels, Living, NameLog, Process, Verdict};
 use kb_node::{Job, NodeTable, View};
 use kb_term::{Memory, Problem};
+use mkb_agenda::agenda_of;
 use mkb_model::{Entry, Settings, Ticket};
+use mkb_pick::Agenda;
 use mkb_rules::State;
 use std::alloc::Global;
 use std::marker::Model;
@@ -41,7 +42,7 @@ pub struct Board {
     pub(crate) taken: u64,
     pub(crate) dropped: u64,
     pub(crate) halted: bool,
-    pub(crate) normals: Vec<Normal>,
+    pub(crate) agenda: Option<Agenda>,
     pub(crate) shelf: Shelf,
     pub(crate) working: Vec<Placed>,
 }
@@ -52,7 +53,7 @@ impl Model for Board {
     ghost use Rattle.kb_term.specs.Coding.{coded_pair, coded_problem, coded_tree};
     ghost use Rattle.mkb_model.specs.Verdicts.{verdict as verdict_on};
     ghost use Rattle.mkb_board.specs.Boards.{Seen, seen, IsBoard, owed};
-    ghost use Rattle.mkb_board.specs.Normal.{AreAllNormal};
+    ghost use Rattle.mkb_board.specs.Listed.{IsAgenda};
     ghost use Rattle.mkb_board.specs.Shelf.{HoldsRead};
     ghost use Rattle.mkb_board.specs.Working.{IsWorking};
 
@@ -62,7 +63,7 @@ impl Model for Board {
 
     ghost view = { λ b. seen b.state b.flight.items b.journal.items };
 
-    ghost invariant = { λ b. IsBoard (seen b.state b.flight.items b.journal.items) b.taken b.dropped b.halted × (vec_len b.journal + owed (vec_len b.flight) b.halted ≤ vec_capacity b.journal) × (b.verdict ≡ verdict_on b.state) × AreAllNormal b.state b.normals.items × HoldsRead b.state b.shelf × IsWorking b.state b.working };
+    ghost invariant = { λ b. IsBoard (seen b.state b.flight.items b.journal.items) b.taken b.dropped b.halted × (vec_len b.journal + owed (vec_len b.flight) b.halted ≤ vec_capacity b.journal) × (b.verdict ≡ verdict_on b.state) × IsAgenda b.state b.agenda × HoldsRead b.state b.shelf × IsWorking b.state b.working };
 }
 
 impl Board {
@@ -76,10 +77,10 @@ impl Board {
         ensures plain { IfOk result (λ b. b.plain ≡ opening problem settings) }
         ensures journal { IfOk result (λ b. b.journal ≡ []) }
     {
-        let normals = nothing_noted(alloc)?;
         let journal = Vec::with_capacity(alloc, 1)?;
         let state = State::start(alloc, problem, settings)?;
         let working = first_alone(alloc)?;
+        let agenda = agenda_of(alloc, &state).ok();
         let verdict = choosing::verdict(&state, working.as_slice(), None);
         Ok(Board {
             state,
@@ -89,7 +90,7 @@ impl Board {
             taken: 0,
             dropped: 0,
             halted: false,
-            normals,
+            agenda,
             shelf: Shelf::new(alloc),
             working,
         })
