@@ -1,5 +1,5 @@
 // The board: the state, the tickets in flight and the journal.
-ghost use Rattle.std.specs.Prelude.{◌≡◌, ◌≤◌, ◌+◌, ◌++◌, ◌∷◌, ◌==◌, [], length, map, filter, not, Some, Contains, IsTrue, IfOk, if◌then◌else◌, vec_len};
+ghost use Rattle.std.specs.Prelude.{◌≡◌, ◌≤◌, ◌+◌, ◌++◌, ◌∷◌, ◌==◌, [], length, map, filter, not, Some, Contains, IsTrue, IfOk, IfSome, if◌then◌else◌, vec_len};
 ghost use Rattle.mkb_model.specs.declared.entry.Ticket.{Ticket};
 ghost use Rattle.kb_term.specs.Signature.{IsWithinLimits};
 ghost use Rattle.kb_cert.specs.Family.{Orders, IsFirstOrder};
@@ -11,6 +11,7 @@ ghost use Rattle.mkb_model.specs.Journals.{opening, landed};
 ghost use Rattle.mkb_model.specs.Verdicts.{verdict};
 ghost use Rattle.mkb_model.specs.declared.entry.Entry.TheVariants.{Abandon, Halt};
 ghost use Rattle.mkb_rules.specs.Parts.{plain_nodes};
+ghost use Rattle.mkb_agenda.specs.Agendas.{IsAgendaOf};
 ghost use Rattle.mkb_board.specs.Boards.{IsLegalBoard, takes_in, drops_in, has_halt};
 
 use crate::choosing;
@@ -32,7 +33,8 @@ use std::marker::Model;
 /// The board that workers share. Contracts see the plain board and the journal that led to it.
 ///
 /// The room for the end of each ticket in flight and for a halt is kept, so neither takes memory. The verdict is found once
-/// for each commit, and who is worked on is kept from commit to commit.
+/// for each commit, and who is worked on is kept from commit to commit. So is the agenda of the jobs that are due, where memory allows:
+/// it looks again at those alone that a commit may have changed.
 #[derive(Drop)]
 pub struct Board {
     pub(crate) state: State,
@@ -48,7 +50,7 @@ pub struct Board {
 }
 
 impl Model for Board {
-    ghost use Rattle.std.specs.Prelude.{vec_len, vec_capacity, ◌+◌, ◌≤◌, ◌≡◌};
+    ghost use Rattle.std.specs.Prelude.{vec_len, vec_capacity, ◌+◌, ◌≤◌, ◌≡◌, []};
     ghost use Rattle.std.specs.Coded.{codes};
     ghost use Rattle.kb_term.specs.Coding.{coded_pair, coded_problem, coded_tree};
     ghost use Rattle.mkb_model.specs.Verdicts.{verdict as verdict_on};
@@ -63,7 +65,7 @@ impl Model for Board {
 
     ghost view = { λ b. seen b.state b.flight.items b.journal.items };
 
-    ghost invariant = { λ b. IsBoard (seen b.state b.flight.items b.journal.items) b.taken b.dropped b.halted × (vec_len b.journal + owed (vec_len b.flight) b.halted ≤ vec_capacity b.journal) × (b.verdict ≡ verdict_on b.state) × IsAgenda b.state b.agenda × HoldsRead b.state b.shelf × IsWorking b.state b.working };
+    ghost invariant = { λ b. IsBoard (seen b.state b.flight.items b.journal.items) b.taken b.dropped b.halted × (vec_len b.journal + owed (vec_len b.flight) b.halted ≤ vec_capacity b.journal) × (b.verdict ≡ verdict_on b.state) × IsAgenda b.state b.agenda × HoldsRead b.state b.shelf × IsWorking b.state b.working × (b.state.flight ≡ []) };
 }
 
 impl Board {
@@ -188,6 +190,14 @@ impl Board {
         ensures { result ≡ length self.now.plain.asleep }
     {
         self.state.sleepers().len() as u32
+    }
+
+    /// The jobs that are due, by processes: exact where memory allowed to keep them, and none where it didn't, until the next take
+    /// makes them anew.
+    pub fn agenda(&self) -> Option<&Agenda>
+        ensures { IfSome result (λ agenda. IsAgendaOf self.now.plain agenda.now.processes) }
+    {
+        self.agenda.as_ref()
     }
 
     /// What the job's process costs. It goes over the nodes, and takes no memory.

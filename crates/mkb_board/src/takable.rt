@@ -20,7 +20,7 @@ use mkb_agenda::{is_open_to, roles_by};
 use mkb_rules::{Roles, State};
 
 /// Whether there is a first job beside those in flight. It takes no memory, but goes over all nodes again and again, so it is for
-/// where a search finds no memory.
+/// where no memory is found to ask the agenda.
 pub(crate) fn has_first(state: &State, flight: &[Ticket]) -> bool
     requires { ClosedRest state.now }
     ensures { result ≡ is_some (first_job (record state.now { flight = flight.now })) }

@@ -20,7 +20,8 @@ use mkb_model::{Entry, Ticket};
 use std::alloc::{AllocError, Global};
 
 impl Board {
-    /// Takes the first job for a worker: the least due job that clashes with none in flight.
+    /// Takes the first job for a worker: the least due job that clashes with none in flight. It asks the agenda, which goes over the
+    /// processes once; where none is kept it is made anew.
     ///
     /// Where it gives no ticket it changes nothing, and wants no memory: where a verdict stands, where a halt was made, and where no
     /// job may be taken.

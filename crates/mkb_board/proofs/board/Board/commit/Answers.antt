@@ -16,10 +16,10 @@ use Rattle.mkb_board.specs.declared.answers.Finished.TheVariants.{Committed}
 use Rattle.mkb_board.proofs.Growing.{after_push, owed_less, owed_fewer}
 use Rattle.mkb_board.proofs.Ends.{commit_board, entry_flying, limit_flying, lands}
 use Rattle.mkb_board.specs.Choosing.{ClosedRest}
-use Rattle.mkb_board.specs.Normal.{AreAllNormal}
 use Rattle.mkb_board.specs.Shelf.{HoldsRead}
 use Rattle.mkb_board.proofs.Kept.{holds_after}
-use Rattle.mkb_board.proofs.Ready.{state_applicable, state_budget, acted_labels, acted_limited, acted_rest, effect_rest}
+use Rattle.mkb_board.proofs.Listed.{followed, nodes_left, nothing_flies}
+use Rattle.mkb_board.proofs.Ready.{state_applicable, state_budget, state_named, acted_labels, acted_limited, acted_rest, effect_rest}
 use Rattle.mkb_board.specs.Working.{processes_in}
 use Rattle.mkb_board.specs.declared.working.Placed.{Placed}
 use Rattle.mkb_board.proofs.Following.{completes_on, short_fork, works_on}
@@ -146,9 +146,10 @@ invariant_of-self-2 c =
           (lands c.self.inside.state c.settle.new.state c.self.inside.flight.items c.land.new.flight.items c.args.proposal c.args.ticket.now.number (c.settle.ensures.settled ∙ ap settle c.in-Ok.ensures.ok.0) c.land.ensures.items) entry,
       omega (arith, c.push.ensures.capacity, len, c.self.invariant.1, owed_fewer (vec_len c.land.new.flight) (vec_len c.self.inside.flight) c.self.inside.halted fewer),
       c.verdict-self-inside.ensures,
-      subst {A = Plain} (λ z. AreAllNormal z c.turn_away.new.normals.items) (sym (c.settle.ensures.settled ∙ ap settle c.in-Ok.ensures.ok.0)) (c.turn_away.ensures c.self.inside.state c.self.invariant.3),
+      c.settle.ensures.agenda,
       subst {A = Plain} (λ z. HoldsRead z c.self.inside.shelf) (sym (c.settle.ensures.settled ∙ ap settle c.in-Ok.ensures.ok.0)) (holds_after c.self.inside.state c.args.proposal c.self.inside.shelf c.self.invariant.4),
       c.settle.ensures.works,
+      ap (λ (z : Plain). z.flight) (c.settle.ensures.settled ∙ ap settle c.in-Ok.ensures.ok.0) ∙ nothing_flies c.self.inside.state c.args.proposal c.self.invariant.6,
     )
 
 pub returns-clause-ok : goal.returns-clause-ok
@@ -166,3 +167,10 @@ returns-clause-ok c =
       lands c.self.inside.state c.settle.new.state c.self.inside.flight.items c.land.new.flight.items c.args.proposal c.args.ticket.now.number (c.settle.ensures.settled ∙ ap settle c.in-Ok.ensures.ok.0) c.land.ensures.items,
       items ∙ ap (λ (z : Effect). c.self.inside.journal.items ++ Commit c.args.ticket.now.worker c.args.ticket.now.number z ∷ []) effects,
     )
+
+pub effect_label-requires : goal.effect_label-requires
+effect_label-requires c =
+    state_named c.self.inside.state c.self.inside.flight.items c.self.inside.journal.items c.args.ticket.now c.args.proposal c.self.invariant.0.legal
+    (subst {A = Seen} (λ z. verdict z.plain ≡ None) (sym c.self.view_is) c.requires.no_verdict)
+    (subst {A = Seen} (λ z. Contains z.plain.flight c.args.ticket.now) (sym c.self.view_is) c.requires.flying)
+    (subst {A = Seen} (λ z. IsProposalOf z c.args.ticket.now c.args.proposal) (sym c.self.view_is) c.requires.proposed)
