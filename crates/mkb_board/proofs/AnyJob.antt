@@ -16,13 +16,12 @@ use Rattle.mkb_model.specs.declared.entry.Ticket.{Ticket}
 use Rattle.mkb_rules.specs.Roles.{roles_of}
 use Rattle.mkb_rules.specs.declared.roles.Roles.{Roles}
 use Rattle.mkb_board.specs.Choosing.{first_choice, is_choice, jobs_of, merged}
-use Rattle.mkb_board.specs.Normal.{is_open_to}
-use Rattle.mkb_board.proofs.Better.{drop_at}
+use Rattle.mkb_agenda.specs.Open.{is_open_to}
+use Rattle.mkb_agenda.proofs.OpenRules.{reducible_by}
 use Rattle.mkb_board.proofs.Choices.{choice_parts, open_in, open_works}
 use Rattle.mkb_board.proofs.Firsts.{first_as, least_free, least_step}
 use Rattle.mkb_board.proofs.Idle.{true_and, working_so}
-use Rattle.mkb_board.proofs.Irreducible.{any_alike, reducible_by}
-use Rattle.mkb_board.proofs.Picking.{any_filter, numbers_step}
+use Rattle.mkb_board.proofs.Picking.{any_alike, any_filter, drop_at, numbers_step}
 
 -- ---- searches
 

@@ -89,7 +89,7 @@ dropped_flying b f (Limit (Orient p n) cause) = refl
 dropped_flying b f (Limit (Overlap p a c) cause) = refl
 dropped_flying b f (Limit (Close p) cause) = refl
 
-label_flying : (b : Plain) (f : List Ticket) (x : Proposed) → effect_label (record b { flight = f }) x ≡ effect_label b x
+pub label_flying : (b : Plain) (f : List Ticket) (x : Proposed) → effect_label (record b { flight = f }) x ≡ effect_label b x
 label_flying b f (Facts fs) = refl
 label_flying b f (Rewrite n w at a found t) = refl
 label_flying b f (One p n d c) = refl

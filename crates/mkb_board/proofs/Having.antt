@@ -59,16 +59,6 @@ no_constraints b p n e =
     let d = free_labels b.nodes n p e in
     ap₂ (λ (x y : Bool). cond x (forth ∷ cond y (back ∷ []) []) (cond y (back ∷ []) [])) d.0 d.1
 
--- nothing is to be reduced there
-pub unused_reduce : (b : Plain) (flight : List Job) (p : Name) (n : ℕ) → is_in_use (roles_of b p n) ≡ false → is_choice b flight (Reduce p (record { 0 = n })) ≡ false
-unused_reduce b flight p n e = ap (λ (x : Bool). (x && is_reducible b p n) && is_free flight (Reduce p (record { 0 = n }))) e
-
--- nor oriented
-pub unused_orient : (b : Plain) (flight : List Job) (p : Name) (n : ℕ) → is_in_use (roles_of b p n) ≡ false → is_choice b flight (Orient p (record { 0 = n })) ≡ false
-unused_orient b flight p n e =
-    let one = or_parts (is_equation b p n) (is_rule b p (record { node = n; dir = 0 }) || is_rule b p (record { node = n; dir = 1 })) e in
-    ap (λ (x : Bool). (x && not (has (label b n X) p)) && is_free flight (Orient p (record { 0 = n }))) one.0
-
 -- ---- lists of nodes
 
 module _ (used : ℕ → Bool) where
@@ -80,24 +70,6 @@ module _ (used : ℕ → Bool) where
       go : (t : Bool) → has x ≡ t → filter used (filter has xs) ≡ filter used xs → filter used (cond t (x ∷ filter has xs) (filter has xs)) ≡ cond (used x) (x ∷ filter used xs) (filter used xs)
       go true e ih = ap (λ (l : List ℕ). cond (used x) (x ∷ l) l) ih
       go false e ih = ih ∙ sym (ap (λ (u : Bool). cond u (x ∷ filter used xs) (filter used xs)) (none x e))
-
-  -- the first that serves is among them
-  pub find_kept : {A : Type 0} (q : A → Bool) (g : ℕ → A) → ((n : ℕ) → used n ≡ false → q (g n) ≡ false) → (xs : List ℕ) → find q (map g xs) ≡ find q (map g (filter used xs))
-  find_kept q g none [] = refl
-  find_kept q g none (x ∷ xs) = go (used x) refl (find_kept q g none xs)
-    where
-      go : (t : Bool) → used x ≡ t → find q (map g xs) ≡ find q (map g (filter used xs)) → cond (q (g x)) (Some (g x)) (find q (map g xs)) ≡ find q (map g (cond t (x ∷ filter used xs) (filter used xs)))
-      go true e ih = ap (λ o. cond (q (g x)) (Some (g x)) o) ih
-      go false e ih = ap (λ (u : Bool). cond u (Some (g x)) (find q (map g xs))) (none x e) ∙ ih
-
-  -- those that serve are among them
-  pub filter_mapped : {A : Type 0} (q : A → Bool) (g : ℕ → A) → ((n : ℕ) → used n ≡ false → q (g n) ≡ false) → (xs : List ℕ) → filter q (map g xs) ≡ filter q (map g (filter used xs))
-  filter_mapped q g none [] = refl
-  filter_mapped {A = A} q g none (x ∷ xs) = go (used x) refl (filter_mapped q g none xs)
-    where
-      go : (t : Bool) → used x ≡ t → filter q (map g xs) ≡ filter q (map g (filter used xs)) → cond (q (g x)) (g x ∷ filter q (map g xs)) (filter q (map g xs)) ≡ filter q (map g (cond t (x ∷ filter used xs) (filter used xs)))
-      go true e ih = ap (λ (ys : List A). cond (q (g x)) (g x ∷ ys) ys) ih
-      go false e ih = ap (λ (u : Bool). cond u (g x ∷ filter q (map g xs)) (filter q (map g xs))) (none x e) ∙ ih
 
   -- the rules are those in them
   pub rules_kept : (t : RuleRef → Bool) → ((n : ℕ) → used n ≡ false → filter t (directions n) ≡ []) → (xs : List ℕ) → filter t (flat_map directions (filter used xs)) ≡ filter t (flat_map directions xs)
@@ -161,27 +133,3 @@ constrained_there b l i d a h = listed_there b a.has l i d a.is h
 
 pub held_there : (b : Plain) (p : Name) (l : List NodeId) (i : ℕ) (d : NodeId) → map (λ (n : NodeId). n.0) l ≡ held_of b p → i < length l → (get_or l i d).0 < length b.nodes
 held_there b p l i d e h = listed_there b (λ n. is_in_use (roles_of b p n)) l i d e h
-
--- there are as many as the process has
-pub held_length : (b : Plain) (p : Name) (l : List NodeId) → map (λ (n : NodeId). n.0) l ≡ held_of b p → length l ≡ length (held_of b p)
-held_length b p l e = sym (length-map l (λ (n : NodeId). n.0)) ∙ ap length e
-
--- each has its number
-pub held_number : (b : Plain) (p : Name) (l held : List NodeId) (i : ℕ) → l ≡ held → map (λ (n : NodeId). n.0) held ≡ held_of b p → (get_or l i (record { 0 = 0 })).0 ≡ get_or (held_of b p) i 0
-held_number b p l held i same e =
-    let d : NodeId = record { 0 = 0 } in
-    ap (λ (ns : List NodeId). (get_or ns i d).0) same ∙ sym (get_or-map (λ (n : NodeId). n.0) held i d) ∙ ap (λ (ns : List ℕ). get_or ns i 0) e
-
--- ---- the first job of a list of nodes
-
--- those of the nodes that the process has are those of all
-pub first_held : (b : Plain) (p : Name) (q : Job → Bool) (g : NodeId → Job) (l : List NodeId) → map (λ (n : NodeId). n.0) l ≡ held_of b p → ((n : ℕ) → is_in_use (roles_of b p n) ≡ false → q (g (record { 0 = n })) ≡ false)
-    → find q (map (λ n. g (record { 0 = n })) (node_numbers b)) ≡ find q (map g l)
-first_held b p q g l e none =
-    find_kept (λ n. is_in_use (roles_of b p n)) q (λ n. g (record { 0 = n })) none (node_numbers b)
-    ∙ ap (λ (ns : List ℕ). find q (map (λ n. g (record { 0 = n })) ns)) (sym e)
-    ∙ ap (find q) (twice l)
-  where
-    twice : (ks : List NodeId) → map (λ (n : ℕ). g (record { 0 = n })) (map (λ (n : NodeId). n.0) ks) ≡ map g ks
-    twice [] = refl
-    twice (k ∷ ks) = ap (λ (js : List Job). g k ∷ js) (twice ks)

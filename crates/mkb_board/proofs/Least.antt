@@ -67,41 +67,6 @@ le_or_back {A = A} {R = R} o x y h = go (R x y) refl h
     go Equal e h = clash refl h
     go Greater e h = ap is_le (o.antisymm y x ∙ ap ordering_reverse e)
 
--- ---- sorted lists
-
--- each two stand so
-abbrev pub IsSorted : {A : Type 0} → (A → A → Type 0) → List A → Type 0
-IsSorted P [] = Unit {0}
-IsSorted {A = A} P (x ∷ xs) = ((y : A) → Contains xs y → P x y) × IsSorted P xs
-
-pub sorted_append : {A : Type 0} (P : A → A → Type 0) (xs ys : List A) → IsSorted P xs → IsSorted P ys → ((x y : A) → Contains xs x → Contains ys y → P x y) → IsSorted P (xs ++ ys)
-sorted_append P [] ys h k all = k
-sorted_append P (x ∷ xs) ys h k all = (
-  λ y i. ⊎_elim (λ u. h.0 y u) (λ v. all x y (contains_first x xs) v) (Contains-append_cases xs ys y i),
-  sorted_append P xs ys h.1 k (λ w y i. all w y (contains_behind x xs w i)),
-)
-
-pub sorted_filter : {A : Type 0} (P : A → A → Type 0) (t : A → Bool) (xs : List A) → IsSorted P xs → IsSorted P (filter t xs)
-sorted_filter P t [] h = tt
-sorted_filter P t (x ∷ xs) h = go (sorted_filter P t xs h.1) (t x)
-  where
-    go : IsSorted P (filter t xs) → (b : Bool) → IsSorted P (cond b (x ∷ filter t xs) (filter t xs))
-    go rec true = (λ y i. h.0 y (filter_in t xs y i).0, rec)
-    go rec false = rec
-
-pub sorted_map : {A B : Type 0} (Q : A → A → Type 0) (P : B → B → Type 0) (f : A → B) → ((x y : A) → Q x y → P (f x) (f y)) → (xs : List A) → IsSorted Q xs → IsSorted P (map f xs)
-sorted_map Q P f h [] k = tt
-sorted_map {A = A} {B = B} Q P f h (x ∷ xs) k = (
-  λ y i. let m = contains_mapped f xs y i in subst {A = B} (λ z. P (f x) z) m.2 (h x m.0 (k.0 m.0 m.1)),
-  sorted_map Q P f h xs k.1,
-)
-
-pub sorted_flat : {A B : Type 0} (Q : A → A → Type 0) (P : B → B → Type 0) (F : A → List B) → ((x : A) → IsSorted P (F x)) → ((x y : A) → Q x y → (u v : B) → Contains (F x) u → Contains (F y) v → P u v) → (xs : List A) → IsSorted Q xs → IsSorted P (flat_map F xs)
-sorted_flat Q P F each h [] k = tt
-sorted_flat Q P F each h (x ∷ xs) k =
-    sorted_append P (F x) (flat_map F xs) (each x) (sorted_flat Q P F each h xs k.1)
-    (λ u v i j. let m = contains_flat_map_back F xs v j in h x m.0 (k.0 m.0 m.1) u v i m.2)
-
 -- ---- the least of lists that stand one after another
 
 module _ {A : Type 0} (R : A → A → Ordering) where
@@ -126,65 +91,6 @@ module _ {A : Type 0} (R : A → A → Ordering) where
   merged_both o (Some x) (Some y) None = refl
   merged_both o (Some x) (Some y) (Some z) = ap Some (lesser_both o x y z)
 
-  pub merged_none : (a : Option A) → merged R a None ≡ a
-  merged_none None = refl
-  merged_none (Some x) = refl
-
   pub least_append : IsTotalOrder R → (xs ys : List A) → least R (xs ++ ys) ≡ merged R (least R xs) (least R ys)
   least_append o [] ys = refl
   least_append o (x ∷ xs) ys = ap (merged R (Some x)) (least_append o xs ys) ∙ sym (merged_both o (Some x) (least R xs) (least R ys))
-
-  -- none of the others stands before
-  abbrev pub IsFirst : A → List A → Type 0
-  IsFirst x ys = (y : A) → Contains ys y → is_le (R x y) ≡ true
-
-  -- each stands in its place
-  abbrev pub IsRising : List A → Type 0
-  IsRising xs = IsSorted (λ x y. is_le (R x y) ≡ true) xs
-
-  pub least_in : (xs : List A) (y : A) → least R xs ≡ Some y → Contains xs y
-  least_in [] y e = none_some e
-  least_in (x ∷ xs) y e = go (λ z f. least_in xs z f) (least R xs) refl e
-    where
-      go : ((z : A) → least R xs ≡ Some z → Contains xs z) → (o : Option A) → least R xs ≡ o → Some (option_map_or (lesser R x) o x) ≡ Some y → Contains (x ∷ xs) y
-      go rec None f e = subst {A = A} (Contains (x ∷ xs)) (some_is e) (contains_first x xs)
-      go rec (Some z) f e = by (is_le (R x z)) refl
-        where
-          by : (b : Bool) → is_le (R x z) ≡ b → Contains (x ∷ xs) y
-          by true k = subst {A = A} (Contains (x ∷ xs)) (sym (pick x z true k) ∙ some_is e) (contains_first x xs)
-          by false k = subst {A = A} (Contains (x ∷ xs)) (sym (pick x z false k) ∙ some_is e) (contains_behind x xs z (rec z f))
-
-  first_least : (x : A) (xs : List A) → IsFirst x xs → least R (x ∷ xs) ≡ Some x
-  first_least x xs h = go (least R xs) refl
-    where
-      go : (o : Option A) → least R xs ≡ o → least R (x ∷ xs) ≡ Some x
-      go None f = ap (λ o. Some (option_map_or (lesser R x) o x)) f
-      go (Some z) f = ap (λ o. Some (option_map_or (lesser R x) o x)) f ∙ ap Some (pick x z true (h z (least_in xs z f)))
-
-  -- of a rising list the first that passes is the least that does
-  pub least_found : (t : A → Bool) (xs : List A) → IsRising xs → least R (filter t xs) ≡ find t xs
-  least_found t [] h = refl
-  least_found t (x ∷ xs) h = go (least_found t xs h.1) (t x) refl
-    where
-      go : least R (filter t xs) ≡ find t xs → (b : Bool) → t x ≡ b → least R (filter t (x ∷ xs)) ≡ find t (x ∷ xs)
-      go rec true e = ap (λ b. least R (cond b (x ∷ filter t xs) (filter t xs))) e ∙ first_least x (filter t xs) (λ y i. h.0 y (filter_in t xs y i).0) ∙ sym (ap (λ b. cond b (Some x) (find t xs)) e)
-      go rec false e = ap (λ b. least R (cond b (x ∷ filter t xs) (filter t xs))) e ∙ rec ∙ sym (ap (λ b. cond b (Some x) (find t xs)) e)
-
-  -- the least stands behind none
-  pub least_below : IsTotalOrder R → (xs : List A) (y z : A) → least R xs ≡ Some y → Contains xs z → is_le (R y z) ≡ true
-  least_below o [] y z e i = none_in i
-  least_below o (x ∷ xs) y z e i = go (λ w f k. least_below o xs w z f k) (least R xs) refl e (contains_cases x xs z i)
-    where
-      go : ((w : A) → least R xs ≡ Some w → Contains xs z → is_le (R w z) ≡ true) → (s : Option A) → least R xs ≡ s → Some (option_map_or (lesser R x) s x) ≡ Some y → (x ≡ z) ⊎ Contains xs z → is_le (R y z) ≡ true
-      go rec None f e (inl h) = sym (ap₂ (λ u v. is_le (R u v)) (some_is e) h) ∙ ap is_le (tied_itself o x)
-      go rec None f e (inr k) = none_in (subst {A = List A} (λ l. Contains l z) (least-none R xs f) k)
-      go rec (Some w) f e h = by (is_le (R x w)) refl h
-        where
-          is : (b : Bool) → is_le (R x w) ≡ b → is_le (R (cond b x w) z) ≡ true → is_le (R y z) ≡ true
-          is b k h = subst {A = A} (λ u. is_le (R u z) ≡ true) (sym (pick x w b k) ∙ some_is e) h
-
-          by : (b : Bool) → is_le (R x w) ≡ b → (x ≡ z) ⊎ Contains xs z → is_le (R y z) ≡ true
-          by true k (inl h) = is true k (sym (ap (λ u. is_le (R x u)) h) ∙ ap is_le (tied_itself o x))
-          by true k (inr i) = is true k (le_trans_of o x w z k (rec w f i))
-          by false k (inl h) = is false k (subst {A = A} (λ u. is_le (R w u) ≡ true) h (le_or_back o x w k))
-          by false k (inr i) = is false k (rec w f i)

@@ -26,7 +26,7 @@ use Rattle.kb_jobs.specs.Rules.{listed}
 use Rattle.kb_jobs.specs.Taken.{IsTakenReduce}
 use Rattle.kb_jobs.specs.declared.reducing.ReduceSnapshot.{ReduceSnapshot}
 use Rattle.mkb_rules.specs.Roles.{roles_of}
-use Rattle.mkb_board.specs.Normal.{is_open_in, is_open_to, is_usable_in}
+use Rattle.mkb_agenda.specs.Open.{is_open_in, is_open_to, is_usable_in}
 use Rattle.mkb_board.specs.Snapshots.{open_rules, unknown_on}
 use Rattle.mkb_rules.specs.declared.roles.Roles.{Roles}
 

@@ -9,7 +9,7 @@ use Rattle.kb_label.specs.Names.{Name, add, minus, name_cmp, IsInNameOrder}
 use Rattle.kb_label.proofs.Ordered.{ordered-without}
 use Rattle.mkb_board.specs.Working.{processes_in}
 use Rattle.mkb_board.specs.declared.working.Placed.{Placed}
-use Rattle.mkb_board.proofs.Better.{drop_at}
+use Rattle.mkb_board.proofs.Picking.{drop_at}
 
 pub map-remove : {A B : Type 0} (f : A → B) (l : List A) (k : ℕ) → map f (remove l k) ≡ remove (map f l) k
 map-remove f l k = map-append f (take k l) (drop (suc k) l) ∙ ap₂ (λ a b. a ++ b) (sym (take-map f k l)) (sym (drop-map f (suc k) l))

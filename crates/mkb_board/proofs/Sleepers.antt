@@ -33,7 +33,7 @@ use Rattle.mkb_model.proofs.labels.Sleepers.{in_waiting, in_working, label_aslee
 use Rattle.mkb_board.specs.Choosing.{costed_cmp, merged}
 use Rattle.mkb_board.specs.declared.settling.Costed.{Costed}
 use Rattle.mkb_board.proofs.Asleep.{asleep_at, awake_at}
-use Rattle.mkb_board.proofs.Better.{drop_at}
+use Rattle.mkb_board.proofs.Picking.{drop_at}
 use Rattle.mkb_board.proofs.Least.{merged_both}
 
 -- ---- how many names a label has

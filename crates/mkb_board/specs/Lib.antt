@@ -1,7 +1,7 @@
 pub mod Boards
 pub mod Choosing
 pub mod Held
-pub mod Normal
+pub mod Listed
 pub mod Shelf
 pub mod Snapshots
 pub mod Takes

@@ -8,7 +8,7 @@ use Rattle.kb_label.specs.Names.{Name}
 use Rattle.mkb_model.specs.Plain.{Plain, certificate_of, known, rules_of}
 use Rattle.mkb_rules.specs.Named.{IsRuleThere, Lives}
 use Rattle.mkb_rules.specs.Roles.{roles_of}
-use Rattle.mkb_board.specs.Normal.{is_open_to}
+use Rattle.mkb_agenda.specs.Open.{is_open_to}
 use Rattle.kb_jobs.specs.Rules.{AreNamed}
 use Rattle.kb_jobs.specs.Reducing.{no_name}
 use Rattle.kb_jobs.specs.declared.reducing.ReduceSnapshot.{ReduceSnapshot}

@@ -1,5 +1,5 @@
 // The board: the state, the tickets in flight and the journal.
-ghost use Rattle.std.specs.Prelude.{◌≡◌, ◌≤◌, ◌+◌, ◌++◌, ◌∷◌, ◌==◌, [], length, map, filter, not, Some, Contains, IsTrue, IfOk, if◌then◌else◌, vec_len};
+ghost use Rattle.std.specs.Prelude.{◌≡◌, ◌≤◌, ◌+◌, ◌++◌, ◌∷◌, ◌==◌, [], length, map, filter, not, Some, Contains, IsTrue, IfOk, IfSome, if◌then◌else◌, vec_len};
 ghost use Rattle.mkb_model.specs.declared.entry.Ticket.{Ticket};
 ghost use Rattle.kb_term.specs.Signature.{IsWithinLimits};
 ghost use Rattle.kb_cert.specs.Family.{Orders, IsFirstOrder};
@@ -11,19 +11,21 @@ ghost use Rattle.mkb_model.specs.Journals.{opening, landed};
 ghost use Rattle.mkb_model.specs.Verdicts.{verdict};
 ghost use Rattle.mkb_model.specs.declared.entry.Entry.TheVariants.{Abandon, Halt};
 ghost use Rattle.mkb_rules.specs.Parts.{plain_nodes};
+ghost use Rattle.mkb_agenda.specs.Agendas.{IsAgendaOf};
 ghost use Rattle.mkb_board.specs.Boards.{IsLegalBoard, takes_in, drops_in, has_halt};
 
 use crate::choosing;
 use crate::cost::{cost, place_of};
 use crate::finishing::process_of;
-use crate::normal::{Normal, nothing_noted};
 use crate::shelf::Shelf;
 use crate::working::{Placed, first_alone};
 use kb_cert::Certificate;
 use kb_label::{Labels, ListLabels, Living, NameLog, Process, Verdict};
 use kb_node::{Job, NodeTable, View};
 use kb_term::{Memory, Problem};
+use mkb_agenda::agenda_of;
 use mkb_model::{Entry, Settings, Ticket};
+use mkb_pick::Agenda;
 use mkb_rules::State;
 use std::alloc::Global;
 use std::marker::Model;
@@ -31,7 +33,8 @@ use std::marker::Model;
 /// The board that workers share. Contracts see the plain board and the journal that led to it.
 ///
 /// The room for the end of each ticket in flight and for a halt is kept, so neither takes memory. The verdict is found once
-/// for each commit, and who is worked on is kept from commit to commit.
+/// for each commit, and who is worked on is kept from commit to commit. So is the agenda of the jobs that are due, where memory allows:
+/// it looks again at those alone that a commit may have changed.
 #[derive(Drop)]
 pub struct Board {
     pub(crate) state: State,
@@ -41,18 +44,18 @@ pub struct Board {
     pub(crate) taken: u64,
     pub(crate) dropped: u64,
     pub(crate) halted: bool,
-    pub(crate) normals: Vec<Normal>,
+    pub(crate) agenda: Option<Agenda>,
     pub(crate) shelf: Shelf,
     pub(crate) working: Vec<Placed>,
 }
 
 impl Model for Board {
-    ghost use Rattle.std.specs.Prelude.{vec_len, vec_capacity, ◌+◌, ◌≤◌, ◌≡◌};
+    ghost use Rattle.std.specs.Prelude.{vec_len, vec_capacity, ◌+◌, ◌≤◌, ◌≡◌, []};
     ghost use Rattle.std.specs.Coded.{codes};
     ghost use Rattle.kb_term.specs.Coding.{coded_pair, coded_problem, coded_tree};
     ghost use Rattle.mkb_model.specs.Verdicts.{verdict as verdict_on};
     ghost use Rattle.mkb_board.specs.Boards.{Seen, seen, IsBoard, owed};
-    ghost use Rattle.mkb_board.specs.Normal.{AreAllNormal};
+    ghost use Rattle.mkb_board.specs.Listed.{IsAgenda};
     ghost use Rattle.mkb_board.specs.Shelf.{HoldsRead};
     ghost use Rattle.mkb_board.specs.Working.{IsWorking};
 
@@ -62,7 +65,7 @@ impl Model for Board {
 
     ghost view = { λ b. seen b.state b.flight.items b.journal.items };
 
-    ghost invariant = { λ b. IsBoard (seen b.state b.flight.items b.journal.items) b.taken b.dropped b.halted × (vec_len b.journal + owed (vec_len b.flight) b.halted ≤ vec_capacity b.journal) × (b.verdict ≡ verdict_on b.state) × AreAllNormal b.state b.normals.items × HoldsRead b.state b.shelf × IsWorking b.state b.working };
+    ghost invariant = { λ b. IsBoard (seen b.state b.flight.items b.journal.items) b.taken b.dropped b.halted × (vec_len b.journal + owed (vec_len b.flight) b.halted ≤ vec_capacity b.journal) × (b.verdict ≡ verdict_on b.state) × IsAgenda b.state b.agenda × HoldsRead b.state b.shelf × IsWorking b.state b.working × (b.state.flight ≡ []) };
 }
 
 impl Board {
@@ -76,10 +79,10 @@ impl Board {
         ensures plain { IfOk result (λ b. b.plain ≡ opening problem settings) }
         ensures journal { IfOk result (λ b. b.journal ≡ []) }
     {
-        let normals = nothing_noted(alloc)?;
         let journal = Vec::with_capacity(alloc, 1)?;
         let state = State::start(alloc, problem, settings)?;
         let working = first_alone(alloc)?;
+        let agenda = agenda_of(alloc, &state).ok();
         let verdict = choosing::verdict(&state, working.as_slice(), None);
         Ok(Board {
             state,
@@ -89,7 +92,7 @@ impl Board {
             taken: 0,
             dropped: 0,
             halted: false,
-            normals,
+            agenda,
             shelf: Shelf::new(alloc),
             working,
         })
@@ -187,6 +190,14 @@ impl Board {
         ensures { result ≡ length self.now.plain.asleep }
     {
         self.state.sleepers().len() as u32
+    }
+
+    /// The jobs that are due, by processes: exact where memory allowed to keep them, and none where it didn't, until the next take
+    /// makes them anew.
+    pub fn agenda(&self) -> Option<&Agenda>
+        ensures { IfSome result (λ agenda. IsAgendaOf self.now.plain agenda.now.processes) }
+    {
+        self.agenda.as_ref()
     }
 
     /// What the job's process costs. It goes over the nodes, and takes no memory.

@@ -1,6 +1,7 @@
 // Ending a ticket with what its job proposed.
 ghost use Rattle.std.specs.Prelude.{◌≡◌, None, Contains, IsTrue, IsFalse, IfOk, IfErr, OnErr};
 ghost use Rattle.std.specs.Option.{option_map_or};
+ghost use Rattle.mkb_model.specs.Plain.{Plain};
 ghost use Rattle.mkb_model.specs.Verdicts.{verdict};
 ghost use Rattle.mkb_model.specs.Effects.{is_dropped};
 ghost use Rattle.mkb_model.specs.Jobs.{process_of};
@@ -8,19 +9,22 @@ ghost use Rattle.mkb_model.specs.declared.entry.Effect.TheVariants as effects;
 ghost use Rattle.mkb_rules.specs.Applying.{applied_as};
 ghost use Rattle.kb_label.specs.declared.verdict.Reason.{Reason};
 ghost use Rattle.std.specs.Prelude.{Option};
+ghost use Rattle.mkb_agenda.specs.Following.{HasNodesOf, IsCommitOn};
+ghost use Rattle.mkb_board.specs.Listed.{IsAgenda};
 ghost use Rattle.mkb_board.specs.Takes.{IsProposalOf, IsFinishedBy};
 ghost use Rattle.mkb_board.specs.declared.answers.Finished.TheVariants as finished;
 
 use crate::answers::Finished;
 use crate::board::{Board, land};
 use crate::choosing;
-use crate::normal::turn_away;
 use crate::settling::settle;
 use crate::working::{completed_by, follow};
 use kb_label::Process;
 use kb_node::Job;
+use mkb_agenda::{Commit, follow as agenda_follow};
 use mkb_model::{Effect, Entry, Proposed, Ticket};
-use mkb_rules::Applied;
+use mkb_pick::Agenda;
+use mkb_rules::{Applied, State};
 use std::alloc::Global;
 
 impl Board {
@@ -98,14 +102,23 @@ impl Board {
         ensures back { IfErr result (λ e. e ≡ proposal) }
         ensures err { OnErr result (self.new ≡ self.old) }
     {
+        let names = match self.state.effect_label(alloc, &proposal) {
+            Ok(names) => names,
+            Err(_) => return Err(proposal),
+        };
         let applied = match self.state.apply(alloc, &proposal) {
             Ok(applied) => applied,
             Err(_) => return Err(proposal),
         };
-        turn_away(&mut self.normals, &proposal);
+        let commit = Commit {
+            proposal: &proposal,
+            applied,
+            names: names.as_slice(),
+        };
+        keep_up(alloc, &mut self.agenda, &self.state, &commit);
         follow(&self.state, &mut self.working, &proposal, applied);
         let completed = completed_by(&self.state, &proposal, applied);
-        settle(&mut self.state, &mut self.working);
+        settle(&mut self.state, &mut self.working, &mut self.agenda);
         self.verdict = choosing::verdict(&self.state, self.working.as_slice(), completed);
         land(&mut self.flight, ticket.number);
         let entry = Entry::Commit {
@@ -115,6 +128,20 @@ impl Board {
         };
         self.journal.push(entry).unwrap();
         Ok(applied)
+    }
+}
+
+// The agenda follows a commit, where it is kept and memory allows; else it isn't kept from here on.
+fn keep_up(alloc: Global, agenda: &mut Option<Agenda>, state: &State, commit: &Commit)
+    requires nodes { HasNodesOf state.now commit.now.proposal.now }
+    ensures { (b : Plain) → IsCommitOn b commit.now state.now → IsAgenda b agenda.old → IsAgenda state.now agenda.new }
+{
+    let is_kept = match agenda {
+        Some(agenda) => agenda_follow(alloc, agenda, state, commit).is_ok(),
+        None => true,
+    };
+    if !is_kept {
+        *agenda = None;
     }
 }
 

@@ -1,56 +1,17 @@
 // Which nodes a process has.
-ghost use Rattle.std.specs.Prelude.{◌≡◌, ◌<◌, ◌++◌, ◌∷◌, [], length, map, if◌then◌else◌, IfOk, OnOk};
+ghost use Rattle.std.specs.Prelude.{◌≡◌, ◌++◌, ◌∷◌, [], length, map, if◌then◌else◌, IfOk, OnOk};
 ghost use Rattle.kb_node.specs.declared.node.NodeId.{NodeId as Numbered};
-ghost use Rattle.mkb_model.specs.Plain.{Plain, equations_of, rules_of};
+ghost use Rattle.mkb_model.specs.Plain.{equations_of, rules_of};
 ghost use Rattle.mkb_rules.specs.Sizes.{AreAlive};
-ghost use Rattle.mkb_rules.specs.Roles.{held_of, roles_of};
-ghost use Rattle.mkb_board.specs.Normal.{IsSearch};
+ghost use Rattle.mkb_rules.specs.Roles.{held_of};
 
 use crate::choosing::node_count;
-use crate::normal::roles_by;
 use kb_label::Process;
 use kb_node::NodeId;
 use kb_term::RuleRef;
-use mkb_model::Ticket;
+use mkb_agenda::roles_by;
 use mkb_rules::{Roles, State, push_held, push_rules};
 use std::alloc::{AllocError, Global};
-
-/// What a search for the jobs of a process reads beside the state: the tickets in flight, the nodes that the process has as an
-/// equation or as a rule, how it has each of the first nodes, and its rules, each in their order.
-#[derive(Clone, Copy)]
-pub(crate) struct Search<'a> {
-    pub(crate) flight: &'a [Ticket],
-    pub(crate) process: &'a Process,
-    pub(crate) nodes: &'a [NodeId],
-    pub(crate) roles: &'a [Roles],
-    pub(crate) rules: &'a [RuleRef],
-}
-
-impl<'a> Search<'a> {
-    /// The same where nothing is in flight.
-    pub(crate) fn with_none_in_flight(&self) -> Search<'a>
-        ensures flight { result.flight.now ≡ [] }
-        ensures process { result.process.now ≡ self.now.process.now }
-        ensures search { (b : Plain) → IsSearch b self.now → IsSearch b result }
-    {
-        Search {
-            flight: &[],
-            process: self.process,
-            nodes: self.nodes,
-            roles: self.roles,
-            rules: self.rules,
-        }
-    }
-
-    /// How the process has the node.
-    pub(crate) fn roles_of(&self, state: &State, n: NodeId) -> Roles
-        requires there { n.0 < length state.now.nodes }
-        requires search { IsSearch state.now self.now }
-        ensures { result ≡ roles_of state.now self.now.process.now n.0 }
-    {
-        roles_by(state, self.roles, self.process, n)
-    }
-}
 
 /// The nodes that the process has as an equation or as a rule, in their order.
 pub(crate) fn held_nodes(

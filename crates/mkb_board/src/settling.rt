@@ -9,12 +9,14 @@ ghost use Rattle.mkb_model.specs.Plain.{cost};
 ghost use Rattle.mkb_model.specs.Invariants.{IsLabel};
 ghost use Rattle.mkb_model.specs.Sleeping.{most_awake, process_cmp, rested, settle, waiting, with_one_asleep, with_one_awake, working as working_on};
 ghost use Rattle.mkb_board.specs.Choosing.{costed_cmp, merged, ClosedRest};
+ghost use Rattle.mkb_board.specs.Listed.{IsAgenda};
 ghost use Rattle.mkb_board.specs.Working.{processes_in, IsWorking};
 
 use crate::choosing::is_active;
 use crate::cost::{cost, place_from, place_of};
 use crate::working::{MOST_AWAKE, Placed, put_in, take_out};
 use kb_label::{Living, Process};
+use mkb_pick::Agenda;
 use mkb_rules::State;
 use std::cmp::Ordering;
 
@@ -28,82 +30,98 @@ pub(crate) struct Costed<'a> {
 
 /// While more than 64 processes are active and awake the one that costs most falls asleep; then, while fewer are, the active
 /// sleeper that costs least wakes. It takes no memory.
-pub(crate) fn settle(state: &mut State, working: &mut Vec<Placed>)
+pub(crate) fn settle(state: &mut State, working: &mut Vec<Placed>, agenda: &mut Option<Agenda>)
     requires rest { ClosedRest state.old }
     requires limited { AreLimited state.old.problem.signature state.old.nodes }
     requires in_order { IsInNameOrder state.old.living }
     requires sleepers { IsLabel state.old state.old.asleep }
     requires works { IsWorking state.old working.old }
+    requires agenda { IsAgenda state.old agenda.old }
     ensures settled { state.new ≡ settle state.old }
     ensures works { IsWorking state.new working.new }
+    ensures agenda { IsAgenda state.new agenda.new }
 {
-    rest(state, working);
-    wake(state, working);
+    rest(state, working, agenda);
+    wake(state, working, agenda);
 }
 
 // The working process that costs most falls asleep, until at most 64 work.
-fn rest(state: &mut State, working: &mut Vec<Placed>)
+fn rest(state: &mut State, working: &mut Vec<Placed>, agenda: &mut Option<Agenda>)
     requires limited { AreLimited state.old.problem.signature state.old.nodes }
     requires in_order { IsInNameOrder state.old.living }
     requires sleepers { IsLabel state.old state.old.asleep }
     requires works { IsWorking state.old working.old }
+    requires agenda { IsAgenda state.old agenda.old }
     ensures rested { state.new ≡ record state.old { asleep = rested state.old } }
     ensures works { IsWorking state.new working.new }
+    ensures agenda { IsAgenda state.new agenda.new }
 {
     for _ in MOST_AWAKE..working.len() {
-        rest_one(state, working);
+        rest_one(state, working, agenda);
     }
 }
 
 // The working process that costs most falls asleep, if there is one.
-fn rest_one(state: &mut State, working: &mut Vec<Placed>)
+fn rest_one(state: &mut State, working: &mut Vec<Placed>, agenda: &mut Option<Agenda>)
     requires limited { AreLimited state.old.problem.signature state.old.nodes }
     requires in_order { IsInNameOrder state.old.living }
     requires sleepers { IsLabel state.old state.old.asleep }
     requires works { IsWorking state.old working.old }
+    requires agenda { IsAgenda state.old agenda.old }
     ensures rests { state.new ≡ record state.old { asleep = with_one_asleep state.old state.old.asleep } }
     ensures works { IsWorking state.new working.new }
+    ensures agenda { IsAgenda state.new agenda.new }
 {
     state.log().are_forked();
     if let Some(process) = greatest_working(state, working.as_slice()) {
         state.put_to_sleep(&process);
+        if let Some(agenda) = agenda {
+            agenda.rest(&process);
+        }
         take_out(working, &process);
     }
 }
 
 // The waiting process that costs least wakes, while fewer than 64 work.
-fn wake(state: &mut State, working: &mut Vec<Placed>)
+fn wake(state: &mut State, working: &mut Vec<Placed>, agenda: &mut Option<Agenda>)
     requires rest { ClosedRest state.old }
     requires limited { AreLimited state.old.problem.signature state.old.nodes }
     requires in_order { IsInNameOrder state.old.living }
     requires sleepers { IsLabel state.old state.old.asleep }
     requires works { IsWorking state.old working.old }
+    requires agenda { IsAgenda state.old agenda.old }
     ensures awake { state.new ≡ record state.old { asleep = iterate (with_one_awake state.old) (most_awake - length (working_on state.old state.old.asleep)) state.old.asleep } }
     ensures works { IsWorking state.new working.new }
+    ensures agenda { IsAgenda state.new agenda.new }
 {
     for _ in working.len()..MOST_AWAKE {
-        if !wake_one(state, working) {
+        if !wake_one(state, working, agenda) {
             return;
         }
     }
 }
 
 // The waiting process that costs least wakes, if there is one; whether there is.
-fn wake_one(state: &mut State, working: &mut Vec<Placed>) -> bool
+fn wake_one(state: &mut State, working: &mut Vec<Placed>, agenda: &mut Option<Agenda>) -> bool
     requires rest { ClosedRest state.old }
     requires limited { AreLimited state.old.problem.signature state.old.nodes }
     requires in_order { IsInNameOrder state.old.living }
     requires sleepers { IsLabel state.old state.old.asleep }
     requires works { IsWorking state.old working.old }
+    requires agenda { IsAgenda state.old agenda.old }
     requires few { vec_len working.old ≤ MOST_AWAKE }
     ensures wakes { state.new ≡ record state.old { asleep = with_one_awake state.old state.old.asleep } }
     ensures works { IsWorking state.new working.new }
+    ensures agenda { IsAgenda state.new agenda.new }
     ensures len { vec_len working.new ≤ vec_len working.old + 1 }
     ensures none { result ≡ false → waiting state.old state.old.asleep ≡ [] }
 {
     match least_waiting(state) {
         Some(process) => {
             state.wake(&process);
+            if let Some(agenda) = agenda {
+                agenda.wake(&process);
+            }
             put_in(working, process, place_of(state, &process));
             true
         }
@@ -122,19 +140,6 @@ fn greatest_working(state: &State, working: &[Placed]) -> Option<Process>
         best = Some(greater(best, with_cost(state, placed.place, &placed.process)));
     }
     process_in(&best)
-}
-
-/// The process that costs least among these, and of equal costs the first by name. It takes no memory.
-pub(crate) fn least_working<'a>(state: &State, working: &'a [Placed]) -> Option<Costed<'a>>
-    requires { AreLimited state.now.problem.signature state.now.nodes }
-    ensures { option_map (λ (c : Costed). c.process.now) result ≡ least (process_cmp state.now) (processes_in working.now) }
-{
-    let mut best = None;
-    for i in 0..working.len() {
-        let placed = &working[i];
-        best = Some(lesser(best, with_cost(state, placed.place, &placed.process)));
-    }
-    best
 }
 
 // The active sleeper that costs least, and of equal costs the first by name.

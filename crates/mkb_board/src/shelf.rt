@@ -4,7 +4,6 @@ ghost use Rattle.mkb_model.specs.Plain.{Plain, pair_at, rule_at};
 ghost use Rattle.mkb_rules.specs.Named.{IsRuleThere};
 ghost use Rattle.mkb_board.specs.Shelf.{AreRulesAt, HoldsRead, IsPutAt, place_of};
 
-use crate::normal::are_same;
 use crate::snapshots::named::pair_at;
 use kb_jobs::{NamedRules, SharedPair, SharedRules};
 use kb_node::NodeId;
@@ -193,4 +192,19 @@ fn new_pair(alloc: Global, state: &State, n: NodeId) -> Result<SharedPair, Memor
 {
     let pair = pair_at(state, n)?;
     Ok(SharedPair::new(alloc, pair)?)
+}
+
+// Whether both lists are the same.
+fn are_same(some: &[RuleRef], others: &[RuleRef]) -> bool
+    ensures { IsTrue result → some.now ≡ others.now }
+{
+    if some.len() != others.len() {
+        return false;
+    }
+    for i in 0..some.len() {
+        if some[i] != others[i] {
+            return false;
+        }
+    }
+    true
 }

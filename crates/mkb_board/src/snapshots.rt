@@ -8,12 +8,9 @@ mod reducing;
 ghost use Rattle.std.specs.Prelude.{◌≡◌, IfOk};
 ghost use Rattle.kb_jobs.specs.Working.{IsTaken, job_of};
 ghost use Rattle.mkb_model.specs.Invariants.{FactsHold};
-ghost use Rattle.mkb_board.specs.Normal.{AreAllNormal};
 ghost use Rattle.mkb_board.specs.Shelf.{HoldsRead};
 ghost use Rattle.mkb_board.specs.Snapshots.{HasJobNodes, HasOrder, IsWhole};
 
-use crate::cost::place_of;
-use crate::normal::Normal;
 use crate::shelf::Shelf;
 use closing::close_snapshot;
 use kb_jobs::Snapshot;
@@ -33,14 +30,12 @@ use std::alloc::Global;
 pub(crate) fn snapshot(
     alloc: Global,
     state: &State,
-    normals: &Vec<Normal>,
     shelf: &mut Shelf,
     job: &Job,
 ) -> Result<Snapshot, Memory>
     requires there { HasJobNodes state.now job.now }
     requires ordered { HasOrder state.now job.now }
     requires facts { FactsHold state.now }
-    requires normals { AreAllNormal state.now normals.now.items }
     requires shelf { HoldsRead state.now shelf.old }
     ensures shelf { HoldsRead state.now shelf.new }
     ensures job { IfOk result (λ s. job_of s ≡ job.now) }
@@ -49,8 +44,7 @@ pub(crate) fn snapshot(
 {
     match job {
         Job::Reduce(process, node) => {
-            let normal = &normals[place_of(state, process) % normals.len()];
-            let snapshot = reduce_snapshot(alloc, state, normal, shelf, *process, *node)?;
+            let snapshot = reduce_snapshot(alloc, state, shelf, *process, *node)?;
             Ok(Snapshot::Reduce(snapshot))
         }
         Job::Orient(process, node) => {

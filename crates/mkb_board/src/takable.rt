@@ -8,19 +8,19 @@ ghost use Rattle.mkb_model.specs.Plain.{directions, is_rule, node_numbers, rules
 ghost use Rattle.mkb_model.specs.DueJobs.{first_job, is_reducible, work_of};
 ghost use Rattle.mkb_rules.specs.Roles.{roles_of};
 ghost use Rattle.mkb_board.specs.Choosing.{jobs_of, first_choice, is_choice, overlaps_of, ClosedRest};
-ghost use Rattle.mkb_board.specs.Normal.{is_open_to};
+ghost use Rattle.mkb_agenda.specs.Open.{is_open_to};
 
 use crate::choosing::{is_equation, is_rule, node_count};
 use crate::due::{is_free, is_overlap_due};
-use crate::normal::{is_open_to, roles_of};
 use kb_label::Process;
 use kb_node::{Job, NodeId};
 use kb_term::RuleRef;
 use mkb_model::Ticket;
+use mkb_agenda::{is_open_to, roles_by};
 use mkb_rules::{Roles, State};
 
 /// Whether there is a first job beside those in flight. It takes no memory, but goes over all nodes again and again, so it is for
-/// where a search finds no memory.
+/// where no memory is found to ask the agenda.
 pub(crate) fn has_first(state: &State, flight: &[Ticket]) -> bool
     requires { ClosedRest state.now }
     ensures { result ≡ is_some (first_job (record state.now { flight = flight.now })) }
@@ -74,7 +74,7 @@ fn may_reduce(state: &State, flight: &[Ticket], p: &Process, n: NodeId) -> bool
     requires { n.0 < length state.now.nodes }
     ensures { result ≡ is_choice state.now (jobs_of flight.now) (jobs.Reduce p.now n) }
 {
-    let roles = roles_of(state, p, n);
+    let roles = roles_by(state, &[], p, n);
     (roles.is_in_use() && has_open_rule(state, p, roles, n)) && is_free(flight, &Job::Reduce(*p, n))
 }
 

@@ -5,20 +5,23 @@ ghost use Rattle.mkb_model.specs.DueJobs.{first_job};
 ghost use Rattle.mkb_model.specs.declared.entry.Ticket.{Ticket};
 ghost use Rattle.mkb_model.specs.declared.entry.Entry.{Entry};
 ghost use Rattle.mkb_board.specs.Boards.{has_halt};
+ghost use Rattle.mkb_board.specs.Choosing.{jobs_of};
 ghost use Rattle.mkb_board.specs.Takes.{IsTakenBy, take_entry};
 
 use crate::answers::Taken;
 use crate::board::Board;
-use crate::first::first_job;
+use crate::takable::has_first;
 use crate::snapshots::snapshot;
 use kb_jobs::Snapshot;
 use kb_node::Job;
 use kb_term::Memory;
+use mkb_agenda::agenda_of;
 use mkb_model::{Entry, Ticket};
 use std::alloc::{AllocError, Global};
 
 impl Board {
-    /// Takes the first job for a worker: the least due job that clashes with none in flight.
+    /// Takes the first job for a worker: the least due job that clashes with none in flight. It asks the agenda, which goes over the
+    /// processes once; where none is kept it is made anew.
     ///
     /// Where it gives no ticket it changes nothing, and wants no memory: where a verdict stands, where a halt was made, and where no
     /// job may be taken.
@@ -41,12 +44,7 @@ impl Board {
         if self.halted {
             return Ok(Taken::Halted);
         }
-        match first_job(
-            &self.state,
-            self.flight.as_slice(),
-            &mut self.normals,
-            self.working.as_slice(),
-        )? {
+        match self.first_job(alloc)? {
             None => Ok(Taken::Idle(self.flight.len())),
             Some(job) => self.take_job(alloc, worker, &job),
         }
@@ -54,6 +52,34 @@ impl Board {
 }
 
 impl Board {
+    // The first job, if there is one. Where no memory is found to tell it, whether there is one is asked without any.
+    fn first_job(&mut self, alloc: Global) -> Result<Option<Job>, Memory>
+        ensures same { self.new ≡ self.old }
+        ensures first { IfOk result (λ o. o ≡ first_job self.old.plain) }
+        ensures takable { OnErr result (IsSome (first_job self.old.plain)) }
+    {
+        match self.offered(alloc) {
+            Ok(job) => Ok(job),
+            Err(fault) if has_first(&self.state, self.flight.as_slice()) => Err(fault),
+            Err(_) => Ok(None),
+        }
+    }
+
+    // What the agenda offers first beside the jobs in flight. It is made anew where it isn't kept.
+    fn offered(&mut self, alloc: Global) -> Result<Option<Job>, Memory>
+        ensures same { self.new ≡ self.old }
+        ensures first { IfOk result (λ o. o ≡ first_job self.old.plain) }
+    {
+        let flying = jobs_of(alloc, self.flight.as_slice())?;
+        if self.agenda.is_none() {
+            self.agenda = Some(agenda_of(alloc, &self.state)?);
+        }
+        match &self.agenda {
+            Some(agenda) => Ok(agenda.next(flying.as_slice())),
+            None => unreachable!(),
+        }
+    }
+
     // Takes this job, which is the first.
     fn take_job(&mut self, alloc: Global, worker: u8, job: &Job) -> Result<Taken, Memory>
         requires least { 1 ≤ worker }
@@ -67,7 +93,7 @@ impl Board {
         ensures unhalted { OnErr result (IsFalse (has_halt self.old.journal)) }
         ensures takable { OnErr result (IsSome (first_job self.old.plain)) }
     {
-        let snapshot = snapshot(alloc, &self.state, &self.normals, &mut self.shelf, job)?;
+        let snapshot = snapshot(alloc, &self.state, &mut self.shelf, job)?;
         reserve(&mut self.flight, &mut self.journal)?;
         let ticket = Ticket {
             number: self.taken + 1,
@@ -79,6 +105,17 @@ impl Board {
         self.taken += 1;
         Ok(Taken::Job(ticket, snapshot))
     }
+}
+
+// The jobs of the tickets.
+fn jobs_of(alloc: Global, flight: &[Ticket]) -> Result<Vec<Job>, AllocError>
+    ensures { IfOk result (λ jobs. jobs.items ≡ jobs_of flight.now) }
+{
+    let mut jobs = Vec::with_capacity(alloc, flight.len())?;
+    for ticket in flight {
+        jobs.push(ticket.job)?;
+    }
+    Ok(jobs)
 }
 
 // Makes room for a ticket, and for the entries of its take, of the end of each ticket and of a halt.

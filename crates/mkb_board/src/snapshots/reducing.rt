@@ -5,17 +5,17 @@ ghost use Rattle.kb_jobs.specs.Taken.{IsTakenReduce};
 ghost use Rattle.mkb_model.specs.Plain.{other};
 ghost use Rattle.mkb_model.specs.Invariants.{FactsHold};
 ghost use Rattle.mkb_rules.specs.Roles.{has_rule, roles_of};
-ghost use Rattle.mkb_board.specs.Normal.{AreNormal, is_open_to};
+ghost use Rattle.mkb_agenda.specs.Open.{is_open_to};
 ghost use Rattle.mkb_board.specs.Shelf.{HoldsRead};
 ghost use Rattle.mkb_board.specs.Snapshots.{AreWithin, IsWholeReduce, open_rules, unknown_on, with_names};
 
 use super::named::{named_rules, rules_of};
-use crate::normal::{Normal, is_open_to, leads_to, roles_by};
 use crate::shelf::Shelf;
 use kb_jobs::ReduceSnapshot;
 use kb_label::Process;
 use kb_node::NodeId;
 use kb_term::{MAX_NODES, Memory, RuleRef};
+use mkb_agenda::{is_open_to, leads_to, roles_by};
 use mkb_rules::{Roles, State};
 use std::alloc::{AllocError, Global};
 
@@ -24,13 +24,11 @@ use std::alloc::{AllocError, Global};
 pub(crate) fn reduce_snapshot(
     alloc: Global,
     state: &State,
-    normal: &Normal,
     shelf: &mut Shelf,
     process: Process,
     node: NodeId,
 ) -> Result<ReduceSnapshot, Memory>
     requires there { node.0 < length state.now.nodes }
-    requires normal { AreNormal state.now normal.now }
     requires facts { FactsHold state.now }
     requires shelf { HoldsRead state.now shelf.old }
     ensures shelf { HoldsRead state.now shelf.new }
@@ -41,7 +39,7 @@ pub(crate) fn reduce_snapshot(
 {
     let roles = roles_by(state, state.roles(&process), &process, node);
     let pair = shelf.pair_at(state, node)?;
-    let names = open_rules(state, normal, &process, roles, node)?;
+    let names = open_rules(alloc, state, &process, roles, node)?;
     let unknown = unknown(alloc, state, node, names.as_slice())?;
     let rules = named_rules(alloc, state, shelf, names)?;
     Ok(ReduceSnapshot {
@@ -57,18 +55,17 @@ pub(crate) fn reduce_snapshot(
 
 // The rules of the process in other nodes to which some side of the node is open; the process has the node in these roles.
 fn open_rules(
+    alloc: Global,
     state: &State,
-    normal: &Normal,
     p: &Process,
     roles: Roles,
     n: NodeId,
 ) -> Result<Vec<RuleRef>, Memory>
     requires roles { roles ≡ roles_of state.now p.now n.0 }
-    requires normal { AreNormal state.now normal.now }
     ensures names { IfOk result (λ names. names.items ≡ open_rules state.now p.now n.0) }
     ensures few { IfOk result (λ names. length names.items < 2 ^ 32) }
 {
-    let names = listed_open(state, normal, p, roles, n)?;
+    let names = listed_open(alloc, state, p, roles, n)?;
     // Each node gives at most two rules.
     let count = state.nodes().len();
     prove!(count <= MAX_NODES as u32);
@@ -77,20 +74,18 @@ fn open_rules(
 
 // The same, however many they are.
 fn listed_open(
+    alloc: Global,
     state: &State,
-    normal: &Normal,
     p: &Process,
     roles: Roles,
     n: NodeId,
 ) -> Result<Vec<RuleRef>, Memory>
-    requires roles { roles ≡ roles_of state.now p.now n.0 }
-    requires normal { AreNormal state.now normal.now }
+    requires { roles ≡ roles_of state.now p.now n.0 }
     ensures { IfOk result (λ names. names.items ≡ open_rules state.now p.now n.0) }
 {
-    if let Some(open) = normal.open_rules(state, p, roles, n)? {
-        return Ok(open);
+    if let Some(rules) = state.rules(p) {
+        return Ok(open_among(alloc, state, roles, n, rules)?);
     }
-    let alloc = normal.allocator();
     let rules = rules_of(alloc, state, p)?;
     Ok(open_among(alloc, state, roles, n, rules.as_slice())?)
 }

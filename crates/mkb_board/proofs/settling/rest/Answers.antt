@@ -10,7 +10,7 @@ use Rattle.mkb_board.proofs.settling.rest.Goals as goal
 pub loop-init : goal.loop-init
 loop-init c =
     let b = c.args.state.now in
-    record { differs = refl; label = c.requires.sleepers; works = c.requires.works; left = ap (λ n. iterate (with_one_asleep b) (n - most_awake) b.asleep) (how_many b c.args.working.now c.requires.works) }
+    record { differs = refl; label = c.requires.sleepers; works = c.requires.works; agenda = c.requires.agenda; left = ap (λ n. iterate (with_one_asleep b) (n - most_awake) b.asleep) (how_many b c.args.working.now c.requires.works) }
 
 pub rest_one-requires-clause-limited : goal.rest_one-requires-clause-limited
 rest_one-requires-clause-limited c = same_limits c.args.state.now c.loop.state c.loop.invariant.differs c.requires.limited
@@ -33,6 +33,7 @@ loop-preserved c =
       differs = with_sleepers b s c.rest_one.new.state (with_one_asleep s s.asleep) d c.rest_one.ensures.rests;
       label = subst {A = List Name} (IsLabel b) (sym now) (label_rests b s.asleep c.requires.in_order c.loop.invariant.label);
       works = c.rest_one.ensures.works;
+      agenda = c.rest_one.ensures.agenda;
       left = ap (iterate (with_one_asleep b) (n - (c.loop.counter + 1))) now ∙ sym (one_less (with_one_asleep b) n c.loop.counter s.asleep more) ∙ c.loop.invariant.left;
     }
 

@@ -2,6 +2,7 @@ use Rattle.std.proofs.Common.{◌-◌, ◌≡◌, vec_len}
 use Rattle.std.specs.Fn.{iterate}
 use Rattle.mkb_model.specs.Invariants.{IsLabel}
 use Rattle.mkb_model.specs.Sleeping.{rested, with_one_asleep}
+use Rattle.mkb_board.specs.Listed.{IsAgenda}
 use Rattle.mkb_board.specs.Working.{IsWorking}
 use Rattle.mkb_board.proofs.Sleepers.{DiffersInSleepers}
 use Rattle.mkb_board.proofs.settling.rest.Given as goal
@@ -12,5 +13,6 @@ invariant-loop l = record {
   differs : DiffersInSleepers l.fn.state l.state;
   label : IsLabel l.fn.state l.state.asleep;
   works : IsWorking l.state l.working;
+  agenda : IsAgenda l.state l.agenda;
   left : iterate (with_one_asleep l.fn.state) (vec_len l.fn.working - l.counter) l.state.asleep ≡ rested l.fn.state;
 }

@@ -11,7 +11,7 @@ use Rattle.mkb_board.proofs.settling.wake.Goals as goal
 pub loop-init : goal.loop-init
 loop-init c =
     let b = c.args.state.now in
-    record { differs = refl; label = c.requires.sleepers; works = c.requires.works; few = omega (arith, c.len-counter.ensures); left = ap (λ n. iterate (with_one_awake b) (most_awake - n) b.asleep) (c.len-counter.ensures ∙ how_many b c.args.working.now c.requires.works) }
+    record { differs = refl; label = c.requires.sleepers; works = c.requires.works; agenda = c.requires.agenda; few = omega (arith, c.len-counter.ensures); left = ap (λ n. iterate (with_one_awake b) (most_awake - n) b.asleep) (c.len-counter.ensures ∙ how_many b c.args.working.now c.requires.works) }
 
 pub wake_one-requires-clause-rest : goal.wake_one-requires-clause-rest
 wake_one-requires-clause-rest c = same_rest c.args.state.now c.loop.state c.loop.invariant.differs c.requires.rest
@@ -45,6 +45,7 @@ loop-preserved c =
       differs = with_sleepers b s c.wake_one.new.state (with_one_awake s s.asleep) d c.wake_one.ensures.wakes;
       label = subst {A = List Name} (IsLabel b) (sym now) (label_wakes b s.asleep c.requires.in_order c.loop.invariant.label);
       works = c.wake_one.ensures.works;
+      agenda = c.wake_one.ensures.agenda;
       few = omega (arith, c.wake_one.ensures.len, c.loop.invariant.few);
       left = ap (iterate (with_one_awake b) (most_awake - (c.loop.counter + 1))) now ∙ sym (one_less (with_one_awake b) most_awake c.loop.counter s.asleep c.loop-test.true) ∙ c.loop.invariant.left;
     }

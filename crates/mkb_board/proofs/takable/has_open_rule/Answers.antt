@@ -2,7 +2,7 @@ use Rattle.std.proofs.Common.{◌<◌, ◌≤◌, ◌&&◌, length, arith, sym, 
 use Rattle.std.specs.List.{list_any}
 use Rattle.kb_term.specs.declared.origin.RuleRef.{RuleRef}
 use Rattle.mkb_model.specs.Plain.{directions, is_rule}
-use Rattle.mkb_board.specs.Normal.{is_open_to}
+use Rattle.mkb_agenda.specs.Open.{is_open_to}
 use Rattle.mkb_board.proofs.AnyJob.{any_first, any_here, any_on, any_open, none_behind}
 use Rattle.mkb_board.proofs.takable.has_open_rule.Goals as goal
 

@@ -3,7 +3,7 @@ use Rattle.std.specs.List.{list_any}
 use Rattle.kb_term.specs.declared.origin.RuleRef.{RuleRef}
 use Rattle.mkb_model.specs.DueJobs.{is_reducible}
 use Rattle.mkb_model.specs.Plain.{directions, is_rule, numbers_from}
-use Rattle.mkb_board.specs.Normal.{is_open_to}
+use Rattle.mkb_agenda.specs.Open.{is_open_to}
 use Rattle.mkb_board.proofs.takable.has_open_rule.Given as goal
 
 -- no rule so far is open to the node

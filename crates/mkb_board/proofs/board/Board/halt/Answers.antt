@@ -10,4 +10,4 @@ invariant_of-self c =
     let ok = c.push.ensures.succeeds (omega arith) in
     let items = after_push c.push.result _ _ _ ok c.push.ensures.items in
     let len = after_push c.push.result _ _ _ ok c.push.ensures.len in
-    (halt_board c.self.inside.state c.self.inside.flight.items c.self.inside.journal.items c.push.new.self.items c.self.inside.taken c.self.inside.dropped h items, omega (arith, c.push.ensures.capacity, len, room), c.self.invariant.2, c.self.invariant.3, c.self.invariant.4, c.self.invariant.5)
+    (halt_board c.self.inside.state c.self.inside.flight.items c.self.inside.journal.items c.push.new.self.items c.self.inside.taken c.self.inside.dropped h items, omega (arith, c.push.ensures.capacity, len, room), c.self.invariant.2, c.self.invariant.3, c.self.invariant.4, c.self.invariant.5, c.self.invariant.6)

@@ -25,9 +25,10 @@ invariant_of-result c = (
   opening_board c.args.problem c.args.settings c.in_ok-state.state c.new.result.items c.in_ok-journal.journal.items c.requires c.in_ok-state.ensures c.new.ensures.items c.in_ok-journal.ensures.items,
   omega (arith, c.in_ok-journal.ensures.capacity, c.in_ok-journal.ensures.len, c.new.ensures.len),
   c.verdict-verdict.ensures,
-  c.in_ok-normals.ensures c.in_ok-state.state,
+  c.ok-agenda.ensures,
   c.new-2.ensures c.in_ok-state.state,
   record { all = first_works c.args.problem c.args.settings c.in_ok-state.state c.in_ok-state.ensures c.in_ok-working.working.items c.in_ok-working.ensures.items; room = c.in_ok-working.ensures.room },
+  ap (λ (z : Plain). z.flight) c.in_ok-state.ensures,
 )
 
 pub verdict-verdict-requires : goal.verdict-verdict-requires

@@ -39,6 +39,7 @@ invariant_of-self-in_err-reserve c =
       c.self.invariant.3,
       c.snapshot.ensures.shelf,
       c.self.invariant.5,
+      c.self.invariant.6,
     )
 
 pub invariant_of-self-2 : goal.invariant_of-self-2
@@ -61,7 +62,7 @@ invariant_of-self-2 c =
           (items2 ∙ ap (λ (z : List Ticket). z ++ record { number = c.self.inside.taken + 1; worker = c.args.worker; job = c.args.job.now } ∷ []) F) (items ∙ ap (λ (z : List Entry). z ++ c.entry_of.result ∷ []) J ∙ ap (λ (e : Entry). c.self.inside.journal.items ++ e ∷ []) c.entry_of.ensures),
       room,
     ) in
-    (whole.0, whole.1, c.self.invariant.2, c.self.invariant.3, c.snapshot.ensures.shelf, c.self.invariant.5)
+    (whole.0, whole.1, c.self.invariant.2, c.self.invariant.3, c.snapshot.ensures.shelf, c.self.invariant.5, c.self.invariant.6)
 
 pub returns-clause-ok : goal.returns-clause-ok
 returns-clause-ok c =

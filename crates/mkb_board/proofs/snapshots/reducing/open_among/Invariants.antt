@@ -1,5 +1,5 @@
 use Rattle.std.proofs.Common.{◌≡◌, take, filter}
-use Rattle.mkb_board.specs.Normal.{is_open_to}
+use Rattle.mkb_agenda.specs.Open.{is_open_to}
 use Rattle.mkb_board.proofs.snapshots.reducing.open_among.Given as goal
 
 -- those of the rules so far

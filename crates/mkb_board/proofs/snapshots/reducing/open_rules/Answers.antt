@@ -3,7 +3,7 @@ use Rattle.std.proofs.lemmas.List.{length-map}
 use Rattle.mkb_model.specs.Plain.{rules_of}
 use Rattle.mkb_rules.specs.Parts.{plain_node}
 use Rattle.mkb_rules.specs.Roles.{roles_of}
-use Rattle.mkb_board.specs.Normal.{is_open_to}
+use Rattle.mkb_agenda.specs.Open.{is_open_to}
 use Rattle.mkb_board.proofs.Viewed.{others_few}
 use Rattle.mkb_board.proofs.snapshots.reducing.open_rules.Goals as goal
 

@@ -1,7 +1,0 @@
-use Rattle.std.proofs.Common.{◌≡◌, take, filter}
-use Rattle.mkb_board.specs.Normal.{is_open_to}
-use Rattle.mkb_board.proofs.normal.Normal.open_rules.Given as goal
-
--- those of the rules so far
-abbrev pub invariant-loop-i : goal.invariant-loop-i
-invariant-loop-i l = l.kept.items ≡ filter (is_open_to l.state l.fn.roles l.n.0) (take l.i l.self.rules.items)
