@@ -11,12 +11,12 @@ ghost use Rattle.mkb_rules.specs.Roles.{roles_of};
 ghost use Rattle.mkb_agenda.specs.Open.{is_open_to};
 ghost use Rattle.mkb_agenda.specs.Looking.{HasJobThere, IsSeen, is_gained};
 
-use crate::roles::{is_open_to, roles_by};
+use crate::roles::{OpenTo, roles_by};
 use kb_label::Process;
 use kb_node::{Job, NodeId};
 use kb_term::{Memory, RuleRef};
 use mkb_model::Selection;
-use mkb_rules::{Roles, State, is_ordered};
+use mkb_rules::{KnownOn, Roles, State, is_ordered};
 
 /// A process, where it stands among the living, and what is kept of it: its nodes, how it has each of the first ones, and its rules.
 #[derive(Clone, Copy)]
@@ -84,31 +84,31 @@ impl<'a> Seen<'a> {
         ensures { result ≡ is_work_due self.now.state.now job.now }
     {
         match job {
-            Job::Reduce(_, n) => self.may_reduce(*n),
+            Job::Reduce(_, n) => self.may_reduce(&self.state.known_on(*n)),
             Job::Orient(_, n) => self.may_orient(*n),
             Job::Overlap(_, a, c) => self.may_overlap(*a, *c),
             Job::Close(_) => false,
         }
     }
 
-    // Whether the process has the node, and some rule of its is open to it.
-    fn may_reduce(&self, n: NodeId) -> bool
+    /// Whether the process has the node, and some rule of its is open to it.
+    pub(crate) fn may_reduce(&self, known: &KnownOn) -> bool
         requires seen { IsSeen self.now }
-        requires there { IsThere self.now.state.now n.0 }
-        ensures { result ≡ is_work_due self.now.state.now (jobs.Reduce self.now.process.now n) }
+        requires board { known.now.board ≡ self.now.state.now }
+        requires there { IsThere self.now.state.now known.now.node.0 }
+        ensures { result ≡ is_work_due self.now.state.now (jobs.Reduce self.now.process.now known.now.node) }
     {
-        let roles = self.roles_of(n);
-        roles.is_in_use() && self.has_open_rule(roles, n)
+        let roles = self.roles_of(known.node());
+        roles.is_in_use() && self.has_open_rule(&OpenTo { known, roles })
     }
 
-    // Whether some rule of the process is open to the node in these roles. The last rules, of which least is known, are asked about
-    // first.
-    fn has_open_rule(&self, roles: Roles, n: NodeId) -> bool
-        ensures { result ≡ list_any (is_open_to self.now.state.now roles n.0) self.now.rules.now }
+    // Whether the node is open to some rule of the process. The last rules, of which least is known, are asked about first.
+    fn has_open_rule(&self, node: &OpenTo) -> bool
+        ensures { result ≡ list_any (is_open_to node.now.known.now.board node.now.roles node.now.known.now.node.0) self.now.rules.now }
     {
         let count = self.rules.len();
         for i in 0..count {
-            if is_open_to(self.state, roles, n, self.rules[count - 1 - i]) {
+            if node.is_open(self.rules[count - 1 - i]) {
                 return true;
             }
         }
@@ -122,22 +122,26 @@ impl<'a> Seen<'a> {
         requires there { All (IsRuleThere self.now.state.now) rules.now }
         ensures { result ≡ is_gained self.now.state.now self.now.process.now rules.now n.0 }
     {
-        let roles = self.roles_of(n);
+        let known = self.state.known_on(n);
+        let node = OpenTo {
+            known: &known,
+            roles: self.roles_of(n),
+        };
         for i in 0..rules.len() {
-            if self.is_gained_by(roles, n, rules[i]) {
+            if self.is_gained_by(&node, rules[i]) {
                 return true;
             }
         }
         false
     }
 
-    // Whether the rule is one of the process, and open to the node in these roles.
-    fn is_gained_by(&self, roles: Roles, n: NodeId, rule: RuleRef) -> bool
+    // Whether the rule is one of the process, and the node is open to it.
+    fn is_gained_by(&self, node: &OpenTo, rule: RuleRef) -> bool
         requires seen { IsSeen self.now }
         requires there { IsThere self.now.state.now rule.node }
-        ensures { result ≡ (is_rule self.now.state.now self.now.process.now rule && is_open_to self.now.state.now roles n.0 rule) }
+        ensures { result ≡ (is_rule self.now.state.now self.now.process.now rule && is_open_to node.now.known.now.board node.now.roles node.now.known.now.node.0 rule) }
     {
-        self.has_rule(rule) && is_open_to(self.state, roles, n, rule)
+        self.has_rule(rule) && node.is_open(rule)
     }
 
     // Whether the process has the node as an equation, and was not refused to orient it.

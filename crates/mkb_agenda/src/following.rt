@@ -25,7 +25,7 @@ use kb_overlap::other_side_of;
 use kb_term::{Memory, Pair, RuleRef, Term, canonical};
 use mkb_model::Proposed;
 use mkb_pick::Agenda;
-use mkb_rules::{Applied, State};
+use mkb_rules::{Applied, KnownOn, State};
 use std::alloc::Global;
 
 /// A commit that was made on a state: the proposal, what it came to, and the processes on which it acted, in their order.
@@ -161,25 +161,26 @@ fn look_for_holders(agenda: &mut Agenda, state: &State, n: NodeId) -> Result<(),
     if n.0 as u32 >= state.nodes().len() {
         return Ok(());
     }
-    look_for_all(agenda, state, n, LabelKind::E)?;
-    look_for_all(agenda, state, n, LabelKind::R0)?;
-    look_for_all(agenda, state, n, LabelKind::R1)
+    let known = state.known_on(n);
+    look_for_all(agenda, &known, LabelKind::E)?;
+    look_for_all(agenda, &known, LabelKind::R0)?;
+    look_for_all(agenda, &known, LabelKind::R1)
 }
 
 // Looks whether reducing the node is still due for each process that its label of this kind names. The names rise, as the living do.
-fn look_for_all(
-    agenda: &mut Agenda,
-    state: &State,
-    n: NodeId,
-    kind: LabelKind,
-) -> Result<(), Memory>
-    requires { IsThere state.now n.0 }
-    ensures { OnOk result ((b : Plain) → AllMayEnd b state.now n → IsBetween b state.now agenda.old.processes → Brings b state.now (label state.now n.0 kind) agenda.old.processes agenda.new.processes) }
+fn look_for_all(agenda: &mut Agenda, known: &KnownOn, kind: LabelKind) -> Result<(), Memory>
+    requires { IsThere known.now.board known.now.node.0 }
+    ensures { OnOk result ((b : Plain) → AllMayEnd b known.now.board known.now.node → IsBetween b known.now.board agenda.old.processes → Brings b known.now.board (label known.now.board known.now.node.0 kind) agenda.old.processes agenda.new.processes) }
 {
-    let names = state.nodes().label(n, kind).names(state.log())?;
+    let state = known.state();
+    let label = state.nodes().label(known.node(), kind);
+    if label.is_empty(state.log()) {
+        return Ok(());
+    }
+    let names = label.names(state.log())?;
     let mut place = 0;
     for i in 0..names.len() {
-        look_whether_ended(agenda, state, &names[i], n, &mut place)?;
+        look_whether_ended(agenda, known, &names[i], &mut place)?;
     }
     Ok(())
 }

@@ -6,19 +6,19 @@ ghost use Rattle.kb_term.specs.declared.origin.RuleRef.{RuleRef as Reference};
 ghost use Rattle.kb_node.specs.declared.job.Job.{Job as Work};
 ghost use Rattle.kb_node.specs.declared.job.Job.TheVariants as jobs;
 ghost use Rattle.mkb_model.specs.Jobs.{process_of};
-ghost use Rattle.mkb_model.specs.Plain.{Plain};
-ghost use Rattle.mkb_model.specs.DueJobs.{is_node_of};
+ghost use Rattle.mkb_model.specs.Plain.{Plain, weight};
+ghost use Rattle.mkb_model.specs.DueJobs.{is_node_of, is_work_due};
 ghost use Rattle.mkb_rules.specs.Named.{IsThere, IsRuleThere};
 ghost use Rattle.mkb_pick.specs.Listings.{IsListed, IsProcess, HasJob};
 ghost use Rattle.mkb_agenda.specs.Agendas.{IsListedAs, LeavesOthers};
-ghost use Rattle.mkb_agenda.specs.Looking.{AreThere, BringsOne, ComesTouched, HasJobThere, HasOverlapThere, IsNearlyListed, IsSeen, KeepsOthers, ListsAnew, ListsClosing, MayEnd, bare_reach_of, jobs_on, overlap_if, overlap_of, overlaps_with, reach_of, reductions_of, touched_jobs};
+ghost use Rattle.mkb_agenda.specs.Looking.{AreThere, BringsOne, ComesTouched, HasJobThere, HasOverlapThere, IsNearlyListed, IsSeen, KeepsOthers, ListsAnew, ListsClosing, MayEnd, bare_reach_of, is_gained, jobs_on, overlap_if, overlap_of, overlaps_with, reach_of, reductions_of, touched_jobs};
 
 use crate::due::{Seen, weight_of};
 use kb_label::Process;
 use kb_node::{Job, NodeId};
 use kb_term::{Memory, RuleRef};
 use mkb_pick::Agenda;
-use mkb_rules::{State, is_ordered};
+use mkb_rules::{KnownOn, State, is_ordered};
 
 /// A process and what a commit may have changed of its jobs: those on nodes, the overlaps with rules, one overlap, and, where it is
 /// wide, the reducing of each node that the process has. There a new rule is one of the rules, and one that is lost is told of.
@@ -93,24 +93,25 @@ pub(crate) fn look_again(
 /// As for looking again.
 pub(crate) fn look_whether_ended(
     agenda: &mut Agenda,
-    state: &State,
+    known: &KnownOn,
     process: &Process,
-    n: NodeId,
     place: &mut usize,
 ) -> Result<(), Memory>
-    requires { IsThere state.now n.0 }
-    ensures exact { OnOk result ((b : Plain) → MayEnd b state.now process.now n → IsListedAs b process.now process.now agenda.old.processes → IsListedAs state.now process.now process.now agenda.new.processes) }
+    requires { IsThere known.now.board known.now.node.0 }
+    ensures exact { OnOk result ((b : Plain) → MayEnd b known.now.board process.now known.now.node → IsListedAs b process.now process.now agenda.old.processes → IsListedAs known.now.board process.now process.now agenda.new.processes) }
     ensures others { OnOk result (LeavesOthers process.now agenda.old.processes agenda.new.processes) }
 {
+    let n = known.node();
     if !agenda.is_reducing(process, n) {
         return Ok(());
     }
+    let state = known.state();
     let seen = Seen::look(state, process, *place)?;
     *place = seen.place.saturating_add(1);
-    let reducing = Job::Reduce(*process, n);
-    if seen.is_due(&reducing) {
+    if seen.may_reduce(known) {
         return Ok(());
     }
+    let reducing = Job::Reduce(*process, n);
     agenda.remove(&reducing, weight_of(state, &reducing));
     look_at_closing(agenda, state, process)
 }
@@ -222,22 +223,53 @@ fn look_at_reduction(
     ensures others { OnOk result (KeepsOthers seen.now.process.now agenda.old.processes agenda.new.processes) }
     ensures jobs { OnOk result (IsNearlyListed seen.now.state.now seen.now.process.now (bare_reach_of touched.now) agenda.old.processes → ListsAnew seen.now.state.now (jobs.Reduce seen.now.process.now n ∷ []) agenda.old.processes agenda.new.processes) }
 {
-    let reducing = Job::Reduce(*seen.process, n);
-    let weight = weight_of(seen.state, &reducing);
-    if !agenda.has(&reducing, weight) {
-        if !seen.is_gained(touched.rules, n) {
-            return Ok(());
-        }
-        return agenda.add(&reducing, weight);
+    if !is_reducing(agenda, seen, n) {
+        return look_whether_gained(agenda, seen, touched.rules, n);
     }
     if !touched.loses_rule {
         return Ok(());
     }
+    let reducing = Job::Reduce(*seen.process, n);
     if seen.is_due(&reducing) {
         return Ok(());
     }
-    agenda.remove(&reducing, weight);
+    agenda.remove(&reducing, weight_of(seen.state, &reducing));
     Ok(())
+}
+
+// Whether reducing the node is listed under its weight.
+fn is_reducing(agenda: &Agenda, seen: &Seen, n: NodeId) -> bool
+    requires { IsThere seen.now.state.now n.0 }
+    ensures { IsTrue result ↔ HasJob agenda.now.processes (jobs.Reduce seen.now.process.now n) (weight seen.now.state.now (jobs.Reduce seen.now.process.now n)) }
+{
+    if !agenda.is_reducing(seen.process, n) {
+        return false;
+    }
+    let reducing = Job::Reduce(*seen.process, n);
+    agenda.has(&reducing, weight_of(seen.state, &reducing))
+}
+
+// Lists reducing the node, which the process has and which is not listed, where one of the rules makes it due.
+fn look_whether_gained(
+    agenda: &mut Agenda,
+    seen: &Seen,
+    rules: &[RuleRef],
+    n: NodeId,
+) -> Result<(), Memory>
+    requires seen { IsSeen seen.now }
+    requires held { IsTrue (is_node_of seen.now.state.now seen.now.process.now n.0) }
+    requires there { All (IsRuleThere seen.now.state.now) rules.now }
+    requires listed { IsProcess agenda.old.processes seen.now.process.now }
+    requires absent { ¬ HasJob agenda.old.processes (jobs.Reduce seen.now.process.now n) (weight seen.now.state.now (jobs.Reduce seen.now.process.now n)) }
+    ensures processes { (n : Name) (c : ℕ) (r : Bool) → IsListed agenda.new.processes n c r ↔ IsListed agenda.old.processes n c r }
+    ensures others { OnOk result (KeepsOthers seen.now.process.now agenda.old.processes agenda.new.processes) }
+    ensures jobs { OnOk result ((IsTrue (is_work_due seen.now.state.now (jobs.Reduce seen.now.process.now n)) → IsTrue (is_gained seen.now.state.now seen.now.process.now rules.now n.0)) → ListsAnew seen.now.state.now (jobs.Reduce seen.now.process.now n ∷ []) agenda.old.processes agenda.new.processes) }
+{
+    if !seen.is_gained(rules, n) {
+        return Ok(());
+    }
+    let reducing = Job::Reduce(*seen.process, n);
+    agenda.add(&reducing, weight_of(seen.state, &reducing))
 }
 
 // The overlaps of each of the rules with each of the process's, and with each other.

@@ -16,3 +16,4 @@ pub mod Roles
 pub mod Accounts
 pub mod Overlapped
 pub mod SetAside
+pub mod Known

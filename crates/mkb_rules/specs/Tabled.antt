@@ -23,6 +23,15 @@ cell_at rows i r = get_or (get_or rows i []) r None
 abbrev pub known_at : List (Option ℕ) → List (List (Option Found)) → ℕ → ℕ → Option Found
 known_at ranks rows i j = option_and_then (cell_at rows i) (rank_at ranks j)
 
+-- what the row of a side has at the rank of the rule
+abbrev pub known_by : List (Option ℕ) → List (Option Found) → RuleRef → Option Found
+known_by ranks cells a = option_and_then (λ r. get_or cells r None) (rank_at ranks (place a.node a.dir))
+
+-- these are the rows of the two sides of the node: they have what the first of the facts about the side and each rule says
+pub record AreRowsOf (fs : List Fact) (n : ℕ) (ranks : List (Option ℕ)) (first second : List (Option Found)) : Type 0 where
+  pub on_first : (a : RuleRef) → a.dir ≤ 1 → known_by ranks first a ≡ known_in fs n 0 a
+  pub on_second : (a : RuleRef) → a.dir ≤ 1 → known_by ranks second a ≡ known_in fs n 1 a
+
 -- the rule with the second number has a rank, for which the row of the side with the first one has room
 pub record IsRoom (ranks : List (Option ℕ)) (rows : List (List (Option Found))) (i j : ℕ) : Type 0 where
   pub rank : ℕ

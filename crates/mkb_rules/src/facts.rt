@@ -1,12 +1,12 @@
 // Facts that are found by what they are about.
 ghost use Rattle.std.specs.Prelude.{◌≡◌, ◌+◌, ◌*◌, ◌<◌, ◌≤◌, ◌∷◌, ◌++◌, [], List, All, length, get_or, None, OnErr, OnOk, ◌&&◌, ◌==◌};
 ghost use Rattle.kb_node.specs.declared.job.Fact.{Fact as Told};
-ghost use Rattle.mkb_rules.specs.Tabled.{place, HasRoom, IsTabled, IsWider, is_plain};
+ghost use Rattle.mkb_rules.specs.Tabled.{place, HasRoom, IsTabled, IsWider, is_plain, known_by, AreRowsOf};
 ghost use Rattle.mkb_rules.specs.Parts.{known_in};
 ghost use Rattle.mkb_model.specs.Jobs.{ref_eq};
 
-use crate::ranks::Ranks;
-use crate::row::Row;
+use crate::ranks::{Ranks, rank_in};
+use crate::row::{Row, cell};
 use kb_node::{Fact, NodeId};
 use kb_term::{Found, RuleRef};
 use std::alloc::{AllocError, Global};
@@ -20,6 +20,31 @@ pub(crate) struct Facts {
     list: Vec<Fact>,
     ranks: Ranks,
     rows: Vec<Row>,
+}
+
+/// The ranks of the rules, and the rows of the two sides of a node.
+#[derive(Clone, Copy)]
+pub(crate) struct Rows<'a> {
+    pub(crate) ranks: &'a [Option<u16>],
+    pub(crate) first: &'a [Option<Found>],
+    pub(crate) second: &'a [Option<Found>],
+}
+
+impl<'a> Rows<'a> {
+    /// What the row of each side has of the rule.
+    pub(crate) fn of_rule(&self, rule: RuleRef) -> (Option<Found>, Option<Found>)
+        requires { rule.dir ≤ 1 }
+        ensures first { result.0 ≡ known_by self.now.ranks.now self.now.first.now rule }
+        ensures second { result.1 ≡ known_by self.now.ranks.now self.now.second.now rule }
+    {
+        match rank_in(self.ranks, place(rule.node, rule.dir)) {
+            Some(rank) => (
+                cell(self.first, rank as usize),
+                cell(self.second, rank as usize),
+            ),
+            None => (None, None),
+        }
+    }
 }
 
 impl Model for Facts {
@@ -47,21 +72,23 @@ impl Facts {
         }
     }
 
-    /// What the first fact of the side and the rule says; none where no fact is known. It takes no memory.
-    pub(crate) fn known(&self, n: NodeId, side: u8, rule: RuleRef) -> Option<Found>
+    /// The rows of the two sides of a node. It takes constant time.
+    pub(crate) fn rows_of(&self, n: NodeId) -> Rows<'_>
+        ensures { AreRowsOf self.now n.0 result.ranks.now result.first.now result.second.now }
+    {
+        let rows = self.rows.as_slice();
+        Rows {
+            ranks: self.ranks.as_slice(),
+            first: cells_of(rows, place(n.0, 0)),
+            second: cells_of(rows, place(n.0, 1)),
+        }
+    }
+
+    /// What the first fact of the side and the rule says; none where no fact is known. It goes over the facts.
+    pub(crate) fn first_of(&self, n: NodeId, side: u8, rule: RuleRef) -> Option<Found>
         ensures { result ≡ known_in self.now n.0 side rule }
     {
-        if side > 1 || rule.dir > 1 {
-            return first_of(self.list.as_slice(), n, side, rule);
-        }
-        let row = place(n.0, side);
-        if row >= self.rows.len() {
-            return None;
-        }
-        match self.ranks.rank_of(place(rule.node, rule.dir)) {
-            Some(rank) => self.rows[row].get(rank as usize),
-            None => None,
-        }
+        first_of(self.list.as_slice(), n, side, rule)
     }
 
     /// Adds the facts at the end.
@@ -82,6 +109,16 @@ impl Facts {
             note(&self.ranks, &mut self.rows, &facts[i]);
         }
         Ok(())
+    }
+}
+
+// The cells of the row with this number; none where there is no such row.
+fn cells_of(rows: &[Row], i: usize) -> &[Option<Found>]
+    ensures { result.now ≡ get_or rows.now i [] }
+{
+    match rows.get(i) {
+        Some(row) => row.as_slice(),
+        None => &[],
     }
 }
 

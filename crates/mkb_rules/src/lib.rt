@@ -5,6 +5,7 @@ mod account;
 mod applied;
 mod effects;
 mod facts;
+mod known;
 mod labels;
 mod marks;
 mod nodes;
@@ -21,5 +22,6 @@ mod state;
 mod tracked;
 
 pub use applied::Applied;
+pub use known::KnownOn;
 pub use roles::{Roles, push_held, push_rules};
 pub use state::{Kept, State, is_ordered};

@@ -40,11 +40,14 @@ impl Ranks {
         ensures value { result ≡ rank_at self.now rule }
         ensures only { IfSome result (λ r. (j : ℕ) → rank_at self.now j ≡ Some r → j ≡ rule) }
     {
-        if rule < self.ranks.len() {
-            self.ranks[rule]
-        } else {
-            None
-        }
+        rank_in(self.ranks.as_slice(), rule)
+    }
+
+    /// The ranks by the numbers of the rules.
+    pub(crate) fn as_slice(&self) -> &[Option<u16>]
+        ensures { result.now ≡ self.now }
+    {
+        self.ranks.as_slice()
     }
 
     /// The rank of the rule with this number, which gets the next one where it has none. Each rule keeps its rank.
@@ -68,6 +71,17 @@ impl Ranks {
         self.ranks[rule] = Some(rank);
         self.count = rank + 1;
         Ok(rank)
+    }
+}
+
+/// The rank of the rule with this number, where it has one.
+pub(crate) fn rank_in(ranks: &[Option<u16>], rule: usize) -> Option<u16>
+    ensures { result ≡ rank_at ranks.now rule }
+{
+    if rule < ranks.len() {
+        ranks[rule]
+    } else {
+        None
     }
 }
 

@@ -31,15 +31,11 @@ impl Row {
         }
     }
 
-    /// What is known of the rule with this rank.
-    pub(crate) fn get(&self, i: usize) -> Option<Found>
-        ensures { result ≡ get_or self.now i None }
+    /// What is known of each rule, by the ranks of the rules.
+    pub(crate) fn as_slice(&self) -> &[Option<Found>]
+        ensures { result.now ≡ self.now }
     {
-        if i < self.cells.len() {
-            self.cells[i]
-        } else {
-            None
-        }
+        self.cells.as_slice()
     }
 
     /// Makes room for so many rules. What is known stays, after want of memory too.
@@ -63,4 +59,11 @@ impl Row {
             self.cells[i] = Some(found);
         }
     }
+}
+
+/// What the cells have at this place; none behind them.
+pub(crate) fn cell(cells: &[Option<Found>], i: usize) -> Option<Found>
+    ensures { result ≡ get_or cells.now i None }
+{
+    if i < cells.len() { cells[i] } else { None }
 }

@@ -16,6 +16,7 @@ ghost use Rattle.mkb_rules.specs.Named.{Lives};
 ghost use Rattle.mkb_rules.specs.Kept.{plain_certificates, place_in};
 
 use crate::facts::Facts;
+use crate::known::KnownOn;
 use crate::nodes::Nodes;
 use crate::overlapped::OverlappedPairs;
 use crate::role_row::RoleRow;
@@ -131,7 +132,14 @@ impl State {
     pub fn known(&self, n: NodeId, side: u8, rule: RuleRef) -> Option<Found>
         ensures { result ≡ known self.now n.0 side rule }
     {
-        self.facts.known(n, side, rule)
+        self.known_on(n).side(side, rule)
+    }
+
+    /// What is known of the two sides of a node. It takes constant time.
+    pub fn known_on(&self, n: NodeId) -> KnownOn<'_>
+        ensures { result ≡ record { board = self.now; node = n } }
+    {
+        KnownOn::new(self, n)
     }
 
     /// Whether two rules have been overlapped for a process, in whichever order they are named.
