@@ -1,7 +1,7 @@
 // What changes in what a process has.
 ghost use Rattle.std.specs.Prelude.{ℕ, ◌≡◌, ◌⊎◌, ◌↔◌, IsTrue};
 ghost use Rattle.mkb_pick.specs.Trees.{Has, IsOrdered};
-ghost use Rattle.mkb_pick.specs.Tasks.{task_cmp};
+ghost use Rattle.mkb_pick.specs.Tasks.{IsTaskKey, task_cmp};
 ghost use Rattle.mkb_pick.specs.Marks.{reducing};
 ghost use Rattle.mkb_pick.specs.declared.task.Work.TheVariants.{Reducing};
 ghost use Rattle.mkb_pick.specs.Queues.{IsSound};
@@ -9,13 +9,14 @@ ghost use Rattle.mkb_pick.specs.Queues.{IsSound};
 use crate::marks::Mark;
 use crate::queue::Entry;
 use crate::task::{Task, Work};
-use crate::tree::{Node, Tree, put, take};
+use crate::tree::{Node, Placed, Tree, put, take};
 use kb_node::NodeId;
 
 impl Entry {
     /// Adds a task.
     pub(crate) fn add(&mut self, node: Box<Node<Task>>)
         requires sound { IsSound self.old }
+        requires keyed { IsTaskKey node.value.key node.value.item }
         requires absent { ¬ Has self.old.tasks node.value.item }
         ensures cost { self.new.cost ≡ self.old.cost }
         ensures resting { self.new.resting ≡ self.old.resting }
@@ -62,12 +63,12 @@ impl Entry {
 
 // Takes a task out of those of a process: whether it was there.
 fn remove_from(tasks: &mut Tree<Task>, task: &Task) -> bool
-    requires { IsOrdered task_cmp tasks.old }
+    requires { IsOrdered IsTaskKey task_cmp tasks.old }
     ensures found { IsTrue result ↔ Has tasks.old task.now }
     ensures items { (t : Task) → Has tasks.new t ↔ (Has tasks.old t × ¬ (t ≡ task.now)) }
-    ensures ordered { IsOrdered task_cmp tasks.new }
+    ensures ordered { IsOrdered IsTaskKey task_cmp tasks.new }
 {
-    match take(tasks, task) {
+    match take(tasks, task.key()) {
         Some(_) => true,
         None => false,
     }

@@ -35,6 +35,7 @@ impl<T: Placed> Pool<T> {
                 Node {
                     left: Tree::Leaf,
                     item: T::blank(),
+                    key: 0,
                     priority: self.draw(),
                     right: Tree::Leaf,
                 },

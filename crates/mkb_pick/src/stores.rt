@@ -1,7 +1,7 @@
 // Nodes that are set aside for jobs.
 ghost use Rattle.std.specs.Prelude.{◌≡◌, ◌↔◌, ◌+◌, ◌<◌, ◌≤◌, max, OnOk, OnErr, IsOk};
 ghost use Rattle.mkb_pick.specs.Trees.{Has, IsOrdered, count};
-ghost use Rattle.mkb_pick.specs.Tasks.{task_cmp};
+ghost use Rattle.mkb_pick.specs.Tasks.{IsTaskKey, task_cmp};
 ghost use Rattle.mkb_pick.specs.Queues.{IsQueue};
 ghost use Rattle.mkb_pick.specs.Stores.{IsStocked};
 
@@ -72,7 +72,7 @@ impl Stores {
         requires many { count tasks.now ≡ jobs }
         requires some { jobs ≤ self.old.spare_jobs }
         ensures tasks { (t : Task) → Has result t ↔ Has tasks.now t }
-        ensures ordered { IsOrdered task_cmp tasks.now → IsOrdered task_cmp result }
+        ensures ordered { IsOrdered IsTaskKey task_cmp tasks.now → IsOrdered IsTaskKey task_cmp result }
         ensures jobs { self.new.spare_jobs + jobs ≡ self.old.spare_jobs }
         ensures stocked { IsStocked self.new }
     {
