@@ -139,7 +139,8 @@ impl Agenda {
             work: Work::of(job),
             weight,
         };
-        self.queue.remove_task(&process_of(job), &task)
+        let node = self.queue.remove_task(&process_of(job), &task);
+        self.stores.take_back(node)
     }
 
     /// Whether a job is listed under the weight. It takes no memory.

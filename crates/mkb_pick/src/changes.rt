@@ -1,5 +1,5 @@
 // What changes in the queue.
-ghost use Rattle.std.specs.Prelude.{◌≡◌, ◌⊎◌, ◌↔◌, ◌+◌, ◌-◌, ◌^◌, ◌<◌, ◌≤◌, min, IsTrue, ℕ, Bool, length};
+ghost use Rattle.std.specs.Prelude.{◌≡◌, ◌⊎◌, ◌↔◌, ◌+◌, ◌-◌, ◌^◌, ◌<◌, ◌≤◌, min, IsTrue, is_some, ℕ, Bool, length};
 ghost use Rattle.kb_label.specs.Names.{Name, child};
 ghost use Rattle.mkb_pick.specs.Trees.{Has, IsOrdered, count};
 ghost use Rattle.mkb_pick.specs.Tasks.{IsTaskKey, task_cmp};
@@ -33,10 +33,10 @@ impl Queue {
         self.entries[place].add(node);
     }
 
-    /// Takes out a task of a process: whether it was there.
-    pub(crate) fn remove_task(&mut self, name: &Process, task: &Task) -> bool
+    /// Takes out a task of a process: its node, where it was there.
+    pub(crate) fn remove_task(&mut self, name: &Process, task: &Task) -> Option<Box<Node<Task>>>
         requires queue { IsQueue self.old }
-        ensures found { IsTrue result ↔ HasTask self.old name.now task.now }
+        ensures found { IsTrue (is_some result) ↔ HasTask self.old name.now task.now }
         ensures seats { (n : Name) (c : ℕ) (r : Bool) → Sits self.new n c r ↔ Sits self.old n c r }
         ensures tasks { (n : Name) (t : Task) → HasTask self.new n t ↔ (HasTask self.old n t × ¬ ((n ≡ name.now) × (t ≡ task.now))) }
         ensures spare { self.new.spare ≡ self.old.spare }
@@ -44,7 +44,7 @@ impl Queue {
     {
         match self.seek(name) {
             Some(place) => self.entries[place].remove(task),
-            None => false,
+            None => None,
         }
     }
 

@@ -1,5 +1,5 @@
 // What changes in what a process has.
-ghost use Rattle.std.specs.Prelude.{ℕ, ◌≡◌, ◌⊎◌, ◌↔◌, IsTrue};
+ghost use Rattle.std.specs.Prelude.{ℕ, ◌≡◌, ◌⊎◌, ◌↔◌, IsTrue, is_some};
 ghost use Rattle.mkb_pick.specs.Trees.{Has, IsOrdered};
 ghost use Rattle.mkb_pick.specs.Tasks.{IsTaskKey, task_cmp};
 ghost use Rattle.mkb_pick.specs.Marks.{reducing};
@@ -30,22 +30,20 @@ impl Entry {
         }
     }
 
-    /// Takes out a task: whether it was there.
-    pub(crate) fn remove(&mut self, task: &Task) -> bool
+    /// Takes out a task: its node, where it was there.
+    pub(crate) fn remove(&mut self, task: &Task) -> Option<Box<Node<Task>>>
         requires sound { IsSound self.old }
-        ensures found { IsTrue result ↔ Has self.old.tasks task.now }
+        ensures found { IsTrue (is_some result) ↔ Has self.old.tasks task.now }
         ensures cost { self.new.cost ≡ self.old.cost }
         ensures resting { self.new.resting ≡ self.old.resting }
         ensures tasks { (t : Task) → Has self.new.tasks t ↔ (Has self.old.tasks t × ¬ (t ≡ task.now)) }
         ensures sound { IsSound self.new }
     {
-        let found = remove_from(&mut self.tasks, task);
-        if found {
-            if let Work::Reducing(n) = task.work {
-                self.marks.remove(n);
-            }
+        let node = remove_from(&mut self.tasks, task)?;
+        if let Work::Reducing(n) = task.work {
+            self.marks.remove(n);
         }
-        found
+        Some(node)
     }
 
     /// Whether there is a reducing of the node.
@@ -61,17 +59,14 @@ impl Entry {
     }
 }
 
-// Takes a task out of those of a process: whether it was there.
-fn remove_from(tasks: &mut Tree<Task>, task: &Task) -> bool
+// Takes a task out of those of a process: its node, where it was there.
+fn remove_from(tasks: &mut Tree<Task>, task: &Task) -> Option<Box<Node<Task>>>
     requires { IsOrdered IsTaskKey task_cmp tasks.old }
-    ensures found { IsTrue result ↔ Has tasks.old task.now }
+    ensures found { IsTrue (is_some result) ↔ Has tasks.old task.now }
     ensures items { (t : Task) → Has tasks.new t ↔ (Has tasks.old t × ¬ (t ≡ task.now)) }
     ensures ordered { IsOrdered IsTaskKey task_cmp tasks.new }
 {
-    match take(tasks, task.key()) {
-        Some(_) => true,
-        None => false,
-    }
+    take(tasks, task.key())
 }
 
 // Whether there is a reducing of the node, by a look at each task.

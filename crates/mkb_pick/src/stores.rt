@@ -1,5 +1,5 @@
 // Nodes that are set aside for jobs.
-ghost use Rattle.std.specs.Prelude.{◌≡◌, ◌↔◌, ◌+◌, ◌<◌, ◌≤◌, max, OnOk, OnErr, IsOk};
+ghost use Rattle.std.specs.Prelude.{◌≡◌, ◌↔◌, ◌+◌, ◌<◌, ◌≤◌, max, OnOk, OnErr, IsOk, is_some};
 ghost use Rattle.mkb_pick.specs.Trees.{Has, IsOrdered, count};
 ghost use Rattle.mkb_pick.specs.Tasks.{IsTaskKey, task_cmp};
 ghost use Rattle.mkb_pick.specs.Queues.{IsQueue};
@@ -64,6 +64,22 @@ impl Stores {
     {
         self.spare_jobs -= 1;
         self.jobs.take()
+    }
+
+    /// Takes back the node of a job that was taken out: whether there is one.
+    pub(crate) fn take_back(&mut self, node: Option<Box<Node<Task>>>) -> bool
+        requires stocked { IsStocked self.old }
+        ensures back { result ≡ is_some node }
+        ensures jobs { self.new.spare_jobs ≡ self.old.spare_jobs }
+        ensures stocked { IsStocked self.new }
+    {
+        match node {
+            Some(node) => {
+                self.jobs.give(node);
+                true
+            }
+            None => false,
+        }
     }
 
     /// A tree of the same tasks, of which there are so many.
