@@ -24,8 +24,8 @@ use Rattle.mkb_pick.proofs.Seats.{rising}
 use Rattle.mkb_pick.proofs.Tasks.{held_kinds, kinds_apart}
 
 -- what is before all the others on the left is before all the others of the tree
-before_all : {T : Type 0} {cmp : T → T → Ordering} → IsTotalOrder cmp → (p : _) (left : Tree T) (item : T) (w : ℕ) (right : Tree T) → IsOrdered cmp (Fork' p left item w right) → (P : T → Type 0) (x : T) → Has left x → ((y : T) → Has left y → P y → (y ≡ x) ⊎ (cmp x y ≡ Less)) → (y : T) → Has (Fork' p left item w right) y → P y → (y ≡ x) ⊎ (cmp x y ≡ Less)
-before_all {T} {cmp} o p left item w right ord P x there first y h q =
+before_all : {T : Type 0} {cmp : T → T → Ordering} → IsTotalOrder cmp → (is_key : ℕ → T → Type 0) → (p : _) (left : Tree T) (item : T) (k w : ℕ) (right : Tree T) → IsOrdered is_key cmp (Fork' p left item k w right) → (P : T → Type 0) (x : T) → Has left x → ((y : T) → Has left y → P y → (y ≡ x) ⊎ (cmp x y ≡ Less)) → (y : T) → Has (Fork' p left item k w right) y → P y → (y ≡ x) ⊎ (cmp x y ≡ Less)
+before_all {T} {cmp} o is_key p left item k w right ord P x there first y h q =
     elim h [
       | inl a ↦ inr (subst (λ z. cmp x z ≡ Less) (sym a) (ord.0 x there))
       | inr a ↦
@@ -36,11 +36,11 @@ before_all {T} {cmp} o p left item w right ord P x there first y h q =
     ]
 
 -- the first on the left is the first of all
-pub first_on_left : {T : Type 0} {cmp : T → T → Ordering} → IsTotalOrder cmp → (tree near : Tree T) (p : _) (left : Tree T) (item : T) (w : ℕ) (right : Tree T) → tree ≡ Fork' p left item w right → near ≡ left → IsOrdered cmp tree → (P : T → Type 0) (x : T) → IsFirst cmp near P (Some x) → IsFirst cmp tree P (Some x)
-first_on_left {T} {cmp} o tree near p left item w right is same ord P x first =
+pub first_on_left : {T : Type 0} {cmp : T → T → Ordering} → IsTotalOrder cmp → (is_key : ℕ → T → Type 0) → (tree near : Tree T) (p : _) (left : Tree T) (item : T) (k w : ℕ) (right : Tree T) → tree ≡ Fork' p left item k w right → near ≡ left → IsOrdered is_key cmp tree → (P : T → Type 0) (x : T) → IsFirst cmp near P (Some x) → IsFirst cmp tree P (Some x)
+first_on_left {T} {cmp} o is_key tree near p left item k w right is same ord P x first =
     let there : Has left x = subst (λ t. Has t x) same first.0 in
     subst (λ t. IsFirst cmp t P (Some x)) (sym is)
-    (inr (inl there), first.1, before_all o p left item w right (subst (IsOrdered cmp) is ord) P x there (λ y h q. first.2 y (subst (λ t. Has t y) (sym same) h) q))
+    (inr (inl there), first.1, before_all o is_key p left item k w right (subst (IsOrdered is_key cmp) is ord) P x there (λ y h q. first.2 y (subst (λ t. Has t y) (sym same) h) q))
 
 within_one : (n k : ℕ) → k ≡ n → (n ≤ k) × (k ≤ n)
 within_one n k e = (omega (arith, e), omega (arith, e))

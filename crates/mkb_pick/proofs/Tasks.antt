@@ -17,7 +17,8 @@ use Rattle.mkb_pick.specs.declared.task.Work.{Work}
 use Rattle.mkb_pick.specs.declared.task.Work.TheVariants.{Reducing, Orienting, Overlapping, Closing}
 use Rattle.mkb_pick.specs.declared.task.Task.{Task}
 use Rattle.mkb_model.specs.Jobs.{clashes, is_free}
-use Rattle.mkb_pick.specs.Tasks.{task_cmp, work_key, work_kind, job_of, is_open}
+use Rattle.mkb_pick.specs.KeyOrder.{keys_order}
+use Rattle.mkb_pick.specs.Tasks.{IsTaskKey, task_cmp, work_key, work_kind, job_of, is_open}
 
 pub tasks_total : IsTotalOrder task_cmp
 tasks_total = on_total (λ t. work_key t.work t.weight) (lists_total nat_cmp_total)
@@ -86,16 +87,17 @@ task_exact s t h =
     let k = key_exact s.work t.work s.weight t.weight (exact_bytes (work_key s.work s.weight) (work_key t.work t.weight) h) in
     ap₂ (λ w n. record { work = w; weight = n }) k.0 k.1
 
-pub task_itself : (s t : Task) → s ≡ t → task_cmp s t ≡ Equal
-task_itself s t e = ap (task_cmp s) (sym e) ∙ tied_itself tasks_total s
+-- a key is that of one task
+pub one_task : (k : ℕ) (s t : Task) → IsTaskKey k s → IsTaskKey k t → s ≡ t
+one_task k s t h i = task_exact s t (keys_order (work_key s.work s.weight) (work_key t.work t.weight) k k h i ∙ tied_itself nat_cmp_total k)
 
 -- what is left where a task was taken out, or none was there
-pub taken_items : {B : Type 0} (item : B → Task) (old new : Tree Task) (x : Task) (r : Option B) → MatchOption r ((y : Task) → Has old y → ¬ (task_cmp x y ≡ Equal)) (λ b. Has old (item b) × (task_cmp x (item b) ≡ Equal)) → MatchOption r (new ≡ old) (λ b. (y : Task) → Has new y ↔ (Has old y × ¬ (task_cmp x y ≡ Equal))) → (t : Task) → Has new t ↔ (Has old t × ¬ (t ≡ x))
-taken_items item old new x None none kept t = (
-  λ h. let k : Has old t = subst (λ v. Has v t) kept h in (k, λ e. none t k (task_itself x t (sym e))),
+pub taken_items : {B : Type 0} (item : B → Task) (old new : Tree Task) (x : Task) (k : ℕ) (r : Option B) → IsTaskKey k x → MatchOption r ((y : Task) → Has old y → ¬ IsTaskKey k y) (λ b. Has old (item b) × IsTaskKey k (item b)) → MatchOption r (new ≡ old) (λ b. (y : Task) → Has new y ↔ (Has old y × ¬ IsTaskKey k y)) → (t : Task) → Has new t ↔ (Has old t × ¬ (t ≡ x))
+taken_items item old new x k None key none kept t = (
+  λ h. let there : Has old t = subst (λ v. Has v t) kept h in (there, λ e. none t there (subst (IsTaskKey k) (sym e) key)),
   λ h. subst (λ v. Has v t) (sym kept) h.0,
 )
-taken_items item old new x (Some b) some kept t = (
-  λ h. let k = (kept t).0 h in (k.0, λ e. k.1 (task_itself x t (sym e))),
-  λ h. (kept t).1 (h.0, λ e. h.1 (sym (task_exact x t e))),
+taken_items item old new x k (Some b) key some kept t = (
+  λ h. let there = (kept t).0 h in (there.0, λ e. there.1 (subst (IsTaskKey k) (sym e) key)),
+  λ h. (kept t).1 (h.0, λ e. h.1 (sym (one_task k x t key e))),
 )

@@ -24,7 +24,7 @@ use Rattle.mkb_pick.proofs.Seats.{both_has, entry_of}
 
 pub seen_from : {T Y : Type 0} (f : T → Y) (tree : Tree T) (y : Y) → Contains (seen f tree) y → (x : T) × Has tree x × (f x ≡ y)
 seen_from f Leaf y c = absurd (omega arith)
-seen_from f (Fork' p left item w right) y c =
+seen_from f (Fork' p left item k w right) y c =
     elim (Contains-append_cases (seen f left) (f item ∷ seen f right) y c) [
       | inl a ↦ let r = seen_from f left y a in (r.0, inr (inl r.1), r.2)
       | inr a ↦
@@ -36,7 +36,7 @@ seen_from f (Fork' p left item w right) y c =
 
 pub seen_to : {T Y : Type 0} (f : T → Y) (tree : Tree T) (x : T) → Has tree x → Contains (seen f tree) (f x)
 seen_to f Leaf x h = absurd h
-seen_to f (Fork' p left item w right) x h =
+seen_to f (Fork' p left item k w right) x h =
     elim h [
       | inl e ↦ Contains-append_right (seen f left) (f item ∷ seen f right) (f x) (subst (λ z. Contains (f z ∷ seen f right) (f x)) e (contains_first (f x) (seen f right)))
       | inr a ↦
@@ -48,7 +48,7 @@ seen_to f (Fork' p left item w right) x h =
 
 pub seen_length : {T Y : Type 0} (f : T → Y) (tree : Tree T) → length (seen f tree) ≡ count tree
 seen_length f Leaf = refl
-seen_length f (Fork' p left item w right) = omega (arith, length-append (seen f left) (f item ∷ seen f right), seen_length f left, seen_length f right)
+seen_length f (Fork' p left item k w right) = omega (arith, length-append (seen f left) (f item ∷ seen f right), seen_length f left, seen_length f right)
 
 -- ---- jobs and tasks
 

@@ -1,6 +1,8 @@
 pub mod Trees
 pub mod Jobs
+pub mod Keys
 pub mod Tasks
+pub mod KeyOrder
 pub mod Marks
 pub mod Queues
 pub mod Firsts

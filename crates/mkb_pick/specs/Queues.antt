@@ -2,7 +2,7 @@
 use Rattle.std.specs.Prelude.{ℕ, ◌≡◌, ◌<◌, ◌≤◌, ◌+◌, Bool, List, length, get_or, All, Contains, vec_len, vec_capacity}
 use Rattle.kb_label.specs.Names.{Name, IsInNameOrder}
 use Rattle.mkb_pick.specs.Trees.{Has, IsOrdered}
-use Rattle.mkb_pick.specs.Tasks.{task_cmp}
+use Rattle.mkb_pick.specs.Tasks.{IsTaskKey, task_cmp}
 use Rattle.mkb_pick.specs.Marks.{IsTold}
 use Rattle.mkb_pick.specs.declared.task.Task.{Task}
 use Rattle.mkb_pick.specs.declared.queue.Entry.{Entry}
@@ -18,7 +18,7 @@ IsAt q n e = (k : ℕ) × Stands q.names.items q.entries.items k n e
 
 -- what holds of an entry: the tasks are ordered, and what the marks say of them holds
 abbrev pub IsSound : Entry → Type 0
-IsSound e = IsOrdered task_cmp e.tasks × IsTold e.marks e.tasks
+IsSound e = IsOrdered IsTaskKey task_cmp e.tasks × IsTold e.marks e.tasks
 
 -- what holds of a queue: the names are in order and have an entry each, the entries are sound, and there is as much room as is told
 pub record IsQueue (q : Queue) : Type 0 where

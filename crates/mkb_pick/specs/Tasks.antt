@@ -1,17 +1,16 @@
 -- Tasks: jobs without their processes, with their weights.
-use Rattle.std.specs.Prelude.{ℕ, List, [], ◌∷◌, Bool, ◌≤◌}
-use Rattle.std.specs.Ordering.{nat_cmp, ordering_then}
+use Rattle.std.specs.Prelude.{ℕ, ◌≡◌, ◌^◌, List, [], ◌∷◌, Bool, ◌≤◌}
+use Rattle.std.specs.Ordering.{nat_cmp}
 use Rattle.std.specs.Cmp.Lexicographic.{slice_cmp}
 use Rattle.std.specs.declared.cmp.Ordering.{Ordering}
-use Rattle.std.specs.declared.cmp.Ordering.TheVariants.{Equal}
 use Rattle.kb_label.specs.Names.{Name}
-use Rattle.kb_term.specs.declared.origin.RuleRef.{RuleRef}
 use Rattle.kb_node.specs.declared.job.Job.{Job}
 use Rattle.kb_node.specs.declared.job.Job.TheVariants.{Reduce, Orient, Overlap, Close}
 use Rattle.mkb_pick.specs.declared.task.Work.{Work}
 use Rattle.mkb_pick.specs.declared.task.Work.TheVariants.{Reducing, Orienting, Overlapping, Closing}
 use Rattle.mkb_pick.specs.declared.task.Task.{Task}
 use Rattle.mkb_model.specs.Jobs.{is_free}
+use Rattle.mkb_pick.specs.Keys.{Fits, packed}
 
 -- the job of the process
 abbrev pub job_of : Name → Work → Job
@@ -34,27 +33,32 @@ work_kind (Orienting n) = 1
 work_kind (Overlapping a b) = 2
 work_kind Closing = 3
 
--- the kind, the weight and the numbers, as many for each kind
+-- the numbers, as many for each kind
+abbrev pub work_numbers : Work → List ℕ
+work_numbers (Reducing n) = n.0 ∷ 0 ∷ 0 ∷ 0 ∷ []
+work_numbers (Orienting n) = n.0 ∷ 0 ∷ 0 ∷ 0 ∷ []
+work_numbers (Overlapping a b) = a.node ∷ a.dir ∷ b.node ∷ b.dir ∷ []
+work_numbers Closing = 0 ∷ 0 ∷ 0 ∷ 0 ∷ []
+
+-- the kind, the weight and the numbers
 abbrev pub work_key : Work → ℕ → List ℕ
-work_key (Reducing n) w = 0 ∷ w ∷ n.0 ∷ 0 ∷ 0 ∷ 0 ∷ []
-work_key (Orienting n) w = 1 ∷ w ∷ n.0 ∷ 0 ∷ 0 ∷ 0 ∷ []
-work_key (Overlapping a b) w = 2 ∷ w ∷ a.node ∷ a.dir ∷ b.node ∷ b.dir ∷ []
-work_key Closing w = 3 ∷ w ∷ 0 ∷ 0 ∷ 0 ∷ 0 ∷ []
+work_key work w = work_kind work ∷ w ∷ work_numbers work
 
--- the order of rules
-abbrev pub rule_cmp : RuleRef → RuleRef → Ordering
-rule_cmp a b = ordering_then (nat_cmp a.node b.node) (nat_cmp a.dir b.dir)
+-- what the numbers are below
+abbrev pub number_bounds : List ℕ
+number_bounds = 2 ^ 16 ∷ 2 ^ 8 ∷ 2 ^ 16 ∷ 2 ^ 8 ∷ []
 
--- the order of the numbers in two of one kind
-abbrev pub numbers_cmp : Work → Work → Ordering
-numbers_cmp (Reducing n) (Reducing m) = nat_cmp n.0 m.0
-numbers_cmp (Orienting n) (Orienting m) = nat_cmp n.0 m.0
-numbers_cmp (Overlapping a b) (Overlapping c d) = ordering_then (rule_cmp a c) (rule_cmp b d)
-numbers_cmp v w = Equal
+-- what the kind, the weight and the numbers are below
+abbrev pub task_bounds : List ℕ
+task_bounds = 4 ∷ 2 ^ 32 ∷ number_bounds
 
 -- the order of the tasks of one process
 abbrev pub task_cmp : Task → Task → Ordering
 task_cmp s t = slice_cmp nat_cmp (work_key s.work s.weight) (work_key t.work t.weight)
+
+-- the key of a task, and that its numbers are below their bounds
+abbrev pub IsTaskKey : ℕ → Task → Type 0
+IsTaskKey k t = Fits task_bounds (work_key t.work t.weight) × (k ≡ packed task_bounds (work_key t.work t.weight))
 
 -- the task is of a kind from low to high
 abbrev pub IsWithin : ℕ → ℕ → Task → Type 0

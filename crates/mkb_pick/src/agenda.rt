@@ -10,6 +10,7 @@ use crate::queue::{Entry, Queue};
 use crate::search::next_job;
 use crate::stores::Stores;
 use crate::task::{Task, Work, process_of};
+use crate::tree::Placed;
 use kb_label::{MAX_BITS, Process};
 use kb_node::{Job, NodeId};
 use kb_term::Memory;
@@ -115,11 +116,13 @@ impl Agenda {
         ensures room { 0 < self.old.spare_jobs → IsOk result }
     {
         self.stores.stock(self.alloc, &mut self.queue, 1, 0)?;
-        let mut node = self.stores.take_job();
-        node.item = Task {
+        let task = Task {
             work: Work::of(job),
             weight,
         };
+        let mut node = self.stores.take_job();
+        node.key = task.key();
+        node.item = task;
         self.queue.add_task(&process_of(job), node);
         Ok(())
     }
@@ -136,7 +139,8 @@ impl Agenda {
             work: Work::of(job),
             weight,
         };
-        self.queue.remove_task(&process_of(job), &task)
+        let node = self.queue.remove_task(&process_of(job), &task);
+        self.stores.take_back(node)
     }
 
     /// Whether a job is listed under the weight. It takes no memory.

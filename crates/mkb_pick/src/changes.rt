@@ -1,8 +1,8 @@
 // What changes in the queue.
-ghost use Rattle.std.specs.Prelude.{◌≡◌, ◌⊎◌, ◌↔◌, ◌+◌, ◌-◌, ◌^◌, ◌<◌, ◌≤◌, min, IsTrue, ℕ, Bool, length};
+ghost use Rattle.std.specs.Prelude.{◌≡◌, ◌⊎◌, ◌↔◌, ◌+◌, ◌-◌, ◌^◌, ◌<◌, ◌≤◌, min, IsTrue, is_some, ℕ, Bool, length};
 ghost use Rattle.kb_label.specs.Names.{Name, child};
 ghost use Rattle.mkb_pick.specs.Trees.{Has, IsOrdered, count};
-ghost use Rattle.mkb_pick.specs.Tasks.{task_cmp};
+ghost use Rattle.mkb_pick.specs.Tasks.{IsTaskKey, task_cmp};
 ghost use Rattle.mkb_pick.specs.Listings.{IsChild};
 ghost use Rattle.mkb_pick.specs.Marks.{reducing};
 ghost use Rattle.mkb_pick.specs.Queues.{IsQueue, IsSound, IsAt, IsSeated, HasTask, Sits};
@@ -11,7 +11,7 @@ ghost use Rattle.mkb_pick.specs.Stores.{IsStocked};
 use crate::queue::{Entry, Queue};
 use crate::stores::Stores;
 use crate::task::Task;
-use crate::tree::{Node, Tree, count, find};
+use crate::tree::{Node, Placed, Tree, count, find};
 use kb_label::{MAX_BITS, Process};
 use kb_node::NodeId;
 
@@ -20,6 +20,7 @@ impl Queue {
     pub(crate) fn add_task(&mut self, name: &Process, node: Box<Node<Task>>)
         requires queue { IsQueue self.old }
         requires seated { IsSeated self.old name.now }
+        requires keyed { IsTaskKey node.value.key node.value.item }
         requires absent { ¬ HasTask self.old name.now node.value.item }
         ensures seats { (n : Name) (c : ℕ) (r : Bool) → Sits self.new n c r ↔ Sits self.old n c r }
         ensures tasks { (n : Name) (t : Task) → HasTask self.new n t ↔ (((n ≡ name.now) × (t ≡ node.value.item)) ⊎ HasTask self.old n t) }
@@ -32,10 +33,10 @@ impl Queue {
         self.entries[place].add(node);
     }
 
-    /// Takes out a task of a process: whether it was there.
-    pub(crate) fn remove_task(&mut self, name: &Process, task: &Task) -> bool
+    /// Takes out a task of a process: its node, where it was there.
+    pub(crate) fn remove_task(&mut self, name: &Process, task: &Task) -> Option<Box<Node<Task>>>
         requires queue { IsQueue self.old }
-        ensures found { IsTrue result ↔ HasTask self.old name.now task.now }
+        ensures found { IsTrue (is_some result) ↔ HasTask self.old name.now task.now }
         ensures seats { (n : Name) (c : ℕ) (r : Bool) → Sits self.new n c r ↔ Sits self.old n c r }
         ensures tasks { (n : Name) (t : Task) → HasTask self.new n t ↔ (HasTask self.old n t × ¬ ((n ≡ name.now) × (t ≡ task.now))) }
         ensures spare { self.new.spare ≡ self.old.spare }
@@ -43,7 +44,7 @@ impl Queue {
     {
         match self.seek(name) {
             Some(place) => self.entries[place].remove(task),
-            None => false,
+            None => None,
         }
     }
 
@@ -167,10 +168,10 @@ impl Queue {
 
 // Whether a task is there.
 fn is_in(tasks: &Tree<Task>, task: &Task) -> bool
-    requires { IsOrdered task_cmp tasks.now }
+    requires { IsOrdered IsTaskKey task_cmp tasks.now }
     ensures { IsTrue result ↔ Has tasks.now task.now }
 {
-    match find(tasks, task) {
+    match find(tasks, task.key()) {
         Some(_) => true,
         None => false,
     }

@@ -1,7 +1,7 @@
 // What changes in what a process has.
-ghost use Rattle.std.specs.Prelude.{ℕ, ◌≡◌, ◌⊎◌, ◌↔◌, IsTrue};
+ghost use Rattle.std.specs.Prelude.{ℕ, ◌≡◌, ◌⊎◌, ◌↔◌, IsTrue, is_some};
 ghost use Rattle.mkb_pick.specs.Trees.{Has, IsOrdered};
-ghost use Rattle.mkb_pick.specs.Tasks.{task_cmp};
+ghost use Rattle.mkb_pick.specs.Tasks.{IsTaskKey, task_cmp};
 ghost use Rattle.mkb_pick.specs.Marks.{reducing};
 ghost use Rattle.mkb_pick.specs.declared.task.Work.TheVariants.{Reducing};
 ghost use Rattle.mkb_pick.specs.Queues.{IsSound};
@@ -9,13 +9,14 @@ ghost use Rattle.mkb_pick.specs.Queues.{IsSound};
 use crate::marks::Mark;
 use crate::queue::Entry;
 use crate::task::{Task, Work};
-use crate::tree::{Node, Tree, put, take};
+use crate::tree::{Node, Placed, Tree, put, take};
 use kb_node::NodeId;
 
 impl Entry {
     /// Adds a task.
     pub(crate) fn add(&mut self, node: Box<Node<Task>>)
         requires sound { IsSound self.old }
+        requires keyed { IsTaskKey node.value.key node.value.item }
         requires absent { ¬ Has self.old.tasks node.value.item }
         ensures cost { self.new.cost ≡ self.old.cost }
         ensures resting { self.new.resting ≡ self.old.resting }
@@ -29,22 +30,20 @@ impl Entry {
         }
     }
 
-    /// Takes out a task: whether it was there.
-    pub(crate) fn remove(&mut self, task: &Task) -> bool
+    /// Takes out a task: its node, where it was there.
+    pub(crate) fn remove(&mut self, task: &Task) -> Option<Box<Node<Task>>>
         requires sound { IsSound self.old }
-        ensures found { IsTrue result ↔ Has self.old.tasks task.now }
+        ensures found { IsTrue (is_some result) ↔ Has self.old.tasks task.now }
         ensures cost { self.new.cost ≡ self.old.cost }
         ensures resting { self.new.resting ≡ self.old.resting }
         ensures tasks { (t : Task) → Has self.new.tasks t ↔ (Has self.old.tasks t × ¬ (t ≡ task.now)) }
         ensures sound { IsSound self.new }
     {
-        let found = remove_from(&mut self.tasks, task);
-        if found {
-            if let Work::Reducing(n) = task.work {
-                self.marks.remove(n);
-            }
+        let node = remove_from(&mut self.tasks, task)?;
+        if let Work::Reducing(n) = task.work {
+            self.marks.remove(n);
         }
-        found
+        Some(node)
     }
 
     /// Whether there is a reducing of the node.
@@ -60,17 +59,14 @@ impl Entry {
     }
 }
 
-// Takes a task out of those of a process: whether it was there.
-fn remove_from(tasks: &mut Tree<Task>, task: &Task) -> bool
-    requires { IsOrdered task_cmp tasks.old }
-    ensures found { IsTrue result ↔ Has tasks.old task.now }
+// Takes a task out of those of a process: its node, where it was there.
+fn remove_from(tasks: &mut Tree<Task>, task: &Task) -> Option<Box<Node<Task>>>
+    requires { IsOrdered IsTaskKey task_cmp tasks.old }
+    ensures found { IsTrue (is_some result) ↔ Has tasks.old task.now }
     ensures items { (t : Task) → Has tasks.new t ↔ (Has tasks.old t × ¬ (t ≡ task.now)) }
-    ensures ordered { IsOrdered task_cmp tasks.new }
+    ensures ordered { IsOrdered IsTaskKey task_cmp tasks.new }
 {
-    match take(tasks, task) {
-        Some(_) => true,
-        None => false,
-    }
+    take(tasks, task.key())
 }
 
 // Whether there is a reducing of the node, by a look at each task.

@@ -5,6 +5,9 @@ use crate::tree::{Node, Placed, Tree};
 use kb_term::Memory;
 use std::alloc::Global;
 
+// How many nodes that came back are kept at most.
+const MOST_KEPT: usize = 1_024;
+
 /// Nodes that are set aside, so that what needs one needs no memory.
 #[derive(Drop)]
 pub(crate) struct Pool<T> {
@@ -29,12 +32,16 @@ impl<T: Placed> Pool<T> {
         ensures kept { vec_len self.old.boxes ≤ vec_len self.new.boxes }
         ensures room { count ≤ vec_len self.old.boxes → IsOk result }
     {
+        if self.boxes.len() < count {
+            self.widen();
+        }
         while self.boxes.len() < count {
             let node = Box::new(
                 alloc,
                 Node {
                     left: Tree::Leaf,
                     item: T::blank(),
+                    key: 0,
                     priority: self.draw(),
                     right: Tree::Leaf,
                 },
@@ -52,6 +59,25 @@ impl<T: Placed> Pool<T> {
         match self.boxes.pop() {
             Some(node) => node,
             None => unreachable!(),
+        }
+    }
+
+    /// Keeps a node that came back where there is room for it, else lets it go. It takes no memory.
+    pub(crate) fn give(&mut self, node: Box<Node<T>>)
+        ensures { vec_len self.old.boxes ≤ vec_len self.new.boxes }
+    {
+        let len = self.boxes.len();
+        if len < MOST_KEPT && len < self.boxes.capacity() {
+            let _ = self.boxes.push(node);
+        }
+    }
+
+    // Makes room for the nodes that are kept, where there is none yet. Where memory is wanting for it, fewer are kept.
+    fn widen(&mut self)
+        ensures { vec_len self.new.boxes ≡ vec_len self.old.boxes }
+    {
+        if self.boxes.capacity() == 0 {
+            let _ = self.boxes.reserve(MOST_KEPT);
         }
     }
 

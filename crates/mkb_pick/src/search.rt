@@ -1,7 +1,7 @@
 // The search for the next job.
 ghost use Rattle.std.specs.Prelude.{◌≡◌, ◌↔◌, ◌<◌, ◌+◌, true, length, IsTrue, MatchOption};
 ghost use Rattle.mkb_pick.specs.Trees.{IsOrdered};
-ghost use Rattle.mkb_pick.specs.Tasks.{task_cmp, IsWithin, is_open};
+ghost use Rattle.mkb_pick.specs.Tasks.{IsTaskKey, task_cmp, IsWithin, is_open};
 ghost use Rattle.mkb_pick.specs.Queues.{IsQueue};
 ghost use Rattle.mkb_pick.specs.Firsts.{IsFirst, IsNext, IsChoice};
 
@@ -19,7 +19,7 @@ fn first_between(
     low: u8,
     high: u8,
 ) -> Option<Task>
-    requires { IsOrdered task_cmp tasks.now }
+    requires { IsOrdered IsTaskKey task_cmp tasks.now }
     ensures { IsFirst task_cmp tasks.now (λ t. IsWithin low high t × (is_open flight.now process.now t ≡ true)) result }
 {
     let Tree::Fork(top) = tasks else {
@@ -44,7 +44,7 @@ fn first_between(
 ///
 /// Where an Orient or a Close of the process is in flight, its Orients and its Close are passed over in one step.
 fn first_task(tasks: &Tree<Task>, process: &Process, flight: &[Job]) -> Option<Task>
-    requires { IsOrdered task_cmp tasks.now }
+    requires { IsOrdered IsTaskKey task_cmp tasks.now }
     ensures { IsFirst task_cmp tasks.now (λ t. is_open flight.now process.now t ≡ true) result }
 {
     if is_free(&Job::Close(*process), flight) {

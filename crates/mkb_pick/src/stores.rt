@@ -1,7 +1,7 @@
 // Nodes that are set aside for jobs.
-ghost use Rattle.std.specs.Prelude.{◌≡◌, ◌↔◌, ◌+◌, ◌<◌, ◌≤◌, max, OnOk, OnErr, IsOk};
+ghost use Rattle.std.specs.Prelude.{◌≡◌, ◌↔◌, ◌+◌, ◌<◌, ◌≤◌, max, OnOk, OnErr, IsOk, is_some};
 ghost use Rattle.mkb_pick.specs.Trees.{Has, IsOrdered, count};
-ghost use Rattle.mkb_pick.specs.Tasks.{task_cmp};
+ghost use Rattle.mkb_pick.specs.Tasks.{IsTaskKey, task_cmp};
 ghost use Rattle.mkb_pick.specs.Queues.{IsQueue};
 ghost use Rattle.mkb_pick.specs.Stores.{IsStocked};
 
@@ -66,13 +66,29 @@ impl Stores {
         self.jobs.take()
     }
 
+    /// Takes back the node of a job that was taken out: whether there is one.
+    pub(crate) fn take_back(&mut self, node: Option<Box<Node<Task>>>) -> bool
+        requires stocked { IsStocked self.old }
+        ensures back { result ≡ is_some node }
+        ensures jobs { self.new.spare_jobs ≡ self.old.spare_jobs }
+        ensures stocked { IsStocked self.new }
+    {
+        match node {
+            Some(node) => {
+                self.jobs.give(node);
+                true
+            }
+            None => false,
+        }
+    }
+
     /// A tree of the same tasks, of which there are so many.
     pub(crate) fn copy_tasks(&mut self, tasks: &Tree<Task>, jobs: usize) -> Tree<Task>
         requires stocked { IsStocked self.old }
         requires many { count tasks.now ≡ jobs }
         requires some { jobs ≤ self.old.spare_jobs }
         ensures tasks { (t : Task) → Has result t ↔ Has tasks.now t }
-        ensures ordered { IsOrdered task_cmp tasks.now → IsOrdered task_cmp result }
+        ensures ordered { IsOrdered IsTaskKey task_cmp tasks.now → IsOrdered IsTaskKey task_cmp result }
         ensures jobs { self.new.spare_jobs + jobs ≡ self.old.spare_jobs }
         ensures stocked { IsStocked self.new }
     {

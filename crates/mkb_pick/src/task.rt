@@ -1,13 +1,22 @@
 // Tasks: jobs without their processes.
-ghost use Rattle.std.specs.Prelude.{◌≡◌, ◌∷◌, []};
+ghost use Rattle.std.specs.Prelude.{◌≡◌, ◌∷◌, ◌+◌, ◌*◌, ◌^◌, ◌<◌, []};
 ghost use Rattle.mkb_model.specs.Jobs.{clashes, is_free, process_of};
-ghost use Rattle.mkb_pick.specs.Tasks.{job_of, work_of, work_kind, rule_cmp, numbers_cmp};
+ghost use Rattle.mkb_pick.specs.Keys.{Fits, packed};
+ghost use Rattle.mkb_pick.specs.Tasks.{job_of, work_of, work_kind, work_numbers, number_bounds};
 
 use crate::tree::Placed;
 use kb_label::Process;
 use kb_node::{Job, NodeId};
 use kb_term::RuleRef;
-use std::cmp::Ordering;
+
+// How many numbers there are for the direction of a rule, for a rule, for a weight, and for the numbers of a task.
+const DIRECTIONS: u32 = 1 << 8;
+
+const RULES: u64 = 1 << 24;
+
+const WEIGHTS: u64 = 1 << 32;
+
+const NUMBERS: u128 = 1 << 48;
 
 /// What a job does, for whichever process.
 #[derive(Clone, Copy)]
@@ -54,26 +63,29 @@ impl Work {
         }
     }
 
-    // The order of the numbers in two of one kind.
-    fn numbers_cmp(&self, other: &Work) -> Ordering
-        ensures { result ≡ numbers_cmp self.now other.now }
+    // The numbers, as one.
+    fn number(&self) -> u64
+        ensures fits { Fits number_bounds (work_numbers self.now) }
+        ensures number { result ≡ packed number_bounds (work_numbers self.now) }
     {
-        match (self, other) {
-            (Work::Reducing(n), Work::Reducing(m)) => n.0.cmp(&m.0),
-            (Work::Orienting(n), Work::Orienting(m)) => n.0.cmp(&m.0),
-            (Work::Overlapping(a, b), Work::Overlapping(c, d)) => rule_cmp(a, c).then(rule_cmp(
-                b, d,
-            )),
-            _ => Ordering::Equal,
+        match *self {
+            Work::Reducing(n) | Work::Orienting(n) => u64::from(rule_number(n.0, 0)) * RULES,
+            Work::Overlapping(a, b) => {
+                let first = u64::from(rule_number(a.node, a.dir));
+                first * RULES + u64::from(rule_number(b.node, b.dir))
+            }
+            Work::Closing => 0,
         }
     }
 }
 
-// The order of rules, by their numbers and their directions.
-fn rule_cmp(rule: &RuleRef, other: &RuleRef) -> Ordering
-    ensures { result ≡ rule_cmp rule.now other.now }
+// The number and the direction of a rule, as one.
+fn rule_number(node: u16, dir: u8) -> u32
+    ensures number { result ≡ node * 2 ^ 8 + dir }
+    ensures node { node < 2 ^ 16 }
+    ensures dir { dir < 2 ^ 8 }
 {
-    rule.node.cmp(&other.node).then(rule.dir.cmp(&other.dir))
+    u32::from(node) * DIRECTIONS + u32::from(dir)
 }
 
 /// A job of a process with its weight.
@@ -86,16 +98,17 @@ pub(crate) struct Task {
 impl Placed for Task {
     ghost use Rattle.std.specs.Cmp.{on_total, nat_cmp_total};
     ghost use Rattle.std.specs.Cmp.Lexicographic.{lists_total};
-    ghost use Rattle.mkb_pick.specs.Tasks.{task_cmp, work_key};
+    ghost use Rattle.mkb_pick.specs.Tasks.{task_cmp, work_key, IsTaskKey};
+    ghost use Rattle.mkb_pick.specs.KeyOrder.{keys_order};
 
     ghost place_cmp = { task_cmp };
 
-    fn place(&self, other: &Task) -> Ordering {
-        let by_kind = self.work.kind().cmp(&other.work.kind());
-        let by_weight = self.weight.cmp(&other.weight);
-        by_kind
-            .then(by_weight)
-            .then(self.work.numbers_cmp(&other.work))
+    ghost is_key = { IsTaskKey };
+
+    fn key(&self) -> u128 {
+        let weight = self.weight;
+        let front = u64::from(self.work.kind()) * WEIGHTS + u64::from(weight);
+        u128::from(front) * NUMBERS + u128::from(self.work.number())
     }
 
     fn blank() -> Task {
@@ -106,6 +119,8 @@ impl Placed for Task {
     }
 
     ghost total = { on_total (λ t. work_key t.work t.weight) (lists_total nat_cmp_total) };
+
+    ghost exact = { λ k m x y p q. keys_order (work_key x.work x.weight) (work_key y.work y.weight) k m p q };
 }
 
 /// The process that the job is for.
