@@ -1,5 +1,4 @@
 -- A pool may be shared by threads.
-use denote.RattleType.{RattleType}
 use denote.Struct.Declared as S
 use denote.Param.Send.{IsSend, IsSync, sendable, recorded_sync, struct_sync}
 use Rattle.std.proofs.Crossing.{crosses}

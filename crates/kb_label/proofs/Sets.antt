@@ -7,10 +7,10 @@ use Rattle.std.specs.declared.cmp.Ordering.TheVariants.{Less, Equal, Greater}
 use Rattle.std.proofs.Math.Bool.{or-false, or-true}
 use Rattle.std.proofs.Math.Dec.{ltb}
 use Rattle.std.proofs.lemmas.Bool.{lt-ltb}
-use Rattle.kb_label.specs.Names.{Name, child, name_cmp, name_eq, has, add, minus, relabel, IsInNameOrder, IsTakenBack}
+use Rattle.kb_label.specs.Names.{Name, child, name_cmp, name_eq, has, add, join, minus, relabel, IsInNameOrder, IsTakenBack}
 use Rattle.kb_label.specs.NameOrder.{name_cmp-equal}
-use Rattle.kb_label.proofs.Members.{name_eq-refl, name_eq-eq, has-add, has-minus}
-use Rattle.kb_label.proofs.Ordered.{turned, rest, lower, before-absent, ordered-add, ordered-without}
+use Rattle.kb_label.proofs.Members.{name_eq-refl, name_eq-eq, has-add, has-join, has-minus}
+use Rattle.kb_label.proofs.Ordered.{turned, rest, lower, before-absent, ordered-add, ordered-join, ordered-without}
 use Rattle.kb_label.proofs.Forked.{relabelled}
 
 first : (p : Name) (l : List Name) → has (p ∷ l) p ≡ true
@@ -93,3 +93,15 @@ module _ (p : Name) (l : List Name) (o : IsInNameOrder l) where
           ∙ ap (λ b. name_eq q p || b) (has-minus (minus m (right ∷ [])) (left ∷ []) q ∙ ap (λ b. not (name_eq q left || false) && b) (has-minus m (right ∷ []) q ∙ ap (λ b. not (name_eq q right || false) && b) (has-relabel p q l h)))
           ∙ taken_back (name_eq q p) (name_eq q left) (name_eq q right) (has l q)
           (λ e. ap (has l) (name_eq-eq q p e) ∙ h) (λ e. ap (has l) (name_eq-eq q left e) ∙ none_left) (λ e. ap (has l) (name_eq-eq q right e) ∙ none_right)
+
+-- ---- one name alone
+
+-- joined with one name a list gains it at its place
+pub join-only : (p : Name) (l : List Name) → IsInNameOrder l → join l (p ∷ []) ≡ add p l
+join-only p l o = same_names (join l (p ∷ [])) (add p l) (ordered-join l (p ∷ []) tt) (ordered-add p l o) (λ q. has-join l (p ∷ []) q ∙ ap (λ b. has l q || b) (or-false (name_eq q p)) ∙ or-turned (has l q) (name_eq q p) ∙ sym (has-add p l q))
+  where
+    or-turned : (a b : Bool) → (a || b) ≡ (b || a)
+    or-turned true true = refl
+    or-turned true false = refl
+    or-turned false true = refl
+    or-turned false false = refl

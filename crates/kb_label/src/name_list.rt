@@ -1,5 +1,5 @@
 // Lists of names in their order.
-ghost use Rattle.std.specs.Prelude.{◌≡◌, ◌+◌, ◌<◌, ◌≤◌, [], ◌∷◌, length, true, insert, remove, is_ok, OnOk, OnErr, IfOk, IfErr, IsTrue, vec_len, vec_capacity};
+ghost use Rattle.std.specs.Prelude.{◌≡◌, ◌+◌, ◌<◌, ◌≤◌, [], ◌∷◌, length, true, insert, remove, is_ok, OnOk, OnErr, IfOk, IfErr, IfSome, IsTrue, vec_len, vec_capacity};
 ghost use Rattle.kb_label.specs.Kept.{AreBefore, AreAfter, IsPlaceOf};
 ghost use Rattle.kb_label.specs.Names.{has, add, join, meet, minus, relabel, united, is_empty, IsTakenBack, IsInNameOrder};
 ghost use Rattle.std.specs.declared.cmp.Ordering.TheVariants.{Equal, Greater};
@@ -116,6 +116,21 @@ impl NameList {
         }
     }
 
+    // Adds a name that is kept elsewhere at its place.
+    fn add_kept(&mut self, name: &KeptName) -> Result<(), AllocError>
+        ensures ok { OnOk result (self.new ≡ add name.now self.old) }
+        ensures err { OnErr result (self.new ≡ self.old) }
+    {
+        match self.place_kept(name) {
+            Ok(_) => Ok(()),
+            Err(place) => {
+                let kept = name.clone()?;
+                self.names.insert(place, kept)?;
+                Ok(())
+            }
+        }
+    }
+
     /// Adds all names of another list.
     pub(crate) fn join(&mut self, other: &NameList) -> Result<(), AllocError>
         ensures ok { OnOk result (self.new ≡ join self.old other.now) }
@@ -124,6 +139,9 @@ impl NameList {
         if self.names.is_empty() {
             self.names = other.names.as_slice().to_vec(*self.names.allocator())?;
             return Ok(());
+        }
+        if let Some(name) = only_name(other.names.as_slice()) {
+            return self.add_kept(name);
         }
         let names = merged(
             *self.names.allocator(),
@@ -147,6 +165,10 @@ impl NameList {
     pub(crate) fn minus(&mut self, other: &NameList)
         ensures { self.new ≡ minus self.old other.now }
     {
+        if let Some(name) = only_name(other.names.as_slice()) {
+            take_out(&mut self.names, name);
+            return;
+        }
         let mut place = 0;
         self.names
             .retain(|name| !other.has_kept_from(name, &mut place));
@@ -318,7 +340,7 @@ impl NameList {
     fn has_kept_by_search(&self, name: &KeptName, place: &mut usize) -> bool
         ensures { result ≡ has self.now name.now }
     {
-        match name.place_in(self.names.as_slice()) {
+        match self.place_kept(name) {
             Ok(at) => {
                 *place = at.saturating_add(1);
                 true
@@ -330,12 +352,31 @@ impl NameList {
         }
     }
 
+    // Where a name that is kept elsewhere stands, or where it would have to be put.
+    fn place_kept(&self, name: &KeptName) -> Result<usize, usize>
+        ensures place { IsPlaceOf self.now name.now result }
+        ensures in_order { IsInNameOrder self.now }
+    {
+        name.place_in(self.names.as_slice())
+    }
+
     // Where the name stands, or where it would have to be put.
     fn place(&self, process: &Process) -> Result<usize, usize>
         ensures place { IsPlaceOf self.now process.now result }
         ensures in_order { IsInNameOrder self.now }
     {
         place_of(self.names.as_slice(), process)
+    }
+}
+
+// The only one of the names; none where they are more, or none.
+fn only_name(names: &[KeptName]) -> Option<&KeptName>
+    ensures { IfSome result (λ p. names.now ≡ p.now ∷ []) }
+{
+    if names.len() == 1 {
+        Some(&names[0])
+    } else {
+        None
     }
 }
 
