@@ -1,5 +1,5 @@
 // Rules and pairs that jobs read before.
-ghost use Rattle.std.specs.Prelude.{◌≡◌, ◌<◌, ◌≤◌, ◌^◌, Some, IfOk, IfSome, length};
+ghost use Rattle.std.specs.Prelude.{IsTrue, ◌≡◌, ◌<◌, ◌≤◌, ◌^◌, Some, IfOk, IfSome, length};
 ghost use Rattle.mkb_model.specs.Plain.{Plain, pair_at, rule_at};
 ghost use Rattle.mkb_rules.specs.Named.{IsRuleThere};
 ghost use Rattle.mkb_board.specs.Shelf.{AreRulesAt, HoldsRead, IsPutAt, place_of};

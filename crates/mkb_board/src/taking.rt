@@ -6,6 +6,7 @@ ghost use Rattle.mkb_model.specs.declared.entry.Ticket.{Ticket};
 ghost use Rattle.mkb_model.specs.declared.entry.Entry.{Entry};
 ghost use Rattle.mkb_board.specs.Boards.{has_halt};
 ghost use Rattle.mkb_board.specs.Choosing.{jobs_of};
+ghost use Rattle.mkb_board.specs.Listed.{IsAgenda};
 ghost use Rattle.mkb_board.specs.Takes.{IsTakenBy, take_entry};
 
 use crate::answers::Taken;
@@ -15,8 +16,10 @@ use crate::snapshots::snapshot;
 use kb_jobs::Snapshot;
 use kb_node::Job;
 use kb_term::Memory;
-use mkb_agenda::agenda_of;
+use mkb_agenda::{agenda_of, what_is_offered_first_is_the_first_job};
 use mkb_model::{Entry, Ticket};
+use mkb_pick::Agenda;
+use mkb_rules::State;
 use std::alloc::{AllocError, Global};
 
 impl Board {
@@ -58,25 +61,11 @@ impl Board {
         ensures first { IfOk result (λ o. o ≡ first_job self.old.plain) }
         ensures takable { OnErr result (IsSome (first_job self.old.plain)) }
     {
-        match self.offered(alloc) {
+        let flight = self.flight.as_slice();
+        match offered(alloc, &self.state, &mut self.agenda, flight) {
             Ok(job) => Ok(job),
-            Err(fault) if has_first(&self.state, self.flight.as_slice()) => Err(fault),
+            Err(fault) if has_first(&self.state, flight) => Err(fault),
             Err(_) => Ok(None),
-        }
-    }
-
-    // What the agenda offers first beside the jobs in flight. It is made anew where it isn't kept.
-    fn offered(&mut self, alloc: Global) -> Result<Option<Job>, Memory>
-        ensures same { self.new ≡ self.old }
-        ensures first { IfOk result (λ o. o ≡ first_job self.old.plain) }
-    {
-        let flying = jobs_of(alloc, self.flight.as_slice())?;
-        if self.agenda.is_none() {
-            self.agenda = Some(agenda_of(alloc, &self.state)?);
-        }
-        match &self.agenda {
-            Some(agenda) => Ok(agenda.next(flying.as_slice())),
-            None => unreachable!(),
         }
     }
 
@@ -104,6 +93,30 @@ impl Board {
         self.flight.push(ticket).unwrap();
         self.taken += 1;
         Ok(Taken::Job(ticket, snapshot))
+    }
+}
+
+// What the agenda of the state offers first beside the jobs in flight. It is made anew where it isn't kept.
+fn offered(
+    alloc: Global,
+    state: &State,
+    agenda: &mut Option<Agenda>,
+    flight: &[Ticket],
+) -> Result<Option<Job>, Memory>
+    requires { IsAgenda state.now agenda.old }
+    ensures kept { IsAgenda state.now agenda.new }
+    ensures first { IfOk result (λ o. o ≡ first_job (record state.now { flight = flight.now })) }
+{
+    let flying = jobs_of(alloc, flight)?;
+    what_is_offered_first_is_the_first_job();
+    match agenda {
+        Some(agenda) => Ok(agenda.next(flying.as_slice())),
+        None => {
+            let made = agenda_of(alloc, state)?;
+            let first = made.next(flying.as_slice());
+            *agenda = Some(made);
+            Ok(first)
+        }
     }
 }
 

@@ -18,7 +18,7 @@ loop-i-preserved c =
     let d : NodeId = record { 0 = 0 } in
     let n : NodeId = get_or l i d in
     let there : i < length l = omega (arith, c.loop-i-test.true) in
-    ap (map (λ (k : NodeId). k.0)) (c.in_ok-push_equation.ensures ∙ ap (λ (r : Roles). c.loop-i.equations.items ++ cond r.equation (n ∷ []) []) c.roles_by-roles.ensures)
+    ap (map (λ (k : NodeId). k.0)) (c.in_ok-push_equation.ensures ∙ ap (λ (r : Roles). c.loop-i.equations.items ++ cond r.equation (n ∷ []) []) c.roles_by-roles.ensures.roles)
     ∙ listed_next (is_equation b p) c.loop-i.equations.items (map (λ (k : NodeId). k.0) (take i l)) n c.loop-i.invariant
     ∙ ap (filter (is_equation b p)) (sym (ap (map (λ (k : NodeId). k.0)) (take_more l i d there) ∙ map-append (λ (k : NodeId). k.0) (take i l) (n ∷ [])))
 

@@ -12,7 +12,7 @@ loop-n-preserved c =
     let b = c.args.state.now in
     let p = c.args.p.now in
     let n : NodeId = record { 0 = c.loop-n.n } in
-    ap (map (λ (k : NodeId). k.0)) (c.in_ok-push_held.ensures ∙ ap (λ (r : Roles). c.loop-n.held.items ++ cond (is_in_use r) (n ∷ []) []) c.roles_by-roles.ensures)
+    ap (map (λ (k : NodeId). k.0)) (c.in_ok-push_held.ensures ∙ ap (λ (r : Roles). c.loop-n.held.items ++ cond (is_in_use r) (n ∷ []) []) c.roles_by-roles.ensures.roles)
     ∙ listed_next (λ m. is_in_use (roles_of b p m)) c.loop-n.held.items (numbers_from 0 c.loop-n.n) n c.loop-n.invariant
     ∙ ap (filter (λ m. is_in_use (roles_of b p m))) (sym (numbers_next c.loop-n.n))
 

@@ -23,7 +23,7 @@ loop-i-preserved c =
     let n : NodeId = get_or l i d in
     let there : i < length l = omega (arith, c.loop-i-test.true) in
     let ns = map (λ (k : NodeId). k.0) (take i l) in
-    c.in_ok-push_rules.ensures ∙ ap (λ (r : Roles). c.loop-i.rules.items ++ rules_in n.0 r) c.roles_by-roles.ensures
+    c.in_ok-push_rules.ensures ∙ ap (λ (r : Roles). c.loop-i.rules.items ++ rules_in n.0 r) c.roles_by-roles.ensures.roles
     ∙ ap (λ (xs : List RuleRef). c.loop-i.rules.items ++ xs) (rules_of_roles b p n.0)
     ∙ ap (λ (xs : List RuleRef). xs ++ filter (is_rule b p) (directions n.0)) c.loop-i.invariant
     ∙ sym (filter-append (is_rule b p) (flat_map directions ns) (directions n.0))

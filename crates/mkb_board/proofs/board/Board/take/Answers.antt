@@ -18,16 +18,7 @@ pub returns-then-self-clause-ok : goal.returns-then-self-clause-ok
 returns-then-self-clause-ok c = (refl, subst {A = Seen} (λ z. verdict z.plain ≡ None) c.self.view_is (sym c.self.invariant.2 ∙ c.in_default.is), subst {A = Seen} (λ z. IsTrue (has_halt z.journal)) c.self.view_is (sym c.self.invariant.0.halted_is ∙ c.if-self.true))
 
 pub take_job-requires-clause-no_verdict : goal.take_job-requires-clause-no_verdict
-take_job-requires-clause-no_verdict c = sym c.self.invariant.2 ∙ c.in_default.is
-
-pub first_job-requires-clause-limited : goal.first_job-requires-clause-limited
-first_job-requires-clause-limited c = limited_on c.self.inside.state c.self.inside.flight.items c.self.inside.journal.items c.self.invariant.0.legal
-
-pub first_job-requires-clause-in_order : goal.first_job-requires-clause-in_order
-first_job-requires-clause-in_order c = ordered_on c.self.inside.state c.self.inside.flight.items c.self.inside.journal.items c.self.invariant.0.legal
-
-pub first_job-requires-clause-rest : goal.first_job-requires-clause-rest
-first_job-requires-clause-rest c = legal_rest c.self.inside.state c.self.inside.flight.items c.self.inside.journal.items c.self.invariant.0.legal
+take_job-requires-clause-no_verdict c = subst {A = Seen} (λ z. verdict z.plain ≡ None) (c.self.view_is ∙ sym c.first_job.ensures.same) (sym c.self.invariant.2 ∙ c.in_default.is)
 
 -- what holds anyway holds where there is an error
 on_err : {T E P : Type 0} (r : Result T E) → P → OnErr r P
@@ -41,27 +32,24 @@ pub returns-in_err-first_job-clause-unhalted : goal.returns-in_err-first_job-cla
 returns-in_err-first_job-clause-unhalted c = on_err c.from_residual.result (subst {A = Seen} (λ z. IsFalse (has_halt z.journal)) c.self.view_is (sym c.self.invariant.0.halted_is ∙ c.if-self.false))
 
 pub returns-in_err-first_job-clause-takable : goal.returns-in_err-first_job-clause-takable
-returns-in_err-first_job-clause-takable c =
-    let b = c.self.inside.state in
-    let some : IsSome (first_job (record b { flight = c.self.inside.flight.items })) = subst {A = List Ticket} (λ ts. IsSome (first_job (record b { flight = ts }))) c.as_slice.ensures.value c.in_err-first_job.ensures.takable in
-    on_err c.from_residual.result (subst {A = Seen} (λ z. IsSome (first_job z.plain)) c.self.view_is some)
+returns-in_err-first_job-clause-takable c = on_err c.from_residual.result c.in_err-first_job.ensures.takable
 
 pub returns-in-None-clause-ok : goal.returns-in-None-clause-ok
 returns-in-None-clause-ok c =
-    let none = sym c.self.invariant.2 ∙ c.in_default.is in
-    let first : first_job (record c.self.inside.state { flight = c.self.inside.flight.items }) ≡ None = ap (λ (ts : List Ticket). first_job (record c.self.inside.state { flight = ts })) (sym c.as_slice.ensures.value) ∙ sym c.in_ok-first_job.ensures.first ∙ c.in-None.is in
-    let count = c.len.ensures ∙ c.self.inside.flight.ok.0 in (
-      c.self.view_is,
-      subst {A = Seen} (λ z. verdict z.plain ≡ None) c.self.view_is none,
+    let b = c.self.inside.state in
+    let flight = c.self.inside.flight.items in
+    let undecided = sym c.self.invariant.2 ∙ c.in_default.is in
+    let first = sym c.in_ok-first_job.ensures.first ∙ c.in-None.is in
+    let count = subst {A = Seen} (λ z. c.len.result ≡ length z.plain.flight) (c.self-in-None.view_is ∙ c.first_job.ensures.same) (c.len.ensures ∙ c.self-in-None.inside.flight.ok.0) in (
+      c.first_job.ensures.same,
+      subst {A = Seen} (λ z. verdict z.plain ≡ None) c.self.view_is undecided,
       subst {A = Seen} (λ z. IsFalse (has_halt z.journal)) c.self.view_is (sym c.self.invariant.0.halted_is ∙ c.if-self.false),
-      subst {A = Seen} (λ z. first_job z.plain ≡ None) c.self.view_is first,
-      subst {A = Seen} (λ z. c.len.result ≡ length z.plain.flight) c.self.view_is count,
-      some_left c.self.inside.flight.items c.len.result count (none_first (record c.self.inside.state { flight = c.self.inside.flight.items }) (waits_on c.self.inside.state c.self.inside.flight.items c.self.inside.journal.items c.self.invariant.0.legal) none first),
+      first,
+      count,
+      some_left flight c.len.result (subst {A = Seen} (λ z. c.len.result ≡ length z.plain.flight) (sym c.self.view_is) count)
+          (none_first (record b { flight = flight }) (waits_on b flight c.self.inside.journal.items c.self.invariant.0.legal) undecided (subst {A = Seen} (λ z. first_job z.plain ≡ None) (sym c.self.view_is) first)),
     )
   where
     some_left : (ts : List Ticket) (n : ℕ) → n ≡ length ts → ts ≢ [] → 0 < n
     some_left [] n e h = absurd (h refl)
     some_left (t ∷ ts) n e h = omega (arith, e)
-
-pub first_job-requires-clause-works : goal.first_job-requires-clause-works
-first_job-requires-clause-works c = ap (λ (l : List Placed). processes_in l) c.as_slice-2.ensures.value ∙ c.self.invariant.5.all

@@ -24,5 +24,5 @@ returns-clause-taken c =
       any_second = c.is_any-2.result;
       unknown = c.in_ok-unknown.unknown;
     })
-    c.requires.facts c.in_ok-pair.ensures.pair (c.in_ok-rules.ensures.rules ∙ ap (named_rules b) c.in_ok-names.ensures.names) (c.is_any.ensures ∙ ap (λ (r : Roles). r.equation || has_rule r 1) c.roles_by-roles.ensures) (c.is_any-2.ensures ∙ ap (λ (r : Roles). r.equation || has_rule r 0) c.roles_by-roles.ensures)
+    c.requires.facts c.in_ok-pair.ensures.pair (c.in_ok-rules.ensures.rules ∙ ap (named_rules b) c.in_ok-names.ensures.names) (c.is_any.ensures ∙ ap (λ (r : Roles). r.equation || has_rule r 1) c.roles_by-roles.ensures.roles) (c.is_any-2.ensures ∙ ap (λ (r : Roles). r.equation || has_rule r 0) c.roles_by-roles.ensures.roles)
     (ap (λ (ns : List RuleRef). with_names ns us) (c.in_ok-rules.ensures.names ∙ sym names) ∙ c.in_ok-unknown.ensures.names ∙ ap (λ (ns : List RuleRef). flat_map (unknown_on b n ns) (0 ∷ 1 ∷ [])) (names ∙ c.in_ok-names.ensures.names))
