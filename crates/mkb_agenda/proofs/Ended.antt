@@ -1,21 +1,24 @@
 -- A reducing that facts may end.
 use Rattle.std.proofs.Common.{ℕ, ◌≡◌, ◌≢◌, ◌↔◌, inl, inr, ⊎_elim, refl, sym, ap, ◌∙◌, subst, List, [], ◌∷◌, Bool, true, false, Contains}
+use Rattle.std.specs.Prelude.{not}
+use Rattle.std.specs.List.{list_any}
 use Rattle.std.proofs.lemmas.Bool.{and_from}
+use Rattle.kb_lemmas.proofs.Booleans.{and_gives_left, and_gives_right}
 use Rattle.kb_lemmas.proofs.Membership.{contains_first, only_member}
-use Rattle.kb_label.specs.Names.{Name}
+use Rattle.kb_label.specs.Names.{Name, has}
 use Rattle.kb_node.specs.declared.node.NodeId.{NodeId}
 use Rattle.kb_node.specs.declared.job.Job.{Job}
 use Rattle.kb_node.specs.declared.job.Job.TheVariants.{Reduce, Close}
 use Rattle.mkb_model.specs.Jobs.{process_of}
 use Rattle.mkb_model.specs.Plain.{Plain, cost, weight}
-use Rattle.mkb_model.specs.DueJobs.{is_working, is_work_due}
-use Rattle.mkb_model.proofs.Lists.{clash, false_unless}
+use Rattle.mkb_model.specs.DueJobs.{is_close_due, is_working, is_work_due, work_of}
+use Rattle.mkb_model.proofs.Lists.{clash, false_unless, in_any}
 use Rattle.mkb_pick.specs.Listings.{Listed, IsListed, IsProcess, HasJob, SetsCost}
 use Rattle.mkb_pick.proofs.Replaced.{names_decide}
 use Rattle.mkb_agenda.specs.Agendas.{IsListedAs, LeavesOthers}
 use Rattle.mkb_agenda.specs.Looking.{ComesFrom, ListsClosing, MayEnd}
 use Rattle.mkb_agenda.specs.Following.{Brings, IsBetween}
-use Rattle.mkb_agenda.proofs.DueJobs.{is_listed_due}
+use Rattle.mkb_agenda.proofs.DueJobs.{due_is, in_work, is_listed_due}
 use Rattle.mkb_agenda.proofs.Alike.{own_work, work_listed, due_alike, listed_same}
 use Rattle.mkb_agenda.proofs.Anew.{SameProcesses, anew_removed, jobs_decide, same_both}
 use Rattle.mkb_agenda.proofs.Again.{IsOwn, looked_again}
@@ -25,6 +28,14 @@ use Rattle.mkb_agenda.proofs.Opened.{idle_same}
 -- a board may end nothing of itself
 pub ends_itself : (c : Plain) (p : Name) (n : NodeId) → MayEnd c c p n
 ends_itself c p n = record { working = refl; asleep = refl; closed = refl; cost = λ h. refl; work = λ j e a. refl; ended = λ h. h; weights = λ j h. refl }
+
+-- beside a reducing no closing is listed
+pub closing_unlisted : (b : Plain) (p : Name) (n : NodeId) (v : ℕ) (ps : List Listed) → IsListedAs b p p ps → HasJob ps (Reduce p n) v → ¬ HasJob ps (Close p) 0
+closing_unlisted b p n v ps l had h =
+    let due = and_gives_right (is_working b p) (is_work_due b (Reduce p n)) (due_is b (Reduce p n) ((l.jobs (Reduce p n) v refl).0 had).0).0 in
+    let busy = in_any (is_work_due b) (work_of b p) (Reduce p n) (in_work b (Reduce p n) due tt) due in
+    let closes = and_gives_right (is_working b p) (is_close_due b p) (due_is b (Close p) ((l.jobs (Close p) 0 refl).0 h).0).0 in
+    clash (and_gives_left (not (list_any (is_work_due b) (work_of b p))) (not (has b.closed p)) closes) (ap not busy)
 
 module _ (b c : Plain) (p : Name) (n : NodeId) (k : MayEnd b c p n) where
   may_come : ComesFrom b p c p (Reduce p n ∷ [])

@@ -85,8 +85,8 @@ pub(crate) fn look_again(
     look_at_closing(agenda, state, process)
 }
 
-/// Takes reducing the node off the list of a process, and looks at its closing, where the reducing is listed and not due any more.
-/// Else nothing is changed.
+/// Takes reducing the node off the list of a process, and lists its closing where that comes to be due, where the reducing is listed
+/// and not due any more. Else nothing is changed. Beside the reducing no closing is listed.
 ///
 /// # Errors
 ///
@@ -113,7 +113,7 @@ pub(crate) fn look_whether_ended(
     }
     let reducing = Job::Reduce(*process, n);
     agenda.remove(&reducing, weight_of(state, &reducing));
-    look_at_closing(agenda, state, process)
+    list_closing(agenda, state, process)
 }
 
 // All jobs but the closing that a commit may have changed.
@@ -188,8 +188,26 @@ fn look_at_node(agenda: &mut Agenda, seen: &Seen, n: NodeId) -> Result<(), Memor
     ensures processes { (m : Name) (c : ℕ) (r : Bool) → IsListed agenda.new.processes m c r ↔ IsListed agenda.old.processes m c r }
     ensures jobs { OnOk result (ListsAnew seen.now.state.now (jobs.Reduce seen.now.process.now n ∷ jobs.Orient seen.now.process.now n ∷ []) agenda.old.processes agenda.new.processes) }
 {
-    look_at(agenda, seen, &Job::Reduce(*seen.process, n))?;
+    look_at_reducing(agenda, seen, n)?;
     look_at(agenda, seen, &Job::Orient(*seen.process, n))
+}
+
+// Reducing of the node.
+fn look_at_reducing(agenda: &mut Agenda, seen: &Seen, n: NodeId) -> Result<(), Memory>
+    requires seen { IsSeen seen.now }
+    requires there { IsThere seen.now.state.now n.0 }
+    requires listed { IsProcess agenda.old.processes seen.now.process.now }
+    ensures processes { (m : Name) (c : ℕ) (r : Bool) → IsListed agenda.new.processes m c r ↔ IsListed agenda.old.processes m c r }
+    ensures jobs { OnOk result (ListsAnew seen.now.state.now (jobs.Reduce seen.now.process.now n ∷ []) agenda.old.processes agenda.new.processes) }
+{
+    let reducing = Job::Reduce(*seen.process, n);
+    if agenda.is_reducing(seen.process, n) {
+        return look_at(agenda, seen, &reducing);
+    }
+    if !seen.is_due(&reducing) {
+        return Ok(());
+    }
+    agenda.add(&reducing, weight_of(seen.state, &reducing))
 }
 
 // Reducing of each of the nodes that the process has.
@@ -355,13 +373,12 @@ fn look_at_closing(agenda: &mut Agenda, state: &State, process: &Process) -> Res
     Ok(())
 }
 
-// Lists the closing of the process, which is not listed, where it has no job and is not closed.
+// Lists the closing of the process where it has no job and is not closed; where it is listed, nothing is changed.
 fn list_closing(agenda: &mut Agenda, state: &State, process: &Process) -> Result<(), Memory>
-    requires listed { IsProcess agenda.old.processes process.now }
-    requires absent { ¬ HasJob agenda.old.processes (jobs.Close process.now) 0 }
+    requires { IsProcess agenda.old.processes process.now }
     ensures processes { (n : Name) (c : ℕ) (r : Bool) → IsListed agenda.new.processes n c r ↔ IsListed agenda.old.processes n c r }
     ensures others { (j : Work) (w : ℕ) → j ≢ jobs.Close process.now → HasJob agenda.new.processes j w ↔ HasJob agenda.old.processes j w }
-    ensures closing { OnOk result (ListsClosing state.now process.now agenda.old.processes agenda.new.processes) }
+    ensures closing { OnOk result (¬ HasJob agenda.old.processes (jobs.Close process.now) 0 → ListsClosing state.now process.now agenda.old.processes agenda.new.processes) }
 {
     if agenda.is_idle(process) && !state.is_closed(process) {
         agenda.add(&Job::Close(*process), 0)

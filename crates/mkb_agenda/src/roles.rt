@@ -51,6 +51,7 @@ pub struct OpenTo<'a> {
 impl<'a> OpenTo<'a> {
     /// Whether some side of the node is open to the rule, which is of another node: nothing is known of the side and the rule, or a
     /// redex that whoever has the node so may rewrite.
+    #[inline]
     pub fn is_open(&self, rule: RuleRef) -> bool
         ensures { result ≡ is_open_to self.now.known.now.board self.now.roles self.now.known.now.node.0 rule }
     {

@@ -1,5 +1,5 @@
 -- The direction in which a canonical pair leads from one term to the other, told by what fits its sides.
-use Rattle.std.proofs.Common.{◌≡◌, ℕ, Bool, true, false, cond, if◌then◌else◌, is_gt, Option, Some, None, refl, ap, sym, subst, ◌∙◌}
+use Rattle.std.proofs.Common.{◌≡◌, Bool, true, false, cond, if◌then◌else◌, is_gt, Some, None, refl, ap, sym, ◌∙◌}
 use mathlib.Core.Bool.{true≢false}
 use Rattle.kb_lemmas.proofs.Options.{some_is}
 use Rattle.kb_term.specs.Tree.{Tree, variable, tree_eq}

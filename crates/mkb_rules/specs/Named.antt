@@ -1,5 +1,5 @@
 -- The nodes and processes that a proposal names are there.
-use Rattle.std.specs.Prelude.{ℕ, length, ◌<◌, ◌≤◌, IsTrue, ⊤, Option, Some, None, Bool, true, false}
+use Rattle.std.specs.Prelude.{ℕ, length, ◌<◌, ◌≤◌, IsTrue, ⊤, Option, Some, None}
 use Rattle.kb_label.specs.Names.{Name, has}
 use Rattle.kb_term.specs.declared.origin.RuleRef.{RuleRef}
 use Rattle.kb_term.specs.declared.origin.Found.{Found}

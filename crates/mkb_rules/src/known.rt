@@ -59,6 +59,7 @@ impl<'a> KnownOn<'a> {
 
     /// What is known of each side and the rule; none where no fact is known. It takes constant time, but for a rule of a direction
     /// above 1.
+    #[inline]
     pub fn sides(&self, rule: RuleRef) -> (Option<Found>, Option<Found>)
         ensures first { result.0 ≡ known self.now.board self.now.node.0 0 rule }
         ensures second { result.1 ≡ known self.now.board self.now.node.0 1 rule }
@@ -83,6 +84,8 @@ impl<'a> KnownOn<'a> {
     }
 
     // What the first fact of the side and the rule says. It goes over the facts.
+    #[cold]
+    #[inline(never)]
     fn first_of(&self, side: u8, rule: RuleRef) -> Option<Found>
         ensures { result ≡ known self.now.board self.now.node.0 side rule }
     {
