@@ -4,4 +4,5 @@ pub mod Viewed
 pub mod Replaced
 pub mod Tasks
 pub mod Marked
+pub mod Tallied
 pub mod Firsts

@@ -1,5 +1,5 @@
 // The listed processes in the order of their names.
-ghost use Rattle.std.specs.Prelude.{ℕ, ◌≡◌, ◌⊎◌, ◌↔◌, ◌+◌, ◌-◌, ◌<◌, ◌≤◌, max, List, [], length, get_or, insert, Contains, false, IsTrue, OnOk, OnErr, IsOk, MatchOption, vec_len, vec_capacity};
+ghost use Rattle.std.specs.Prelude.{ℕ, ◌≡◌, ◌⊎◌, ◌↔◌, ◌+◌, ◌-◌, ◌<◌, ◌≤◌, max, List, [], length, get_or, insert, Contains, false, IsTrue, OnOk, OnErr, IsOk, MatchOption, Some, vec_len, vec_capacity};
 ghost use Rattle.mkb_pick.specs.declared.tree.Tree.{Leaf};
 ghost use Rattle.kb_label.specs.Names.{Name, add, IsInNameOrder};
 ghost use Rattle.mkb_pick.specs.Queues.{IsQueue, IsSound, IsAt, IsSeated};
@@ -17,19 +17,22 @@ pub(crate) struct Entry {
     pub(crate) cost: u64,
     pub(crate) resting: bool,
     pub(crate) tasks: Tree<Task>,
+    // How many tasks there are, where that is known.
+    pub(crate) tally: Option<usize>,
     pub(crate) marks: Marks,
 }
 
 impl Entry {
     /// No task, and no rest.
     pub(crate) fn awake(alloc: Global, cost: u64) -> Entry
-        ensures bare { result ≡ record { cost = cost; resting = false; tasks = Leaf; marks = result.marks } }
+        ensures bare { result ≡ record { cost = cost; resting = false; tasks = Leaf; tally = Some 0; marks = result.marks } }
         ensures sound { IsSound result }
     {
         Entry {
             cost,
             resting: false,
             tasks: Tree::Leaf,
+            tally: Some(0),
             marks: Marks::new(alloc),
         }
     }
