@@ -5,6 +5,7 @@ ghost use Rattle.kb_label.specs.Names.{Name, add, IsInNameOrder};
 ghost use Rattle.mkb_pick.specs.Queues.{IsQueue, IsSound, IsAt, IsSeated};
 
 use crate::marks::Marks;
+use crate::places::place_from;
 use crate::task::Task;
 use crate::tree::Tree;
 use kb_label::Process;
@@ -86,21 +87,7 @@ impl Queue {
         requires { IsQueue self.now }
         ensures { MatchOption result (¬ IsSeated self.now name.now) (λ k. (k < length self.now.names.items) × (get_or self.now.names.items k name.now ≡ name.now)) }
     {
-        let next = self.last.saturating_add(1);
-        if self.stands_at(self.last, name) {
-            return Some(self.last);
-        }
-        if self.stands_at(next, name) {
-            return Some(next);
-        }
-        self.names.as_slice().binary_search(name).ok()
-    }
-
-    // Whether a process stands at a place.
-    fn stands_at(&self, place: usize, name: &Process) -> bool
-        ensures { IsTrue result → (place < length self.now.names.items) × (get_or self.now.names.items place name.now ≡ name.now) }
-    {
-        place < self.names.len() && self.names[place] == *name
+        place_from(self.names.as_slice(), self.last, name)
     }
 
     /// The place of a process, where the next search begins.
