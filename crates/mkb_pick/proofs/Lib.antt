@@ -2,6 +2,8 @@ pub mod Seats
 pub mod Offered
 pub mod Viewed
 pub mod Replaced
+pub mod Narrowed
 pub mod Tasks
 pub mod Marked
+pub mod Tallied
 pub mod Firsts

@@ -29,6 +29,14 @@ told_set old new n mark was now is same here told k =
           ]
     ]
 
+-- the marks are copied, or unknown
+pub told_copied : (old new : Marks) (was now : Tree Task) → ((k : ℕ) → (mark_at new k ≡ Unknown) ⊎ (mark_at new k ≡ mark_at old k)) → ((t : Task) → Has now t ↔ Has was t) → IsTold old was → IsTold new now
+told_copied old new was now is same told k =
+    elim (is k) [
+      | inl e ↦ subst (λ m. Tells m now k) (sym e) tt
+      | inr e ↦ subst (λ m. Tells m now k) (sym e) (tells_same (mark_at old k) was now k (λ w. same (reducing k w)) (told k))
+    ]
+
 -- the node that is reduced
 abbrev node_of : Work → ℕ
 node_of (Reducing n) = n.0

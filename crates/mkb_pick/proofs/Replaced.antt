@@ -1,5 +1,6 @@
 -- What a change of one process does to the queue.
 use Rattle.std.proofs.Common.{ℕ, ◌≡◌, ◌<◌, refl, sym, ap, ◌∙◌, subst, ◌⊎◌, inl, inr, Bool, true, false, [], ◌∷◌, ◌↔◌, length, get_or}
+use Rattle.std.specs.Prelude.{Some}
 use Rattle.std.specs.Vec.{with_item}
 use Rattle.std.specs.declared.cmp.Ordering.{Ordering}
 use Rattle.std.specs.declared.cmp.Ordering.TheVariants.{Less, Equal, Greater}
@@ -276,4 +277,4 @@ second_free old mid most n m0 m1 d is free out named second one s =
 
 -- a process that was just listed
 abbrev pub bare_entry : ℕ → Marks → Entry
-bare_entry k m = record { cost = k; resting = false; tasks = Leaf; marks = m }
+bare_entry k m = record { cost = k; resting = false; tasks = Leaf; tally = Some 0; marks = m }

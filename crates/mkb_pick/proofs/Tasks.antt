@@ -87,6 +87,9 @@ task_exact s t h =
     let k = key_exact s.work t.work s.weight t.weight (exact_bytes (work_key s.work s.weight) (work_key t.work t.weight) h) in
     ap₂ (λ w n. record { work = w; weight = n }) k.0 k.1
 
+pub task_itself : (s t : Task) → s ≡ t → task_cmp s t ≡ Equal
+task_itself s t e = ap (task_cmp s) (sym e) ∙ tied_itself tasks_total s
+
 -- a key is that of one task
 pub one_task : (k : ℕ) (s t : Task) → IsTaskKey k s → IsTaskKey k t → s ≡ t
 one_task k s t h i = task_exact s t (keys_order (work_key s.work s.weight) (work_key t.work t.weight) k k h i ∙ tied_itself nat_cmp_total k)

@@ -1,10 +1,13 @@
 -- The processes of a queue, in the order of their names.
 use Rattle.std.specs.Prelude.{ℕ, ◌≡◌, ◌<◌, ◌≤◌, ◌+◌, Bool, List, length, get_or, All, Contains, vec_len, vec_capacity}
+use Rattle.std.specs.declared.option.Option.{Option}
+use Rattle.std.specs.declared.option.Option.TheVariants.{Some, None}
 use Rattle.kb_label.specs.Names.{Name, IsInNameOrder}
-use Rattle.mkb_pick.specs.Trees.{Has, IsOrdered}
+use Rattle.mkb_pick.specs.Trees.{Has, IsOrdered, count}
 use Rattle.mkb_pick.specs.Tasks.{IsTaskKey, task_cmp}
 use Rattle.mkb_pick.specs.Marks.{IsTold}
 use Rattle.mkb_pick.specs.declared.task.Task.{Task}
+use Rattle.mkb_pick.specs.declared.tree.Tree.{Tree}
 use Rattle.mkb_pick.specs.declared.queue.Entry.{Entry}
 use Rattle.mkb_pick.specs.declared.queue.Queue.{Queue}
 
@@ -16,9 +19,14 @@ Stands names entries k n e = (k < length names) × (get_or names k n ≡ n) × (
 abbrev pub IsAt : Queue → Name → Entry → Type 0
 IsAt q n e = (k : ℕ) × Stands q.names.items q.entries.items k n e
 
--- what holds of an entry: the tasks are ordered, and what the marks say of them holds
+-- there are as many tasks as is told, if it is
+abbrev pub IsTally : Option ℕ → Tree Task → Type 0
+IsTally None tasks = Unit {0}
+IsTally (Some n) tasks = n ≡ count tasks
+
+-- what holds of an entry: the tasks are ordered, what the marks say of them holds, and there are as many as is told
 abbrev pub IsSound : Entry → Type 0
-IsSound e = IsOrdered IsTaskKey task_cmp e.tasks × IsTold e.marks e.tasks
+IsSound e = IsOrdered IsTaskKey task_cmp e.tasks × IsTold e.marks e.tasks × IsTally e.tally e.tasks
 
 -- what holds of a queue: the names are in order and have an entry each, the entries are sound, and there is as much room as is told
 pub record IsQueue (q : Queue) : Type 0 where

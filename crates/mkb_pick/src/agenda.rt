@@ -21,9 +21,10 @@ use std::marker::Model;
 ///
 /// Contracts see the listed processes in the order of their names, each with its cost, whether it rests, and its jobs with
 /// their weights; and two spare numbers, for how many more jobs and processes there is room. Behind it stand the names in
-/// their order, a tree of the jobs of each process by kind, weight and numbers, and a mark of each node whose reducing it had.
-/// A call finds its process where the last one was, next to it, or by a search, and goes down its tree; `list`, `unlist`
-/// and `split` move the processes behind; `split` and `unlist` also go over the jobs of their process.
+/// their order, and for each process a tree of its jobs by keys made of kind, weight and numbers, how many there are, and a
+/// mark of each node whose reducing it had. A call finds its process by a search that begins where the last change was, and
+/// goes down its tree; `list`, `unlist` and `split` move the processes behind; `split` and `unlist` also go over the jobs of
+/// their process. `remove` keeps the memory of its job for the next ones, of up to 1,024 jobs; `unlist` gives it back.
 #[derive(Drop)]
 pub struct Agenda {
     alloc: Global,

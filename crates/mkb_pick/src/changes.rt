@@ -11,7 +11,7 @@ ghost use Rattle.mkb_pick.specs.Stores.{IsStocked};
 use crate::queue::{Entry, Queue};
 use crate::stores::Stores;
 use crate::task::Task;
-use crate::tree::{Node, Placed, Tree, count, find};
+use crate::tree::{Node, Placed, Tree, find};
 use kb_label::{MAX_BITS, Process};
 use kb_node::NodeId;
 
@@ -92,7 +92,7 @@ impl Queue {
         ensures { (e : Entry) → IsAt self.now name.now e → result ≡ min (count e.tasks) (2 ^ 64 - 1) }
     {
         match self.place_of(name) {
-            Some(place) => count(&self.entries[place].tasks),
+            Some(place) => self.entries[place].count(),
             None => 0,
         }
     }
@@ -204,6 +204,7 @@ fn twin_of(entry: &Entry, jobs: usize, stores: &mut Stores) -> Entry
         cost: entry.cost,
         resting: entry.resting,
         tasks: stores.copy_tasks(&entry.tasks, jobs),
+        tally: entry.tally,
         marks: entry.marks.copy(),
     }
 }

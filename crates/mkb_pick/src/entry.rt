@@ -1,6 +1,6 @@
 // What changes in what a process has.
-ghost use Rattle.std.specs.Prelude.{ℕ, ◌≡◌, ◌⊎◌, ◌↔◌, IsTrue, is_some};
-ghost use Rattle.mkb_pick.specs.Trees.{Has, IsOrdered};
+ghost use Rattle.std.specs.Prelude.{ℕ, ◌≡◌, ◌⊎◌, ◌↔◌, ◌+◌, ◌-◌, ◌^◌, min, IsTrue, is_some, IfSome, MatchOption};
+ghost use Rattle.mkb_pick.specs.Trees.{Has, IsOrdered, count};
 ghost use Rattle.mkb_pick.specs.Tasks.{IsTaskKey, task_cmp};
 ghost use Rattle.mkb_pick.specs.Marks.{reducing};
 ghost use Rattle.mkb_pick.specs.declared.task.Work.TheVariants.{Reducing};
@@ -9,7 +9,7 @@ ghost use Rattle.mkb_pick.specs.Queues.{IsSound};
 use crate::marks::Mark;
 use crate::queue::Entry;
 use crate::task::{Task, Work};
-use crate::tree::{Node, Placed, Tree, put, take};
+use crate::tree::{Node, Placed, Tree, count, put, take};
 use kb_node::NodeId;
 
 impl Entry {
@@ -25,6 +25,7 @@ impl Entry {
     {
         let work = node.item.work;
         put(&mut self.tasks, node);
+        self.tally = more(self.tally);
         if let Work::Reducing(n) = work {
             self.marks.add(n);
         }
@@ -40,10 +41,22 @@ impl Entry {
         ensures sound { IsSound self.new }
     {
         let node = remove_from(&mut self.tasks, task)?;
+        self.tally = fewer(self.tally);
         if let Work::Reducing(n) = task.work {
             self.marks.remove(n);
         }
         Some(node)
+    }
+
+    /// How many tasks there are, or the greatest number where there are more.
+    pub(crate) fn count(&self) -> usize
+        requires { IsSound self.now }
+        ensures { result ≡ min (count self.now.tasks) (2 ^ 64 - 1) }
+    {
+        match self.tally {
+            Some(tally) => tally,
+            None => count(&self.tasks),
+        }
     }
 
     /// Whether there is a reducing of the node.
@@ -59,12 +72,27 @@ impl Entry {
     }
 }
 
+// One task more.
+fn more(tally: Option<usize>) -> Option<usize>
+    ensures { IfSome result (λ n. MatchOption tally ⊥ (λ m. n ≡ m + 1)) }
+{
+    tally?.checked_add(1)
+}
+
+// One task fewer.
+fn fewer(tally: Option<usize>) -> Option<usize>
+    ensures { IfSome result (λ n. MatchOption tally ⊥ (λ m. n + 1 ≡ m)) }
+{
+    tally?.checked_sub(1)
+}
+
 // Takes a task out of those of a process: its node, where it was there.
 fn remove_from(tasks: &mut Tree<Task>, task: &Task) -> Option<Box<Node<Task>>>
     requires { IsOrdered IsTaskKey task_cmp tasks.old }
     ensures found { IsTrue (is_some result) ↔ Has tasks.old task.now }
     ensures items { (t : Task) → Has tasks.new t ↔ (Has tasks.old t × ¬ (t ≡ task.now)) }
     ensures ordered { IsOrdered IsTaskKey task_cmp tasks.new }
+    ensures many { MatchOption result (count tasks.new ≡ count tasks.old) (λ _. count tasks.new + 1 ≡ count tasks.old) }
 {
     take(tasks, task.key())
 }

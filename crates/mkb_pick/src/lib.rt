@@ -5,6 +5,7 @@ mod agenda;
 mod changes;
 mod entry;
 mod marks;
+mod places;
 mod pool;
 mod queue;
 mod search;

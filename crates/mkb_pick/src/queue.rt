@@ -1,10 +1,11 @@
 // The listed processes in the order of their names.
-ghost use Rattle.std.specs.Prelude.{ℕ, ◌≡◌, ◌⊎◌, ◌↔◌, ◌+◌, ◌-◌, ◌<◌, ◌≤◌, max, List, [], length, get_or, insert, Contains, false, IsTrue, OnOk, OnErr, IsOk, MatchOption, vec_len, vec_capacity};
+ghost use Rattle.std.specs.Prelude.{ℕ, ◌≡◌, ◌⊎◌, ◌↔◌, ◌+◌, ◌-◌, ◌<◌, ◌≤◌, max, List, [], length, get_or, insert, Contains, false, IsTrue, OnOk, OnErr, IsOk, MatchOption, Some, vec_len, vec_capacity};
 ghost use Rattle.mkb_pick.specs.declared.tree.Tree.{Leaf};
 ghost use Rattle.kb_label.specs.Names.{Name, add, IsInNameOrder};
 ghost use Rattle.mkb_pick.specs.Queues.{IsQueue, IsSound, IsAt, IsSeated};
 
 use crate::marks::Marks;
+use crate::places::place_from;
 use crate::task::Task;
 use crate::tree::Tree;
 use kb_label::Process;
@@ -17,19 +18,22 @@ pub(crate) struct Entry {
     pub(crate) cost: u64,
     pub(crate) resting: bool,
     pub(crate) tasks: Tree<Task>,
+    // How many tasks there are, where that is known.
+    pub(crate) tally: Option<usize>,
     pub(crate) marks: Marks,
 }
 
 impl Entry {
     /// No task, and no rest.
     pub(crate) fn awake(alloc: Global, cost: u64) -> Entry
-        ensures bare { result ≡ record { cost = cost; resting = false; tasks = Leaf; marks = result.marks } }
+        ensures bare { result ≡ record { cost = cost; resting = false; tasks = Leaf; tally = Some 0; marks = result.marks } }
         ensures sound { IsSound result }
     {
         Entry {
             cost,
             resting: false,
             tasks: Tree::Leaf,
+            tally: Some(0),
             marks: Marks::new(alloc),
         }
     }
@@ -83,21 +87,7 @@ impl Queue {
         requires { IsQueue self.now }
         ensures { MatchOption result (¬ IsSeated self.now name.now) (λ k. (k < length self.now.names.items) × (get_or self.now.names.items k name.now ≡ name.now)) }
     {
-        let next = self.last.saturating_add(1);
-        if self.stands_at(self.last, name) {
-            return Some(self.last);
-        }
-        if self.stands_at(next, name) {
-            return Some(next);
-        }
-        self.names.as_slice().binary_search(name).ok()
-    }
-
-    // Whether a process stands at a place.
-    fn stands_at(&self, place: usize, name: &Process) -> bool
-        ensures { IsTrue result → (place < length self.now.names.items) × (get_or self.now.names.items place name.now ≡ name.now) }
-    {
-        place < self.names.len() && self.names[place] == *name
+        place_from(self.names.as_slice(), self.last, name)
     }
 
     /// The place of a process, where the next search begins.

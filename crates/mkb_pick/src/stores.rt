@@ -89,6 +89,7 @@ impl Stores {
         requires some { jobs ≤ self.old.spare_jobs }
         ensures tasks { (t : Task) → Has result t ↔ Has tasks.now t }
         ensures ordered { IsOrdered IsTaskKey task_cmp tasks.now → IsOrdered IsTaskKey task_cmp result }
+        ensures copied { count result ≡ count tasks.now }
         ensures jobs { self.new.spare_jobs + jobs ≡ self.old.spare_jobs }
         ensures stocked { IsStocked self.new }
     {

@@ -80,6 +80,7 @@ fn split<T: Placed>(tree: Tree<T>, at: &Node<T>) -> (Tree<T>, Tree<T>)
     ensures after { (y : T) → Has result.1 y ↔ (Has tree y × ¬ (T.place_cmp y at.now.item ≡ Less)) }
     ensures ordered_before { IsOrdered T.is_key T.place_cmp result.0 }
     ensures ordered_after { IsOrdered T.is_key T.place_cmp result.1 }
+    ensures many { count result.0 + count result.1 ≡ count tree }
 {
     match tree {
         Tree::Leaf => (Tree::Leaf, Tree::Leaf),
@@ -106,6 +107,7 @@ pub(crate) fn put<T: Placed>(tree: &mut Tree<T>, mut node: Box<Node<T>>)
     requires free { (y : T) → Has tree.old y → ¬ (T.place_cmp y node.value.item ≡ Equal) }
     ensures items { (y : T) → Has tree.new y ↔ ((y ≡ node.value.item) ⊎ Has tree.old y) }
     ensures ordered { IsOrdered T.is_key T.place_cmp tree.new }
+    ensures many { count tree.new ≡ count tree.old + 1 }
 {
     match tree {
         Tree::Fork(top) if top.priority >= node.priority => {
@@ -131,6 +133,7 @@ fn join<T: Placed>(left: Tree<T>, right: Tree<T>) -> Tree<T>
     requires apart { (x y : T) → Has left x → Has right y → T.place_cmp x y ≡ Less }
     ensures items { (y : T) → Has result y ↔ (Has left y ⊎ Has right y) }
     ensures ordered { IsOrdered T.is_key T.place_cmp result }
+    ensures many { count result ≡ count left + count right }
 {
     match left {
         Tree::Leaf => right,
@@ -157,6 +160,7 @@ pub(crate) fn take<T: Placed>(tree: &mut Tree<T>, key: u128) -> Option<Box<Node<
     ensures found { MatchOption result ((y : T) → Has tree.old y → ¬ T.is_key key y) (λ node. Has tree.old node.value.item × T.is_key key node.value.item) }
     ensures kept { MatchOption result (tree.new ≡ tree.old) (λ node. (y : T) → Has tree.new y ↔ (Has tree.old y × ¬ T.is_key key y)) }
     ensures ordered { IsOrdered T.is_key T.place_cmp tree.new }
+    ensures many { IfSome result (λ _. count tree.new + 1 ≡ count tree.old) }
 {
     match tree {
         Tree::Leaf => None,
@@ -207,6 +211,7 @@ pub(crate) fn copy<T: Placed + Copy>(tree: &Tree<T>, pool: &mut Pool<T>) -> Tree
     requires { count tree.now ≤ vec_len pool.old.boxes }
     ensures items { (y : T) → Has result y ↔ Has tree.now y }
     ensures ordered { IsOrdered T.is_key T.place_cmp tree.now → IsOrdered T.is_key T.place_cmp result }
+    ensures many { count result ≡ count tree.now }
     ensures used { vec_len pool.new.boxes + count tree.now ≡ vec_len pool.old.boxes }
 {
     match tree {

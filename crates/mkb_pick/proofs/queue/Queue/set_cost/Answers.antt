@@ -6,13 +6,13 @@ use Rattle.mkb_pick.proofs.queue.Queue.set_cost.Goals as goal
 pub returns-clause-seats : goal.returns-clause-seats
 returns-clause-seats c =
     let d : Entry = c.index_mut.result.now in
-    let e : Entry = record { cost = c.args.cost; resting = d.resting; tasks = d.tasks; marks = d.marks } in
+    let e : Entry = record { cost = c.args.cost; resting = d.resting; tasks = d.tasks; tally = d.tally; marks = d.marks } in
     let is = replaced c.args.self.now c.seek.new.self c.args.name.now c.in-Some.place d e c.requires.queue c.seek.ensures.names c.seek.ensures.entries c.in-Some.ensures.place c.index_mut.ensures.value in
     cost_set c.args.self.now (changed c.seek.new.self c.in-Some.place e) c.args.name.now d e is c.args.cost refl refl
 
 pub returns-clause-tasks : goal.returns-clause-tasks
 returns-clause-tasks c =
     let d : Entry = c.index_mut.result.now in
-    let e : Entry = record { cost = c.args.cost; resting = d.resting; tasks = d.tasks; marks = d.marks } in
+    let e : Entry = record { cost = c.args.cost; resting = d.resting; tasks = d.tasks; tally = d.tally; marks = d.marks } in
     let is = replaced c.args.self.now c.seek.new.self c.args.name.now c.in-Some.place d e c.requires.queue c.seek.ensures.names c.seek.ensures.entries c.in-Some.ensures.place c.index_mut.ensures.value in
     tasks_stay c.args.self.now (changed c.seek.new.self c.in-Some.place e) c.args.name.now d e is (λ t. (λ h. h, λ h. h))
