@@ -15,7 +15,7 @@ use kb_jobs::ReduceSnapshot;
 use kb_label::Process;
 use kb_node::NodeId;
 use kb_term::{MAX_NODES, Memory, RuleRef};
-use mkb_agenda::{is_open_to, leads_to, roles_by};
+use mkb_agenda::{OpenTo, leads_to, roles_by};
 use mkb_rules::{Roles, State};
 use std::alloc::{AllocError, Global};
 
@@ -100,9 +100,14 @@ fn open_among(
 ) -> Result<Vec<RuleRef>, AllocError>
     ensures { IfOk result (λ kept. kept.items ≡ filter (is_open_to state.now roles n.0) rules.now) }
 {
-    let mut kept = Vec::new(alloc);
+    let known = state.known_on(n);
+    let node = OpenTo {
+        known: &known,
+        roles,
+    };
+    let mut kept = Vec::with_capacity(alloc, rules.len())?;
     for i in 0..rules.len() {
-        if is_open_to(state, roles, n, rules[i]) {
+        if node.is_open(rules[i]) {
             kept.push(rules[i])?;
         }
     }
@@ -147,8 +152,9 @@ fn push_unknown(
     ensures names { OnOk result (with_names names.now us.new.items ≡ with_names names.now us.old.items ++ unknown_on state.now n.0 names.now side) }
     ensures within { OnOk result (AreWithin (length names.now) us.new.items) }
 {
+    let known = state.known_on(n);
     for i in 0..names.len() {
-        if state.known(n, side, names[i]).is_none() {
+        if known.side(side, names[i]).is_none() {
             us.push((side, i as u32))?;
         }
     }
