@@ -29,3 +29,23 @@ pub trait Turned: Counted {
     /// The number of the worker that made an entry, or 0 where it is nobody's.
     ghost worker: { Self.Entry → ℕ };
 }
+
+impl<T: Counted> Counted for Box<T> {
+    type Entry = T::Entry;
+
+    ghost entries = { λ b. T.entries b.value };
+
+    fn count(&self) -> u64 {
+        (**self).count()
+    }
+}
+
+impl<T: Turned> Turned for Box<T> {
+    type Problem = T::Problem;
+
+    ghost problem = { λ b. T.problem b.value };
+
+    ghost budget = { λ b. T.budget b.value };
+
+    ghost worker = { T.worker };
+}

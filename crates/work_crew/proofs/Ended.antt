@@ -1,5 +1,5 @@
 -- The board on which several workers have ended.
-use Rattle.std.proofs.Common.{ℕ, zero, suc, ◌≤◌, ◌≡◌, ◌∙◌, refl, sym, ap, ap₂, subst, arith, All, List, [], ◌∷◌, ◌++◌, Contains, get_or, length, Bool, true, false, not, Some, None, ⊎_elim}
+use Rattle.std.proofs.Common.{ℕ, zero, suc, ◌≤◌, ◌≡◌, ◌∙◌, refl, sym, ap, ap₂, subst, arith, All, List, [], ◌∷◌, ◌++◌, Contains, Bool, true, false, not, Some, None, ⊎_elim}
 use Rattle.std.specs.Prelude.{Option, IsTrue, is_none, is_some, ◌||◌, if◌then◌else◌}
 use Rattle.std.specs.List.{list_any}
 use Rattle.std.proofs.lemmas.List.Elements.{All-append, Contains-push_cases}

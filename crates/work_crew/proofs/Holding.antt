@@ -1,8 +1,8 @@
 -- Tickets in the hands of workers, from turn to turn.
-use Rattle.std.proofs.Common.{ℕ, ◌≡◌, ◌∙◌, refl, sym, ap, subst, List, [], ◌∷◌, ◌++◌, true}
+use Rattle.std.proofs.Common.{ℕ, ◌≡◌, ◌∙◌, sym, ap, subst, List, ◌++◌, true}
+use Rattle.std.specs.Prelude.{Result, Ok, Err, IfOk}
 use Rattle.kb_term.specs.Signature.{Problem}
 use Rattle.kb_jobs.specs.Working.{ProposesBy}
-use Rattle.mkb_model.specs.Plain.{Plain}
 use Rattle.mkb_model.specs.Journals.{own, worker_of}
 use Rattle.mkb_model.specs.declared.entry.Entry.{Entry}
 use Rattle.mkb_model.specs.declared.settings.Settings.{Settings}
@@ -16,7 +16,6 @@ use Rattle.mkb_board.specs.declared.answers.Taken.TheVariants.{Job as TakenJob, 
 use Rattle.mkb_board.proofs.Held.{held_taken, held_proposes}
 use Rattle.mkb_board.proofs.Others.{held_of_others}
 use Rattle.turn_lock.specs.Places.{Locked, Sitting, IsLater, GoesOn, sees}
-use Rattle.work_crew.specs.Alone.{IsSameRun}
 use Rattle.work_crew.specs.Together.{purpose, Grows, Holds, HoldsNext, HoldsOn, HoldsTaken, IsHeldSince}
 use Rattle.work_crew.specs.declared.shared.Assignment.{Assignment}
 use Rattle.work_crew.specs.declared.shared.Next.{Next}
@@ -28,6 +27,10 @@ holds_taken old new w (TakenJob t s) legal h = (held_taken old new w t s legal h
 holds_taken old new w (Idle n) legal h = tt
 holds_taken old new w (Over v) legal h = tt
 holds_taken old new w Halted legal h = tt
+
+pub holds_where_taken : {X : Type 0} (old new : Seen) (w : ℕ) (r : Result Taken X) → IsLegalBoard old → IfOk r (IsTakenBy old new w) → IfOk r (HoldsTaken new w)
+holds_where_taken old new w (Ok a) legal h = holds_taken old new w a legal h
+holds_where_taken old new w (Err e) legal h = tt
 
 -- what was held is held still
 pub held_now : (s : Seen) (a : Assignment) → IsLegalBoard s → IsHeldSince s a → IsHeld s a.ticket a.snapshot

@@ -1,5 +1,5 @@
 -- The room of a journal: only a take needs more.
-use Rattle.std.proofs.Common.{ℕ, ◌+◌, ◌≤◌, ◌≡◌, ◌∙◌, refl, sym, ap, subst, arith, List, [], ◌∷◌, ◌++◌, length, length-append, filter, Contains, Bool, true, false, not, ◌==◌, ◌||◌}
+use Rattle.std.proofs.Common.{ℕ, ◌+◌, ◌≤◌, ◌≡◌, ◌∙◌, refl, ap, arith, List, [], ◌∷◌, ◌++◌, length, length-append, filter, Contains, Bool, true, false, ◌||◌}
 use Rattle.std.specs.Prelude.{Result, Ok, Err, IfOk, OnErr, if◌then◌else◌}
 use Rattle.mkb_model.specs.Plain.{Plain}
 use Rattle.mkb_model.specs.Effects.{effect, effect_entry}
@@ -9,7 +9,7 @@ use Rattle.mkb_model.specs.declared.entry.Ticket.{Ticket}
 use Rattle.mkb_model.specs.declared.entry.Entry.{Entry}
 use Rattle.mkb_model.specs.declared.entry.Entry.TheVariants.{Commit, Drop, Abandon, Halt}
 use Rattle.mkb_model.proofs.tickets.NoClash.{effect_flight}
-use Rattle.mkb_board.specs.Boards.{Seen, IsLegalBoard, has_halt, owed}
+use Rattle.mkb_board.specs.Boards.{Seen, IsLegalBoard, has_halt}
 use Rattle.mkb_board.specs.Takes.{IsTakenBy, IsFinishedBy, take_entry}
 use Rattle.mkb_board.specs.declared.answers.Taken.{Taken}
 use Rattle.mkb_board.specs.declared.answers.Taken.TheVariants.{Job as TakenJob, Idle, Over, Halted}

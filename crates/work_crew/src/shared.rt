@@ -269,10 +269,10 @@ impl Shared {
         if self.room >= ROOM {
             return Err(Memory);
         }
-        let taken = self.board.take(alloc, worker)?;
+        let taken = self.board.take(alloc, worker);
         self.entries = self.board.journal().len() as u64;
         self.room += 2;
-        Ok(taken)
+        taken
     }
 
     // Ends the ticket with this proposal. Where there is no memory nothing is changed.

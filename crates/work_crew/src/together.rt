@@ -1,11 +1,12 @@
 // The work of several workers on one board, each in a thread of its own.
-ghost use Rattle.std.specs.Prelude.{◌≡◌, ◌+◌, ◌<◌, ◌≤◌, ◌-◌, ◌*◌, ◌||◌, [], ℕ, true, false, All, IfOk, is_none};
+ghost use Rattle.std.specs.Prelude.{◌≡◌, ◌+◌, ◌<◌, ◌≤◌, ◌-◌, ◌*◌, ◌||◌, [], ℕ, true, false, All, IfOk, MatchResult, is_none};
 ghost use Rattle.std.specs.List.{list_any};
 ghost use Rattle.std.specs.Thread.{IsSync};
 ghost use Rattle.kb_jobs.specs.Working.{IsReadable, ProposesBy};
 ghost use Rattle.mkb_model.specs.Journals.{worker_of};
+ghost use Rattle.turn_lock.specs.Places.{first_seat};
 ghost use Rattle.work_crew.specs.Alone.{IsSameRun};
-ghost use Rattle.work_crew.specs.Together.{EndsTogether, HasJoined, Holds, HoldsNext, IsSameSeat, Rests, is_leaving as leaves};
+ghost use Rattle.work_crew.specs.Together.{EndsTogether, HasJoined, Holds, HoldsNext, IsSameSeat, Rests, is_leaving as leaves, purpose};
 
 use crate::alone::Crew;
 use crate::bell::Bell;
@@ -47,23 +48,29 @@ const SHORT: u64 = 50;
 /// The most naps of a worker between two of its tickets.
 const NAPS: u32 = 8;
 
-// What the workers share: the lock of the board, what wakes them at the end, and where memory comes from.
+// What the workers share: the lock of the board, what wakes them at the end, and where memory comes from. The board stands in a box, so
+// that a turn moves no more than that.
 struct Workplace {
     alloc: Global,
-    turns: Turns<Shared>,
+    turns: Turns<Box<Shared>>,
     bell: Bell,
 }
 
-// What a worker made of its ticket.
+// What came of the work on a ticket, and whether the gate wants to know what the process of the next one costs.
 #[derive(Drop)]
 struct Worked {
-    assignment: Assignment,
     proposal: Result<Proposed, Memory>,
     was_short: bool,
+    with_cost: bool,
 }
 
 // At a turn: takes the first job, if there is one.
-fn take_one<G: Gate, R: Wait>(rt: &R, place: &Workplace, gate: &G, seat: &mut Seat<Shared>) -> Next
+fn take_one<G: Gate, R: Wait>(
+    rt: &R,
+    place: &Workplace,
+    gate: &G,
+    seat: &mut Seat<Box<Shared>>,
+) -> Next
     requires { Rests place.now.turns seat.old }
     ensures rests { Rests place.now.turns seat.new }
     ensures same { IsSameSeat seat.old seat.new }
@@ -79,25 +86,24 @@ fn take_one<G: Gate, R: Wait>(rt: &R, place: &Workplace, gate: &G, seat: &mut Se
 
 // At a turn: ends the ticket with what its job proposed, and takes the next; but rests first where others wanted the turn too, or where
 // its work was short. The first worker never rests so, that one is always at work.
-fn end_one<G: Gate, R: Wait>(
+fn end_one<R: Wait>(
     rt: &R,
     place: &Workplace,
-    gate: &G,
-    seat: &mut Seat<Shared>,
+    seat: &mut Seat<Box<Shared>>,
+    assignment: &Assignment,
     worked: Worked,
 ) -> Next
     requires rests { Rests place.now.turns seat.old }
-    requires holds { Holds place.now.turns seat.old worked.assignment }
-    requires worked { IfOk worked.proposal (ProposesBy worked.assignment.snapshot) }
+    requires holds { Holds place.now.turns seat.old assignment.now }
+    requires worked { IfOk worked.proposal (ProposesBy assignment.now.snapshot) }
     ensures rests { Rests place.now.turns seat.new }
     ensures same { IsSameSeat seat.old seat.new }
     ensures holds { HoldsNext place.now.turns seat.new result }
 {
-    let with_cost = gate.wants_cost();
     let Worked {
-        assignment,
         proposal,
         was_short,
+        with_cost,
     } = worked;
     let is_first = seat.worker() == FIRST;
     let mut board = place.turns.enter(rt, seat);
@@ -106,30 +112,34 @@ fn end_one<G: Gate, R: Wait>(
     } else {
         Then::Take { with_cost }
     };
-    let next = board.end_and_next(place.alloc, &assignment, proposal, then);
+    let next = board.end_and_next(place.alloc, assignment, proposal, then);
     place.turns.leave(seat, board);
     next
 }
 
-// Outside the turn: works the ticket, once the gate lets pass.
+// Outside the turn: works the ticket, once the gate lets pass. The first worker's work counts as long without a look at the clock, since
+// nobody asks whether it was short.
 fn work_one<G: Gate, S: Searcher, R: Wait + Clock>(
     rt: &R,
     alloc: Global,
     gate: &G,
     by: &S,
-    assignment: Assignment,
+    assignment: &Assignment,
 ) -> Worked
-    requires { IsReadable assignment.snapshot }
-    ensures of_ticket { result.assignment ≡ assignment }
-    ensures worked { IfOk result.proposal (ProposesBy assignment.snapshot) }
+    requires { IsReadable assignment.now.snapshot }
+    ensures { IfOk result.proposal (ProposesBy assignment.now.snapshot) }
 {
     ask(gate, &assignment.moment);
-    let begun = Instant::now(rt).ok();
+    let begun = if assignment.ticket.worker == FIRST {
+        None
+    } else {
+        Instant::now(rt).ok()
+    };
     let proposal = work_by(rt, alloc, &assignment.snapshot, by);
     Worked {
-        assignment,
         proposal,
         was_short: !has_taken(rt, &begun, SHORT),
+        with_cost: gate.wants_cost(),
     }
 }
 
@@ -138,7 +148,7 @@ fn work_one<G: Gate, S: Searcher, R: Wait + Clock>(
 fn wait_for_more<R: Wait>(
     rt: &R,
     place: &Workplace,
-    seat: &mut Seat<Shared>,
+    seat: &mut Seat<Box<Shared>>,
     entries: u64,
     idle: &mut Backoff,
 )
@@ -156,7 +166,7 @@ fn wait_for_more<R: Wait>(
 
 // Leaves the board to others, without the turn: for a nap, and for more and longer ones as long as the others make entries fast. The
 // end of the run ends a nap.
-fn leave_to_others<R: Wait>(rt: &R, place: &Workplace, seat: &mut Seat<Shared>)
+fn leave_to_others<R: Wait>(rt: &R, place: &Workplace, seat: &mut Seat<Box<Shared>>)
     requires { Rests place.now.turns seat.old }
     ensures rests { Rests place.now.turns seat.new }
     ensures same { IsSameSeat seat.old seat.new }
@@ -183,8 +193,8 @@ fn serve<G: Gate, S: Searcher, R: Wait + Clock>(
     place: &Workplace,
     gate: &G,
     by: &S,
-    mut seat: Seat<Shared>,
-) -> Seat<Shared>
+    mut seat: Seat<Box<Shared>>,
+) -> Seat<Box<Shared>>
     requires { Rests place.now.turns seat }
     ensures rests { Rests place.now.turns result }
     ensures same { IsSameSeat seat result }
@@ -192,14 +202,14 @@ fn serve<G: Gate, S: Searcher, R: Wait + Clock>(
     let mut idle = Backoff::new(DOUBLINGS);
     let mut next = take_one(rt, place, gate, &mut seat);
     for _ in rt.forever() {
-        match next {
+        match &next {
             Next::Work(assignment) => {
                 idle.reset();
                 let worked = work_one(rt, place.alloc, gate, by, assignment);
-                next = end_one(rt, place, gate, &mut seat, worked);
+                next = end_one(rt, place, &mut seat, assignment, worked);
             }
             Next::Wait(entries) => {
-                wait_for_more(rt, place, &mut seat, entries, &mut idle);
+                wait_for_more(rt, place, &mut seat, *entries, &mut idle);
                 next = take_one(rt, place, gate, &mut seat);
             }
             Next::Rest => {
@@ -219,9 +229,9 @@ fn serve_all<G: Gate, S: Searcher, R: Threads + Wait + Clock + Sync>(
     place: &Workplace,
     gate: &G,
     by: &S,
-    mut first: Seat<Shared>,
+    mut first: Seat<Box<Shared>>,
     more: u8,
-) -> Seat<Shared>
+) -> Seat<Box<Shared>>
     requires rests { Rests place.now.turns first }
     requires first { first.view.worker ≡ 1 }
     requires room { first.view.drawn + more ≤ 16 }
@@ -237,12 +247,12 @@ fn serve_all<G: Gate, S: Searcher, R: Threads + Wait + Clock + Sync>(
     let other = place.turns.split(&mut first);
     let (other, mut first) = join(
         rt,
-        || -> Seat<Shared>
+        || -> Seat<Box<Shared>>
             requires { Rests place.now.turns other }
             ensures rests { Rests place.entry.now.turns result }
             ensures same { IsSameSeat other result }
         { serve(rt, place, gate, by, other) },
-        || -> Seat<Shared>
+        || -> Seat<Box<Shared>>
             requires { IsSync R.row × Rests place.now.turns first × (first.view.worker ≡ 1) × (first.view.drawn + (more - 1) ≤ 16) × (0 < more) }
             ensures rests { Rests place.entry.now.turns result }
             ensures first { result.view.worker ≡ 1 }
@@ -253,6 +263,25 @@ fn serve_all<G: Gate, S: Searcher, R: Threads + Wait + Clock + Sync>(
     );
     place.turns.join(&mut first, other);
     first
+}
+
+// The lock of the board, and its first seat.
+//
+// # Errors
+//
+// Want of memory for the lock or its box; the board comes back unchanged.
+fn opened(alloc: Global, board: Board) -> Result<(Turns<Box<Shared>>, Seat<Box<Shared>>), Board>
+    requires { board.journal ≡ [] }
+    ensures { MatchResult result (λ made. (made.0.problem ≡ purpose board.plain) × (made.1 ≡ first_seat made.0)) (λ back. back ≡ board) }
+{
+    let shared = match Box::new(alloc, Shared::new(board)) {
+        Ok(shared) => shared,
+        Err(refused) => return Err(refused.value.into_board()),
+    };
+    match Turns::new(alloc, shared) {
+        Ok(made) => Ok(made),
+        Err(shared) => Err(Box::into_inner(shared).into_board()),
+    }
 }
 
 // The board on which so many workers have ended; untouched where there is no memory for the lock.
@@ -270,9 +299,9 @@ fn worked_on<G: Gate, S: Searcher, R: Threads + Wait + Clock + Sync>(
     ensures same { IsSameRun board result }
     ensures numbered { All (λ e. worker_of e ≤ workers) result.journal }
 {
-    let (turns, first) = match Turns::new(alloc, Shared::new(board)) {
+    let (turns, first) = match opened(alloc, board) {
         Ok(made) => made,
-        Err(shared) => return shared.into_board(),
+        Err(board) => return board,
     };
     let place = Workplace {
         alloc,
@@ -285,7 +314,7 @@ fn worked_on<G: Gate, S: Searcher, R: Threads + Wait + Clock + Sync>(
         turns,
         bell: _,
     } = place;
-    turns.close(first).into_board()
+    Box::into_inner(turns.close(first)).into_board()
 }
 
 // Whether a ticket was given back or a halt made.
@@ -302,7 +331,7 @@ fn is_left(journal: &[Entry]) -> bool
 /// journal has another entry. One that had to wait for its turn, or whose work was short, leaves the board to the others for a while,
 /// the first worker excepted. The workers share what they find of the family of orders.
 ///
-/// Where there is no memory for the lock the board comes back with a halt alone.
+/// Where there is no memory for the lock or its box the board comes back with a halt alone.
 pub fn work_together<G: Gate, R: Threads + Wait + Clock + Sync>(
     rt: &R,
     alloc: Global,

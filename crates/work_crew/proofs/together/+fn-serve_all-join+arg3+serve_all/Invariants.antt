@@ -1,4 +1,4 @@
-use Rattle.std.proofs.Common.{ℕ, ◌+◌, ◌*◌}
+use Rattle.std.proofs.Common.{◌+◌, ◌*◌}
 use Rattle.work_crew.proofs.together.+fn-serve_all-join+arg3+serve_all.Given as goal
 
 abbrev pub decreases-join+arg3 : goal.decreases-join+arg3

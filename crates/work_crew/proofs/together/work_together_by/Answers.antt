@@ -1,4 +1,4 @@
-use Rattle.std.proofs.Common.{◌≡◌, ◌∙◌, ap, subst, rules, Bool, not, ◌||◌, List}
+use Rattle.std.proofs.Common.{◌≡◌, ◌∙◌, ap, subst, rules, not, ◌||◌}
 use Rattle.std.specs.Prelude.{Option, is_none, is_some}
 use Rattle.kb_label.specs.declared.verdict.Verdict.{Verdict}
 use Rattle.mkb_model.specs.Verdicts.{verdict}
