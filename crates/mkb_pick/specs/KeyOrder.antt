@@ -9,7 +9,7 @@ use Rattle.std.specs.declared.cmp.Ordering.TheVariants.{Less, Equal, Greater}
 use Rattle.mkb_pick.specs.Keys.{room, Fits, packed}
 use Rattle.mkb_pick.specs.Tasks.{task_bounds}
 
--- a number below x whose digit in front is less than another's is less
+-- of two numbers the one whose part in front is less is less
 front_less : (x y room r s : ℕ) → x < y → r < room → x * room + r < y * room + s
 front_less x y room r s less within =
     let step : (x + 1) * room ≤ y * room = mul-le-mul_right room (omega (arith, less)) in

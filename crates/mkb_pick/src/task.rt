@@ -9,13 +9,16 @@ use kb_label::Process;
 use kb_node::{Job, NodeId};
 use kb_term::RuleRef;
 
-// How many numbers there are for the direction of a rule, for a rule, for a weight, and for the numbers of a task.
+// How many directions there are for a rule.
 const DIRECTIONS: u32 = 1 << 8;
 
+// How many rules there are, by number and direction.
 const RULES: u64 = 1 << 24;
 
+// How many weights there are.
 const WEIGHTS: u64 = 1 << 32;
 
+// How many numbers there are for the work of a kind.
 const NUMBERS: u128 = 1 << 48;
 
 /// What a job does, for whichever process.
