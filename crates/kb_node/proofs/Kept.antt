@@ -4,6 +4,7 @@ use Rattle.std.specs.Prelude.{slice_get}
 use Rattle.std.proofs.lemmas.Option.{slice_get-get_or, slice_get_read, slice_get_within, get_or_from_slice_get}
 use Rattle.std.proofs.lemmas.List.{take-map, length-take-le, length_push, length-set, map_push}
 use Rattle.kb_lemmas.proofs.Lists.{get_take}
+use Rattle.kb_lemmas.proofs.Options.{some_is}
 use Rattle.indexmap.specs.IndexSet.{insert_key}
 use Rattle.kb_term.specs.Tree.{Tree}
 use Rattle.kb_term.specs.Pair.{Pair, IsCanonicalPair}
@@ -53,6 +54,10 @@ module _ {L : Type 0} (terms : List Tree) (sides : List Sides) (starts : List �
       made-has =
           let e = pair_of_node terms sides starts (nodes_in terms sides entries) f.banked n l in
           pair_get (nodes_in terms sides entries) n e.0 e.1 ∙ ap Some made
+
+    -- the pair of a node is what its cells have
+    pub node_pair : (q : Pair) → HasPair (nodes_in terms sides entries) n q → q ≡ pair_in terms (get_or sides n no_sides)
+    node_pair q has = some_is (sym has ∙ made-has (term_at terms (get_or sides n no_sides).first.0) (term_at terms (get_or sides n no_sides).second.0) refl refl)
 
   -- ---- another label
 

@@ -1,8 +1,9 @@
 // The table of nodes.
-ghost use Rattle.std.specs.Prelude.{◌≡◌, ℕ, ◌+◌, ◌*◌, [], Some, ◌<◌, ◌≤◌, ◌↔◌, length, take, slice_get, option_map, MatchOption, ◌++◌, IsTrue, IfOk, IfSome, IfNone, OnOk, OnErr};
+ghost use Rattle.std.specs.Prelude.{◌≡◌, ℕ, ◌+◌, ◌*◌, [], Some, ◌<◌, ◌≤◌, ◌↔◌, length, take, slice_get, option_map, MatchOption, ◌++◌, ◌==◌, if◌then◌else◌, IsTrue, IfOk, IfSome, IfNone, OnOk, OnErr};
 ghost use Rattle.kb_label.specs.Names.{has};
 ghost use Rattle.kb_term.specs.Tree.{tree_size};
-ghost use Rattle.kb_term.specs.Pair.{IsCanonicalPair};
+ghost use Rattle.kb_term.specs.Pair.{IsCanonicalPair, Pair as Equation};
+ghost use Rattle.kb_term.specs.View.{tree_of};
 ghost use Rattle.kb_node.specs.Banked.{IsPairWithin};
 ghost use Rattle.kb_node.specs.Labelled.{label_in, with_label_at, pairs_of, is_dead_under, HasPair, LacksPair, AreDistinct, AddsNode};
 ghost use Rattle.kb_node.specs.Views.{when, directions_at, equations_of, rules_of, constraints_of};
@@ -13,7 +14,7 @@ use crate::sides::{Sides, intern, is_within, sides_in};
 use crate::view::{NodeIds, RuleRefs, View};
 use indexmap::IndexSet;
 use kb_label::{Labels, Process};
-use kb_term::{MAX_NODES, MAX_SIZE, Memory, Origin, Pair, RuleRef};
+use kb_term::{MAX_NODES, MAX_SIZE, Memory, Origin, Pair, RuleRef, Term};
 use std::alloc::{AllocError, Global};
 use std::marker::Model;
 use term_bank::Bank;
@@ -79,6 +80,20 @@ impl<L: Labels> NodeTable<L> {
         let first = self.bank.view(sides.first)?;
         let second = self.bank.view(sides.second)?;
         Ok(Pair::from_sides(first, second))
+    }
+
+    /// The side of a node that hasn't the number: the second where it is 0, else the first.
+    pub fn other_side(&self, n: NodeId, number: u8) -> Result<Term, Memory>
+        requires { n.0 < length self.now }
+        ensures { IfOk result (λ t. (q : Equation) → HasPair self.now n.0 q → tree_of t ≡ (if number == 0 then q.second else q.first)) }
+    {
+        let sides = self.sides.as_slice()[n.0 as usize];
+        if number == 0 {
+            let after = self.bank.view(sides.second)?;
+            return Ok(after);
+        }
+        let before = self.bank.view(sides.first)?;
+        Ok(before)
     }
 
     /// The sizes of both sides of a node together, at most 1,024. It takes no memory, and constant time.

@@ -1,5 +1,5 @@
 -- What is kept of processes after a fork: of the others as before, of the children what was kept of the process that forks.
-use Rattle.std.proofs.Common.{ℕ, zero, suc, ◌+◌, ◌<◌, ◌≡◌, length, arith, refl, sym, ap, ap₂, ◌∙◌, List, [], ◌∷◌, map, get_or, Bool, true, false, not, ◌&&◌, ◌||◌, All}
+use Rattle.std.proofs.Common.{ℕ, zero, suc, ◌+◌, ◌<◌, ◌≡◌, ◌≢◌, ◌⊎◌, ⊎_elim, length, length-append, arith, refl, sym, ap, ap₂, ◌∙◌, List, [], ◌∷◌, map, get_or, Bool, true, false, not, ◌&&◌, ◌||◌, All}
 use Rattle.std.proofs.Math.Bool.{or-false, or-true}
 use Rattle.std.proofs.lemmas.List.Sums.{sum_by-cons}
 use Rattle.kb_term.specs.declared.origin.RuleRef.{RuleRef}
@@ -11,6 +11,7 @@ use Rattle.kb_node.specs.declared.node.LabelKind.TheVariants.{R0, R1, E, C0, C1}
 use Rattle.mkb_model.specs.Plain.{PlainNode, label_at, rule_kind, constraint_kind}
 use Rattle.mkb_model.specs.Effects.{forked_node, gains, loses}
 use Rattle.mkb_model.proofs.commits.Roles.{relabel-other}
+use Rattle.mkb_model.proofs.tickets.InFlight.{unlike}
 use Rattle.mkb_rules.specs.Accounts.{renamed, Inherits, InheritNodes, IsAccountOf, IsApart, is_apart}
 use Rattle.mkb_rules.specs.Roles.{roles_in, roles_at}
 use Rattle.mkb_rules.specs.Sizes.{open_share, rule_share, open_sizes, rule_sizes}
@@ -149,3 +150,15 @@ inherits_absent p l none left right bit = ap (λ m. has m (child p bit)) (relabe
     either : (b : Bool) → has l (child p b) ≡ false
     either false = left
     either true = right
+
+-- ---- who is told apart by length
+
+-- who has another length than p and its children is neither
+pub apart_by_length : (p q : Name) → (length q < length p) ⊎ (length p + 1 < length q) → is_apart p q ≡ true
+apart_by_length p q other = rw (unlike q p own, unlike q (child p false) (none false), unlike q (child p true) (none true)) refl
+  where
+    own : q ≢ p
+    own e = let same : length q ≡ length p = ap length e in ⊎_elim (λ h. omega (arith, same, h)) (λ h. omega (arith, same, h)) other
+
+    none : (bit : Bool) → q ≢ child p bit
+    none bit e = let same : length q ≡ length (child p bit) = ap length e in let more = length-append p (bit ∷ []) in ⊎_elim (λ h. omega (arith, same, more, h)) (λ h. omega (arith, same, more, h)) other

@@ -1,18 +1,20 @@
 -- A pair that is found, or that gets a node.
-use Rattle.std.proofs.Common.{ℕ, zero, suc, ◌+◌, ◌≡◌, ◌⊎◌, inl, inr, refl, sym, ap, ◌∙◌, subst, arith, List, [], ◌∷◌, ◌++◌, length, Result, Ok, Err, Bool, true, false, cond}
+use Rattle.std.proofs.Common.{ℕ, zero, suc, ◌+◌, ◌≡◌, ◌⊎◌, inl, inr, refl, sym, ap, ◌∙◌, subst, arith, List, [], ◌∷◌, ◌++◌, length, Result, Ok, Err, Some, Bool, true, false, cond, ◌==◌, if◌then◌else◌}
 use Rattle.std.specs.Prelude.{slice_get, option_map, OnOk, OnErr, IfOk, IsFalse, ◌↔◌}
 use Rattle.std.proofs.lemmas.List.{map-append, length-map, append-nil}
-use Rattle.std.proofs.lemmas.Bool.{or_parts}
+use Rattle.std.proofs.lemmas.Bool.{ne_eqb, or_parts}
 use Rattle.kb_label.specs.Names.{Name}
+use Rattle.kb_term.specs.Tree.{Tree}
 use Rattle.kb_term.specs.Pair.{Pair}
 use Rattle.kb_term.specs.declared.origin.Origin.{Origin}
+use Rattle.kb_overlap.specs.Trace.{other_side}
 use Rattle.kb_node.specs.declared.node.NodeId.{NodeId}
 use Rattle.kb_node.specs.declared.fault.NodeFault.{NodeFault}
 use Rattle.kb_node.specs.declared.fault.NodeFault.TheVariants.{Full}
 use Rattle.kb_node.specs.declared.node.LabelKind.TheVariants.{R0, R1, E, C0, C1, X}
 use Rattle.kb_node.specs.Labelled.{Node, HasPair, LacksPair, AddsNode}
 use Rattle.kb_node.proofs.Adding.{has-lacks}
-use Rattle.mkb_model.specs.Plain.{PlainNode, pair_in}
+use Rattle.mkb_model.specs.Plain.{Plain, PlainNode, pair_at, pair_in}
 use Rattle.mkb_model.specs.Effects.{pair_eq, node_of, is_present, new_node, with_node, most_nodes}
 use Rattle.mkb_model.proofs.Lists.{clash, decide, false_unless}
 use Rattle.mkb_model.proofs.nodes.Pairs.{pair_eq-refl, found_node}
@@ -104,3 +106,13 @@ module _ (old new : List (Node (List Name))) (q : Pair) (o : Origin) (r : Result
       go b (Err f) g = inl (subst {A = Result NodeId NodeFault} (λ s. OnErr s (new ≡ old)) g err)
       go (inl e) (Ok n) g = inl (present (node_of (plain_nodes old) q) (has_pair old q e)).1
       go (inr e) (Ok n) g = inr (subst {A = Result NodeId NodeFault} (λ s. IfOk s (λ (m : NodeId). (m.0 ≡ length old) × AddsNode {L = List Name} {K = List Name} (λ log l. l) old new q o)) g (added (lacks_pair old q e))).1
+
+-- ---- one side of a node
+
+chosen : (q : Pair) (w : ℕ) → (if w == 0 then q.second else q.first) ≡ other_side q w
+chosen q zero = refl
+chosen q (suc w) = rw (ne_eqb (suc w) 0 (λ e. absurd (omega (arith, e)))) refl
+
+-- what is read as the other side of a node in the table is that of its pair on the board
+pub side_read : (c : Plain) (xs : List (Node (List Name))) (n w : ℕ) (t : Tree) → plain_nodes xs ≡ c.nodes → ((q : Pair) → HasPair xs n q → t ≡ (if w == 0 then q.second else q.first)) → (q : Pair) → pair_at c n ≡ Some q → t ≡ other_side q w
+side_read c xs n w t is read q here = read q (pair-plain xs n ∙ ap (λ (ys : List PlainNode). pair_in ys n) is ∙ here) ∙ chosen q w

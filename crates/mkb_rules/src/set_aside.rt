@@ -3,7 +3,7 @@ ghost use Rattle.std.specs.Prelude.{◌≡◌, ◌<◌, ◌≤◌, Bool, List, l
 ghost use Rattle.kb_label.specs.Names.{child};
 ghost use Rattle.mkb_model.specs.Plain.{PlainNode};
 ghost use Rattle.mkb_model.specs.Effects.{forked_node};
-ghost use Rattle.mkb_rules.specs.Accounts.{renamed, InheritNodes, IsAccountOf};
+ghost use Rattle.mkb_rules.specs.Accounts.{is_apart, renamed, HasChildren, InheritNodes, IsAccountOf};
 ghost use Rattle.mkb_rules.specs.SetAside.{AreHandedOn, AreSetAside};
 
 use crate::account::Account;
@@ -34,10 +34,7 @@ impl SetAside {
         let mut others = accounts;
         let own = taken_out(&mut others, p);
         let (left, right) = (p.child(false), p.child(true));
-        others.retain(|account| {
-            let q = &account.sizes.process;
-            q != p && q != &left && q != &right
-        });
+        others.retain(|account| is_apart(&account.sizes.process, p, &left, &right));
         SetAside { own, others }
     }
 
@@ -71,6 +68,20 @@ pub(crate) fn put_all_in(others: &mut Vec<Account>, accounts: &mut Vec<Account>)
     while let Some(account) = accounts.pop() {
         put_in(others, account);
     }
+}
+
+// Whether the process is neither p nor one of these children of it. Its length mostly tells.
+fn is_apart(q: &Process, p: &Process, left: &Process, right: &Process) -> bool
+    requires { HasChildren p.now left.now right.now }
+    ensures { result ≡ is_apart p.now q.now }
+{
+    if q.len() < p.len() {
+        return true;
+    }
+    if q.len() > left.len() {
+        return true;
+    }
+    q != p && (q != left && q != right)
 }
 
 // Takes the account of the process out, where it is kept.

@@ -21,7 +21,6 @@ use crate::state::State;
 use kb_label::{Labels, ListLabels, NameLog, Reason};
 use kb_match::fits;
 use kb_node::{LabelKind, NodeFault, NodeId};
-use kb_overlap::other_side_of;
 use kb_term::{
     Found, Memory, Origin, Pair, Position, Rule, RuleRef, Term, canonical, numbered_rule,
 };
@@ -111,14 +110,14 @@ impl State {
         requires few { HasFewVariables self.now n.0 side (tree_of outcome.now) }
         ensures { (q : CanonicalPair) → pair_at self.now n.0 ≡ Some q → IfOk result (λ target. target ≡ target_at q side (ByRewrite n.0 side position.now rule) (tree_of outcome.now)) }
     {
-        let pair = self.nodes.table().pair(n)?;
+        let rest = self.nodes.table().other_side(n, side)?;
         let origin = Origin::Rewrite {
             node: n.0,
             side,
             position: position.clone()?,
             rule,
         };
-        target_for(alloc, other_side_of(&pair, side), outcome, origin)
+        target_for(alloc, &rest, outcome, origin)
     }
 
     // What the sources of a rewriting lose.
