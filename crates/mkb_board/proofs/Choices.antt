@@ -1,19 +1,16 @@
 -- What a process would take first.
-use Rattle.std.proofs.Common.{Option, ◌≡◌, refl, sym, ap, ◌∙◌, List, [], ◌∷◌, ◌++◌, map, filter, flat_map, Contains, ⊎_elim, subst, Bool, true, false, cond, not, ◌&&◌, Some, None}
-use Rattle.std.specs.List.{find, list_any}
-use Rattle.std.specs.Option.{is_none}
+use Rattle.std.proofs.Common.{◌≡◌, refl, ap, ◌∙◌, List, [], ◌∷◌, ◌++◌, map, filter, flat_map, Contains, ⊎_elim, subst, Bool, true, false, cond, not, ◌&&◌, None}
+use Rattle.std.specs.List.{list_any}
 use Rattle.std.proofs.lemmas.List.Elements.{Contains-append_cases, filter-append}
-use Rattle.std.proofs.Math.Bool.{and-false, and-true}
+use Rattle.std.proofs.Math.Bool.{and-false}
 use Rattle.kb_lemmas.proofs.Lists.{filter_none_of}
-use Rattle.kb_lemmas.proofs.Booleans.{and_gives_left}
 use Rattle.kb_lemmas.proofs.Membership.{contains_mapped, contains_flat_map_back, contains_first, contains_behind}
 use Rattle.kb_term.specs.declared.origin.RuleRef.{RuleRef}
-use Rattle.mkb_model.proofs.Lists.{clash, filter_in, find_none}
 use Rattle.kb_label.specs.Names.{Name, has}
 use Rattle.kb_node.specs.declared.job.Job.{Job}
 use Rattle.kb_node.specs.declared.job.Job.TheVariants.{Reduce, Orient, Overlap, Close}
-use Rattle.mkb_model.specs.Jobs.{process_of, job_cmp, least, is_free}
-use Rattle.mkb_model.specs.Plain.{Plain, node_numbers, rules_of, is_over, cost, weight, weight_by}
+use Rattle.mkb_model.specs.Jobs.{job_cmp, least, is_free}
+use Rattle.mkb_model.specs.Plain.{Plain, node_numbers, rules_of, is_over, cost, weight}
 use Rattle.mkb_model.specs.DueJobs.{is_due, is_working, is_work_due, is_close_due, work_of}
 use Rattle.mkb_board.specs.Choosing.{is_choice, first_choice, merged, ClosedRest}
 use Rattle.mkb_board.proofs.Idle.{due_as, working_so}

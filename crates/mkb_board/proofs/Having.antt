@@ -1,25 +1,17 @@
 -- How a process has a node, by its labels and as it is kept.
-use Rattle.std.proofs.Common.{ℕ, zero, suc, ◌<◌, ◌≡◌, ◌++◌, ◌||◌, ◌&&◌, not, refl, sym, ap, ap₂, ◌∙◌, arith, subst, List, [], ◌∷◌, length, map, filter, flat_map, get_or, Contains, Bool, true, false, cond, Some}
-use Rattle.std.specs.List.{find}
-use Rattle.std.proofs.Math.ListN.{get_or-map}
-use Rattle.std.proofs.lemmas.List.{length-map, map-append}
+use Rattle.std.proofs.Common.{ℕ, zero, suc, ◌<◌, ◌≡◌, ◌++◌, ◌||◌, refl, sym, ap, ap₂, ◌∙◌, arith, subst, List, [], ◌∷◌, length, map, filter, flat_map, get_or, Contains, Bool, true, false, cond}
+use Rattle.std.proofs.lemmas.List.{map-append}
 use Rattle.std.proofs.lemmas.List.Elements.{filter-append}
 use Rattle.std.proofs.lemmas.Bool.{or_parts}
 use Rattle.kb_lemmas.proofs.Membership.{contains_behind, contains_first}
 use Rattle.kb_label.specs.Names.{Name, has}
 use Rattle.kb_term.specs.declared.origin.RuleRef.{RuleRef}
-use Rattle.kb_node.specs.declared.job.Job.{Job}
-use Rattle.kb_node.specs.declared.job.Job.TheVariants.{Reduce, Orient}
-use Rattle.kb_node.specs.declared.node.LabelKind.TheVariants.{X}
 use Rattle.kb_node.specs.declared.node.NodeId.{NodeId}
-use Rattle.mkb_model.specs.Jobs.{is_free}
-use Rattle.mkb_model.specs.Plain.{Plain, constraints_of, directions, equations_of, is_constraint, is_equation, is_rule, label, node_numbers, rules_of}
-use Rattle.mkb_model.specs.DueJobs.{is_reducible}
+use Rattle.mkb_model.specs.Plain.{Plain, constraints_of, directions, equations_of, is_constraint, is_equation, is_rule, node_numbers, rules_of}
 use Rattle.mkb_model.proofs.Lists.{filter_in, numbers_in}
 use Rattle.mkb_rules.specs.Sizes.{is_dead_at, AreAlive}
 use Rattle.mkb_rules.specs.Constrained.{is_free_at, AreConstrained}
 use Rattle.mkb_rules.proofs.Paying.{dead_labels, free_labels}
-use Rattle.mkb_board.specs.Choosing.{is_choice}
 use Rattle.mkb_rules.specs.Roles.{held_of, is_in_use, roles_of, rules_in}
 
 -- the rules of whoever has the node so are those that the process has in it

@@ -1,23 +1,17 @@
 -- The least job of several lists.
-use Rattle.std.proofs.Common.{ℕ, ◌≡◌, refl, sym, ap, ap₂, ◌∙◌, subst, List, [], ◌∷◌, ◌++◌, map, filter, flat_map, Contains, Bool, true, false, cond, Option, Some, None, ⊎_elim, ◌⊎◌, inl, inr}
-use Rattle.std.specs.Cmp.{IsTotalOrder, tied_itself}
+use Rattle.std.proofs.Common.{ℕ, ◌≡◌, refl, sym, ap, ◌∙◌, List, [], ◌∷◌, ◌++◌, Bool, true, false, cond, Option, Some, None}
+use Rattle.std.specs.Cmp.{IsTotalOrder}
 use Rattle.std.specs.Cmp.Lexicographic.{slice_cmp}
 use Rattle.std.specs.Ordering.{ordering_then, ordering_reverse, is_le, nat_cmp}
-use Rattle.std.specs.List.{find}
-use Rattle.std.proofs.lemmas.List.Elements.{Contains-append_cases}
 use Rattle.std.specs.declared.cmp.Ordering.{Ordering}
 use Rattle.std.specs.declared.cmp.Ordering.TheVariants.{Less, Equal, Greater}
-use Rattle.std.specs.Option.{option_map_or}
 use Rattle.std.proofs.lemmas.Cmp.{alike_right, on_total, then_total, nat_cmp_total, nat_list_cmp_total}
-use Rattle.kb_lemmas.proofs.Membership.{contains_cases, contains_first, contains_behind, contains_mapped, contains_flat_map_back, none_in}
-use Rattle.kb_lemmas.proofs.Options.{none_some, some_is}
 use Rattle.kb_label.specs.Names.{Name, name_cmp}
 use Rattle.kb_label.specs.NameOrder.{name_cmp-total}
 use Rattle.kb_node.specs.declared.job.Job.{Job}
 use Rattle.mkb_model.specs.Jobs.{process_of, kind_number, job_numbers, numbers_cmp, job_cmp, lesser, least}
 use Rattle.mkb_board.specs.Choosing.{merged}
-use Rattle.mkb_model.proofs.Lists.{clash, false_unless, filter_in}
-use Rattle.mkb_model.proofs.runs.Selections.{least-none}
+use Rattle.mkb_model.proofs.Lists.{clash, false_unless}
 
 -- ---- the order of jobs
 

@@ -1,6 +1,7 @@
 -- The agenda that a board keeps: who falls asleep or wakes is listed, and a commit can be followed.
 use Rattle.std.proofs.Common.{ℕ, ◌≡◌, ◌↔◌, true, false, refl, sym, ap, ◌∙◌, subst, List, [], ◌∷◌, ◌++◌, Contains, not, ◌&&◌, Option, Some, None}
-use Rattle.std.specs.Prelude.{IsFalse}
+use Rattle.std.specs.Prelude.{IfOk, IsFalse, Result, Ok, Err}
+use Rattle.std.specs.Result.{result_ok}
 use Rattle.std.proofs.lemmas.Bool.{and_from}
 use Rattle.kb_lemmas.proofs.Booleans.{and_gives_left, and_gives_right}
 use Rattle.kb_label.specs.Names.{Name, add, has, minus}
@@ -65,6 +66,11 @@ none_kept b o e = subst {A = Option Agenda} (IsAgenda b) (sym e) tt
 -- that of the board, of which one is kept
 pub one_kept : (b : Plain) (o : Option Agenda) (a : Agenda) → o ≡ Some a → IsAgenda b o → IsAgendaOf b a.processes
 one_kept b o a e h = subst {A = Option Agenda} (IsAgenda b) e h
+
+-- that which was made, if it was
+pub made_kept : {E : Type 0} (b : Plain) (r : Result Agenda E) (o : Option Agenda) → o ≡ result_ok r → IfOk r (λ (a : Agenda). IsAgendaOf b a.processes) → IsAgenda b o
+made_kept b (Ok a) o e h = subst {A = Option Agenda} (IsAgenda b) (sym e) h
+made_kept b (Err f) o e h = none_kept b o e
 
 -- a process falls asleep
 pub rests_on : (b s : Plain) (p : Name) → s ≡ record b { asleep = add p b.asleep } → (a r : Agenda) (o : Option Agenda) → o ≡ Some r → IsAgendaOf b a.processes → SetsRest a.processes p true r.processes

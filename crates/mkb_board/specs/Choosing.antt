@@ -1,17 +1,16 @@
 -- Which jobs may be chosen.
-use Rattle.std.specs.Prelude.{ℕ, List, [], ◌∷◌, ◌++◌, length, map, Bool, ◌&&◌, ◌<◌, ◌≡◌, ◌+◌, filter, if◌then◌else◌, IsTrue}
+use Rattle.std.specs.Prelude.{ℕ, List, [], ◌∷◌, ◌++◌, map, Bool, ◌&&◌, ◌+◌, filter, if◌then◌else◌, IsTrue}
 use Rattle.std.specs.List.{flat_map}
-use Rattle.std.specs.Option.{option_map, option_map_or}
+use Rattle.std.specs.Option.{option_map_or}
 use Rattle.kb_term.specs.declared.origin.RuleRef.{RuleRef}
 use Rattle.std.specs.declared.cmp.Ordering.{Ordering}
-use Rattle.std.specs.declared.cmp.Ordering.TheVariants.{Less}
 use Rattle.std.specs.declared.option.Option.{Option}
 use Rattle.std.specs.declared.option.Option.TheVariants.{Some, None}
 use Rattle.kb_label.specs.Names.{Name, name_cmp, has}
 use Rattle.kb_node.specs.declared.job.Job.{Job}
-use Rattle.kb_node.specs.declared.job.Job.TheVariants.{Reduce, Orient, Overlap, Close}
-use Rattle.mkb_model.specs.Jobs.{process_of, kind_number, job_numbers, numbers_cmp, job_cmp, is_free, lesser, least}
-use Rattle.mkb_model.specs.Plain.{Plain, is_rule, is_equation, is_constraint, rules_of, cost, weight, weight_by}
+use Rattle.kb_node.specs.declared.job.Job.TheVariants.{Overlap, Close}
+use Rattle.mkb_model.specs.Jobs.{job_cmp, is_free, lesser, least}
+use Rattle.mkb_model.specs.Plain.{Plain, is_rule, is_equation, is_constraint, rules_of, cost, weight}
 use Rattle.mkb_model.specs.Invariants.{IsAtRest}
 use Rattle.mkb_model.specs.DueJobs.{is_work_due, is_due, work_of}
 use Rattle.mkb_model.specs.declared.entry.Ticket.{Ticket}

@@ -15,8 +15,8 @@ use crate::due::{is_free, is_overlap_due};
 use kb_label::Process;
 use kb_node::{Job, NodeId};
 use kb_term::RuleRef;
-use mkb_model::Ticket;
 use mkb_agenda::{is_open_to, roles_by};
+use mkb_model::Ticket;
 use mkb_rules::{Roles, State};
 
 /// Whether there is a first job beside those in flight. It takes no memory, but goes over all nodes again and again, so it is for

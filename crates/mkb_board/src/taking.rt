@@ -11,8 +11,8 @@ ghost use Rattle.mkb_board.specs.Takes.{IsTakenBy, take_entry};
 
 use crate::answers::Taken;
 use crate::board::Board;
-use crate::takable::has_first;
 use crate::snapshots::snapshot;
+use crate::takable::has_first;
 use kb_jobs::Snapshot;
 use kb_node::Job;
 use kb_term::Memory;

@@ -176,13 +176,14 @@ effect_label-requires c =
     (subst {A = Seen} (λ z. IsProposalOf z c.args.ticket.now c.args.proposal) (sym c.self.view_is) c.requires.proposed)
 
 pub keep_up-requires : goal.keep_up-requires
-keep_up-requires c = record { nodes =
-    nodes_left c.self.inside.state c.self.inside.flight.items c.self.inside.journal.items c.args.ticket.now c.args.proposal c.self.invariant.0.legal
-    (subst {A = Seen} (λ z. verdict z.plain ≡ None) (sym c.self.view_is) c.requires.no_verdict)
-    (subst {A = Seen} (λ z. Contains z.plain.flight c.args.ticket.now) (sym c.self.view_is) c.requires.flying)
-    (subst {A = Seen} (λ z. IsProposalOf z c.args.ticket.now c.args.proposal) (sym c.self.view_is) c.requires.proposed)
-    (subst {A = Seen} (λ z. IsFalse (is_dropped z.plain c.args.proposal)) (sym c.self.view_is) c.requires.acts)
-    c.in-Ok-apply.applied c.in-Ok-apply.ensures.ok.1 c.apply.new.self c.in-Ok-apply.ensures.ok.0 c.self.invariant.6;
+keep_up-requires c = record {
+  nodes =
+      nodes_left c.self.inside.state c.self.inside.flight.items c.self.inside.journal.items c.args.ticket.now c.args.proposal c.self.invariant.0.legal
+      (subst {A = Seen} (λ z. verdict z.plain ≡ None) (sym c.self.view_is) c.requires.no_verdict)
+      (subst {A = Seen} (λ z. Contains z.plain.flight c.args.ticket.now) (sym c.self.view_is) c.requires.flying)
+      (subst {A = Seen} (λ z. IsProposalOf z c.args.ticket.now c.args.proposal) (sym c.self.view_is) c.requires.proposed)
+      (subst {A = Seen} (λ z. IsFalse (is_dropped z.plain c.args.proposal)) (sym c.self.view_is) c.requires.acts)
+      c.in-Ok-apply.applied c.in-Ok-apply.ensures.ok.1 c.apply.new.self c.in-Ok-apply.ensures.ok.0 c.self.invariant.6;
 }
 
 pub settle-requires-clause-agenda : goal.settle-requires-clause-agenda

@@ -9,6 +9,7 @@ use Rattle.mkb_board.specs.Working.{processes_in}
 use Rattle.mkb_board.specs.declared.working.Placed.{Placed}
 use Rattle.mkb_board.proofs.AtRest.{opening_rest}
 use Rattle.mkb_board.proofs.Following.{first_works, nobody_complete}
+use Rattle.mkb_board.proofs.Listed.{made_kept}
 use Rattle.mkb_board.proofs.board.Board.start.Goals as goal
 use Rattle.mkb_model.specs.declared.settings.Settings.{Settings}
 
@@ -25,7 +26,7 @@ invariant_of-result c = (
   opening_board c.args.problem c.args.settings c.in_ok-state.state c.new.result.items c.in_ok-journal.journal.items c.requires c.in_ok-state.ensures c.new.ensures.items c.in_ok-journal.ensures.items,
   omega (arith, c.in_ok-journal.ensures.capacity, c.in_ok-journal.ensures.len, c.new.ensures.len),
   c.verdict-verdict.ensures,
-  c.ok-agenda.ensures,
+  made_kept c.in_ok-state.state c.agenda_of.result c.ok-agenda.result c.ok-agenda.ensures.value c.agenda_of.ensures,
   c.new-2.ensures c.in_ok-state.state,
   record { all = first_works c.args.problem c.args.settings c.in_ok-state.state c.in_ok-state.ensures c.in_ok-working.working.items c.in_ok-working.ensures.items; room = c.in_ok-working.ensures.room },
   ap (λ (z : Plain). z.flight) c.in_ok-state.ensures,

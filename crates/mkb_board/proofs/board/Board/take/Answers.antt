@@ -1,14 +1,11 @@
-use Rattle.std.proofs.Common.{ℕ, ◌<◌, ◌≡◌, ◌∙◌, ◌≢◌, List, [], ◌∷◌, length, arith, subst, ap, refl, sym, Some, None}
-use Rattle.std.specs.Prelude.{IsFalse, IsSome, IsTrue, OnErr, Result, Ok, Err}
+use Rattle.std.proofs.Common.{ℕ, ◌<◌, ◌≡◌, ◌∙◌, ◌≢◌, List, [], ◌∷◌, length, arith, subst, refl, sym, Some, None}
+use Rattle.std.specs.Prelude.{IsFalse, IsTrue, OnErr, Result, Ok, Err}
 use Rattle.mkb_model.specs.DueJobs.{first_job}
 use Rattle.mkb_model.specs.Verdicts.{verdict}
 use Rattle.mkb_model.specs.declared.entry.Ticket.{Ticket}
 use Rattle.mkb_model.proofs.runs.LawsStated.{none_first}
 use Rattle.mkb_board.specs.Boards.{Seen, has_halt}
-use Rattle.mkb_board.specs.Working.{processes_in}
-use Rattle.mkb_board.specs.declared.working.Placed.{Placed}
-use Rattle.mkb_board.proofs.AtRest.{legal_rest}
-use Rattle.mkb_board.proofs.Readable.{limited_on, ordered_on, waits_on}
+use Rattle.mkb_board.proofs.Readable.{waits_on}
 use Rattle.mkb_board.proofs.board.Board.take.Goals as goal
 
 pub returns-in-Some-clause-ok : goal.returns-in-Some-clause-ok
