@@ -1,15 +1,23 @@
 // The search for the next job.
 ghost use Rattle.std.specs.Prelude.{◌≡◌, ◌↔◌, ◌<◌, ◌+◌, true, length, IsTrue, MatchOption};
 ghost use Rattle.mkb_pick.specs.Trees.{IsOrdered};
-ghost use Rattle.mkb_pick.specs.Tasks.{IsTaskKey, task_cmp, IsWithin, is_open};
+ghost use Rattle.mkb_model.specs.Jobs.{is_free};
+ghost use Rattle.mkb_pick.specs.Tasks.{IsTaskKey, task_cmp, job_of, IsWithin, is_open};
 ghost use Rattle.mkb_pick.specs.Queues.{IsQueue};
 ghost use Rattle.mkb_pick.specs.Firsts.{IsFirst, IsNext, IsChoice};
 
 use crate::queue::Queue;
-use crate::task::{Task, is_free};
+use crate::task::{Task, Work, is_free};
 use crate::tree::Tree;
 use kb_label::Process;
 use kb_node::Job;
+
+// Whether the work of the process clashes with nothing in flight. Where nothing is, no job is made for it.
+fn is_open(work: &Work, process: &Process, flight: &[Job]) -> bool
+    ensures { result ≡ is_free flight.now (job_of process.now work.now) }
+{
+    flight.is_empty() || is_free(&work.job(process), flight)
+}
 
 /// The first task of a kind from low to high that clashes with nothing in flight.
 fn first_between(
@@ -30,7 +38,7 @@ fn first_between(
         if let Some(task) = first_between(&top.left, process, flight, low, high) {
             return Some(task);
         }
-        if kind <= high && is_free(&top.item.work.job(process), flight) {
+        if kind <= high && is_open(&top.item.work, process, flight) {
             return Some(top.item);
         }
     }
@@ -47,7 +55,7 @@ fn first_task(tasks: &Tree<Task>, process: &Process, flight: &[Job]) -> Option<T
     requires { IsOrdered IsTaskKey task_cmp tasks.now }
     ensures { IsFirst task_cmp tasks.now (λ t. is_open flight.now process.now t ≡ true) result }
 {
-    if is_free(&Job::Close(*process), flight) {
+    if is_open(&Work::Closing, process, flight) {
         return first_between(tasks, process, flight, 0, 3);
     }
     match first_between(tasks, process, flight, 0, 0) {
