@@ -4,7 +4,7 @@ mod Anew
 mod Alike
 mod Again
 mod Opened
-mod FirstOffered
+pub mod FirstOffered
 mod Gained
 mod Committed
 mod ByRule

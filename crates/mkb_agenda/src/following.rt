@@ -21,7 +21,6 @@ use crate::due::weight_of;
 use crate::looking::{Touched, look_again, look_whether_ended};
 use kb_label::{Labels, MAX_BITS, Process};
 use kb_node::{Deduced, Fact, Job, LabelKind, NodeId};
-use kb_overlap::other_side_of;
 use kb_term::{Memory, Pair, RuleRef, Term, canonical};
 use mkb_model::Proposed;
 use mkb_pick::Agenda;
@@ -346,8 +345,8 @@ pub fn target_of(
     ensures there { IfOk result (λ o. IfSome o (λ m. IsThere state.now m.0)) }
     ensures target { IfOk result (λ o. (q : Equation) (m : ℕ) → pair_at state.now n.0 ≡ Some q → IsNodeOf state.now (tree_of outcome.now) (other_side q side) m → o ≡ Some (record { 0 = m })) }
 {
-    let pair = state.nodes().pair(n)?;
-    match canonical(alloc, outcome, other_side_of(&pair, side))? {
+    let rest = state.nodes().other_side(n, side)?;
+    match canonical(alloc, outcome, &rest)? {
         Some(target) => Ok(node_of(state, &target)),
         None => Ok(None),
     }

@@ -16,7 +16,7 @@ use crate::takable::has_first;
 use kb_jobs::Snapshot;
 use kb_node::Job;
 use kb_term::Memory;
-use mkb_agenda::{agenda_of, what_is_offered_first_is_the_first_job};
+use mkb_agenda::agenda_of;
 use mkb_model::{Entry, Ticket};
 use mkb_pick::Agenda;
 use mkb_rules::State;
@@ -108,7 +108,6 @@ fn offered(
     ensures first { IfOk result (λ o. o ≡ first_job (record state.now { flight = flight.now })) }
 {
     let flying = jobs_of(alloc, flight)?;
-    what_is_offered_first_is_the_first_job();
     match agenda {
         Some(agenda) => Ok(agenda.next(flying.as_slice())),
         None => {

@@ -3,18 +3,18 @@ use Rattle.kb_lemmas.proofs.Options.{some_is, none_some}
 use Rattle.kb_term.specs.Pair.{Pair, canonical_pair}
 use Rattle.kb_term.specs.View.{tree_of}
 use Rattle.kb_overlap.specs.Trace.{other_side}
-use Rattle.mkb_agenda.proofs.Found.{pair_read}
+use Rattle.mkb_rules.proofs.Finding.{side_read}
 use Rattle.mkb_agenda.proofs.following.target_of.Goals as goal
 
 pub returns-in-Some-clause-target : goal.returns-in-Some-clause-target
 returns-in-Some-clause-target c q m e node =
-    let same : c.in_ok-pair.pair ≡ q = some_is (sym (pair_read c.args.state.now c.nodes.result.now c.in_ok-pair.pair c.nodes.ensures c.args.n.0 c.in_ok-pair.ensures) ∙ e) in
-    let is : c.in_ok-target.field-0 ≡ canonical_pair (tree_of c.args.outcome.now) (other_side q c.args.side) = c.in_ok-target.ensures ∙ ap (canonical_pair (tree_of c.args.outcome.now)) (c.other_side_of.ensures ∙ ap (λ (z : Pair). other_side z c.args.side) same) in
+    let rest = side_read c.args.state.now c.nodes.result.now c.args.n.0 c.args.side (tree_of c.in_ok-rest.rest) c.nodes.ensures c.in_ok-rest.ensures q e in
+    let is : c.in_ok-target.field-0 ≡ canonical_pair (tree_of c.args.outcome.now) (other_side q c.args.side) = c.in_ok-target.ensures ∙ ap (canonical_pair (tree_of c.args.outcome.now)) rest in
     let one : c.in-Some.target ≡ node.0 = some_is (sym c.in-Some.is ∙ is ∙ node.1) in
     c.node_of.ensures.found m (node.2 ∙ ap (λ (z : Pair). Some z) (sym one))
 
 pub returns-clause-target : goal.returns-clause-target
 returns-clause-target c q m e node =
-    let same : c.in_ok-pair.pair ≡ q = some_is (sym (pair_read c.args.state.now c.nodes.result.now c.in_ok-pair.pair c.nodes.ensures c.args.n.0 c.in_ok-pair.ensures) ∙ e) in
-    let is : c.in_ok-target.field-0 ≡ canonical_pair (tree_of c.args.outcome.now) (other_side q c.args.side) = c.in_ok-target.ensures ∙ ap (canonical_pair (tree_of c.args.outcome.now)) (c.other_side_of.ensures ∙ ap (λ (z : Pair). other_side z c.args.side) same) in
+    let rest = side_read c.args.state.now c.nodes.result.now c.args.n.0 c.args.side (tree_of c.in_ok-rest.rest) c.nodes.ensures c.in_ok-rest.ensures q e in
+    let is : c.in_ok-target.field-0 ≡ canonical_pair (tree_of c.args.outcome.now) (other_side q c.args.side) = c.in_ok-target.ensures ∙ ap (canonical_pair (tree_of c.args.outcome.now)) rest in
     none_some (sym c.in-None.is ∙ is ∙ node.1)
