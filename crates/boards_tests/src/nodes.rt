@@ -60,7 +60,7 @@ fn added<L: Labels>(
     Ok(n.0)
 }
 
-/// Whether the node of this number has the pair of constants, and is found by it.
+/// Whether the node of this number has the pair of constants, each side of it where it is read alone, and is found by it.
 fn is_found<L: Labels>(
     alloc: Global,
     table: &NodeTable<L>,
@@ -73,8 +73,12 @@ fn is_found<L: Labels>(
     }
     let pair = pair_of(alloc, f, g)?;
     let there = table.pair(NodeId(n))?;
+    let second = table.other_side(NodeId(n), 0)?;
+    let first = table.other_side(NodeId(n), 1)?;
     let found = table.find(&pair);
-    Ok(there == pair && matches!(found, Some(NodeId(m)) if m == n))
+    Ok(there == pair
+        && (first == *pair.first() && second == *pair.second())
+        && matches!(found, Some(NodeId(m)) if m == n))
 }
 
 /// The sizes of both sides of the node of f(f(x)) and x, which is added.

@@ -322,12 +322,13 @@ fn halts(board: &Board) -> usize {
         .count()
 }
 
-// The board counts so many commits, drops and living processes, and no verdict stands.
+// The board counts so many commits, drops and living processes, no verdict stands, and with ample memory its agenda is kept.
 fn counts(rt: &impl Abort, board: &Board, commits: u32, drops: u64, living: u32) {
     assert_eq!(rt; board.commits(), commits);
     assert_eq!(rt; board.drops(), drops);
     assert_eq!(rt; board.living(), living);
     assert!(rt; board.verdict().is_none());
+    assert!(rt; board.agenda().is_some());
 }
 
 // The orienting of node 1 forks while the rule of node 0 is overlapped with itself: both children get the deduced pair.
