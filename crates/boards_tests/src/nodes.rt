@@ -76,9 +76,11 @@ fn is_found<L: Labels>(
     let second = table.other_side(NodeId(n), 0)?;
     let first = table.other_side(NodeId(n), 1)?;
     let found = table.find(&pair);
-    Ok(there == pair
-        && (first == *pair.first() && second == *pair.second())
-        && matches!(found, Some(NodeId(m)) if m == n))
+    Ok(
+        there == pair
+            && (first == *pair.first() && second == *pair.second())
+            && matches!(found, Some(NodeId(m)) if m == n),
+    )
 }
 
 /// The sizes of both sides of the node of f(f(x)) and x, which is added.
