@@ -31,7 +31,8 @@ use Rattle.mkb_rules.proofs.state.GivenUp.TheSendSync as over
 use Rattle.mkb_rules.proofs.sleepers.Sleepers.TheSendSync as sleepers
 use Rattle.mkb_rules.proofs.account.Account.TheSendSync as account
 use Rattle.mkb_rules.proofs.marks.Marks.TheSendSync as marks
-use Rattle.mkb_rules.proofs.roles.Roles.TheSendSync as roles
+use Rattle.mkb_pick.proofs.tree.Tree.TheLaws.TheKnot.{crosses as tree_crosses}
+use Rattle.mkb_pick.specs.contracts.agenda.Agenda as Agenda
 use Rattle.std.specs.contracts.alloc.Global as Global
 use Rattle.std.specs.contracts.impls.GlobalAllocator.TheImpl as heap
 use Rattle.std.proofs.vec.Vec.TheSendSync as vec
@@ -66,7 +67,6 @@ use Rattle.kb_jobs.specs.contracts.rules.SharedPair as SharedPair
 use Rattle.kb_jobs.specs.contracts.rules.SharedPair.TheInside as PairInside
 use Rattle.mkb_board.specs.contracts.board.Board as Board
 use Rattle.mkb_board.specs.contracts.board.Board.TheInside as BoardInside
-use Rattle.mkb_board.specs.contracts.normal.Normal as Normal
 use Rattle.mkb_board.specs.contracts.shelf.Shelf as Shelf
 use Rattle.mkb_board.specs.contracts.working.Placed as Placed
 use Rattle.turn_lock.proofs.lock.Turns.TheSendSync as turns
@@ -148,8 +148,8 @@ state_send = view_send StateInside.the_row _ _ _ _ (recorded_send (StateInside.t
   ),
 )))
 
-normal_send : IsSend Normal.the_row
-normal_send = search (sendable, crosses, process.the_send, rule_ref.the_send, roles.the_send, global.the_send) depth 40 fits 100000
+agenda_send : IsSend Agenda.the_row
+agenda_send = search (sendable, crosses, tree_crosses, process.the_send, rule_ref.the_send, node_id.the_send, global.the_send) depth 40 fits 100000
 
 placed_send : IsSend Placed.the_row
 placed_send = search (sendable, crosses, process.the_send) depth 20
@@ -167,7 +167,7 @@ shelf_field =
 pub board_send : IsSend Board.the_row
 board_send = view_send BoardInside.the_row _ _ _ _ (recorded_send (BoardInside.the_field).row _ _ (BoardInside.the_type).to_one (struct_send (S.shape BoardInside.the_type) (
   state_send,
-  (search (sendable, crosses, verdict.the_send) depth 20, (search (sendable, crosses, ticket.the_send) depth 20, (search (sendable, crosses, entry_send) depth 20, (plain_send _ _ _ _ _, (plain_send _ _ _ _ _, (plain_send _ _ _ _ _, (search (sendable, crosses, normal_send) depth 20 fits 100000, (shelf_field, (search (sendable, crosses, placed_send) depth 20, tt))))))))),
+  (search (sendable, crosses, verdict.the_send) depth 20, (search (sendable, crosses, ticket.the_send) depth 20, (search (sendable, crosses, entry_send) depth 20, (plain_send _ _ _ _ _, (plain_send _ _ _ _ _, (plain_send _ _ _ _ _, (search (sendable, crosses, agenda_send) depth 20 fits 100000, (shelf_field, (search (sendable, crosses, placed_send) depth 20, tt))))))))),
 )))
 
 pub shared_send : IsSend Shared.the_row
