@@ -10,7 +10,7 @@ use Rattle.kb_term.specs.Pair.{place_in}
 use Rattle.kb_lpo.specs.Search.{FitsRows}
 
 -- a bit of either number
-either_bit : (a b y : ℕ) → bit_at (bit_or a b) y ≡ 1 → (bit_at a y ≡ 1) ⊎ (bit_at b y ≡ 1)
+pub either_bit : (a b y : ℕ) → bit_at (bit_or a b) y ≡ 1 → (bit_at a y ≡ 1) ⊎ (bit_at b y ≡ 1)
 either_bit a b y h = cases (bit_at a y) (bit_at b y) (bit_at-lt a y) (bit_at-lt b y) (sym (bit_at_or a b y) ∙ h)
   where
     cases : (m n : ℕ) → m < 2 → n < 2 → max m n ≡ 1 → (m ≡ 1) ⊎ (n ≡ 1)

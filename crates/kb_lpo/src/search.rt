@@ -1,5 +1,6 @@
 // The first precedence that orients given rules.
 ghost use Rattle.std.specs.Prelude.{ℕ, List, ◌≡◌, ◌++◌, IsTrue, IsSome, IsSomeAnd, ◌↔◌, IfOk, IfSome, map, ◌+◌, ◌<◌, ◌≤◌, length, Contains, [], ◌∷◌, true, false};
+ghost use Rattle.std.specs.Int.{bit_at};
 ghost use Rattle.kb_term.specs.Pair.{place_in};
 ghost use Rattle.kb_lpo.specs.PathOrder.{LpoGreater, IsAbove};
 ghost use Rattle.kb_lpo.specs.Precedences.{precedences};
@@ -221,11 +222,56 @@ fn place_possible(
 }
 
 /// The table, if `f` may stand behind the listed symbols by it.
-fn fitting(table: &Known, symbols: &[Symbol], f: Symbol, count: u8) -> Option<Known> {
+fn fitting(table: &Known, symbols: &[Symbol], f: Symbol, count: u8) -> Option<Known>
+    ensures unlisted { IfSome result (λ more. ¬ Contains (numbers symbols.now) f.0) }
+    ensures sound { (rest : List ℕ) → ¬ Contains (numbers symbols.now) f.0 → Fits table.now (numbers symbols.now ++ f.0 ∷ rest) → IsSomeAnd result (λ more. Fits more (numbers symbols.now ++ f.0 ∷ rest)) }
+{
     if may_follow(table, symbols, f, count) {
         return Some(*table);
     }
     None
+}
+
+/// What is known once `f` stands behind the listed symbols, if it may by what is known and by each rule alone.
+fn fitting_rules(
+    known: &Known,
+    rules: &[Rule],
+    symbols: &[Symbol],
+    f: Symbol,
+    count: u8,
+) -> Option<Known>
+    ensures unlisted { IfSome result (λ more. ¬ Contains (numbers symbols.now) f.0) }
+    ensures sound { EachThatGoesOn known.now rules.now (numbers symbols.now) f.0 (λ prec. IsSomeAnd result (λ more. Fits more prec)) }
+{
+    let mut more = *known;
+    if place_possible(&mut more, rules, symbols, f, count) {
+        return Some(more);
+    }
+    None
+}
+
+/// A bit for each of the symbols below 32.
+fn marks_of(symbols: &[Symbol]) -> u32
+    ensures { (y : ℕ) → bit_at result y ≡ 1 → Contains (numbers symbols.now) y }
+{
+    let mut marks: u32 = 0;
+    for i in 0..symbols.len() {
+        let f = symbols[i].0;
+        if f < u32::BITS as u8 {
+            marks |= 1 << f;
+        }
+    }
+    marks
+}
+
+/// Whether the bit of the number is set.
+fn is_marked(marks: u32, y: u8) -> bool
+    ensures { result ≡ true → bit_at marks y ≡ 1 }
+{
+    if y < u32::BITS as u8 {
+        return marks >> y & 1 == 1;
+    }
+    false
 }
 
 /// By what it is tested whether a symbol may come next, where one arrangement is built.
@@ -251,12 +297,10 @@ impl<'a> Arranging<'a> {
         ensures unlisted { IfSome result (λ more. ¬ Contains (numbers symbols.now) f.0) }
         ensures sound { EachThatGoesOn known.now self.now.rules.now (numbers symbols.now) f.0 (λ prec. IsSomeAnd result (λ more. Fits more prec)) }
     {
-        let mut more = *known;
-        let is_next = match self.test {
-            Test::Known => may_follow(known, symbols, f, self.count),
-            Test::Rules => place_possible(&mut more, self.rules, symbols, f, self.count),
-        };
-        if is_next { Some(more) } else { None }
+        match self.test {
+            Test::Known => fitting(known, symbols, f, self.count),
+            Test::Rules => fitting_rules(known, self.rules, symbols, f, self.count),
+        }
     }
 
     /// Puts the symbols that are left behind those of the prefix, each time the least that passes the test, and tries this one
@@ -268,7 +312,11 @@ impl<'a> Arranging<'a> {
         if left == 0 {
             return Ok(orients(prefix, self.rules));
         }
+        let listed = marks_of(prefix);
         for y in 0..self.count {
+            if is_marked(listed, y) {
+                continue;
+            }
             let f = Symbol(y);
             if let Some(more) = self.placed(known, prefix, f) {
                 prefix.push(f)?;

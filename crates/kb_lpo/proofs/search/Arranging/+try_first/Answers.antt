@@ -55,3 +55,13 @@ loop-y-preserved t c =
           let d = ap (λ z. z ++ y ∷ r) s in
           subst (λ o. IsSomeAnd o (λ more. Fits more (numbers c.deref-in-loop-y.result.now ++ y ∷ r))) c.in_default.is (c.placed.ensures.sound r (λ k. n (subst (λ z. Contains z y) s k)) (subst (Fits c.args.known.now) (sym d) (c.requires (y ∷ r) o)) (subst (λ z. LpoOrients z rules) (sym d) o))) c.loop-y.invariant.1,
     )
+
+pub loop-y-preserved-then-is_marked : goal.loop-y-preserved-then-is_marked
+loop-y-preserved-then-is_marked t c =
+    let xs = numbers c.args.prefix.now.items in
+    let y = c.loop-y.y in
+    let rules = c.args.self.now.rules.now in
+    let k = subst (λ z. Contains z y) (ap numbers c.deref-2.ensures.value) (c.marks_of-listed.ensures y (c.is_marked.ensures c.if-is_marked.true)) in (
+      c.loop-y.invariant.0,
+      none_refused rules c.args.self.now.count (c.args.left - 1) y xs (listed_or_not xs y) (λ r n o. n k) c.loop-y.invariant.1,
+    )
