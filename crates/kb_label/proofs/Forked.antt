@@ -85,7 +85,7 @@ module _ (p : Name) (l : List Name) (h : has l p ≡ true) where
 
   module _ (all : AreLeaves l) where
     -- a child of a living process doesn't live
-    new : (b : Bool) → has l (child p b) ≡ false
+    pub new : (b : Bool) → has l (child p b) ≡ false
     new b = false_from_ne_true (has l (child p b)) (λ w. let e : p ≡ child p b = all.apart p (child p b) h w (begins-more p (b ∷ [])) in let f : length p ≡ length (child p b) = ap length e in omega (arith, f, length-child p b))
 
     new_left : (b : Bool) → has (minus l (p ∷ [])) (child p b) ≡ false

@@ -60,10 +60,9 @@ taken_back false false true t is left right = sym (right refl)
 taken_back false false false t is left right = refl
 
 module _ (p : Name) (l : List Name) (o : IsInNameOrder l) where
-  pub united-relabel : IsTakenBack p l
-  united-relabel short h none_left none_right =
-      go (ltb (length p) 64) (has m left) (has m right) (lt-ltb (length p) 64 short) has_left has_right
-      ∙ same_names (add p (minus (minus m (right ∷ [])) (left ∷ []))) l
+  pub back-relabel : has l p ≡ true → has l (child p false) ≡ false → has l (child p true) ≡ false → add p (minus (minus (relabel p l) (child p true ∷ [])) (child p false ∷ [])) ≡ l
+  back-relabel h none_left none_right =
+      same_names (add p (minus (minus m (right ∷ [])) (left ∷ []))) l
       (ordered-add p (minus (minus m (right ∷ [])) (left ∷ [])) (ordered-without left (minus m (right ∷ [])) (ordered-without right m ordered))) o same
     where
       left : Name
@@ -78,21 +77,29 @@ module _ (p : Name) (l : List Name) (o : IsInNameOrder l) where
       ordered : IsInNameOrder m
       ordered = rw (relabelled p l h) (ordered-add left (add right (minus l (p ∷ []))) (ordered-add right (minus l (p ∷ [])) (ordered-without p l o)))
 
-      has_left : has m left ≡ true
-      has_left = has-relabel p left l h ∙ ap (λ b. b || (name_eq left right || (not (name_eq left p) && has l left))) (name_eq-refl left)
-
-      has_right : has m right ≡ true
-      has_right = has-relabel p right l h ∙ ap (λ b. name_eq right left || (b || (not (name_eq right p) && has l right))) (name_eq-refl right) ∙ or-true (name_eq right left)
-
-      go : (a b c : Bool) → a ≡ true → b ≡ true → c ≡ true → (if a && (b && c) then add p (minus (minus m (right ∷ [])) (left ∷ [])) else m) ≡ add p (minus (minus m (right ∷ [])) (left ∷ []))
-      go a b c e f g = rw (e, f, g) refl
-
       same : (q : Name) → has (add p (minus (minus m (right ∷ [])) (left ∷ []))) q ≡ has l q
       same q =
           has-add p (minus (minus m (right ∷ [])) (left ∷ [])) q
           ∙ ap (λ b. name_eq q p || b) (has-minus (minus m (right ∷ [])) (left ∷ []) q ∙ ap (λ b. not (name_eq q left || false) && b) (has-minus m (right ∷ []) q ∙ ap (λ b. not (name_eq q right || false) && b) (has-relabel p q l h)))
           ∙ taken_back (name_eq q p) (name_eq q left) (name_eq q right) (has l q)
           (λ e. ap (has l) (name_eq-eq q p e) ∙ h) (λ e. ap (has l) (name_eq-eq q left e) ∙ none_left) (λ e. ap (has l) (name_eq-eq q right e) ∙ none_right)
+
+  -- both children are named after the fork
+  pub child-relabel : (b : Bool) → has l p ≡ true → has (relabel p l) (child p b) ≡ true
+  child-relabel false h = has-relabel p (child p false) l h ∙ ap (λ b. b || (name_eq (child p false) (child p true) || (not (name_eq (child p false) p) && has l (child p false)))) (name_eq-refl (child p false))
+  child-relabel true h = has-relabel p (child p true) l h ∙ ap (λ b. name_eq (child p true) (child p false) || (b || (not (name_eq (child p true) p) && has l (child p true)))) (name_eq-refl (child p true)) ∙ or-true (name_eq (child p true) (child p false))
+
+  pub united-relabel : IsTakenBack p l
+  united-relabel short h none_left none_right = go (ltb (length p) 64) (has m (child p false)) (has m (child p true)) (lt-ltb (length p) 64 short) (child-relabel false h) (child-relabel true h) ∙ back-relabel h none_left none_right
+    where
+      m : List Name
+      m = relabel p l
+
+      taken : List Name
+      taken = add p (minus (minus m (child p true ∷ [])) (child p false ∷ []))
+
+      go : (a b c : Bool) → a ≡ true → b ≡ true → c ≡ true → (if a && (b && c) then taken else m) ≡ taken
+      go a b c e f g = rw (e, f, g) refl
 
 -- ---- one name alone
 

@@ -1,7 +1,8 @@
 // Labels that are plain lists of names.
-ghost use Rattle.std.specs.Prelude.{◌≡◌, ◌+◌, ◌<◌, ◌≤◌, [], ◌∷◌, length, insert, remove, is_ok, IfOk, IfErr, OnOk, OnErr, IsTrue, vec_len, vec_capacity};
+ghost use Rattle.std.specs.Prelude.{List, ◌≡◌, ◌+◌, ◌<◌, ◌≤◌, [], ◌∷◌, length, insert, remove, is_ok, IfOk, IfErr, OnOk, OnErr, IsTrue, vec_len, vec_capacity};
 ghost use Rattle.kb_label.specs.Kept.{IsPlaceOf};
-ghost use Rattle.kb_label.specs.Names.{add, has, relabel, united, IsTakenBack, join, meet, minus, is_empty, IsInNameOrder};
+ghost use Rattle.kb_label.specs.Names.{Name, add, has, relabel, united, IsTakenBack, join, meet, minus, is_empty, IsInNameOrder};
+ghost use Rattle.kb_label.specs.Forks.{IsAfterFork};
 
 use crate::labels::Labels;
 use crate::living::Living;
@@ -37,6 +38,16 @@ impl NameLog {
         ensures { result.now ≡ self.now }
     {
         self.names.as_slice()
+    }
+
+    /// Takes the last fork back, that of the process: it lives again in the place of its two children. It takes no memory.
+    pub fn take_back(&mut self, process: &Process)
+        requires { (before : List Name) × IsAfterFork before process.now self.old }
+        ensures { (before : List Name) → IsAfterFork before process.now self.old → self.new ≡ before }
+    {
+        take_out(&mut self.names, &process.child(true));
+        take_out(&mut self.names, &process.child(false));
+        put(&mut self.names, *process);
     }
 }
 
@@ -88,6 +99,19 @@ fn put(names: &mut Vec<Process>, name: Process)
 {
     if let Err(place) = place_of(names.as_slice(), &name) {
         names.insert(place, name).unwrap();
+    }
+}
+
+// Takes a name out, where it is there.
+fn take_out(names: &mut Vec<Process>, name: &Process)
+    requires in_order { IsInNameOrder names.old.items }
+    ensures items { names.new.items ≡ minus names.old.items (name.now ∷ []) }
+    ensures len { vec_len names.new ≤ vec_len names.old }
+    ensures less { IsTrue (has names.old.items name.now) → vec_len names.new < vec_len names.old }
+    ensures capacity { vec_capacity names.old ≤ vec_capacity names.new }
+{
+    if let Ok(place) = place_of(names.as_slice(), name) {
+        names.remove(place);
     }
 }
 
