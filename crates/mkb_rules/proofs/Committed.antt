@@ -2,7 +2,7 @@
 use Rattle.std.proofs.Common.{◌≡◌, ◌<◌, ◌≤◌, ◌+◌, true, false, List, [], ◌∷◌, length, map, nat_le, nat_lt, Option, Some, None, ap, sym, ◌∙◌, arith}
 use Rattle.std.specs.Option.{option_map_or}
 use Rattle.std.proofs.lemmas.Bool.Decides.{nat_tests}
-use Rattle.kb_label.specs.Names.{Name, child}
+use Rattle.kb_label.specs.Names.{Name, child, relabel}
 use Rattle.kb_label.specs.declared.verdict.Reason.{Reason}
 use Rattle.kb_label.specs.declared.verdict.Reason.TheVariants.{Nodes, Processes}
 use Rattle.kb_cert.specs.declared.certificate.Certificate.{Certificate}
@@ -42,13 +42,13 @@ fork_of_nodes p n xs = oriented (child p true) (record { node = n.0; dir = 1 }) 
 abbrev pub fork_of_orders : Name → Certificate → Certificate → List Certified → List Certified
 fork_of_orders p c0 c1 cs = certify_in (child p true) c1 (certify_in (child p false) c0 (forked_certificates p cs))
 
-pub fork_made : (b mid : Plain) (parts : Forked) (p : Name) (n : NodeId) (c0 c1 : Certificate) → IsForkOf b p parts → mid ≡ record b { nodes = fork_of_nodes p n b.nodes; certificates = fork_of_orders p c0 c1 b.certificates } → counted (with_parts parts mid) ≡ counted (applied b (Both p n c0 c1))
+pub fork_made : (b mid : Plain) (parts : Forked) (p : Name) (n : NodeId) (c0 c1 : Certificate) → IsForkOf b p parts → mid ≡ record b { living = relabel p b.living; nodes = fork_of_nodes p n b.nodes; certificates = fork_of_orders p c0 c1 b.certificates } → counted (with_parts parts mid) ≡ counted (applied b (Both p n c0 c1))
 fork_made b mid parts p n c0 c1 h e =
     ap (λ (m : Plain). counted (with_parts parts m)) e
     ∙ (λ i. record {
       problem = b.problem;
       settings = b.settings;
-      living = h.living i;
+      living = relabel p b.living;
       nodes = fork_of_nodes p n b.nodes;
       done = h.done i;
       facts = b.facts;

@@ -55,7 +55,6 @@ fork_at p (suc n) (x ∷ xs) = x ∷ fork_at p n xs
 
 -- the parts are those of the board after a fork of p
 pub record IsForkOf (b : Plain) (p : Name) (f : Forked) : Type 0 where
-  pub living : f.log ≡ relabel p b.living
   pub done : with_new_names f.done.items b.done ≡ forked_done p b.done
   pub closed : f.closed ≡ relabel p b.closed
   pub over : lists_of f.over ≡ forked_over p b.over
@@ -64,7 +63,6 @@ pub record IsForkOf (b : Plain) (p : Name) (f : Forked) : Type 0 where
 -- the board with these parts
 abbrev pub with_parts : Forked → Plain → Plain
 with_parts f b = record b {
-  living = f.log;
   done = with_new_names f.done.items b.done;
   closed = f.closed;
   over = lists_of f.over;

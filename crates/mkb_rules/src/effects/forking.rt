@@ -1,6 +1,7 @@
 // Processes that fork.
 ghost use Rattle.std.specs.Prelude.{◌≡◌, ◌<◌, ◌∷◌, [], All, IfOk, IsTrue, OnErr, OnOk, false, length, map, true};
 ghost use Rattle.kb_label.specs.Names.{child, has, relabel};
+ghost use Rattle.kb_label.specs.Forks.{IsForked};
 ghost use Rattle.mkb_model.specs.Plain.{label_at};
 ghost use Rattle.mkb_model.specs.Effects.{counted, forked_certificates, forked_node, with_label};
 ghost use Rattle.mkb_model.specs.declared.proposed.Proposed.TheVariants.{Both};
@@ -31,10 +32,10 @@ use kb_term::{Memory, RuleRef};
 use std::alloc::{AllocError, Global};
 use std::mem;
 
-/// Parts of a state after a fork; of the lists of overlapped rules those alone that change, and who sleeps only where that changes.
+/// Parts of a state after a fork; of the lists of overlapped rules those alone that change, and who sleeps only where that changes. The
+/// log forks in place.
 #[derive(Drop)]
 pub(crate) struct Forked {
-    log: NameLog,
     done: Vec<NewNames>,
     closed: ListLabels,
     over: GivenUp,
@@ -112,12 +113,18 @@ impl State {
     {
         self.nodes.are_few();
         let mut parts = self.forked(alloc, p)?;
-        if try_fork(alloc, &mut self.nodes, &parts.log, p, n).is_err() {
+        if self.log.fork(p).is_err() {
+            drop(parts);
+            return Err(Memory);
+        }
+        if try_fork(alloc, &mut self.nodes, &self.log, p, n).is_err() {
+            self.log.take_back(p);
             drop(parts);
             return Err(Memory);
         }
         if fork_orders(&mut self.certificates, p, cert0, cert1).is_err() {
             self.nodes.roll_back();
+            self.log.take_back(p);
             drop(parts);
             return Err(Memory);
         }
@@ -131,7 +138,6 @@ impl State {
         requires { HasBudget self.old }
         ensures { self.new ≡ counted (with_parts parts.old self.old) }
     {
-        mem::swap(&mut self.log, &mut parts.log);
         put_new_names(&mut self.done, &mut parts.done);
         mem::swap(&mut self.closed, &mut parts.closed);
         mem::swap(&mut self.over, &mut parts.over);
@@ -147,11 +153,11 @@ impl State {
         requires room { length self.now.living < MAX_LIVING }
         ensures parts { IfOk result (IsForkOf self.now p.now) }
         ensures short { length p.now < MAX_BITS }
+        ensures forked { IsForked self.now.living }
     {
         learn_short(&self.log, p);
         let asleep = self.asleep.forked(p)?;
         let mut parts = Forked {
-            log: forked_log(&self.log, p)?,
             done: Vec::new(alloc),
             closed: ListLabels::new(alloc),
             over: GivenUp::nobody(alloc),
@@ -170,7 +176,6 @@ impl State {
     fn fork_lists(&self, p: &Process, parts: &mut Forked) -> Result<(), Memory>
         requires short { length p.now < MAX_BITS }
         requires none { parts.old.done.items ≡ [] }
-        ensures log { parts.new.log ≡ parts.old.log }
         ensures asleep { parts.new.asleep ≡ parts.old.asleep }
         ensures done { OnOk result (with_new_names parts.new.done.items self.now.done ≡ forked_done p.now self.now.done) }
         ensures closed { OnOk result (parts.new.closed ≡ relabel p.now self.now.closed) }
@@ -187,20 +192,10 @@ impl State {
 fn learn_short(log: &NameLog, p: &Process)
     requires lives { IsTrue (has log.now p.now) }
     requires room { length log.now < MAX_LIVING }
-    ensures { length p.now < MAX_BITS }
+    ensures short { length p.now < MAX_BITS }
+    ensures forked { IsForked log.now }
 {
     log.are_forked();
-}
-
-// The log after a fork.
-fn forked_log(log: &NameLog, p: &Process) -> Result<NameLog, AllocError>
-    requires lives { IsTrue (has log.now p.now) }
-    requires room { length log.now < MAX_LIVING }
-    ensures { IfOk result (λ l. l ≡ relabel p.now log.now) }
-{
-    let mut copy = log.copy()?;
-    copy.fork(p)?;
-    Ok(copy)
 }
 
 // Makes the lists those of the processes that gave up, in which the children of the process stand in its place.
