@@ -81,10 +81,7 @@ impl RulesInUse {
     {
         match (commit.applied, commit.proposal) {
             (Applied::Over(_), _) => Ok(()),
-            (
-                Applied::Done,
-                Proposed::Rewrite { node, .. },
-            ) => {
+            (Applied::Done, Proposed::Rewrite { node, .. }) => {
                 self.look_at_node(state, *node)?;
                 match commit.target {
                     Some(target) => self.look_at_node(state, target),
