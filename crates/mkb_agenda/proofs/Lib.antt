@@ -11,7 +11,7 @@ mod ByRule
 mod NodeWork
 mod Nearly
 mod Frames
-mod NodeFrames
+pub mod NodeFrames
 mod Brought
 mod Ended
 mod Splitting

@@ -1,5 +1,5 @@
 -- What rewritings and new pairs leave of the jobs of each process.
-use Rattle.std.proofs.Common.{ℕ, ◌≡◌, inl, inr, ⊎_elim, refl, sym, ap, ◌∙◌, subst, List, [], ◌∷◌, true, Some, Contains}
+use Rattle.std.proofs.Common.{Option, unwrap_or, ℕ, ◌≡◌, inl, inr, ⊎_elim, refl, sym, ap, ◌∙◌, subst, List, [], ◌∷◌, true, Some, Contains}
 use Rattle.std.proofs.lemmas.List.Elements.{Contains-append_left, Contains-append_right}
 use Rattle.kb_lemmas.proofs.Membership.{contains_first}
 use Rattle.kb_lemmas.proofs.Options.{some_is}
@@ -27,6 +27,7 @@ use Rattle.mkb_model.proofs.Lists.{clash}
 use Rattle.mkb_model.proofs.runs.AllFine.{goes}
 use Rattle.mkb_moves.specs.Moves.{IsNodeOf, RewritesLabel}
 use Rattle.mkb_moves.specs.Changes.{IsOnPairs, LeavesLabelsWork, LeavesWorkElsewhere, OpensPairs, EndsOverlap}
+use Rattle.mkb_rules.specs.Rewriting.{LeadsFrom, LeadsTo}
 use Rattle.mkb_rules.specs.declared.applied.Applied.TheVariants.{Done}
 use Rattle.mkb_pick.specs.declared.task.Work.{Work}
 use Rattle.mkb_pick.specs.declared.task.Work.TheVariants.{Reducing, Orienting, Overlapping, Closing}
@@ -58,9 +59,16 @@ module _ (b c : Plain) (x : Commit) (k : IsCommitOn b x c) where
   same_nodes : (pairs : List Deduced) (ns : List NodeId) → AreNodesOf c pairs ns → AreNodesOf k.next pairs ns
   same_nodes pairs ns nodes m o = nodes m (o.0, o.1, same_pair m ∙ o.2)
 
+  -- the node that is told is that of the result and the side that stayed
+  pub told : x.applied ≡ Done → (n : NodeId) (w : ℕ) (at : List ℕ) (a : RuleRef) (found : Found) (t : Term) → x.proposal.now ≡ Rewrite n w at a found t
+      → (q : Pair) (m : ℕ) → pair_at c n.0 ≡ Some q → IsNodeOf c (tree_of t) (other_side q w) m → x.target ≡ Some (record { 0 = m })
+  told e n w at a found t f q m there o =
+      let leads : LeadsFrom c n.0 w (tree_of t) x.target = subst {A = Proposed} (λ z. LeadsTo c z x.target) (sym k.proposal ∙ f) (k.target e) in
+      leads.target q o.0 m there o.1 o.2
+
   pub rewrite_comes : x.applied ≡ Done → (n : NodeId) (w : ℕ) (at : List ℕ) (a : RuleRef) (found : Found) (t : Term) → x.proposal.now ≡ Rewrite n w at a found t
-      → (m : NodeId) → ((q : Pair) (i : ℕ) → pair_at c n.0 ≡ Some q → IsNodeOf c (tree_of t) (other_side q w) i → i ≡ m.0) → (p : Name) → has x.names.now p ≡ true → ComesByRewriting b c n m p
-  rewrite_comes e n w at a found t f m target p h = record {
+      → (p : Name) → has x.names.now p ≡ true → ComesByRewriting b c n (unwrap_or x.target n) p
+  rewrite_comes e n w at a found t f p h = record {
     equation = λ on. comes_by b c x k p (jobs_on p (n ∷ m ∷ [])) works sleeps (λ i out _. equation_work b k.next p n m w rest (tree_of t) one here leaves kept on i out);
     rule = subst {A = List Job} (ComesFrom b p c p) (sym (on_board b c x k (λ z. jobs_by_nodes z p n m) refl)) (comes_by b c x k p (jobs_by_nodes k.next p n m) works sleeps (rule_work b k.next p n m w rest (tree_of t) one here leaves kept));
     reduces = record {
@@ -72,6 +80,9 @@ module _ (b c : Plain) (x : Commit) (k : IsCommitOn b x c) where
     where
       y : Proposed
       y = Rewrite n w at a found t
+
+      m : NodeId
+      m = unwrap_or x.target n
 
       board : c ≡ record (counted (applied b y)) { flight = [] }
       board = board_is b c x k e y f
@@ -107,7 +118,7 @@ module _ (b c : Plain) (x : Commit) (k : IsCommitOn b x c) where
       one = (goes k.problem k.settings k.past b k.within k.run).1 p
 
       here : (i : ℕ) → IsNodeOf k.next (tree_of t) rest i → i ≡ m.0
-      here i o = target left.0 i (keeps b c x k n.0 left.0 left.1) (o.0, o.1, same_pair i ∙ o.2)
+      here i o = sym (ap (λ (z : Option NodeId). (unwrap_or z n).0) (told e n w at a found t f left.0 i (keeps b c x k n.0 left.0 left.1) (o.0, o.1, same_pair i ∙ o.2)))
 
   pub deduce_comes : x.applied ≡ Done → (a d : RuleRef) (pairs : List Deduced) → x.proposal.now ≡ Deduce a d pairs → (ns : List NodeId) → AreNodesOf c pairs ns → (p : Name) → has x.names.now p ≡ true → ComesFrom b p c p (jobs_by_overlap p a d ns)
   deduce_comes e a d pairs f ns nodes p h = comes_by b c x k p (jobs_by_overlap p a d ns) (ap (λ z. is_working z p) board) (ap (λ (z : Plain). has z.asleep p) board) (λ w out _.

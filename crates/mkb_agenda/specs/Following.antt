@@ -3,7 +3,6 @@ use Rattle.std.specs.Prelude.{ℕ, List, [], ◌∷◌, ◌++◌, true, false, l
 use Rattle.kb_label.specs.Names.{Name, has, child}
 use Rattle.kb_label.specs.declared.process.TheConstants.{MAX_BITS}
 use Rattle.kb_term.specs.Signature.{Problem, IsWithinLimits}
-use Rattle.kb_term.specs.View.{tree_of}
 use Rattle.kb_term.specs.declared.origin.RuleRef.{RuleRef}
 use Rattle.kb_node.specs.declared.node.NodeId.{NodeId}
 use Rattle.kb_node.specs.declared.job.Deduced.{Deduced}
@@ -20,7 +19,8 @@ use Rattle.mkb_model.specs.declared.proposed.Proposed.{Proposed}
 use Rattle.mkb_model.specs.declared.proposed.Proposed.TheVariants.{Rewrite, One, Both, Refuse, Deduce}
 use Rattle.mkb_rules.specs.Applying.{applied_as}
 use Rattle.mkb_rules.specs.Named.{IsThere}
-use Rattle.mkb_rules.specs.Rewriting.{HasFewVariables}
+use Rattle.mkb_rules.specs.Rewriting.{LeadsTo}
+use Rattle.mkb_rules.specs.declared.applied.Applied.TheVariants.{Done}
 use Rattle.mkb_pick.specs.Listings.{Listed}
 use Rattle.mkb_agenda.specs.Agendas.{IsListedAs}
 use Rattle.mkb_agenda.specs.Looking.{ComesFrom, MayEnd, ReducesBy, jobs_on, overlaps_with, reductions_of}
@@ -44,11 +44,12 @@ pub record IsCommitOn (b : Plain) (x : Commit) (c : Plain) : Type 0 where
   pub proposal : x.proposal.now ≡ commit.proposal
   pub names : x.names.now ≡ effect_label b commit.proposal
   pub applied : x.applied ≡ applied_as (limit_of b commit.proposal)
+  pub target : x.applied ≡ Done → LeadsTo c commit.proposal x.target
   pub makes : c ≡ record (acted b commit.proposal) { flight = [] }
 
--- the nodes that a proposal names are there, and what a rewriting results in has few enough variables
+-- the nodes that a proposal names are there
 abbrev pub HasNodesOf : Plain → Proposed → Type 0
-HasNodesOf b (Rewrite n w at a found t) = IsThere b n.0 × HasFewVariables b n.0 w (tree_of t)
+HasNodesOf b (Rewrite n w at a found t) = IsThere b n.0
 HasNodesOf b (One p n d c) = IsThere b n.0
 HasNodesOf b (Both p n c0 c1) = IsThere b n.0
 HasNodesOf b (Refuse p n) = IsThere b n.0

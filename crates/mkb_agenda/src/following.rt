@@ -11,7 +11,6 @@ ghost use Rattle.mkb_model.specs.Jobs.{process_of};
 ghost use Rattle.mkb_model.specs.Plain.{Plain, label, pair_at};
 ghost use Rattle.mkb_moves.specs.Moves.{IsNodeOf};
 ghost use Rattle.mkb_rules.specs.Named.{IsThere};
-ghost use Rattle.mkb_rules.specs.Rewriting.{HasFewVariables};
 ghost use Rattle.mkb_pick.specs.Listings.{IsListed, HasJob};
 ghost use Rattle.mkb_agenda.specs.Agendas.{IsAgendaOf, IsListedAs, LeavesOthers};
 ghost use Rattle.mkb_agenda.specs.Looking.{ComesFrom, jobs_on, BringsOne};
@@ -21,17 +20,19 @@ use crate::due::weight_of;
 use crate::looking::{Touched, look_again, look_whether_ended};
 use kb_label::{Labels, MAX_BITS, Process};
 use kb_node::{Deduced, Fact, Job, LabelKind, NodeId};
-use kb_term::{Memory, Pair, RuleRef, Term, canonical};
+use kb_term::{Memory, Pair, RuleRef};
 use mkb_model::Proposed;
 use mkb_pick::Agenda;
 use mkb_rules::{Applied, KnownOn, State};
 use std::alloc::Global;
 
-/// A commit that was made on a state: the proposal, what it came to, and the processes on which it acted, in their order.
+/// A commit that was made on a state: the proposal, what it came to, the node to which a rewriting led, and the processes on which it
+/// acted, in their order.
 #[derive(Clone, Copy)]
 pub struct Commit<'a> {
     pub proposal: &'a Proposed,
     pub applied: Applied,
+    pub target: Option<NodeId>,
     pub names: &'a [Process],
 }
 
@@ -48,7 +49,8 @@ pub fn follow(
     state: &State,
     commit: &Commit,
 ) -> Result<(), Memory>
-    requires { HasNodesOf state.now commit.now.proposal.now }
+    requires nodes { HasNodesOf state.now commit.now.proposal.now }
+    requires target { commit.now.applied ≡ Applied.Done → IfSome commit.now.target (λ m. IsThere state.now m.0) }
     ensures { OnOk result ((b : Plain) → IsCommitOn b commit.now state.now → IsAgendaOf b agenda.old.processes → IsAgendaOf state.now agenda.new.processes) }
 {
     match commit.applied {
@@ -69,18 +71,13 @@ fn follow_effect(
 ) -> Result<(), Memory>
     requires done { commit.now.applied ≡ Applied.Done }
     requires nodes { HasNodesOf state.now commit.now.proposal.now }
+    requires target { commit.now.applied ≡ Applied.Done → IfSome commit.now.target (λ m. IsThere state.now m.0) }
     ensures { OnOk result ((b : Plain) → IsCommitOn b commit.now state.now → IsAgendaOf b agenda.old.processes → IsAgendaOf state.now agenda.new.processes) }
 {
     match commit.proposal {
         Proposed::Facts(facts) => know(agenda, state, facts.items()),
-        Proposed::Rewrite {
-            node,
-            side,
-            result: outcome,
-            ..
-        } => {
-            let target = target_of(alloc, state, *node, *side, outcome)?;
-            rewrite(agenda, state, commit.names, *node, target)
+        Proposed::Rewrite { node, .. } => {
+            rewrite(agenda, state, commit.names, *node, commit.target)
         }
         Proposed::One {
             process,
@@ -326,30 +323,6 @@ fn deduce_for(
         ..Touched::none_of(process)
     };
     look_again(agenda, state, &touched, place)
-}
-
-/// The node of the equation of the result of a rewriting and the side that is not rewritten, where there is one.
-///
-/// # Errors
-///
-/// Want of memory.
-pub fn target_of(
-    alloc: Global,
-    state: &State,
-    n: NodeId,
-    side: u8,
-    outcome: &Term,
-) -> Result<Option<NodeId>, Memory>
-    requires node { IsThere state.now n.0 }
-    requires few { HasFewVariables state.now n.0 side (tree_of outcome.now) }
-    ensures there { IfOk result (λ o. IfSome o (λ m. IsThere state.now m.0)) }
-    ensures target { IfOk result (λ o. (q : Equation) (m : ℕ) → pair_at state.now n.0 ≡ Some q → IsNodeOf state.now (tree_of outcome.now) (other_side q side) m → o ≡ Some (record { 0 = m })) }
-{
-    let rest = state.nodes().other_side(n, side)?;
-    match canonical(alloc, outcome, &rest)? {
-        Some(target) => Ok(node_of(state, &target)),
-        None => Ok(None),
-    }
 }
 
 // The nodes of the pairs.

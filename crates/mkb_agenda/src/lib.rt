@@ -9,7 +9,7 @@ mod looking;
 mod opening;
 mod roles;
 
-pub use following::{Commit, follow, target_of};
+pub use following::{Commit, follow};
 pub use laws::{what_is_offered_first_is_the_first_job, who_sleeps_rests};
 pub use opening::agenda_of;
 pub use roles::{OpenTo, is_open_to, leads_to, roles_by};

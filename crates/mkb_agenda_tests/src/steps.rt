@@ -87,6 +87,7 @@ fn go_along(
     let commit = Commit {
         proposal: made.0,
         applied: made.1,
+        target: None,
         names: &names,
     };
     follow(alloc, agenda, state, &commit).expect(rt, "memory");
@@ -117,7 +118,7 @@ pub(crate) fn orient(
     ready(rt, state);
     there(rt, state, n);
     living(rt, state, p);
-    let applied = state.apply(alloc, &proposal).expect(rt, "memory");
+    let applied = state.apply(alloc, &proposal).expect(rt, "memory").applied;
     there(rt, state, n);
     go_along(rt, alloc, state, agenda, (&proposal, applied, *p));
     drop(proposal);
@@ -135,12 +136,13 @@ pub(crate) fn orient_in_index(
     ready(rt, state);
     there(rt, state, n);
     living(rt, state, p);
-    let applied = state.apply(alloc, &proposal).expect(rt, "memory");
+    let applied = state.apply(alloc, &proposal).expect(rt, "memory").applied;
     there(rt, state, n);
     let names = [*p];
     let commit = Commit {
         proposal: &proposal,
         applied,
+        target: None,
         names: &names,
     };
     rules.follow(state, &commit).expect(rt, "memory");
@@ -187,7 +189,7 @@ pub(crate) fn fork(
     ready(rt, state);
     there(rt, state, n);
     living(rt, state, p);
-    let applied = state.apply(alloc, &proposal).expect(rt, "memory");
+    let applied = state.apply(alloc, &proposal).expect(rt, "memory").applied;
     there(rt, state, n);
     go_along(rt, alloc, state, agenda, (&proposal, applied, *p));
     drop(proposal);
@@ -208,7 +210,7 @@ pub(crate) fn refuse(
     ready(rt, state);
     there(rt, state, n);
     living(rt, state, p);
-    let applied = state.apply(alloc, &proposal).expect(rt, "memory");
+    let applied = state.apply(alloc, &proposal).expect(rt, "memory").applied;
     there(rt, state, n);
     go_along(rt, alloc, state, agenda, (&proposal, applied, *p));
     drop(proposal);
@@ -225,7 +227,7 @@ pub(crate) fn close(
     let proposal = Proposed::Closed { process: *p };
     ready(rt, state);
     living(rt, state, p);
-    let applied = state.apply(alloc, &proposal).expect(rt, "memory");
+    let applied = state.apply(alloc, &proposal).expect(rt, "memory").applied;
     go_along(rt, alloc, state, agenda, (&proposal, applied, *p));
     drop(proposal);
 }
@@ -247,7 +249,7 @@ pub(crate) fn give_up(
     };
     ready(rt, state);
     living(rt, state, p);
-    let applied = state.apply(alloc, &proposal).expect(rt, "memory");
+    let applied = state.apply(alloc, &proposal).expect(rt, "memory").applied;
     go_along(rt, alloc, state, agenda, (&proposal, applied, *p));
     drop(proposal);
 }
@@ -275,7 +277,7 @@ pub(crate) fn know(
     facts.push(none_on(node, 1)).expect(rt, "memory");
     let proposal = Proposed::Facts(FactList::new(facts));
     ready(rt, state);
-    let applied = state.apply(alloc, &proposal).expect(rt, "memory");
+    let applied = state.apply(alloc, &proposal).expect(rt, "memory").applied;
     go_along(
         rt,
         alloc,

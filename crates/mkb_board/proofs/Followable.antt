@@ -1,7 +1,5 @@
 -- What a board commits can be followed.
 use Rattle.std.proofs.Common.{ℕ, ◌≡◌, refl, sym, ap, ◌∙◌, List, []}
-use Rattle.kb_term.specs.Tree.{Tree}
-use Rattle.kb_term.specs.View.{tree_of}
 use Rattle.kb_label.specs.Names.{Name}
 use Rattle.mkb_model.specs.Plain.{Plain}
 use Rattle.mkb_model.specs.Effects.{acted, effect, effect_entry, effect_label}
@@ -17,8 +15,9 @@ use Rattle.mkb_model.proofs.nodes.DistinctPairs.{pairs_follow}
 use Rattle.mkb_model.proofs.runs.Selections.{legal-possible}
 use Rattle.mkb_rules.specs.Applicable.{IsApplicable}
 use Rattle.mkb_rules.specs.Named.{IsThere}
-use Rattle.mkb_rules.specs.Rewriting.{HasFewVariables}
+use Rattle.mkb_rules.specs.Rewriting.{LeadsTo}
 use Rattle.mkb_rules.specs.declared.applied.Applied.{Applied}
+use Rattle.mkb_rules.specs.declared.applied.Applied.TheVariants.{Done}
 use Rattle.mkb_agenda.specs.Following.{HasNodesOf, IsCommitOn}
 use Rattle.mkb_agenda.specs.declared.following.Commit.{Commit}
 use Rattle.mkb_board.specs.Boards.{Seen}
@@ -53,8 +52,8 @@ module _ (old new : Seen) (t : Ticket) (x : Proposed) (a : Applied) (committed :
   named = applicable old.plain.problem old.plain.settings past old.plain possible t.worker t.number t.job x committing.finishing committed.legal.within committed.finished.1
 
 -- what is committed is a commit on the board
-pub commits_on : (old new : Seen) (t : Ticket) (x : Proposed) (commit : Commit) → IsCommittedBy old new t x commit.applied → commit.proposal.now ≡ x → commit.names.now ≡ effect_label old.plain x → IsCommitOn old.plain commit (unsettled old.plain x)
-commits_on old new t x commit committed proposal names = record {
+pub commits_on : (old new : Seen) (t : Ticket) (x : Proposed) (commit : Commit) → IsCommittedBy old new t x commit.applied → commit.proposal.now ≡ x → commit.names.now ≡ effect_label old.plain x → (commit.applied ≡ Done → LeadsTo (unsettled old.plain x) x commit.target) → IsCommitOn old.plain commit (unsettled old.plain x)
+commits_on old new t x commit committed proposal names target = record {
   problem = old.plain.problem;
   settings = old.plain.settings;
   past = past old new t x commit.applied committed;
@@ -68,6 +67,7 @@ commits_on old new t x commit committed proposal names = record {
   proposal = proposal;
   names = names;
   applied = committed.finished.2;
+  target = target;
   makes = refl;
 }
 
@@ -77,13 +77,10 @@ module _ (b c : Plain) (keeps : KeepsPairs b.nodes c.nodes) where
   there_stays : (n : ℕ) → IsThere b n → IsThere c n
   there_stays n h = let q = there_pair b.nodes n h in at_within c.nodes n q.0 (keeps n q.0 q.1)
 
-  few_stay : (n w : ℕ) (u : Tree) → IsThere b n → HasFewVariables b n w u → HasFewVariables c n w u
-  few_stay n w u h few q e = let r = there_pair b.nodes n h in few q (r.1 ∙ sym (keeps n r.0 r.1) ∙ e)
-
   -- the nodes of what may be applied stay there
   nodes_stay : (x : Proposed) → IsApplicable b x → HasNodesOf c x
   nodes_stay (Facts fs) h = tt
-  nodes_stay (Rewrite n w at a found u) h = (there_stays n.0 h.0.0, few_stay n.0 w (tree_of u) h.0.0 h.1)
+  nodes_stay (Rewrite n w at a found u) h = there_stays n.0 h.0.0
   nodes_stay (One p n d o) h = there_stays n.0 h.0.0
   nodes_stay (Both p n c0 c1) h = there_stays n.0 h.0.0
   nodes_stay (Refuse p n) h = there_stays n.0 h.0.0

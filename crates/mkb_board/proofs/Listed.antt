@@ -1,11 +1,12 @@
 -- The agenda that a board keeps: who falls asleep or wakes is listed, and a commit can be followed.
 use Rattle.std.proofs.Common.{ℕ, ◌≡◌, ◌↔◌, true, false, refl, sym, ap, ◌∙◌, subst, List, [], ◌∷◌, ◌++◌, Contains, not, ◌&&◌, Option, Some, None}
-use Rattle.std.specs.Prelude.{IfOk, IsFalse, Result, Ok, Err}
+use Rattle.std.specs.Prelude.{IfOk, IfSome, IsFalse, Result, Ok, Err}
 use Rattle.std.specs.Result.{result_ok}
 use Rattle.std.proofs.lemmas.Bool.{and_from}
 use Rattle.kb_lemmas.proofs.Booleans.{and_gives_left, and_gives_right}
 use Rattle.kb_label.specs.Names.{Name, add, has, minus}
 use Rattle.kb_node.specs.declared.job.Job.{Job}
+use Rattle.kb_node.specs.declared.node.NodeId.{NodeId}
 use Rattle.mkb_model.specs.Jobs.{greatest, least}
 use Rattle.mkb_model.specs.Plain.{Plain, cost, is_over}
 use Rattle.mkb_model.specs.DueJobs.{is_working}
@@ -18,11 +19,15 @@ use Rattle.mkb_model.specs.declared.entry.Entry.{Entry}
 use Rattle.mkb_model.specs.declared.entry.Entry.TheVariants.{Commit as CommitEntry}
 use Rattle.mkb_model.specs.declared.entry.Ticket.{Ticket}
 use Rattle.mkb_model.specs.declared.proposed.Proposed.{Proposed}
+use Rattle.mkb_model.specs.declared.proposed.Proposed.TheVariants.{Facts, Rewrite, One, Both, Refuse, Deduce, Unjoined, Closed, Limit}
 use Rattle.mkb_model.proofs.labels.Sleepers.{in_waiting, in_working}
 use Rattle.mkb_model.proofs.runs.Endings.{has_in}
 use Rattle.mkb_model.proofs.runs.Selections.{least-in}
 use Rattle.mkb_rules.specs.Applying.{applied_as}
+use Rattle.mkb_rules.specs.Named.{IsThere}
+use Rattle.mkb_rules.specs.Rewriting.{LeadsTo}
 use Rattle.mkb_rules.specs.declared.applied.Applied.{Applied}
+use Rattle.mkb_rules.specs.declared.applied.Applied.TheVariants.{Done}
 use Rattle.mkb_pick.specs.Listings.{Listed, HasJob, IsProcess, SetsRest}
 use Rattle.mkb_pick.specs.declared.agenda.Agenda.{Agenda}
 use Rattle.mkb_agenda.specs.Agendas.{IsAgendaOf}
@@ -93,6 +98,18 @@ kept_flying b flight (Some a) h = flight_unlisted b flight a.processes h
 pub nothing_flies : (b : Plain) (x : Proposed) → b.flight ≡ [] → (acted b x).flight ≡ []
 nothing_flies b x e = ap (λ (z : Plain). z.flight) (acted_flying b b.flight x) ∙ e
 
+-- the node to which a commit led is there
+pub target_there : (c : Plain) (x : Proposed) (o : Option NodeId) → LeadsTo c x o → IfSome o (λ m. IsThere c m.0)
+target_there c (Facts fs) o e = subst {A = Option NodeId} (λ z. IfSome z (λ m. IsThere c m.0)) (sym e) tt
+target_there c (Rewrite n w at a found u) o e = e.there
+target_there c (One p n d order) o e = subst {A = Option NodeId} (λ z. IfSome z (λ m. IsThere c m.0)) (sym e) tt
+target_there c (Both p n c0 c1) o e = subst {A = Option NodeId} (λ z. IfSome z (λ m. IsThere c m.0)) (sym e) tt
+target_there c (Refuse p n) o e = subst {A = Option NodeId} (λ z. IfSome z (λ m. IsThere c m.0)) (sym e) tt
+target_there c (Deduce a d pairs) o e = subst {A = Option NodeId} (λ z. IfSome z (λ m. IsThere c m.0)) (sym e) tt
+target_there c (Unjoined p pairs) o e = subst {A = Option NodeId} (λ z. IfSome z (λ m. IsThere c m.0)) (sym e) tt
+target_there c (Closed p) o e = subst {A = Option NodeId} (λ z. IfSome z (λ m. IsThere c m.0)) (sym e) tt
+target_there c (Limit j cause) o e = subst {A = Option NodeId} (λ z. IfSome z (λ m. IsThere c m.0)) (sym e) tt
+
 module _ (state : Plain) (flight : List Ticket) (J : List Entry) (t : Ticket) (x : Proposed) (legal : IsLegalBoard (seen state flight J)) (none : verdict (record state { flight = flight }) ≡ None) (flying : Contains flight t) (proposal : IsProposalOf (seen state flight J) t x)
     (acts : IsFalse (is_dropped (record state { flight = flight }) x)) (a : Applied) (is_applied : a ≡ applied_as (limit_of state x)) (c : Plain) (makes : c ≡ acted state x) (grounded : state.flight ≡ []) where
   abbrev board : Plain
@@ -113,11 +130,11 @@ module _ (state : Plain) (flight : List Ticket) (J : List Entry) (t : Ticket) (x
   nodes_left = subst {A = Plain} (λ z. HasNodesOf z x) made (nodes_after (seen state flight J) next t x a committed)
 
   -- it is a commit on the board
-  commit_made : (commit : Commit) → commit.proposal.now ≡ x → commit.applied ≡ a → commit.names.now ≡ effect_label state x → IsCommitOn board commit c
-  commit_made commit of_it applied names =
+  commit_made : (commit : Commit) → commit.proposal.now ≡ x → commit.applied ≡ a → commit.names.now ≡ effect_label state x → (commit.applied ≡ Done → LeadsTo c x commit.target) → IsCommitOn board commit c
+  commit_made commit of_it applied names target =
       subst {A = Plain} (IsCommitOn board commit) made
-      (commits_on (seen state flight J) next t x commit (subst {A = Applied} (IsCommittedBy (seen state flight J) next t x) (sym applied) committed) of_it (names ∙ sym (label_flying state flight x)))
+      (commits_on (seen state flight J) next t x commit (subst {A = Applied} (IsCommittedBy (seen state flight J) next t x) (sym applied) committed) of_it (names ∙ sym (label_flying state flight x)) (λ e. subst {A = Plain} (λ z. LeadsTo z x commit.target) (sym made) (target e)))
 
   -- the agenda that followed it is that of the state
-  pub followed : (commit : Commit) → commit.proposal.now ≡ x → commit.applied ≡ a → commit.names.now ≡ effect_label state x → (old new : Option Agenda) → IsAgenda state old → ((b : Plain) → IsCommitOn b commit c → IsAgenda b old → IsAgenda c new) → IsAgenda c new
-  followed commit of_it applied names old new kept follows = follows board (commit_made commit of_it applied names) (kept_flying state flight old kept)
+  pub followed : (commit : Commit) → commit.proposal.now ≡ x → commit.applied ≡ a → commit.names.now ≡ effect_label state x → (commit.applied ≡ Done → LeadsTo c x commit.target) → (old new : Option Agenda) → IsAgenda state old → ((b : Plain) → IsCommitOn b commit c → IsAgenda b old → IsAgenda c new) → IsAgenda c new
+  followed commit of_it applied names target old new kept follows = follows board (commit_made commit of_it applied names target) (kept_flying state flight old kept)

@@ -1,5 +1,5 @@
 // Ending a ticket with what its job proposed.
-ghost use Rattle.std.specs.Prelude.{◌≡◌, None, Contains, IsTrue, IsFalse, IfOk, IfErr, OnErr};
+ghost use Rattle.std.specs.Prelude.{◌≡◌, None, Contains, IsTrue, IsFalse, IfOk, IfErr, IfSome, OnErr};
 ghost use Rattle.std.specs.Option.{option_map_or};
 ghost use Rattle.mkb_model.specs.Plain.{Plain};
 ghost use Rattle.mkb_model.specs.Verdicts.{verdict};
@@ -7,6 +7,7 @@ ghost use Rattle.mkb_model.specs.Effects.{is_dropped};
 ghost use Rattle.mkb_model.specs.Jobs.{process_of};
 ghost use Rattle.mkb_model.specs.declared.entry.Effect.TheVariants as effects;
 ghost use Rattle.mkb_rules.specs.Applying.{applied_as};
+ghost use Rattle.mkb_rules.specs.Named.{IsThere};
 ghost use Rattle.kb_label.specs.declared.verdict.Reason.{Reason};
 ghost use Rattle.std.specs.Prelude.{Option};
 ghost use Rattle.mkb_agenda.specs.Following.{HasNodesOf, IsCommitOn};
@@ -106,13 +107,15 @@ impl Board {
             Ok(names) => names,
             Err(_) => return Err(proposal),
         };
-        let applied = match self.state.apply(alloc, &proposal) {
-            Ok(applied) => applied,
+        let made = match self.state.apply(alloc, &proposal) {
+            Ok(made) => made,
             Err(_) => return Err(proposal),
         };
+        let applied = made.applied;
         let commit = Commit {
             proposal: &proposal,
             applied,
+            target: made.target,
             names: names.as_slice(),
         };
         keep_up(alloc, &mut self.agenda, &self.state, &commit);
@@ -134,6 +137,7 @@ impl Board {
 // The agenda follows a commit, where it is kept and memory allows; else it isn't kept from here on.
 fn keep_up(alloc: Global, agenda: &mut Option<Agenda>, state: &State, commit: &Commit)
     requires nodes { HasNodesOf state.now commit.now.proposal.now }
+    requires target { commit.now.applied ≡ Applied.Done → IfSome commit.now.target (λ m. IsThere state.now m.0) }
     ensures { (b : Plain) → IsCommitOn b commit.now state.now → IsAgenda b agenda.old → IsAgenda state.now agenda.new }
 {
     let is_kept = match agenda {

@@ -7,6 +7,7 @@ ghost use Rattle.mkb_model.specs.Sleeping.{settle};
 ghost use Rattle.mkb_model.specs.declared.entry.Ticket.{Ticket};
 ghost use Rattle.mkb_model.specs.declared.entry.Entry.{Entry};
 ghost use Rattle.mkb_model.specs.declared.proposed.Proposed.{Proposed};
+ghost use Rattle.mkb_rules.specs.Rewriting.{LeadsTo};
 ghost use Rattle.mkb_rules.specs.declared.applied.Applied.{Applied};
 ghost use Rattle.mkb_agenda.specs.Following.{HasNodesOf, IsCommitOn};
 ghost use Rattle.mkb_agenda.specs.declared.following.Commit.{Commit};
@@ -31,10 +32,10 @@ pub fn held_tickets_stay()
 {}
 
 /// What a board commits is a commit that its agenda, and an index of its rules, can follow: told with those whom the label of
-/// the proposal names, it makes the board as it is before any process falls asleep or wakes; the nodes that the proposal names
+/// the proposal names, and with the node to which a rewriting led, it makes the board as it is before any process falls asleep or wakes; the nodes that the proposal names
 /// are there; and then processes fall asleep or wake, which is all that is left to the new board.
 pub fn commits_can_be_followed()
-    ensures commit { (old new : Seen) (t : Ticket) (x : Proposed) (commit : Commit) → IsCommittedBy old new t x commit.applied → commit.proposal.now ≡ x → commit.names.now ≡ effect_label old.plain x → IsCommitOn old.plain commit (unsettled old.plain x) }
+    ensures commit { (old new : Seen) (t : Ticket) (x : Proposed) (commit : Commit) → IsCommittedBy old new t x commit.applied → commit.proposal.now ≡ x → commit.names.now ≡ effect_label old.plain x → (commit.applied ≡ Applied.Done → LeadsTo (unsettled old.plain x) x commit.target) → IsCommitOn old.plain commit (unsettled old.plain x) }
     ensures nodes { (old new : Seen) (t : Ticket) (x : Proposed) (a : Applied) → IsCommittedBy old new t x a → HasNodesOf (unsettled old.plain x) x }
     ensures settles { (old new : Seen) (t : Ticket) (x : Proposed) (a : Applied) → IsCommittedBy old new t x a → record new.plain { flight = [] } ≡ settle (unsettled old.plain x) }
 {}

@@ -11,7 +11,7 @@ pub mod Certified
 pub mod Relabelled
 pub mod Answered
 pub mod Forks
-pub mod Committed
+pub mod Limits
 pub mod FirstOrder
 pub mod Tabled
 pub mod Viewed
@@ -26,3 +26,4 @@ pub mod RulesKept
 pub mod RowKept
 pub mod Edited
 pub mod Directions
+pub mod Leading

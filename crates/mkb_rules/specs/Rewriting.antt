@@ -1,12 +1,17 @@
 -- The parts of a rewriting: what its sources lose, and the pair that gains it.
-use Rattle.std.specs.Prelude.{ℕ, ◌≡◌, ◌≤◌, List, length, Option, Some, None, option_map, option_to_list}
+use Rattle.std.specs.Prelude.{ℕ, ◌≡◌, ◌≤◌, List, length, Option, Some, None, IfSome, option_map, option_to_list}
 use Rattle.kb_term.specs.Tree.{Tree}
 use Rattle.kb_term.specs.Pair.{Pair, canonical_pair, variables_of_pair}
 use Rattle.kb_term.specs.declared.origin.Origin.{Origin}
 use Rattle.kb_overlap.specs.Trace.{other_side}
 use Rattle.kb_node.specs.declared.node.LabelKind.TheVariants.{E}
-use Rattle.mkb_model.specs.Plain.{Plain, PlainNode, pair_at, rule_kind, other}
+use Rattle.kb_node.specs.declared.node.NodeId.{NodeId}
+use Rattle.kb_term.specs.View.{tree_of}
+use Rattle.mkb_model.specs.Plain.{Plain, PlainNode, pair_at, pair_in, rule_kind, other}
 use Rattle.mkb_model.specs.Effects.{direction, gains_equation, gains_rule, loses, node_of, with_node}
+use Rattle.mkb_model.specs.declared.proposed.Proposed.{Proposed}
+use Rattle.mkb_model.specs.declared.proposed.Proposed.TheVariants.{Facts, Rewrite, One, Both, Refuse, Deduce, Unjoined, Closed, Limit}
+use Rattle.mkb_rules.specs.Named.{IsThere}
 use Rattle.mkb_rules.specs.declared.effects.rewriting.Sources.{Sources}
 use Rattle.mkb_rules.specs.declared.effects.rewriting.Target.{Target}
 use Rattle.kb_term.specs.declared.limits.TheConstants.{MAX_VARIABLES}
@@ -37,3 +42,26 @@ gained None s xs = xs
 gained (Some t) s xs =
     let n : ℕ = node_of (with_node t.pair t.origin xs) t.pair in
     gains_equation n s.left (gains_equation n s.equation (gains_rule (record { node = n; dir = t.dir }) s.right (with_node t.pair t.origin xs)))
+
+-- the node has the pair of the rewriting, if there is one, and there is no node where there is none
+abbrev pub IsNodeOfTarget : List PlainNode → Option Target → Option NodeId → Type 0
+IsNodeOfTarget xs None o = o ≡ None
+IsNodeOfTarget xs (Some t) o = (n : NodeId) × (o ≡ Some n) × (pair_in xs n.0 ≡ Some t.pair)
+
+-- a rewriting of a side of the node to the term leads to this node: that of the canonical pair of the term and the other side, or none where they are equal
+pub record LeadsFrom (c : Plain) (n w : ℕ) (t : Tree) (o : Option NodeId) : Type 0 where
+  pub there : IfSome o (λ m. IsThere c m.0)
+  pub trivial : (q : Pair) → pair_at c n ≡ Some q → canonical_pair t (other_side q w) ≡ None → o ≡ None
+  pub target : (q r : Pair) (m : ℕ) → pair_at c n ≡ Some q → canonical_pair t (other_side q w) ≡ Some r → pair_at c m ≡ Some r → o ≡ Some (record { 0 = m })
+
+-- where a commit that had its effect leads: a rewriting to a node, other commits to none
+abbrev pub LeadsTo : Plain → Proposed → Option NodeId → Type 0
+LeadsTo c (Facts fs) o = o ≡ None
+LeadsTo c (Rewrite n w at a kind t) o = LeadsFrom c n.0 w (tree_of t) o
+LeadsTo c (One p n d e) o = o ≡ None
+LeadsTo c (Both p n e0 e1) o = o ≡ None
+LeadsTo c (Refuse p n) o = o ≡ None
+LeadsTo c (Deduce a b pairs) o = o ≡ None
+LeadsTo c (Unjoined p pairs) o = o ≡ None
+LeadsTo c (Closed p) o = o ≡ None
+LeadsTo c (Limit j cause) o = o ≡ None

@@ -21,7 +21,7 @@ mod sleepers;
 mod state;
 mod tracked;
 
-pub use applied::Applied;
+pub use applied::{Applied, Committed};
 pub use known::KnownOn;
 pub use roles::{Roles, push_held, push_rules};
 pub use state::{Kept, State, is_ordered};

@@ -1,6 +1,7 @@
 // Nodes whose last changes can be taken back.
-ghost use Rattle.std.specs.Prelude.{◌≡◌, ◌<◌, ◌≤◌, ◌↔◌, [], Bool, true, false, length, All, IsFalse, OnOk, OnErr, IfOk, IfSome};
-ghost use Rattle.mkb_model.specs.Plain.{label_at};
+ghost use Rattle.std.specs.Prelude.{◌≡◌, ◌<◌, ◌≤◌, ◌↔◌, ℕ, [], Bool, Some, true, false, length, All, IsFalse, OnOk, OnErr, IfOk, IfSome};
+ghost use Rattle.kb_term.specs.Pair.{Pair as CanonicalPair};
+ghost use Rattle.mkb_model.specs.Plain.{label_at, pair_in};
 ghost use Rattle.mkb_model.specs.Effects.{with_label, with_node, node_of, is_present, most_nodes, gains as with_gain, loses as with_loss, gains_equation as with_equation, gains_rule as with_rule};
 ghost use Rattle.kb_label.specs.Names.{child, has, minus, relabel};
 ghost use Rattle.mkb_rules.specs.Parts.{plain_nodes};
@@ -167,6 +168,13 @@ impl Nodes {
         ensures { length self.now.now ≤ most_nodes }
     {
         self.table.len();
+    }
+
+    /// No two nodes have one pair. It runs nothing: the table keeps this.
+    pub(crate) fn are_distinct(&self)
+        ensures { (n m : ℕ) (q : CanonicalPair) → pair_in self.now.now n ≡ Some q → pair_in self.now.now m ≡ Some q → n ≡ m }
+    {
+        self.table().len();
     }
 
     /// Keeps all changes: from here on they can't be taken back.

@@ -124,9 +124,9 @@ pub(crate) fn apply(
     let deduced = proposal(rule, pairs);
     ready(rt, state);
     there(rt, state, rule.node);
-    let applied = state.apply(alloc, &deduced).expect(rt, "memory");
+    let made = state.apply(alloc, &deduced).expect(rt, "memory");
     drop(deduced);
-    applied
+    made.applied
 }
 
 /// The processes on which that proposal acts.

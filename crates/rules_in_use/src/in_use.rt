@@ -1,5 +1,5 @@
 // The index of the rules that some process has.
-ghost use Rattle.std.specs.Prelude.{ℕ, ◌≡◌, ◌<◌, ◌^◌, ◌↔◌, false, get_or, length, IfOk, IsTrue, OnOk};
+ghost use Rattle.std.specs.Prelude.{ℕ, ◌≡◌, ◌<◌, ◌^◌, ◌↔◌, false, get_or, length, IfOk, IfSome, IsTrue, OnOk};
 ghost use Rattle.mkb_model.specs.Plain.{Plain};
 ghost use Rattle.mkb_moves.specs.Changes.{is_in_use as is_used_on};
 ghost use Rattle.mkb_rules.specs.Named.{IsThere, IsRuleThere};
@@ -10,7 +10,7 @@ ghost use Rattle.rules_in_use.specs.InUse.{key_of, HoldsLeftSides, IsIndexOf, Is
 use kb_label::Labels;
 use kb_node::{LabelKind, NodeId};
 use kb_term::{Memory, RuleRef, rule_from};
-use mkb_agenda::{Commit, target_of};
+use mkb_agenda::Commit;
 use mkb_model::Proposed;
 use mkb_rules::{Applied, State};
 use rule_index::RuleIndex;
@@ -75,22 +75,15 @@ impl RulesInUse {
     ///
     /// Want of memory. The index is then of no board, and is to be made anew.
     pub fn follow(&mut self, state: &State, commit: &Commit) -> Result<(), Memory>
-        requires { HasNodesOf state.now commit.now.proposal.now }
+        requires nodes { HasNodesOf state.now commit.now.proposal.now }
+        requires target { commit.now.applied ≡ Applied.Done → IfSome commit.now.target (λ m. IsThere state.now m.0) }
         ensures { OnOk result ((b : Plain) → IsCommitOn b commit.now state.now → IsIndexOf b self.old → IsIndexOf state.now self.new) }
     {
         match (commit.applied, commit.proposal) {
             (Applied::Over(_), _) => Ok(()),
-            (
-                Applied::Done,
-                Proposed::Rewrite {
-                    node,
-                    side,
-                    result: outcome,
-                    ..
-                },
-            ) => {
+            (Applied::Done, Proposed::Rewrite { node, .. }) => {
                 self.look_at_node(state, *node)?;
-                match target_of(self.alloc, state, *node, *side, outcome)? {
+                match commit.target {
                     Some(target) => self.look_at_node(state, target),
                     None => Ok(()),
                 }

@@ -11,9 +11,9 @@ ghost use Rattle.mkb_model.specs.Effects.{direction as leading, if_strict, most_
 ghost use Rattle.mkb_model.specs.declared.proposed.Proposed.TheVariants.{Rewrite};
 ghost use Rattle.mkb_rules.specs.Applying.{Commits, HasBudget};
 ghost use Rattle.mkb_rules.specs.Named.{IsThere};
-ghost use Rattle.mkb_rules.specs.Rewriting.{HasFewVariables, gained, lost, target_at, target_of, wanted_by};
+ghost use Rattle.mkb_rules.specs.Rewriting.{HasFewVariables, IsNodeOfTarget, LeadsFrom, gained, lost, target_at, target_of, wanted_by};
 
-use crate::applied::Applied;
+use crate::applied::{Applied, Committed, without_target};
 use crate::effects::label::{counted_up, node_label, other, rule_kind};
 use crate::labels::{copy_of, met};
 use crate::nodes::Nodes;
@@ -47,7 +47,8 @@ struct Target {
 
 impl State {
     /// A side of a node is rewritten by a rule: the node loses the processes that have the rule, and the canonical pair of
-    /// the result and the other side gains them, as an equation or as the rule whose right side is the result.
+    /// the result and the other side gains them, as an equation or as the rule whose right side is the result. It tells the node
+    /// of that pair; none where there is none.
     ///
     /// # Errors
     ///
@@ -61,12 +62,13 @@ impl State {
         rule: RuleRef,
         kind: Found,
         outcome: &Term,
-    ) -> Result<Applied, Memory>
+    ) -> Result<Committed, Memory>
         requires budget { HasBudget self.old }
         requires node { IsThere self.old n.0 }
         requires rule { IsThere self.old rule.node }
         requires few { HasFewVariables self.old n.0 side (tree_of outcome.now) }
-        ensures ok { IfOk result (Commits self.old (Rewrite n side position.now rule kind outcome.now) self.new) }
+        ensures ok { IfOk result (λ made. Commits self.old (Rewrite n side position.now rule kind outcome.now) self.new made.applied) }
+        ensures target { IfOk result (λ made. made.applied ≡ Applied.Done → LeadsFrom self.new n.0 side (tree_of outcome.now) made.target) }
         ensures err { OnErr result (self.new ≡ self.old) }
     {
         let names = self.rewrite_names(alloc, n, side, rule, kind)?;
@@ -79,15 +81,19 @@ impl State {
             }
         };
         match try_moving(&mut self.nodes, &self.log, n, side, &sources, target) {
-            Ok(()) => {
+            Ok(target) => {
                 drop(sources);
                 self.commits = counted_up(self.commits, self.settings.budget);
-                Ok(Applied::Done)
+                self.nodes.are_distinct();
+                Ok(Committed {
+                    applied: Applied::Done,
+                    target,
+                })
             }
             Err(NodeFault::Full) => {
                 let applied = self.give_up(alloc, Reason::Nodes, &sources.names);
                 drop(sources);
-                applied
+                without_target(applied)
             }
             Err(NodeFault::Memory) => {
                 drop(sources);
@@ -244,7 +250,8 @@ fn has_sides_of(rule: &Rule, pair: &Pair) -> bool
     *rule.left() == *pair.first() && *rule.right() == *pair.second()
 }
 
-// Moves the names from the sources to the target; where there is no room or no memory for it, the nodes stay as they were.
+// Moves the names from the sources to the target, and tells its node. Where there is no room or no memory for it, the nodes stay as
+// they were.
 fn try_moving(
     nodes: &mut Nodes,
     log: &NameLog,
@@ -252,9 +259,10 @@ fn try_moving(
     side: u8,
     sources: &Sources,
     target: Option<Target>,
-) -> Result<(), NodeFault>
+) -> Result<Option<NodeId>, NodeFault>
     requires { n.0 < length nodes.old.now }
     ensures ok { OnOk result (nodes.new.now ≡ gained target sources.now (lost n.0 side sources.now nodes.old.now)) }
+    ensures node { IfOk result (IsNodeOfTarget nodes.new.now target) }
     ensures room { OnOk result (length (with_nodes (wanted_by target) nodes.old.now) ≤ most_nodes) }
     ensures full { result ≡ Err NodeFault.Full → most_nodes < length (with_nodes (wanted_by target) nodes.old.now) }
     ensures err { OnErr result (nodes.new.now ≡ nodes.old.now) }
@@ -267,7 +275,7 @@ fn try_moving(
     outcome
 }
 
-// Moves the names from the sources to the target.
+// Moves the names from the sources to the target, and tells its node.
 fn moved(
     nodes: &mut Nodes,
     log: &NameLog,
@@ -275,17 +283,18 @@ fn moved(
     side: u8,
     sources: &Sources,
     target: Option<Target>,
-) -> Result<(), NodeFault>
+) -> Result<Option<NodeId>, NodeFault>
     requires there { n.0 < length nodes.old.now }
     requires few { length nodes.old.now ≤ most_nodes }
     ensures ok { OnOk result (nodes.new.now ≡ gained target sources.now (lost n.0 side sources.now nodes.old.now)) }
+    ensures node { IfOk result (IsNodeOfTarget nodes.new.now target) }
     ensures room { OnOk result (length (with_nodes (wanted_by target) nodes.old.now) ≤ most_nodes) }
     ensures full { result ≡ Err NodeFault.Full → most_nodes < length (with_nodes (wanted_by target) nodes.old.now) }
     ensures before { nodes.new.before ≡ nodes.old.before }
 {
     lose(nodes, log, n, side, sources)?;
     match target {
-        None => Ok(()),
+        None => Ok(None),
         Some(target) => gain(nodes, log, sources, target),
     }
 }
@@ -307,15 +316,16 @@ fn lose(
     nodes.loses(log, n, LabelKind::E, &sources.names)
 }
 
-// The target gains what the sources lost.
+// The target gains what the sources lost, and its node is told.
 fn gain(
     nodes: &mut Nodes,
     log: &NameLog,
     sources: &Sources,
     target: Target,
-) -> Result<(), NodeFault>
+) -> Result<Option<NodeId>, NodeFault>
     requires { length nodes.old.now ≤ most_nodes }
     ensures ok { OnOk result (nodes.new.now ≡ gained (Some target) sources.now nodes.old.now) }
+    ensures node { IfOk result (IsNodeOfTarget nodes.new.now (Some target)) }
     ensures room { OnOk result (length (with_nodes (wanted_by (Some target)) nodes.old.now) ≤ most_nodes) }
     ensures full { result ≡ Err NodeFault.Full → most_nodes < length (with_nodes (wanted_by (Some target)) nodes.old.now) }
     ensures before { nodes.new.before ≡ nodes.old.before }
@@ -325,5 +335,5 @@ fn gain(
     nodes.gains_rule(log, RuleRef { node: n.0, dir }, &sources.right)?;
     nodes.gains_equation(log, n, &sources.equation)?;
     nodes.gains_equation(log, n, &sources.left)?;
-    Ok(())
+    Ok(Some(n))
 }

@@ -18,15 +18,16 @@ use Rattle.mkb_agenda.proofs.following.follow_effect.Goals as goal
 pub returns-in-Facts : goal.returns-in-Facts
 returns-in-Facts c = facts_if_ok c.args.state.now c.args.commit.now c.args.agenda.now.processes c.know.new.agenda.processes c.items.result.now c.requires.done (c.in-Facts.is ∙ ap (λ (fs : List Fact). Facts fs) (sym c.items.ensures)) c.know.ensures.none c.know.result c.know.ensures.exact
 
-pub returns-in_ok-target-in-Rewrite : goal.returns-in_ok-target-in-Rewrite
-returns-in_ok-target-in-Rewrite c =
+pub rewrite-requires-clause-target : goal.rewrite-requires-clause-target
+rewrite-requires-clause-target c = c.requires.target c.requires.done
+
+pub returns-in-Rewrite : goal.returns-in-Rewrite
+returns-in-Rewrite c =
     let x = c.in-Rewrite in
     let n = x.node in
-    let o = c.in_ok-target-in-Rewrite.target in
-    let m : NodeId = unwrap_or o n in
+    let m : NodeId = unwrap_or c.args.commit.now.target n in
     named_if_ok c.args.state.now c.args.commit.now c.args.agenda.now.processes c.rewrite.new.agenda.processes (λ (b : Plain) (p : Name). ComesByRewriting b c.args.state.now n m p) (ap acts_by_name x.is)
-    (λ b k. rewrite_comes b c.args.state.now c.args.commit.now k c.requires.done n x.side x.position x.rule x.kind x.outcome x.is m
-    (λ q i e t. sym (ap (λ (z : Option NodeId). (unwrap_or z n).0) (c.in_ok-target-in-Rewrite.ensures.target q i e t))))
+    (λ b k. rewrite_comes b c.args.state.now c.args.commit.now k c.requires.done n x.side x.position x.rule x.kind x.result x.is)
     c.rewrite.result c.rewrite.ensures
 
 pub returns-in-One : goal.returns-in-One

@@ -18,7 +18,7 @@ use Rattle.mkb_board.proofs.Ends.{commit_board, entry_flying, limit_flying, land
 use Rattle.mkb_board.specs.Choosing.{ClosedRest}
 use Rattle.mkb_board.specs.Shelf.{HoldsRead}
 use Rattle.mkb_board.proofs.Kept.{holds_after}
-use Rattle.mkb_board.proofs.Listed.{followed, nodes_left, nothing_flies}
+use Rattle.mkb_board.proofs.Listed.{followed, nodes_left, nothing_flies, target_there}
 use Rattle.mkb_board.proofs.Ready.{state_applicable, state_budget, state_named, acted_labels, acted_limited, acted_rest, effect_rest}
 use Rattle.mkb_board.specs.Working.{processes_in}
 use Rattle.mkb_board.specs.declared.working.Placed.{Placed}
@@ -98,7 +98,7 @@ follow-requires-clause-short c =
     (subst {A = Seen} (λ z. verdict z.plain ≡ None) (sym c.self.view_is) c.requires.no_verdict)
     (subst {A = Seen} (λ z. Contains z.plain.flight c.args.ticket.now) (sym c.self.view_is) c.requires.flying)
     (subst {A = Seen} (λ z. IsProposalOf z c.args.ticket.now c.args.proposal) (sym c.self.view_is) c.requires.proposed)
-    c.in-Ok-apply.applied c.in-Ok-apply.ensures.ok.1
+    c.in-Ok-apply.made.applied c.in-Ok-apply.ensures.ok.1
 
 pub settle-requires-clause-works : goal.settle-requires-clause-works
 settle-requires-clause-works c =
@@ -160,7 +160,7 @@ returns-clause-ok c =
     let items = after_push c.push.result _ _ _ ok c.push.ensures.items in
     let b : Plain = record c.self.inside.state { flight = c.self.inside.flight.items } in
     let effects : c.effect_of.result ≡ effect_entry b c.args.proposal = c.effect_of.ensures (limit_of c.self.inside.state c.args.proposal) c.in-Ok-apply.ensures.ok.1 ∙ sym (entry_flying c.self.inside.state c.self.inside.flight.items c.args.proposal) in
-    subst {A = Seen} (λ z. IsFinishedBy z (seen c.settle.new.state c.land.new.flight.items c.push.new.self.items) c.args.ticket.now c.args.proposal (Committed c.in-Ok-apply.applied)) c.self.view_is (
+    subst {A = Seen} (λ z. IsFinishedBy z (seen c.settle.new.state c.land.new.flight.items c.push.new.self.items) c.args.ticket.now c.args.proposal (Committed c.in-Ok-apply.made.applied)) c.self.view_is (
       subst {A = Seen} (λ z. verdict z.plain ≡ None) (sym c.self.view_is) c.requires.no_verdict,
       subst {A = Seen} (λ z. IsFalse (is_dropped z.plain c.args.proposal)) (sym c.self.view_is) c.requires.acts,
       c.in-Ok-apply.ensures.ok.1 ∙ ap applied_as (sym (limit_flying c.self.inside.state c.self.inside.flight.items c.args.proposal)),
@@ -175,16 +175,17 @@ effect_label-requires c =
     (subst {A = Seen} (λ z. Contains z.plain.flight c.args.ticket.now) (sym c.self.view_is) c.requires.flying)
     (subst {A = Seen} (λ z. IsProposalOf z c.args.ticket.now c.args.proposal) (sym c.self.view_is) c.requires.proposed)
 
-pub keep_up-requires : goal.keep_up-requires
-keep_up-requires c = record {
-  nodes =
-      nodes_left c.self.inside.state c.self.inside.flight.items c.self.inside.journal.items c.args.ticket.now c.args.proposal c.self.invariant.0.legal
-      (subst {A = Seen} (λ z. verdict z.plain ≡ None) (sym c.self.view_is) c.requires.no_verdict)
-      (subst {A = Seen} (λ z. Contains z.plain.flight c.args.ticket.now) (sym c.self.view_is) c.requires.flying)
-      (subst {A = Seen} (λ z. IsProposalOf z c.args.ticket.now c.args.proposal) (sym c.self.view_is) c.requires.proposed)
-      (subst {A = Seen} (λ z. IsFalse (is_dropped z.plain c.args.proposal)) (sym c.self.view_is) c.requires.acts)
-      c.in-Ok-apply.applied c.in-Ok-apply.ensures.ok.1 c.apply.new.self c.in-Ok-apply.ensures.ok.0 c.self.invariant.6;
-}
+pub keep_up-requires-clause-nodes : goal.keep_up-requires-clause-nodes
+keep_up-requires-clause-nodes c =
+    nodes_left c.self.inside.state c.self.inside.flight.items c.self.inside.journal.items c.args.ticket.now c.args.proposal c.self.invariant.0.legal
+    (subst {A = Seen} (λ z. verdict z.plain ≡ None) (sym c.self.view_is) c.requires.no_verdict)
+    (subst {A = Seen} (λ z. Contains z.plain.flight c.args.ticket.now) (sym c.self.view_is) c.requires.flying)
+    (subst {A = Seen} (λ z. IsProposalOf z c.args.ticket.now c.args.proposal) (sym c.self.view_is) c.requires.proposed)
+    (subst {A = Seen} (λ z. IsFalse (is_dropped z.plain c.args.proposal)) (sym c.self.view_is) c.requires.acts)
+    c.in-Ok-apply.made.applied c.in-Ok-apply.ensures.ok.1 c.apply.new.self c.in-Ok-apply.ensures.ok.0 c.self.invariant.6
+
+pub keep_up-requires-clause-target : goal.keep_up-requires-clause-target
+keep_up-requires-clause-target c = λ done. target_there c.apply.new.self c.args.proposal c.in-Ok-apply.made.target (c.in-Ok-apply.ensures.target done)
 
 pub settle-requires-clause-agenda : goal.settle-requires-clause-agenda
 settle-requires-clause-agenda c =
@@ -193,5 +194,5 @@ settle-requires-clause-agenda c =
     (subst {A = Seen} (λ z. Contains z.plain.flight c.args.ticket.now) (sym c.self.view_is) c.requires.flying)
     (subst {A = Seen} (λ z. IsProposalOf z c.args.ticket.now c.args.proposal) (sym c.self.view_is) c.requires.proposed)
     (subst {A = Seen} (λ z. IsFalse (is_dropped z.plain c.args.proposal)) (sym c.self.view_is) c.requires.acts)
-    c.in-Ok-apply.applied c.in-Ok-apply.ensures.ok.1 c.apply.new.self c.in-Ok-apply.ensures.ok.0 c.self.invariant.6
-    _ refl refl (c.as_slice.ensures.value ∙ c.in-Ok.ensures) c.self.inside.agenda c.keep_up.new.agenda c.self.invariant.3 c.keep_up.ensures
+    c.in-Ok-apply.made.applied c.in-Ok-apply.ensures.ok.1 c.apply.new.self c.in-Ok-apply.ensures.ok.0 c.self.invariant.6
+    _ refl refl (c.as_slice.ensures.value ∙ c.in-Ok.ensures) c.in-Ok-apply.ensures.target c.self.inside.agenda c.keep_up.new.agenda c.self.invariant.3 c.keep_up.ensures

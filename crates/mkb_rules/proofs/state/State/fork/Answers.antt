@@ -7,7 +7,7 @@ use Rattle.mkb_model.proofs.labels.NameLists.{child_lives}
 use Rattle.mkb_rules.specs.Forking.{with_parts}
 use Rattle.mkb_rules.specs.Kept.{plain_certificates}
 use Rattle.mkb_rules.proofs.Answered.{at_ok}
-use Rattle.mkb_rules.proofs.Committed.{committed, fork_room, fork_made, fork_of_nodes, fork_of_orders}
+use Rattle.mkb_rules.proofs.Limits.{committed, fork_room, fork_made, fork_of_nodes, fork_of_orders}
 use Rattle.mkb_rules.proofs.state.State.fork.Goals as goal
 
 pub try_fork-requires-clause-first : goal.try_fork-requires-clause-first

@@ -7,7 +7,7 @@ use Rattle.mkb_rules.specs.Applying.{Commits}
 use Rattle.mkb_rules.specs.declared.applied.Applied.{Applied}
 use Rattle.mkb_rules.specs.declared.applied.Applied.TheVariants.{Over}
 use Rattle.mkb_rules.proofs.Answered.{ok_so}
-use Rattle.mkb_rules.proofs.Committed.{stopped, fork_crowded}
+use Rattle.mkb_rules.proofs.Limits.{stopped, fork_crowded}
 use Rattle.mkb_rules.proofs.state.State.orient_both.Goals as goal
 
 pub returns-then-living-ge-MAX_LIVING-clause-ok : goal.returns-then-living-ge-MAX_LIVING-clause-ok

@@ -1,11 +1,8 @@
-use Rattle.std.proofs.Common.{◌≡◌, ◌∙◌, ap, sym, subst, rules, IfOk, Some}
-use Rattle.kb_term.specs.Pair.{Pair, canonical_pair}
-use Rattle.kb_term.specs.Tree.{Tree}
+use Rattle.std.proofs.Common.{◌≡◌, ◌∙◌, ap, rules}
 use Rattle.kb_term.specs.View.{tree_of}
 use Rattle.kb_overlap.specs.Trace.{other_side}
-use Rattle.mkb_model.specs.Plain.{Plain, pair_at}
+use Rattle.mkb_model.specs.Plain.{Plain}
 use Rattle.mkb_model.proofs.commits.Views.{there_pair}
-use Rattle.mkb_rules.specs.Rewriting.{target_of}
 use Rattle.mkb_rules.proofs.Finding.{side_read}
 use Rattle.mkb_rules.proofs.state.State.target_of.Goals as goal
 
