@@ -1,8 +1,8 @@
 -- What comes first, in an ordered tree and in the list.
-use Rattle.std.proofs.Common.{ℕ, ◌≡◌, ◌<◌, ◌≤◌, ◌+◌, refl, sym, ap, ap₂, ◌∙◌, get_or, subst, ◌⊎◌, inl, inr, List, arith}
+use Rattle.std.proofs.Common.{ℕ, ◌≡◌, ◌<◌, ◌≤◌, ◌+◌, ◌*◌, ◌^◌, refl, sym, ap, ap₂, ◌∙◌, get_or, subst, ◌⊎◌, inl, inr, List, arith}
 use Rattle.std.specs.Prelude.{Some, None, Option, true, false, MatchOption}
 use Rattle.std.specs.Ordering.{ordering_then}
-use Rattle.std.specs.Cmp.{IsTotalOrder, nat_cmp_is}
+use Rattle.std.specs.Cmp.{nat_cmp_is}
 use Rattle.std.proofs.lemmas.Bool.{cases_lt, cases_order}
 use Rattle.std.proofs.lemmas.List.{get_or_default}
 use Rattle.std.specs.declared.cmp.Ordering.{Ordering}
@@ -13,40 +13,47 @@ use Rattle.kb_node.specs.declared.job.Job.TheVariants.{Close}
 use Rattle.mkb_pick.specs.declared.queue.Entry.{Entry}
 use Rattle.mkb_pick.specs.declared.queue.Queue.{Queue}
 use Rattle.mkb_pick.specs.declared.search.Choice.{Choice}
-use Rattle.mkb_pick.specs.declared.tree.Tree.{Tree, Fork'}
+use Rattle.mkb_pick.specs.declared.tree.Tree.{Tree}
 use Rattle.mkb_pick.specs.declared.task.Task.{Task}
-use Rattle.mkb_pick.specs.Trees.{Has, IsOrdered}
+use Rattle.mkb_pick.specs.Runs.{Precedes}
+use Rattle.mkb_pick.specs.Trees.{HasKey}
 use Rattle.mkb_model.specs.Jobs.{is_free}
-use Rattle.mkb_pick.specs.Tasks.{task_cmp, is_open, work_kind, IsWithin}
+use Rattle.mkb_pick.specs.Tasks.{task_at, task_cmp, is_open, work_kind, Has, IsAgenda, IsWithin}
 use Rattle.mkb_pick.specs.Queues.{IsQueue, Stands}
-use Rattle.mkb_pick.specs.Firsts.{IsFirst, IsFirstOpen, IsReady, IsSooner, IsChoice}
+use Rattle.mkb_pick.specs.Firsts.{IsFirst, IsOffer, IsLeast, IsFirstOpen, IsReady, IsSooner, IsChoice}
 use Rattle.mkb_pick.proofs.Seats.{rising}
-use Rattle.mkb_pick.proofs.Tasks.{held_kinds, kinds_apart}
+use Rattle.mkb_pick.proofs.Tasks.{held_kinds, kinds_apart, kind_told, keys_rise}
 
--- what is before all the others on the left is before all the others of the tree
-before_all : {T : Type 0} {cmp : T → T → Ordering} → IsTotalOrder cmp → (is_key : ℕ → T → Type 0) → (p : _) (left : Tree T) (item : T) (k w : ℕ) (right : Tree T) → IsOrdered is_key cmp (Fork' p left item k w right) → (P : T → Type 0) (x : T) → Has left x → ((y : T) → Has left y → P y → (y ≡ x) ⊎ (cmp x y ≡ Less)) → (y : T) → Has (Fork' p left item k w right) y → P y → (y ≡ x) ⊎ (cmp x y ≡ Less)
-before_all {T} {cmp} o is_key p left item k w right ord P x there first y h q =
-    elim h [
-      | inl a ↦ inr (subst (λ z. cmp x z ≡ Less) (sym a) (ord.0 x there))
-      | inr a ↦
-          elim a [
-            | inl b ↦ first y b q
-            | inr b ↦ inr (o.trans x item y (ord.0 x there) (ord.1 y b))
-          ]
-    ]
+-- the least key that is looked for is that of the first task
+module _ (tasks : Tree) (is : IsAgenda tasks) (flight : List Job) (p : Name) (low high from to : ℕ) (begin : from ≡ low * 2 ^ 80) (end : to ≡ (high + 1) * 2 ^ 80) where
+  -- a task of a kind from low to high has a key that is looked for
+  wanted : (k : ℕ) → HasKey tasks k → IsWithin low high (task_at k) × (is_open flight p (task_at k) ≡ true) → IsOffer flight p from to k
+  unfolding Has IsAgenda IsOffer Precedes
+  wanted k h q = let kind = kind_told k (task_at k) (is.1 k h) in (omega (arith, kind, begin, q.0.0), omega (arith, kind, end, q.0.1), q.1)
 
--- the first on the left is the first of all
-pub first_on_left : {T : Type 0} {cmp : T → T → Ordering} → IsTotalOrder cmp → (is_key : ℕ → T → Type 0) → (tree near : Tree T) (p : _) (left : Tree T) (item : T) (k w : ℕ) (right : Tree T) → tree ≡ Fork' p left item k w right → near ≡ left → IsOrdered is_key cmp tree → (P : T → Type 0) (x : T) → IsFirst cmp near P (Some x) → IsFirst cmp tree P (Some x)
-first_on_left {T} {cmp} o is_key tree near p left item k w right is same ord P x first =
-    let there : Has left x = subst (λ t. Has t x) same first.0 in
-    subst (λ t. IsFirst cmp t P (Some x)) (sym is)
-    (inr (inl there), first.1, before_all o is_key p left item k w right (subst (IsOrdered is_key cmp) is ord) P x there (λ y h q. first.2 y (subst (λ t. Has t y) (sym same) h) q))
+  pub none_wanted : IsLeast (HasKey tasks) (IsOffer flight p from to) None → IsFirst tasks (λ t. IsWithin low high t × (is_open flight p t ≡ true)) None
+  unfolding Has IsAgenda IsOffer Precedes
+  none_wanted none y h q = none h.0 h.1 (wanted h.0 h.1 (subst (λ t. IsWithin low high t × (is_open flight p t ≡ true)) (sym h.2) q))
+
+  pub first_wanted : (x : ℕ) → IsLeast (HasKey tasks) (IsOffer flight p from to) (Some x) → IsFirst tasks (λ t. IsWithin low high t × (is_open flight p t ≡ true)) (Some (task_at x))
+  unfolding Has IsAgenda IsOffer Precedes
+  first_wanted x first =
+      let there = first.0 in
+      let kind = kind_told x (task_at x) (is.1 x there) in (
+        (x, there, refl),
+        ((omega (arith, kind, begin, first.1.0), omega (arith, kind, end, first.1.1)), first.1.2),
+        λ y h q.
+            elim (first.2 h.0 h.1 (wanted h.0 h.1 (subst (λ t. IsWithin low high t × (is_open flight p t ≡ true)) (sym h.2) q))) [
+              | inl e ↦ inl (sym h.2 ∙ ap task_at (sym e))
+              | inr b ↦ inr (subst (λ t. task_cmp (task_at x) t ≡ Less) h.2 (keys_rise x h.0 (task_at x) (task_at h.0) (is.1 x there) (is.1 h.0 h.1) b))
+            ],
+      )
 
 within_one : (n k : ℕ) → k ≡ n → (n ≤ k) × (k ≤ n)
 within_one n k e = (omega (arith, e), omega (arith, e))
 
 -- where a process is held, its first reduction is its first task
-pub held_reduction : (tasks : Tree Task) (flight : List Job) (p : Name) → is_free flight (Close p) ≡ false → (x : Task) → IsFirst task_cmp tasks (λ t. IsWithin 0 0 t × (is_open flight p t ≡ true)) (Some x) → IsFirst task_cmp tasks (λ t. is_open flight p t ≡ true) (Some x)
+pub held_reduction : (tasks : Tree) (flight : List Job) (p : Name) → is_free flight (Close p) ≡ false → (x : Task) → IsFirst tasks (λ t. IsWithin 0 0 t × (is_open flight p t ≡ true)) (Some x) → IsFirst tasks (λ t. is_open flight p t ≡ true) (Some x)
 held_reduction tasks flight p held x first = (
   first.0,
   first.1.1,
@@ -58,7 +65,7 @@ held_reduction tasks flight p held x first = (
 )
 
 -- where a process is held and has no reduction, its first overlap is its first task
-pub held_overlap : (tasks : Tree Task) (flight : List Job) (p : Name) → is_free flight (Close p) ≡ false → IsFirst task_cmp tasks (λ t. IsWithin 0 0 t × (is_open flight p t ≡ true)) None → (r : Option Task) → IsFirst task_cmp tasks (λ t. IsWithin 2 2 t × (is_open flight p t ≡ true)) r → IsFirst task_cmp tasks (λ t. is_open flight p t ≡ true) r
+pub held_overlap : (tasks : Tree) (flight : List Job) (p : Name) → is_free flight (Close p) ≡ false → IsFirst tasks (λ t. IsWithin 0 0 t × (is_open flight p t ≡ true)) None → (r : Option Task) → IsFirst tasks (λ t. IsWithin 2 2 t × (is_open flight p t ≡ true)) r → IsFirst tasks (λ t. is_open flight p t ≡ true) r
 held_overlap tasks flight p held none None first =
     λ y h q.
     elim (held_kinds flight p held y q) [

@@ -7,3 +7,4 @@ pub mod Tasks
 pub mod Marked
 pub mod Tallied
 pub mod Firsts
+pub mod Rising

@@ -1,5 +1,5 @@
 -- What marks say after a change.
-use Rattle.std.proofs.Common.{ℕ, ◌≡◌, sym, ap, subst, ◌⊎◌, inl, inr, ◌↔◌}
+use Rattle.std.proofs.Common.{ℕ, ◌≡◌, sym, ap, ◌∙◌, subst, ◌⊎◌, inl, inr, ◌↔◌}
 use Rattle.kb_node.specs.declared.node.NodeId.{NodeId}
 use Rattle.mkb_pick.specs.declared.marks.Mark.{Mark}
 use Rattle.mkb_pick.specs.declared.marks.Mark.TheVariants.{Absent, Single, Unknown}
@@ -8,17 +8,18 @@ use Rattle.mkb_pick.specs.declared.task.Work.{Work}
 use Rattle.mkb_pick.specs.declared.task.Work.TheVariants.{Reducing}
 use Rattle.mkb_pick.specs.declared.task.Task.{Task}
 use Rattle.mkb_pick.specs.declared.tree.Tree.{Tree}
-use Rattle.mkb_pick.specs.Trees.{Has}
-use Rattle.mkb_pick.specs.Marks.{mark_at, more, reducing, Tells, IsTold, IsSet}
+use Rattle.mkb_pick.specs.Tasks.{Has, task_at}
+use Rattle.mkb_pick.specs.Trees.{HasKey}
+use Rattle.mkb_pick.specs.Marks.{mark_at, more, fewer, reducing, Tells, IsTold, IsSet}
 
 -- a mark says the same of trees with the same reducings of the node
-pub tells_same : (m : Mark) (old new : Tree Task) (k : ℕ) → ((w : ℕ) → Has new (reducing k w) ↔ Has old (reducing k w)) → Tells m old k → Tells m new k
+pub tells_same : (m : Mark) (old new : Tree) (k : ℕ) → ((w : ℕ) → Has new (reducing k w) ↔ Has old (reducing k w)) → Tells m old k → Tells m new k
 tells_same Absent old new k same h = λ w x. h w ((same w).0 x)
 tells_same Single old new k same h = (h.0, λ w. (λ x. (h.1 w).0 ((same w).0 x), λ e. (same w).1 ((h.1 w).1 e)))
 tells_same Unknown old new k same h = tt
 
 -- a node has another mark
-pub told_set : (old new : Marks) (n : ℕ) (mark : Mark) (was now : Tree Task) → IsSet old new n mark → ((k w : ℕ) → ¬ (k ≡ n) → Has now (reducing k w) ↔ Has was (reducing k w)) → Tells mark now n → IsTold old was → IsTold new now
+pub told_set : (old new : Marks) (n : ℕ) (mark : Mark) (was now : Tree) → IsSet old new n mark → ((k w : ℕ) → ¬ (k ≡ n) → Has now (reducing k w) ↔ Has was (reducing k w)) → Tells mark now n → IsTold old was → IsTold new now
 told_set old new n mark was now is same here told k =
     elim (is k) [
       | inl e ↦ subst (λ m. Tells m now k) (sym e) tt
@@ -30,7 +31,7 @@ told_set old new n mark was now is same here told k =
     ]
 
 -- the marks are copied, or unknown
-pub told_copied : (old new : Marks) (was now : Tree Task) → ((k : ℕ) → (mark_at new k ≡ Unknown) ⊎ (mark_at new k ≡ mark_at old k)) → ((t : Task) → Has now t ↔ Has was t) → IsTold old was → IsTold new now
+pub told_copied : (old new : Marks) (was now : Tree) → ((k : ℕ) → (mark_at new k ≡ Unknown) ⊎ (mark_at new k ≡ mark_at old k)) → ((t : Task) → Has now t ↔ Has was t) → IsTold old was → IsTold new now
 told_copied old new was now is same told k =
     elim (is k) [
       | inl e ↦ subst (λ m. Tells m now k) (sym e) tt
@@ -46,7 +47,7 @@ node_same : (k n v w : ℕ) → reducing k v ≡ reducing n w → (k ≡ n) × (
 node_same k n v w e = (ap (λ t. node_of t.work) e, ap (λ t. t.weight) e)
 
 -- one reducing more
-tells_more : (m : Mark) (was now : Tree Task) (n v : ℕ) → ((t : Task) → Has now t ↔ ((t ≡ reducing n v) ⊎ Has was t)) → Tells m was n → Tells (more m) now n
+tells_more : (m : Mark) (was now : Tree) (n v : ℕ) → ((t : Task) → Has now t ↔ ((t ≡ reducing n v) ⊎ Has was t)) → Tells m was n → Tells (more m) now n
 tells_more Absent was now n v has h = (
   v,
   λ w. (
@@ -61,7 +62,7 @@ tells_more Absent was now n v has h = (
 tells_more Single was now n v has h = tt
 tells_more Unknown was now n v has h = tt
 
-module _ (old new : Marks) (was now : Tree Task) (n v : ℕ) where
+module _ (old new : Marks) (was now : Tree) (n v : ℕ) where
   pub told_more : IsSet old new n (more (mark_at old n)) → ((t : Task) → Has now t ↔ ((t ≡ reducing n v) ⊎ Has was t)) → IsTold old was → IsTold new now
   told_more is has told =
       told_set old new n (more (mark_at old n)) was now is
@@ -75,15 +76,24 @@ module _ (old new : Marks) (was now : Tree Task) (n v : ℕ) where
       ))
       (tells_more (mark_at old n) was now n v has (told n)) told
 
+-- one reducing fewer
+tells_fewer : (m : Mark) (was now : Tree) (n v : ℕ) → ((t : Task) → Has now t ↔ (Has was t × ¬ (t ≡ reducing n v))) → Has was (reducing n v) → Tells m was n → Tells (fewer m) now n
+tells_fewer Absent was now n v has there h = tt
+tells_fewer Single was now n v has there h = λ w x. let k = (has (reducing n w)).0 x in k.1 (ap (reducing n) ((h.1 w).0 k.0 ∙ sym ((h.1 v).0 there)))
+tells_fewer Unknown was now n v has there h = tt
+
+module _ (old new : Marks) (was now : Tree) (n v : ℕ) where
+  pub told_fewer : IsSet old new n (fewer (mark_at old n)) → ((t : Task) → Has now t ↔ (Has was t × ¬ (t ≡ reducing n v))) → Has was (reducing n v) → IsTold old was → IsTold new now
+  told_fewer is has there told =
+      told_set old new n (fewer (mark_at old n)) was now is (λ k w apart. (λ x. ((has (reducing k w)).0 x).0, λ x. (has (reducing k w)).1 (x, λ e. apart (node_same k n w v e).0)))
+      (tells_fewer (mark_at old n) was now n v has there (told n)) told
+
 -- ---- a search for a reducing
 
--- this is a tree of two trees and an item
-abbrev pub IsFork : Tree Task → Tree Task → Task → Tree Task → Type 0
-IsFork tasks left item right = (y : Task) → Has tasks y ↔ ((y ≡ item) ⊎ (Has left y ⊎ Has right y))
-
-module _ (tasks left right : Tree Task) (item : Task) (n : NodeId) (is : IsFork tasks left item right) where
-  pub found_here : item.work ≡ Reducing n → (w : ℕ) × Has tasks (reducing n.0 w)
-  found_here e = (item.weight, (is (reducing n.0 item.weight)).1 (inl (ap (λ x. record { work = x; weight = item.weight }) (sym e))))
-
-  pub found_left : (w : ℕ) × Has left (reducing n.0 w) → (w : ℕ) × Has tasks (reducing n.0 w)
-  found_left h = (h.0, (is (reducing n.0 h.0)).1 (inr (inl h.1)))
+-- a task that reduces the node is there where its key is
+pub reducing_key : (tasks : Tree) (n : NodeId) → ((k : ℕ) × HasKey tasks k × ((task_at k).work ≡ Reducing n)) ↔ ((w : ℕ) × Has tasks (reducing n.0 w))
+unfolding Has
+reducing_key tasks n = (
+  λ h. ((task_at h.0).weight, (h.0, h.1, ap (λ x. record { work = x; weight = (task_at h.0).weight }) h.2)),
+  λ h. (h.1.0, h.1.1, ap (λ t. t.work) h.1.2),
+)

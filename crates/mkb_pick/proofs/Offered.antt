@@ -14,7 +14,7 @@ use Rattle.mkb_pick.specs.declared.task.Work.{Work}
 use Rattle.mkb_pick.specs.declared.task.Task.{Task}
 use Rattle.mkb_pick.specs.declared.queue.Entry.{Entry}
 use Rattle.mkb_pick.specs.declared.queue.Queue.{Queue}
-use Rattle.mkb_pick.specs.Trees.{Has}
+use Rattle.mkb_pick.specs.Tasks.{Has}
 use Rattle.mkb_pick.specs.Jobs.{Weighed}
 use Rattle.mkb_model.specs.Jobs.{process_of, kind_number, job_numbers, is_free}
 use Rattle.mkb_pick.specs.Tasks.{task_cmp, job_of, work_of, is_open}

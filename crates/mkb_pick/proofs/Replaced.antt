@@ -11,7 +11,7 @@ use Rattle.mkb_pick.specs.declared.tree.Tree.{Leaf}
 use Rattle.mkb_pick.specs.declared.queue.Entry.{Entry}
 use Rattle.mkb_pick.specs.declared.marks.Marks.{Marks}
 use Rattle.mkb_pick.specs.declared.queue.Queue.{Queue}
-use Rattle.mkb_pick.specs.Trees.{Has}
+use Rattle.mkb_pick.specs.Tasks.{Has}
 use Rattle.mkb_pick.specs.Queues.{IsQueue, IsAt, IsSeated, With, Shows, Sits, HasTask}
 use Rattle.mkb_pick.proofs.Seats.{Standing, one_entry, entry_of, after_set}
 

@@ -1,10 +1,12 @@
 -- The order of tasks, and which clash.
-use Rattle.std.proofs.Common.{ℕ, ◌≡◌, refl, sym, ap, ap₂, ◌∙◌, subst, ◌⊎◌, inl, inr, true, false, List, [], ◌∷◌}
-use Rattle.std.specs.Prelude.{not, ◌||◌, ◌↔◌, MatchOption, Option, Some, None}
-use Rattle.mkb_pick.specs.declared.tree.Tree.{Tree}
-use Rattle.mkb_pick.specs.Trees.{Has}
+use Rattle.std.proofs.Common.{ℕ, ◌≡◌, ◌<◌, ◌≤◌, ◌+◌, ◌*◌, ◌^◌, ◌/◌, ◌%◌, refl, sym, ap, ap₂, ◌∙◌, subst, ◌⊎◌, inl, inr, true, false, List, [], ◌∷◌, get_or, arith}
+use Rattle.std.specs.Prelude.{not, ◌||◌, ◌↔◌}
+use Rattle.mkb_pick.specs.declared.run.Run.{Run}
+use Rattle.mkb_pick.specs.declared.tree.Tree.{Tree, Leaf, Fork'}
+use Rattle.mkb_pick.specs.Runs.{Holds, IsFilled, size}
+use Rattle.mkb_pick.specs.Trees.{HasKey, IsOrdered, nodes, count}
 use Rattle.std.specs.List.{list_any}
-use Rattle.std.specs.Cmp.{IsTotalOrder, on_total, nat_cmp_total, tied_itself}
+use Rattle.std.specs.Cmp.{IsTotalOrder, on_total, nat_cmp_total, nat_cmp_is, tied_itself}
 use Rattle.std.specs.Cmp.Lexicographic.{lists_total}
 use Rattle.std.proofs.lemmas.Map.Lookups.{exact_bytes}
 use Rattle.kb_term.specs.declared.origin.RuleRef.{RuleRef}
@@ -18,7 +20,8 @@ use Rattle.mkb_pick.specs.declared.task.Work.TheVariants.{Reducing, Orienting, O
 use Rattle.mkb_pick.specs.declared.task.Task.{Task}
 use Rattle.mkb_model.specs.Jobs.{clashes, is_free}
 use Rattle.mkb_pick.specs.KeyOrder.{keys_order}
-use Rattle.mkb_pick.specs.Tasks.{IsTaskKey, task_cmp, work_key, work_kind, job_of, is_open}
+use Rattle.mkb_pick.proofs.Rising.{at_place}
+use Rattle.mkb_pick.specs.Tasks.{IsTaskKey, IsCode, IsAgenda, Has, task_at, work_at, task_cmp, work_key, work_kind, job_of, is_open}
 
 pub tasks_total : IsTotalOrder task_cmp
 tasks_total = on_total (λ t. work_key t.work t.weight) (lists_total nat_cmp_total)
@@ -94,13 +97,135 @@ task_itself s t e = ap (task_cmp s) (sym e) ∙ tied_itself tasks_total s
 pub one_task : (k : ℕ) (s t : Task) → IsTaskKey k s → IsTaskKey k t → s ≡ t
 one_task k s t h i = task_exact s t (keys_order (work_key s.work s.weight) (work_key t.work t.weight) k k h i ∙ tied_itself nat_cmp_total k)
 
--- what is left where a task was taken out, or none was there
-pub taken_items : {B : Type 0} (item : B → Task) (old new : Tree Task) (x : Task) (k : ℕ) (r : Option B) → IsTaskKey k x → MatchOption r ((y : Task) → Has old y → ¬ IsTaskKey k y) (λ b. Has old (item b) × IsTaskKey k (item b)) → MatchOption r (new ≡ old) (λ b. (y : Task) → Has new y ↔ (Has old y × ¬ IsTaskKey k y)) → (t : Task) → Has new t ↔ (Has old t × ¬ (t ≡ x))
-taken_items item old new x k None key none kept t = (
-  λ h. let there : Has old t = subst (λ v. Has v t) kept h in (there, λ e. none t there (subst (IsTaskKey k) (sym e) key)),
-  λ h. subst (λ v. Has v t) (sym kept) h.0,
+-- ---- keys and tasks
+
+-- what the numbers in a key are
+key_parts : (kind w n d m e k : ℕ) → (kind < 4) × ((w < 2 ^ 32) × ((n < 2 ^ 16) × ((d < 2 ^ 8) × ((m < 2 ^ 16) × ((e < 2 ^ 8) × Unit {0}))))) → k ≡ kind * 2 ^ 80 + (w * 2 ^ 48 + (n * 2 ^ 32 + (d * 2 ^ 24 + (m * 2 ^ 8 + (e * 1 + 0))))) → (k / 2 ^ 80 ≡ kind) × (k / 2 ^ 48 % 2 ^ 32 ≡ w) × (k / 2 ^ 32 % 2 ^ 16 ≡ n) × (k / 2 ^ 24 % 2 ^ 8 ≡ d) × (k / 2 ^ 8 % 2 ^ 16 ≡ m) × (k % 2 ^ 8 ≡ e)
+key_parts kind w n d m e k all is =
+    let a = all.0 in
+    let b = all.1.0 in
+    let f = all.1.1.0 in
+    let g = all.1.1.1.0 in
+    let h = all.1.1.1.1.0 in
+    let i = all.1.1.1.1.1.0 in
+    let first : k / 2 ^ 80 ≡ kind = omega (arith, a, b, f, g, h, i, is) in
+    let weight : k / 2 ^ 48 ≡ kind * 2 ^ 32 + w = omega (arith, a, b, f, g, h, i, is) in
+    let one : k / 2 ^ 32 ≡ (kind * 2 ^ 32 + w) * 2 ^ 16 + n = omega (arith, a, b, f, g, h, i, is) in
+    let two : k / 2 ^ 24 ≡ ((kind * 2 ^ 32 + w) * 2 ^ 16 + n) * 2 ^ 8 + d = omega (arith, a, b, f, g, h, i, is) in
+    let three : k / 2 ^ 8 ≡ (((kind * 2 ^ 32 + w) * 2 ^ 16 + n) * 2 ^ 8 + d) * 2 ^ 16 + m = omega (arith, a, b, f, g, h, i, is) in (
+      first,
+      omega (arith, weight, b),
+      omega (arith, one, f),
+      omega (arith, two, g),
+      omega (arith, three, h),
+      omega (arith, is, i),
+    )
+
+-- the task of these numbers
+abbrev made_of : ℕ → ℕ → ℕ → ℕ → ℕ → ℕ → Task
+made_of kind w n d m e = record { work = work_at kind n d m e; weight = w }
+
+task_of_parts : (kind w n d m e k : ℕ) → (k / 2 ^ 80 ≡ kind) × (k / 2 ^ 48 % 2 ^ 32 ≡ w) × (k / 2 ^ 32 % 2 ^ 16 ≡ n) × (k / 2 ^ 24 % 2 ^ 8 ≡ d) × (k / 2 ^ 8 % 2 ^ 16 ≡ m) × (k % 2 ^ 8 ≡ e) → task_at k ≡ made_of kind w n d m e
+task_of_parts kind w n d m e k (a, b, f, g, h, i) =
+    ap₂ (λ x y. made_of x y (k / 2 ^ 32 % 2 ^ 16) (k / 2 ^ 24 % 2 ^ 8) (k / 2 ^ 8 % 2 ^ 16) (k % 2 ^ 8)) a b
+    ∙ ap₂ (λ x y. made_of kind w x y (k / 2 ^ 8 % 2 ^ 16) (k % 2 ^ 8)) f g
+    ∙ ap₂ (λ x y. made_of kind w n d x y) h i
+
+-- a key tells its task
+pub task_again : (k : ℕ) (t : Task) → IsTaskKey k t → task_at k ≡ t
+task_again k t key = go t.work t.weight key
+  where
+    go : (v : Work) (w : ℕ) → IsTaskKey k (record { work = v; weight = w }) → task_at k ≡ record { work = v; weight = w }
+    go (Reducing n) w h = task_of_parts 0 w n.0 0 0 0 k (key_parts 0 w n.0 0 0 0 k h.0 h.1)
+    go (Orienting n) w h = task_of_parts 1 w n.0 0 0 0 k (key_parts 1 w n.0 0 0 0 k h.0 h.1)
+    go (Overlapping a b) w h = task_of_parts 2 w a.node a.dir b.node b.dir k (key_parts 2 w a.node a.dir b.node b.dir k h.0 h.1)
+    go Closing w h = task_of_parts 3 w 0 0 0 0 k (key_parts 3 w 0 0 0 0 k h.0 h.1)
+
+pub code_of : (k : ℕ) (t : Task) → IsTaskKey k t → IsCode k
+code_of k t key = subst (IsTaskKey k) (sym (task_again k t key)) key
+
+-- the kind in a key
+pub kind_told : (k : ℕ) (t : Task) → IsTaskKey k t → k / 2 ^ 80 ≡ work_kind t.work
+kind_told k t key = go t.work t.weight key
+  where
+    go : (v : Work) (w : ℕ) → IsTaskKey k (record { work = v; weight = w }) → k / 2 ^ 80 ≡ work_kind v
+    go (Reducing n) w h = (key_parts 0 w n.0 0 0 0 k h.0 h.1).0
+    go (Orienting n) w h = (key_parts 1 w n.0 0 0 0 k h.0 h.1).0
+    go (Overlapping a b) w h = (key_parts 2 w a.node a.dir b.node b.dir k h.0 h.1).0
+    go Closing w h = (key_parts 3 w 0 0 0 0 k h.0 h.1).0
+
+-- tasks rise as their keys do
+pub keys_rise : (k m : ℕ) (s t : Task) → IsTaskKey k s → IsTaskKey m t → k < m → task_cmp s t ≡ Less
+keys_rise k m s t h i less = keys_order (work_key s.work s.weight) (work_key t.work t.weight) k m h i ∙ sym (nat_cmp_is k m Less less)
+
+-- a task has one key
+one_key : (k m : ℕ) (t : Task) → IsTaskKey k t → IsTaskKey m t → k ≡ m
+one_key k m t a b = a.1 ∙ sym b.1
+
+module _ (tasks : Tree) (is : IsAgenda tasks) (x : Task) (k : ℕ) (key : IsTaskKey k x) where
+  -- a task is there where its key is
+  pub key_there : HasKey tasks k ↔ Has tasks x
+  unfolding Has IsAgenda
+  key_there = (λ h. (k, h, task_again k x key), λ h. subst (HasKey tasks) (one_key h.0 k x (subst (IsTaskKey h.0) h.2 (is.1 h.0 h.1)) key) h.1)
+
+-- one key more
+pub agenda_more : (old new : Tree) (x : Task) (k : ℕ) → IsTaskKey k x → ((m : ℕ) → HasKey new m ↔ ((m ≡ k) ⊎ HasKey old m)) → ((m : ℕ) → HasKey old m → IsCode m) → ((t : Task) → Has new t ↔ ((t ≡ x) ⊎ Has old t)) × ((m : ℕ) → HasKey new m → IsCode m)
+unfolding Has IsAgenda
+agenda_more old new x k key more codes = (
+  λ t. (
+    λ h.
+        elim ((more h.0).0 h.1) [
+          | inl e ↦ inl (sym h.2 ∙ ap task_at e ∙ task_again k x key)
+          | inr b ↦ inr (h.0, b, h.2)
+        ],
+    λ h.
+        elim h [
+          | inl e ↦ (k, (more k).1 (inl refl), task_again k x key ∙ sym e)
+          | inr b ↦ (b.0, (more b.0).1 (inr b.1), b.2)
+        ],
+  ),
+  λ m h.
+      elim ((more m).0 h) [
+        | inl e ↦ subst IsCode (sym e) (code_of k x key)
+        | inr b ↦ codes m b
+      ],
 )
-taken_items item old new x k (Some b) key some kept t = (
-  λ h. let there = (kept t).0 h in (there.0, λ e. there.1 (subst (IsTaskKey k) (sym e) key)),
-  λ h. (kept t).1 (h.0, λ e. h.1 (sym (one_task k x t key e))),
+
+-- one key fewer
+pub agenda_less : (old new : Tree) (x : Task) (k : ℕ) → IsTaskKey k x → ((m : ℕ) → HasKey new m ↔ (HasKey old m × ¬ (m ≡ k))) → ((m : ℕ) → HasKey old m → IsCode m) → ((t : Task) → Has new t ↔ (Has old t × ¬ (t ≡ x))) × ((m : ℕ) → HasKey new m → IsCode m)
+unfolding Has IsAgenda
+agenda_less old new x k key less codes = (
+  λ t. (
+    λ h.
+        let there = (less h.0).0 h.1 in
+        ((h.0, there.0, h.2), λ e. there.1 (one_key h.0 k x (subst (IsTaskKey h.0) (h.2 ∙ e) (codes h.0 there.0)) key)),
+    λ h. (h.0.0, (less h.0.0).1 (h.0.1, λ e. h.1 (sym h.0.2 ∙ ap task_at e ∙ task_again k x key)), h.0.2),
+  ),
+  λ m h. codes m ((less m).0 h).0,
 )
+
+-- the same keys
+pub agenda_same : (old new : Tree) → ((m : ℕ) → HasKey new m ↔ HasKey old m) → ((m : ℕ) → HasKey old m → IsCode m) → ((t : Task) → Has new t ↔ Has old t) × ((m : ℕ) → HasKey new m → IsCode m)
+unfolding Has IsAgenda
+agenda_same old new same codes = (
+  λ t. (λ h. (h.0, (same h.0).0 h.1, h.2), λ h. (h.0, (same h.0).1 h.1, h.2)),
+  λ m h. codes m ((same m).0 h),
+)
+
+-- a leaf has no task
+pub none_in_leaf : (t : Task) → ¬ Has Leaf t
+unfolding Has
+none_in_leaf t h = absurd h.1
+
+-- a node has a task
+pub some_in_fork : (p : _) (left : Tree) (run : Run) (w : ℕ) (right : Tree) → IsAgenda (Fork' p left run w right) → (t : Task) × Has (Fork' p left run w right) t
+unfolding Has IsAgenda Holds IsFilled
+some_in_fork p left run w right is =
+    let k = get_or run.keys.items 0 0 in
+    (task_at k, (k, inl (at_place run.keys.items 0 is.0.3.1), refl))
+
+-- a tree has no more nodes than tasks
+pub nodes_few : (tasks : Tree) → IsOrdered tasks → nodes tasks ≤ count tasks
+unfolding IsFilled size
+nodes_few Leaf is = omega arith
+nodes_few (Fork' p left run w right) is = omega (arith, nodes_few left is.4, nodes_few right is.5, is.3.1)

@@ -1,8 +1,9 @@
 -- What contracts see of the lists and trees.
-use Rattle.std.proofs.Common.{ℕ, ◌≡◌, refl, sym, ap, ap₂, ◌∙◌, subst, ◌⊎◌, inl, inr, Bool, false, List, ◌∷◌, length, length-append, arith, ◌↔◌}
+use Rattle.std.proofs.Common.{ℕ, ◌≡◌, refl, sym, ap, ap₂, ◌∙◌, subst, ◌⊎◌, inl, inr, Bool, false, List, ◌++◌, length, length-append, arith, ◌↔◌}
 use Rattle.std.specs.Prelude.{Contains, map, zip}
+use Rattle.std.proofs.lemmas.List.{length-map}
 use Rattle.std.proofs.lemmas.List.Elements.{Contains-append_left, Contains-append_right, Contains-append_cases}
-use Rattle.kb_lemmas.proofs.Membership.{contains_cases, contains_behind, contains_first, contains_map, contains_mapped}
+use Rattle.kb_lemmas.proofs.Membership.{none_in, contains_map, contains_mapped}
 use Rattle.kb_label.specs.Names.{Name}
 use Rattle.kb_node.specs.declared.job.Job.{Job}
 use Rattle.kb_node.specs.declared.job.Job.TheVariants.{Reduce, Orient, Overlap, Close}
@@ -12,43 +13,62 @@ use Rattle.mkb_pick.specs.declared.task.Task.{Task}
 use Rattle.mkb_pick.specs.declared.queue.Entry.{Entry}
 use Rattle.mkb_pick.specs.declared.queue.Queue.{Queue}
 use Rattle.mkb_pick.specs.declared.tree.Tree.{Tree, Leaf, Fork'}
-use Rattle.mkb_pick.specs.Trees.{Has, count, seen}
+use Rattle.mkb_pick.specs.Runs.{Holds, size}
+use Rattle.mkb_pick.specs.Trees.{HasKey, count, keys}
 use Rattle.mkb_model.specs.Jobs.{process_of}
-use Rattle.mkb_pick.specs.Tasks.{job_of, work_of}
+use Rattle.mkb_pick.specs.Tasks.{Has, job_of, work_of, seen, task_at}
 use Rattle.mkb_pick.specs.Queues.{IsQueue, IsAt, Sits, HasTask, IsSeated}
 use Rattle.mkb_pick.specs.Listings.{Listed, IsListed, IsProcess, HasJob}
 use Rattle.mkb_pick.specs.Views.{job_in, listed_in, processes_of}
+use Rattle.mkb_pick.proofs.Tasks.{none_in_leaf}
 use Rattle.mkb_pick.proofs.Seats.{both_has, entry_of}
 
 -- ---- what is seen of a tree
 
-pub seen_from : {T Y : Type 0} (f : T → Y) (tree : Tree T) (y : Y) → Contains (seen f tree) y → (x : T) × Has tree x × (f x ≡ y)
-seen_from f Leaf y c = absurd (omega arith)
-seen_from f (Fork' p left item k w right) y c =
-    elim (Contains-append_cases (seen f left) (f item ∷ seen f right) y c) [
-      | inl a ↦ let r = seen_from f left y a in (r.0, inr (inl r.1), r.2)
-      | inr a ↦
-          elim (contains_cases (f item) (seen f right) y a) [
-            | inl e ↦ (item, inl refl, e)
-            | inr b ↦ let r = seen_from f right y b in (r.0, inr (inr r.1), r.2)
-          ]
-    ]
+-- the list of the numbers
+pub listed_keys : (tree : Tree) (k : ℕ) → Contains (keys tree) k ↔ HasKey tree k
+unfolding Holds
+listed_keys Leaf k = (λ c. none_in c, λ h. absurd h)
+listed_keys (Fork' p left run w right) k =
+    let low = listed_keys left k in
+    let high = listed_keys right k in (
+      λ c.
+          elim (Contains-append_cases (keys left) (run.keys.items ++ keys right) k c) [
+            | inl a ↦ inr (inl (low.0 a))
+            | inr a ↦
+                elim (Contains-append_cases run.keys.items (keys right) k a) [
+                  | inl b ↦ inl b
+                  | inr b ↦ inr (inr (high.0 b))
+                ]
+          ],
+      λ h.
+          elim h [
+            | inl a ↦ Contains-append_right (keys left) (run.keys.items ++ keys right) k (Contains-append_left run.keys.items (keys right) k a)
+            | inr a ↦
+                elim a [
+                  | inl b ↦ Contains-append_left (keys left) (run.keys.items ++ keys right) k (low.1 b)
+                  | inr b ↦ Contains-append_right (keys left) (run.keys.items ++ keys right) k (Contains-append_right run.keys.items (keys right) k (high.1 b))
+                ]
+          ],
+    )
 
-pub seen_to : {T Y : Type 0} (f : T → Y) (tree : Tree T) (x : T) → Has tree x → Contains (seen f tree) (f x)
-seen_to f Leaf x h = absurd h
-seen_to f (Fork' p left item k w right) x h =
-    elim h [
-      | inl e ↦ Contains-append_right (seen f left) (f item ∷ seen f right) (f x) (subst (λ z. Contains (f z ∷ seen f right) (f x)) e (contains_first (f x) (seen f right)))
-      | inr a ↦
-          elim a [
-            | inl b ↦ Contains-append_left (seen f left) (f item ∷ seen f right) (f x) (seen_to f left x b)
-            | inr b ↦ Contains-append_right (seen f left) (f item ∷ seen f right) (f x) (contains_behind (f item) (seen f right) (f x) (seen_to f right x b))
-          ]
-    ]
+keys_length : (tree : Tree) → length (keys tree) ≡ count tree
+unfolding size
+keys_length Leaf = refl
+keys_length (Fork' p left run w right) = omega (arith, length-append (keys left) (run.keys.items ++ keys right), length-append run.keys.items (keys right), keys_length left, keys_length right)
 
-pub seen_length : {T Y : Type 0} (f : T → Y) (tree : Tree T) → length (seen f tree) ≡ count tree
-seen_length f Leaf = refl
-seen_length f (Fork' p left item k w right) = omega (arith, length-append (seen f left) (f item ∷ seen f right), seen_length f left, seen_length f right)
+pub seen_from : {Y : Type 0} (f : Task → Y) (tree : Tree) (y : Y) → Contains (seen f tree) y → (x : Task) × Has tree x × (f x ≡ y)
+unfolding Has
+seen_from f tree y c =
+    let r = contains_mapped (λ k. f (task_at k)) (keys tree) y c in
+    (task_at r.0, (r.0, (listed_keys tree r.0).0 r.1, refl), r.2)
+
+pub seen_to : {Y : Type 0} (f : Task → Y) (tree : Tree) (x : Task) → Has tree x → Contains (seen f tree) (f x)
+unfolding Has
+seen_to f tree x h = subst (λ z. Contains (seen f tree) (f z)) h.2 (contains_map (λ k. f (task_at k)) (keys tree) h.0 ((listed_keys tree h.0).1 h.1))
+
+pub seen_length : {Y : Type 0} (f : Task → Y) (tree : Tree) → length (seen f tree) ≡ count tree
+seen_length f tree = length-map (keys tree) (λ k. f (task_at k)) ∙ keys_length tree
 
 -- ---- jobs and tasks
 
@@ -220,11 +240,11 @@ come_seen q0 q1 ps is new p k h n c r = (
       ])),
 )
 
-pub jobs_come_seen : (q0 q1 : Queue) (ps : List Listed) → IsSeen q0 ps → IsQueue q1 → (p : Name) → ((n : Name) (t : Task) → HasTask q1 n t ↔ (((n ≡ p) × ⊥) ⊎ HasTask q0 n t)) → (j : Job) (w : ℕ) → HasJob (processes_of q1) j w ↔ HasJob ps j w
+pub jobs_come_seen : (q0 q1 : Queue) (ps : List Listed) → IsSeen q0 ps → IsQueue q1 → (p : Name) → ((n : Name) (t : Task) → HasTask q1 n t ↔ (((n ≡ p) × Has Leaf t) ⊎ HasTask q0 n t)) → (j : Job) (w : ℕ) → HasJob (processes_of q1) j w ↔ HasJob ps j w
 jobs_come_seen q0 q1 ps is new p h j w = (
   λ x.
       elim ((h (process_of j) (task_in j w)).0 ((job_seen q1 (processes_of q1) (new, refl) j w).0 x)) [
-        | inl q ↦ absurd q.1
+        | inl q ↦ absurd (none_in_leaf (task_in j w) q.1)
         | inr q ↦ (job_seen q0 ps is j w).1 q
       ],
   λ x. (job_seen q1 (processes_of q1) (new, refl) j w).1 ((h (process_of j) (task_in j w)).1 (inr ((job_seen q0 ps is j w).0 x))),

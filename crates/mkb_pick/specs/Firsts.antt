@@ -1,7 +1,6 @@
 -- What comes first.
-use Rattle.std.specs.Prelude.{ℕ, ◌≡◌, ◌<◌, ◌⊎◌, true, false, List}
+use Rattle.std.specs.Prelude.{ℕ, ◌≡◌, ◌<◌, ◌≤◌, ◌⊎◌, true, false, List}
 use Rattle.std.specs.Ordering.{ordering_then, nat_cmp}
-use Rattle.std.specs.declared.cmp.Ordering.{Ordering}
 use Rattle.std.specs.declared.cmp.Ordering.TheVariants.{Less}
 use Rattle.std.specs.declared.option.Option.{Option}
 use Rattle.std.specs.declared.option.Option.TheVariants.{Some, None}
@@ -12,18 +11,27 @@ use Rattle.mkb_pick.specs.declared.queue.Entry.{Entry}
 use Rattle.mkb_pick.specs.declared.queue.Queue.{Queue}
 use Rattle.mkb_pick.specs.declared.search.Choice.{Choice}
 use Rattle.mkb_pick.specs.declared.task.Task.{Task}
-use Rattle.mkb_pick.specs.Trees.{Has}
-use Rattle.mkb_pick.specs.Tasks.{job_of, is_open, task_cmp}
+use Rattle.mkb_pick.specs.Tasks.{Has, job_of, is_open, task_at, task_cmp}
+use Rattle.mkb_pick.specs.Runs.{Precedes}
 use Rattle.mkb_pick.specs.Queues.{Stands, IsAt}
 
--- the first item with P, or that there is none
-abbrev pub IsFirst : {T : Type 0} → (T → T → Ordering) → Tree T → (T → Type 0) → Option T → Type 0
-IsFirst {T} cmp tree P None = (y : T) → Has tree y → ¬ P y
-IsFirst {T} cmp tree P (Some x) = Has tree x × P x × ((y : T) → Has tree y → P y → (y ≡ x) ⊎ (cmp x y ≡ Less))
+-- the first task with P, or that there is none
+abbrev pub IsFirst : Tree → (Task → Type 0) → Option Task → Type 0
+IsFirst tasks P None = (y : Task) → Has tasks y → ¬ P y
+IsFirst tasks P (Some x) = Has tasks x × P x × ((y : Task) → Has tasks y → P y → (y ≡ x) ⊎ (task_cmp x y ≡ Less))
+
+-- the key is from low on and before high, and that of a task which clashes with nothing in flight
+unfoldable pub IsOffer : List Job → Name → ℕ → ℕ → ℕ → Type 0
+IsOffer flight n low high k = (low ≤ k) × (k < high) × (is_open flight n (task_at k) ≡ true)
+
+-- the least of the numbers with P, or that there is none
+abbrev pub IsLeast : (ℕ → Type 0) → (ℕ → Type 0) → Option ℕ → Type 0
+IsLeast Q P None = (k : ℕ) → Q k → ¬ P k
+IsLeast Q P (Some x) = Q x × P x × ((k : ℕ) → Q k → P k → (x ≡ k) ⊎ Precedes x k)
 
 -- the first task of the process that clashes with nothing in flight
 abbrev pub IsFirstOpen : List Job → Name → Entry → Option Task → Type 0
-IsFirstOpen flight n e r = IsFirst task_cmp e.tasks (λ t. is_open flight n t ≡ true) r
+IsFirstOpen flight n e r = IsFirst e.tasks (λ t. is_open flight n t ≡ true) r
 
 -- the process does not rest and has a task that clashes with nothing in flight
 abbrev pub IsReady : List Job → Name → Entry → Type 0

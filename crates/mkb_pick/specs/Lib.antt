@@ -1,3 +1,4 @@
+pub mod Runs
 pub mod Trees
 pub mod Jobs
 pub mod Keys

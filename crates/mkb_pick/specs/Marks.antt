@@ -6,7 +6,7 @@ use Rattle.mkb_pick.specs.declared.marks.Marks.{Marks}
 use Rattle.mkb_pick.specs.declared.task.Work.TheVariants.{Reducing}
 use Rattle.mkb_pick.specs.declared.task.Task.{Task}
 use Rattle.mkb_pick.specs.declared.tree.Tree.{Tree}
-use Rattle.mkb_pick.specs.Trees.{Has}
+use Rattle.mkb_pick.specs.Tasks.{Has}
 
 -- the mark of a node
 abbrev pub mark_at : Marks → ℕ → Mark
@@ -29,13 +29,13 @@ abbrev pub reducing : ℕ → ℕ → Task
 reducing k w = record { work = Reducing (record { 0 = k }); weight = w }
 
 -- what a mark says of the reducings of a node
-abbrev pub Tells : Mark → Tree Task → ℕ → Type 0
+abbrev pub Tells : Mark → Tree → ℕ → Type 0
 Tells Absent tasks k = (w : ℕ) → ¬ Has tasks (reducing k w)
 Tells Single tasks k = (v : ℕ) × ((w : ℕ) → Has tasks (reducing k w) ↔ (w ≡ v))
 Tells Unknown tasks k = Unit {0}
 
 -- what the marks say holds of the tasks
-abbrev pub IsTold : Marks → Tree Task → Type 0
+abbrev pub IsTold : Marks → Tree → Type 0
 IsTold m tasks = (k : ℕ) → Tells (mark_at m k) tasks k
 
 -- the node has the mark now, and each other one as before; of some it may be unknown

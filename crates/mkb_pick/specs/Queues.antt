@@ -3,8 +3,8 @@ use Rattle.std.specs.Prelude.{ℕ, ◌≡◌, ◌<◌, ◌≤◌, ◌+◌, Bool,
 use Rattle.std.specs.declared.option.Option.{Option}
 use Rattle.std.specs.declared.option.Option.TheVariants.{Some, None}
 use Rattle.kb_label.specs.Names.{Name, IsInNameOrder}
-use Rattle.mkb_pick.specs.Trees.{Has, IsOrdered, count}
-use Rattle.mkb_pick.specs.Tasks.{IsTaskKey, task_cmp}
+use Rattle.mkb_pick.specs.Trees.{count}
+use Rattle.mkb_pick.specs.Tasks.{Has, IsAgenda}
 use Rattle.mkb_pick.specs.Marks.{IsTold}
 use Rattle.mkb_pick.specs.declared.task.Task.{Task}
 use Rattle.mkb_pick.specs.declared.tree.Tree.{Tree}
@@ -20,13 +20,13 @@ abbrev pub IsAt : Queue → Name → Entry → Type 0
 IsAt q n e = (k : ℕ) × Stands q.names.items q.entries.items k n e
 
 -- there are as many tasks as is told, if it is
-abbrev pub IsTally : Option ℕ → Tree Task → Type 0
+abbrev pub IsTally : Option ℕ → Tree → Type 0
 IsTally None tasks = Unit {0}
 IsTally (Some n) tasks = n ≡ count tasks
 
 -- what holds of an entry: the tasks are ordered, what the marks say of them holds, and there are as many as is told
 abbrev pub IsSound : Entry → Type 0
-IsSound e = IsOrdered IsTaskKey task_cmp e.tasks × IsTold e.marks e.tasks × IsTally e.tally e.tasks
+IsSound e = IsAgenda e.tasks × IsTold e.marks e.tasks × IsTally e.tally e.tasks
 
 -- what holds of a queue: the names are in order and have an entry each, the entries are sound, and there is as much room as is told
 pub record IsQueue (q : Queue) : Type 0 where

@@ -1,5 +1,5 @@
 -- Tasks: jobs without their processes, with their weights.
-use Rattle.std.specs.Prelude.{ℕ, ◌≡◌, ◌^◌, List, [], ◌∷◌, Bool, ◌≤◌}
+use Rattle.std.specs.Prelude.{ℕ, zero, suc, ◌≡◌, ◌^◌, ◌/◌, ◌%◌, List, [], ◌∷◌, Bool, ◌≤◌, map}
 use Rattle.std.specs.Ordering.{nat_cmp}
 use Rattle.std.specs.Cmp.Lexicographic.{slice_cmp}
 use Rattle.std.specs.declared.cmp.Ordering.{Ordering}
@@ -11,6 +11,8 @@ use Rattle.mkb_pick.specs.declared.task.Work.TheVariants.{Reducing, Orienting, O
 use Rattle.mkb_pick.specs.declared.task.Task.{Task}
 use Rattle.mkb_model.specs.Jobs.{is_free}
 use Rattle.mkb_pick.specs.Keys.{Fits, packed}
+use Rattle.mkb_pick.specs.declared.tree.Tree.{Tree}
+use Rattle.mkb_pick.specs.Trees.{HasKey, IsOrdered, keys}
 
 -- the job of the process
 abbrev pub job_of : Name → Work → Job
@@ -67,3 +69,30 @@ IsWithin low high t = (low ≤ work_kind t.work) × (work_kind t.work ≤ high)
 -- the task of the process clashes with none of the jobs in flight
 abbrev pub is_open : List Job → Name → Task → Bool
 is_open flight p t = is_free flight (job_of p t.work)
+
+-- the work of the kind with these numbers
+abbrev pub work_at : ℕ → ℕ → ℕ → ℕ → ℕ → Work
+work_at zero n d m e = Reducing (record { 0 = n })
+work_at (suc zero) n d m e = Orienting (record { 0 = n })
+work_at (suc (suc zero)) n d m e = Overlapping (record { node = n; dir = d }) (record { node = m; dir = e })
+work_at (suc (suc (suc kind))) n d m e = Closing
+
+-- the task that has the key
+abbrev pub task_at : ℕ → Task
+task_at k = record { work = work_at (k / 2 ^ 80) (k / 2 ^ 32 % 2 ^ 16) (k / 2 ^ 24 % 2 ^ 8) (k / 2 ^ 8 % 2 ^ 16) (k % 2 ^ 8); weight = k / 2 ^ 48 % 2 ^ 32 }
+
+-- the number is the key of a task
+abbrev pub IsCode : ℕ → Type 0
+IsCode k = IsTaskKey k (task_at k)
+
+-- the task stands in the tree, by its key
+unfoldable pub Has : Tree → Task → Type 0
+Has tasks t = (k : ℕ) × HasKey tasks k × (task_at k ≡ t)
+
+-- the numbers of the tree are in order, and each is the key of a task
+unfoldable pub IsAgenda : Tree → Type 0
+IsAgenda tasks = IsOrdered tasks × ((k : ℕ) → HasKey tasks k → IsCode k)
+
+-- what is seen of each task, in their order
+abbrev pub seen : {Y : Type 0} → (Task → Y) → Tree → List Y
+seen f tasks = map (λ k. f (task_at k)) (keys tasks)

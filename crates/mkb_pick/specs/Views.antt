@@ -6,8 +6,7 @@ use Rattle.mkb_pick.specs.declared.task.Task.{Task}
 use Rattle.mkb_pick.specs.declared.queue.Entry.{Entry}
 use Rattle.mkb_pick.specs.declared.queue.Queue.{Queue}
 use Rattle.mkb_pick.specs.declared.stores.Stores.{Stores}
-use Rattle.mkb_pick.specs.Trees.{seen}
-use Rattle.mkb_pick.specs.Tasks.{job_of}
+use Rattle.mkb_pick.specs.Tasks.{job_of, seen}
 use Rattle.mkb_pick.specs.Listings.{Listed, Listing}
 
 -- a task as a job of its process

@@ -10,7 +10,6 @@ use crate::queue::{Entry, Queue};
 use crate::search::next_job;
 use crate::stores::Stores;
 use crate::task::{Task, Work, process_of};
-use crate::tree::Placed;
 use kb_label::{MAX_BITS, Process};
 use kb_node::{Job, NodeId};
 use kb_term::Memory;
@@ -21,10 +20,11 @@ use std::marker::Model;
 ///
 /// Contracts see the listed processes in the order of their names, each with its cost, whether it rests, and its jobs with
 /// their weights; and two spare numbers, for how many more jobs and processes there is room. Behind it stand the names in
-/// their order, and for each process a tree of its jobs by keys made of kind, weight and numbers, how many there are, and a
-/// mark of each node whose reducing it had. A call finds its process by a search that begins where the last change was, and
-/// goes down its tree; `list`, `unlist` and `split` move the processes behind; `split` and `unlist` also go over the jobs of
-/// their process. `remove` keeps the memory of its job for the next ones, of up to 1,024 jobs; `unlist` gives it back.
+/// their order, and for each process a tree of its jobs by keys made of kind, weight and numbers, up to 32 of them in a node,
+/// how many there are, and a mark of each node whose reducing it had. A call finds its process by a search that begins where
+/// the last change was, and goes down its tree; `list`, `unlist` and `split` move the processes behind; `split` and `unlist`
+/// also go over the jobs of their process. `remove` keeps the memory of a node that it emptied for the next ones, of up to
+/// 1,024 nodes; `unlist` gives it back. A spare job is a spare node.
 #[derive(Drop)]
 pub struct Agenda {
     alloc: Global,
@@ -121,10 +121,9 @@ impl Agenda {
             work: Work::of(job),
             weight,
         };
-        let mut node = self.stores.take_job();
-        node.key = task.key();
-        node.item = task;
-        self.queue.add_task(&process_of(job), node);
+        self.stores.spare_jobs -= 1;
+        self.queue
+            .add_task(&process_of(job), &task, &mut self.stores.jobs);
         Ok(())
     }
 
@@ -140,8 +139,8 @@ impl Agenda {
             work: Work::of(job),
             weight,
         };
-        let node = self.queue.remove_task(&process_of(job), &task);
-        self.stores.take_back(node)
+        self.queue
+            .remove_task(&process_of(job), &task, &mut self.stores.jobs)
     }
 
     /// Whether a job is listed under the weight. It takes no memory.

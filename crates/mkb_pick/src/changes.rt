@@ -1,50 +1,54 @@
 // What changes in the queue.
-ghost use Rattle.std.specs.Prelude.{◌≡◌, ◌⊎◌, ◌↔◌, ◌+◌, ◌-◌, ◌^◌, ◌<◌, ◌≤◌, min, IsTrue, is_some, ℕ, Bool, length};
+ghost use Rattle.std.specs.Prelude.{◌≡◌, ◌⊎◌, ◌↔◌, ◌+◌, ◌-◌, ◌^◌, ◌<◌, ◌≤◌, min, IsTrue, ℕ, Bool, length, vec_len};
 ghost use Rattle.kb_label.specs.Names.{Name, child};
-ghost use Rattle.mkb_pick.specs.Trees.{Has, IsOrdered, count};
-ghost use Rattle.mkb_pick.specs.Tasks.{IsTaskKey, task_cmp};
+ghost use Rattle.mkb_pick.specs.Trees.{count};
+ghost use Rattle.mkb_pick.specs.Tasks.{Has, IsAgenda};
 ghost use Rattle.mkb_pick.specs.Listings.{IsChild};
 ghost use Rattle.mkb_pick.specs.Marks.{reducing};
 ghost use Rattle.mkb_pick.specs.Queues.{IsQueue, IsSound, IsAt, IsSeated, HasTask, Sits};
 ghost use Rattle.mkb_pick.specs.Stores.{IsStocked};
 
+use crate::entry::is_in;
+use crate::pool::Pool;
 use crate::queue::{Entry, Queue};
 use crate::stores::Stores;
 use crate::task::Task;
-use crate::tree::{Node, Placed, Tree, find};
+use crate::tree::Tree;
 use kb_label::{MAX_BITS, Process};
 use kb_node::NodeId;
 
 impl Queue {
-    /// Adds a task of a process.
-    pub(crate) fn add_task(&mut self, name: &Process, node: Box<Node<Task>>)
+    /// Adds a task of a process, and takes one node out of the pool at most.
+    pub(crate) fn add_task(&mut self, name: &Process, task: &Task, pool: &mut Pool)
         requires queue { IsQueue self.old }
         requires seated { IsSeated self.old name.now }
-        requires keyed { IsTaskKey node.value.key node.value.item }
-        requires absent { ¬ HasTask self.old name.now node.value.item }
+        requires absent { ¬ HasTask self.old name.now task.now }
+        requires spare { 0 < vec_len pool.old.boxes }
         ensures seats { (n : Name) (c : ℕ) (r : Bool) → Sits self.new n c r ↔ Sits self.old n c r }
-        ensures tasks { (n : Name) (t : Task) → HasTask self.new n t ↔ (((n ≡ name.now) × (t ≡ node.value.item)) ⊎ HasTask self.old n t) }
+        ensures tasks { (n : Name) (t : Task) → HasTask self.new n t ↔ (((n ≡ name.now) × (t ≡ task.now)) ⊎ HasTask self.old n t) }
         ensures spare { self.new.spare ≡ self.old.spare }
         ensures queue { IsQueue self.new }
+        ensures used { vec_len pool.old.boxes ≤ vec_len pool.new.boxes + 1 }
     {
         let Some(place) = self.seek(name) else {
             unreachable!()
         };
-        self.entries[place].add(node);
+        self.entries[place].add(task, pool);
     }
 
-    /// Takes out a task of a process: its node, where it was there.
-    pub(crate) fn remove_task(&mut self, name: &Process, task: &Task) -> Option<Box<Node<Task>>>
+    /// Takes out a task of a process: whether it was there.
+    pub(crate) fn remove_task(&mut self, name: &Process, task: &Task, pool: &mut Pool) -> bool
         requires queue { IsQueue self.old }
-        ensures found { IsTrue (is_some result) ↔ HasTask self.old name.now task.now }
+        ensures found { IsTrue result ↔ HasTask self.old name.now task.now }
         ensures seats { (n : Name) (c : ℕ) (r : Bool) → Sits self.new n c r ↔ Sits self.old n c r }
         ensures tasks { (n : Name) (t : Task) → HasTask self.new n t ↔ (HasTask self.old n t × ¬ ((n ≡ name.now) × (t ≡ task.now))) }
         ensures spare { self.new.spare ≡ self.old.spare }
         ensures queue { IsQueue self.new }
+        ensures kept { vec_len pool.old.boxes ≤ vec_len pool.new.boxes }
     {
         match self.seek(name) {
-            Some(place) => self.entries[place].remove(task),
-            None => None,
+            Some(place) => self.entries[place].remove(task, pool),
+            None => false,
         }
     }
 
@@ -166,19 +170,9 @@ impl Queue {
     }
 }
 
-// Whether a task is there.
-fn is_in(tasks: &Tree<Task>, task: &Task) -> bool
-    requires { IsOrdered IsTaskKey task_cmp tasks.now }
-    ensures { IsTrue result ↔ Has tasks.now task.now }
-{
-    match find(tasks, task.key()) {
-        Some(_) => true,
-        None => false,
-    }
-}
-
 // Whether there is no task.
-fn is_bare(tasks: &Tree<Task>) -> bool
+fn is_bare(tasks: &Tree) -> bool
+    requires { IsAgenda tasks.now }
     ensures { IsTrue result ↔ ((t : Task) → ¬ Has tasks.now t) }
 {
     match tasks {

@@ -8,6 +8,7 @@ mod marks;
 mod places;
 mod pool;
 mod queue;
+mod run;
 mod search;
 mod stores;
 mod task;

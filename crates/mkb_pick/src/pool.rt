@@ -1,7 +1,8 @@
 // Nodes that are set aside.
 ghost use Rattle.std.specs.Prelude.{◌≡◌, ◌+◌, ◌<◌, ◌≤◌, OnOk, IsOk, vec_len, []};
 
-use crate::tree::{Node, Placed, Tree};
+use crate::run::Run;
+use crate::tree::{Node, Tree};
 use kb_term::Memory;
 use std::alloc::Global;
 
@@ -10,12 +11,12 @@ const MOST_KEPT: usize = 1_024;
 
 /// Nodes that are set aside, so that what needs one needs no memory.
 #[derive(Drop)]
-pub(crate) struct Pool<T> {
-    pub(crate) boxes: Vec<Box<Node<T>>>,
+pub(crate) struct Pool {
+    pub(crate) boxes: Vec<Box<Node>>,
     state: u64,
 }
 
-impl<T: Placed> Pool<T> {
+impl Pool {
     /// No node.
     pub(crate) fn new(alloc: Global) -> Self
         ensures { vec_len result.boxes ≡ 0 }
@@ -40,8 +41,7 @@ impl<T: Placed> Pool<T> {
                 alloc,
                 Node {
                     left: Tree::Leaf,
-                    item: T::blank(),
-                    key: 0,
+                    run: Run::new(),
                     priority: self.draw(),
                     right: Tree::Leaf,
                 },
@@ -52,7 +52,7 @@ impl<T: Placed> Pool<T> {
     }
 
     /// A node out of the pool.
-    pub(crate) fn take(&mut self) -> Box<Node<T>>
+    pub(crate) fn take(&mut self) -> Box<Node>
         requires { 0 < vec_len self.old.boxes }
         ensures { vec_len self.new.boxes + 1 ≡ vec_len self.old.boxes }
     {
@@ -63,7 +63,7 @@ impl<T: Placed> Pool<T> {
     }
 
     /// Keeps a node that came back where there is room for it, else lets it go. It takes no memory.
-    pub(crate) fn give(&mut self, node: Box<Node<T>>)
+    pub(crate) fn give(&mut self, node: Box<Node>)
         ensures { vec_len self.old.boxes ≤ vec_len self.new.boxes }
     {
         let len = self.boxes.len();

@@ -6,7 +6,6 @@ ghost use Rattle.mkb_pick.specs.Queues.{IsQueue, IsSound, IsAt, IsSeated};
 
 use crate::marks::Marks;
 use crate::places::place_from;
-use crate::task::Task;
 use crate::tree::Tree;
 use kb_label::Process;
 use kb_term::Memory;
@@ -17,7 +16,7 @@ use std::alloc::Global;
 pub(crate) struct Entry {
     pub(crate) cost: u64,
     pub(crate) resting: bool,
-    pub(crate) tasks: Tree<Task>,
+    pub(crate) tasks: Tree,
     // How many tasks there are, where that is known.
     pub(crate) tally: Option<usize>,
     pub(crate) marks: Marks,
@@ -25,6 +24,7 @@ pub(crate) struct Entry {
 
 impl Entry {
     /// No task, and no rest.
+    #[tactic(auto, unfolding(crate::specs::Tasks::Has, crate::specs::Tasks::IsAgenda))]
     pub(crate) fn awake(alloc: Global, cost: u64) -> Entry
         ensures bare { result ≡ record { cost = cost; resting = false; tasks = Leaf; tally = Some 0; marks = result.marks } }
         ensures sound { IsSound result }

@@ -1,13 +1,15 @@
 // The search for the next job.
-ghost use Rattle.std.specs.Prelude.{◌≡◌, ◌↔◌, ◌<◌, ◌+◌, true, length, IsTrue, MatchOption};
-ghost use Rattle.mkb_pick.specs.Trees.{IsOrdered};
+ghost use Rattle.std.specs.Prelude.{ℕ, ◌≡◌, ◌↔◌, ◌<◌, ◌+◌, true, false, length, IsTrue, MatchOption};
+ghost use Rattle.mkb_pick.specs.Runs.{Precedes, Holds, IsFilled};
+ghost use Rattle.mkb_pick.specs.Trees.{HasKey, IsOrdered};
 ghost use Rattle.mkb_model.specs.Jobs.{is_free};
-ghost use Rattle.mkb_pick.specs.Tasks.{IsTaskKey, task_cmp, job_of, IsWithin, is_open};
+ghost use Rattle.mkb_pick.specs.Tasks.{IsAgenda, job_of, IsWithin, is_open};
 ghost use Rattle.mkb_pick.specs.Queues.{IsQueue};
-ghost use Rattle.mkb_pick.specs.Firsts.{IsFirst, IsNext, IsChoice};
+ghost use Rattle.mkb_pick.specs.Firsts.{IsFirst, IsOffer, IsLeast, IsNext, IsChoice};
 
 use crate::queue::Queue;
-use crate::task::{Task, Work, is_free};
+use crate::run::Run;
+use crate::task::{KINDS, Task, Work, is_free, work_of_key};
 use crate::tree::Tree;
 use kb_label::Process;
 use kb_node::Job;
@@ -20,40 +22,101 @@ fn is_open(work: &Work, process: &Process, flight: &[Job]) -> bool
 }
 
 /// The first task of a kind from low to high that clashes with nothing in flight.
-fn first_between(
-    tasks: &Tree<Task>,
-    process: &Process,
-    flight: &[Job],
-    low: u8,
-    high: u8,
-) -> Option<Task>
-    requires { IsOrdered IsTaskKey task_cmp tasks.now }
-    ensures { IsFirst task_cmp tasks.now (λ t. IsWithin low high t × (is_open flight.now process.now t ≡ true)) result }
+fn first_between(tasks: &Tree, process: &Process, flight: &[Job], low: u8, high: u8) -> Option<Task>
+    requires { IsAgenda tasks.now }
+    ensures { IsFirst tasks.now (λ t. IsWithin low high t × (is_open flight.now process.now t ≡ true)) result }
 {
-    let Tree::Fork(top) = tasks else {
-        return None;
+    let open = Open {
+        process,
+        flight,
+        low: u128::from(low) * KINDS,
+        high: (u128::from(high) + 1) * KINDS,
     };
-    let kind = top.item.work.kind();
-    if low <= kind {
-        if let Some(task) = first_between(&top.left, process, flight, low, high) {
-            return Some(task);
-        }
-        if kind <= high && is_open(&top.item.work, process, flight) {
-            return Some(top.item);
-        }
+    match open.first(tasks) {
+        Some(key) => Some(Task::of_key(key)),
+        None => None,
     }
-    if kind <= high {
-        return first_between(&top.right, process, flight, low, high);
+}
+
+// What is looked for: keys from low on and before high, of tasks that clash with nothing in flight.
+#[derive(Clone, Copy)]
+struct Open<'a> {
+    process: &'a Process,
+    flight: &'a [Job],
+    low: u128,
+    high: u128,
+}
+
+impl Open<'_> {
+    // The least key of the tree that is looked for.
+    fn first(&self, tasks: &Tree) -> Option<u128>
+        requires { IsOrdered tasks.now }
+        ensures { IsLeast (HasKey tasks.now) (IsOffer self.now.flight.now self.now.process.now self.now.low self.now.high) result }
+    {
+        let Tree::Fork(top) = tasks else {
+            return None;
+        };
+        if self.is_left_of(&top.run) {
+            if let Some(key) = self.first(&top.left) {
+                return Some(key);
+            }
+        }
+        if let Some(key) = self.first_of(&top.run) {
+            return Some(key);
+        }
+        if self.is_right_of(&top.run) {
+            return self.first(&top.right);
+        }
+        None
     }
-    None
+
+    // Whether what is looked for may be less than the keys of the run.
+    #[tactic(auto, unfolding(crate::specs::Runs::Precedes, crate::specs::Firsts::IsOffer))]
+    fn is_left_of(&self, run: &Run) -> bool
+        requires { IsFilled run.now }
+        ensures { result ≡ false → (k : ℕ) → ((m : ℕ) → Holds run.now m → Precedes k m) → ¬ IsOffer self.now.flight.now self.now.process.now self.now.low self.now.high k }
+    {
+        self.low < run.first()
+    }
+
+    // Whether what is looked for may be greater than the keys of the run.
+    #[tactic(auto, unfolding(crate::specs::Runs::Precedes, crate::specs::Firsts::IsOffer))]
+    fn is_right_of(&self, run: &Run) -> bool
+        requires { IsFilled run.now }
+        ensures { result ≡ false → (k : ℕ) → ((m : ℕ) → Holds run.now m → Precedes m k) → ¬ IsOffer self.now.flight.now self.now.process.now self.now.low self.now.high k }
+    {
+        run.last() < self.high
+    }
+
+    // The least key of the run that is looked for.
+    fn first_of(&self, run: &Run) -> Option<u128>
+        requires { IsFilled run.now }
+        ensures { IsLeast (Holds run.now) (IsOffer self.now.flight.now self.now.process.now self.now.low self.now.high) result }
+    {
+        let keys = run.keys.as_slice();
+        for key in keys {
+            if self.has(*key) {
+                return Some(*key);
+            }
+        }
+        None
+    }
+
+    // Whether the key is looked for.
+    #[tactic(auto, unfolding(crate::specs::Firsts::IsOffer))]
+    fn has(&self, key: u128) -> bool
+        ensures { IsTrue result ↔ IsOffer self.now.flight.now self.now.process.now self.now.low self.now.high key }
+    {
+        self.low <= key && key < self.high && is_open(&work_of_key(key), self.process, self.flight)
+    }
 }
 
 /// The first task of the process that clashes with nothing in flight.
 ///
 /// Where an Orient or a Close of the process is in flight, its Orients and its Close are passed over in one step.
-fn first_task(tasks: &Tree<Task>, process: &Process, flight: &[Job]) -> Option<Task>
-    requires { IsOrdered IsTaskKey task_cmp tasks.now }
-    ensures { IsFirst task_cmp tasks.now (λ t. is_open flight.now process.now t ≡ true) result }
+fn first_task(tasks: &Tree, process: &Process, flight: &[Job]) -> Option<Task>
+    requires { IsAgenda tasks.now }
+    ensures { IsFirst tasks.now (λ t. is_open flight.now process.now t ≡ true) result }
 {
     if is_open(&Work::Closing, process, flight) {
         return first_between(tasks, process, flight, 0, 3);

@@ -1,21 +1,21 @@
 // Nodes that are set aside for jobs.
-ghost use Rattle.std.specs.Prelude.{◌≡◌, ◌↔◌, ◌+◌, ◌<◌, ◌≤◌, max, OnOk, OnErr, IsOk, is_some};
-ghost use Rattle.mkb_pick.specs.Trees.{Has, IsOrdered, count};
-ghost use Rattle.mkb_pick.specs.Tasks.{IsTaskKey, task_cmp};
+ghost use Rattle.std.specs.Prelude.{◌≡◌, ◌↔◌, ◌+◌, ◌<◌, ◌≤◌, max, OnOk, OnErr, IsOk};
+ghost use Rattle.mkb_pick.specs.Trees.{count};
+ghost use Rattle.mkb_pick.specs.Tasks.{Has, IsAgenda};
+ghost use Rattle.mkb_pick.specs.declared.task.Task.{Task};
 ghost use Rattle.mkb_pick.specs.Queues.{IsQueue};
 ghost use Rattle.mkb_pick.specs.Stores.{IsStocked};
 
 use crate::pool::Pool;
 use crate::queue::Queue;
-use crate::task::Task;
-use crate::tree::{Node, Tree, copy};
+use crate::tree::{Tree, copy};
 use kb_term::Memory;
 use std::alloc::Global;
 
 /// Nodes that are set aside. Of those at hand so many are told: after a refusal there may be more.
 #[derive(Drop)]
 pub(crate) struct Stores {
-    pub(crate) jobs: Pool<Task>,
+    pub(crate) jobs: Pool,
     pub(crate) spare_jobs: usize,
 }
 
@@ -55,40 +55,14 @@ impl Stores {
         Ok(())
     }
 
-    /// A node for a job.
-    pub(crate) fn take_job(&mut self) -> Box<Node<Task>>
-        requires stocked { IsStocked self.old }
-        requires some { 0 < self.old.spare_jobs }
-        ensures jobs { self.new.spare_jobs + 1 ≡ self.old.spare_jobs }
-        ensures stocked { IsStocked self.new }
-    {
-        self.spare_jobs -= 1;
-        self.jobs.take()
-    }
-
-    /// Takes back the node of a job that was taken out: whether there is one.
-    pub(crate) fn take_back(&mut self, node: Option<Box<Node<Task>>>) -> bool
-        requires stocked { IsStocked self.old }
-        ensures back { result ≡ is_some node }
-        ensures jobs { self.new.spare_jobs ≡ self.old.spare_jobs }
-        ensures stocked { IsStocked self.new }
-    {
-        match node {
-            Some(node) => {
-                self.jobs.give(node);
-                true
-            }
-            None => false,
-        }
-    }
-
     /// A tree of the same tasks, of which there are so many.
-    pub(crate) fn copy_tasks(&mut self, tasks: &Tree<Task>, jobs: usize) -> Tree<Task>
+    pub(crate) fn copy_tasks(&mut self, tasks: &Tree, jobs: usize) -> Tree
         requires stocked { IsStocked self.old }
+        requires agenda { IsAgenda tasks.now }
         requires many { count tasks.now ≡ jobs }
         requires some { jobs ≤ self.old.spare_jobs }
         ensures tasks { (t : Task) → Has result t ↔ Has tasks.now t }
-        ensures ordered { IsOrdered IsTaskKey task_cmp tasks.now → IsOrdered IsTaskKey task_cmp result }
+        ensures agenda { IsAgenda result }
         ensures copied { count result ≡ count tasks.now }
         ensures jobs { self.new.spare_jobs + jobs ≡ self.old.spare_jobs }
         ensures stocked { IsStocked self.new }

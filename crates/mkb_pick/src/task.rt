@@ -2,9 +2,8 @@
 ghost use Rattle.std.specs.Prelude.{◌≡◌, ◌∷◌, ◌+◌, ◌*◌, ◌^◌, ◌<◌, []};
 ghost use Rattle.mkb_model.specs.Jobs.{clashes, is_free, process_of};
 ghost use Rattle.mkb_pick.specs.Keys.{Fits, packed};
-ghost use Rattle.mkb_pick.specs.Tasks.{job_of, work_of, work_kind, work_numbers, number_bounds};
+ghost use Rattle.mkb_pick.specs.Tasks.{job_of, work_of, work_kind, work_numbers, number_bounds, IsTaskKey, task_at};
 
-use crate::tree::Placed;
 use kb_label::Process;
 use kb_node::{Job, NodeId};
 use kb_term::RuleRef;
@@ -20,6 +19,9 @@ const WEIGHTS: u64 = 1 << 32;
 
 // How many numbers there are for the work of a kind.
 const NUMBERS: u128 = 1 << 48;
+
+/// How many keys there are for the tasks of a kind.
+pub(crate) const KINDS: u128 = 1 << 80;
 
 /// What a job does, for whichever process.
 #[derive(Clone, Copy)]
@@ -98,32 +100,48 @@ pub(crate) struct Task {
     pub(crate) weight: u32,
 }
 
-impl Placed for Task {
-    ghost use Rattle.std.specs.Cmp.{on_total, nat_cmp_total};
-    ghost use Rattle.std.specs.Cmp.Lexicographic.{lists_total};
-    ghost use Rattle.mkb_pick.specs.Tasks.{task_cmp, work_key, IsTaskKey};
-    ghost use Rattle.mkb_pick.specs.KeyOrder.{keys_order};
-
-    ghost place_cmp = { task_cmp };
-
-    ghost is_key = { IsTaskKey };
-
-    fn key(&self) -> u128 {
+impl Task {
+    /// The key: kind, weight and numbers as one, by which tasks are ordered.
+    pub(crate) fn key(&self) -> u128
+        ensures { IsTaskKey result self.now }
+    {
         let weight = self.weight;
         let front = u64::from(self.work.kind()) * WEIGHTS + u64::from(weight);
         u128::from(front) * NUMBERS + u128::from(self.work.number())
     }
 
-    fn blank() -> Task {
+    /// The task that has the key.
+    pub(crate) fn of_key(key: u128) -> Task
+        ensures { result ≡ task_at key }
+    {
         Task {
-            work: Work::Closing,
-            weight: 0,
+            work: work_of_key(key),
+            weight: (key / NUMBERS % (1 << 32)) as u32,
         }
     }
+}
 
-    ghost total = { on_total (λ t. work_key t.work t.weight) (lists_total nat_cmp_total) };
-
-    ghost exact = { λ k m x y p q. keys_order (work_key x.work x.weight) (work_key y.work y.weight) k m p q };
+/// The work of the task that has the key.
+pub(crate) fn work_of_key(key: u128) -> Work
+    ensures { result ≡ (task_at key).work }
+{
+    let first = (key / (1 << 32) % (1 << 16)) as u16;
+    match key / KINDS {
+        0 => Work::Reducing(NodeId(first)),
+        1 => Work::Orienting(NodeId(first)),
+        2 => {
+            let a = RuleRef {
+                node: first,
+                dir: (key / (1 << 24) % (1 << 8)) as u8,
+            };
+            let b = RuleRef {
+                node: (key / (1 << 8) % (1 << 16)) as u16,
+                dir: (key % (1 << 8)) as u8,
+            };
+            Work::Overlapping(a, b)
+        }
+        _ => Work::Closing,
+    }
 }
 
 /// The process that the job is for.

@@ -1,138 +1,312 @@
-// Ordered trees whose nodes can be set aside.
-ghost use Rattle.std.specs.Prelude.{ℕ, ◌≡◌, ◌⊎◌, ◌↔◌, ◌+◌, ◌^◌, ◌-◌, ◌≤◌, MatchOption, IfSome, IsTrue, vec_len, min};
-ghost use Rattle.std.specs.declared.cmp.Ordering.TheVariants.{Less, Equal, Greater};
-ghost use Rattle.mkb_pick.specs.Trees.{Has, IsOrdered, count};
+// Ordered trees of numbers that stand in runs.
+ghost use Rattle.std.specs.Prelude.{ℕ, ◌≡◌, ◌⊎◌, ◌↔◌, ◌+◌, ◌^◌, ◌-◌, ◌<◌, ◌≤◌, false, length, Contains, IsTrue, vec_len, min};
+ghost use Rattle.mkb_pick.specs.Runs.{Precedes, Holds, IsFilled, size};
+ghost use Rattle.mkb_pick.specs.Trees.{HasKey, IsBehind, IsAhead, IsApart, IsOrdered, count, nodes, IsUnder, count_under};
 
 use crate::pool::Pool;
-use std::cmp::Ordering;
+use crate::run::{LONGEST, Run};
 use std::mem;
-
-/// What has a place among others of its kind.
-pub(crate) trait Placed: Drop {
-    ghost use Rattle.std.specs.declared.cmp.Ordering.{Ordering};
-    ghost use Rattle.std.specs.Cmp.{IsTotalOrder};
-    ghost use Rattle.std.specs.Ordering.{nat_cmp};
-
-    // the order of places
-    ghost place_cmp: { Self → Self → Ordering };
-
-    // the number is the key of the item
-    ghost is_key: { ℕ → Self → Type 0 };
-
-    /// The key: a number that is greater where the place is higher.
-    fn key(&self) -> u128
-        ensures { is_key result self.now };
-
-    /// What a node that is set aside holds.
-    fn blank() -> Self;
-
-    ghost total: { IsTotalOrder place_cmp };
-
-    // keys are ordered as places are
-    ghost exact: { (k m : ℕ) (x y : Self) → is_key k x → is_key m y → place_cmp x y ≡ nat_cmp k m };
-}
 
 /// A search tree that is a heap by the priorities: a treap, as R. Seidel and C. R. Aragon describe it in 'Randomized search
 /// trees' (1996).
 #[cycle(tree)]
 #[derive(Drop)]
-pub(crate) enum Tree<T> {
+pub(crate) enum Tree {
     Leaf,
-    Fork(Box<Node<T>>),
+    Fork(Box<Node>),
 }
 
-/// A node, with the key of its item: what is behind it on the left has lower places, what is on the right higher ones.
+/// A node: what is behind it on the left is less than its numbers, what is on the right is greater.
 #[cycle(tree)]
 #[derive(Drop)]
-pub(crate) struct Node<T> {
-    pub(crate) left: Tree<T>,
-    pub(crate) item: T,
-    pub(crate) key: u128,
+pub(crate) struct Node {
+    pub(crate) left: Tree,
+    pub(crate) run: Run,
     pub(crate) priority: u64,
-    pub(crate) right: Tree<T>,
+    pub(crate) right: Tree,
 }
 
-// Whether a node comes before another.
-#[inline]
-fn is_before<T: Placed>(node: &Node<T>, other: &Node<T>) -> bool
-    requires keyed { T.is_key node.now.key node.now.item }
-    requires other_keyed { T.is_key other.now.key other.now.item }
-    ensures { IsTrue result ↔ (T.place_cmp node.now.item other.now.item ≡ Less) }
-{
-    node.key < other.key
-}
-
-// How what has the key stands to a node.
-#[inline]
-fn against<T: Placed>(key: u128, node: &Node<T>) -> Ordering
-    requires { T.is_key node.now.key node.now.item }
-    ensures order { (x : T) → T.is_key key x → T.place_cmp x node.now.item ≡ result }
-    ensures same { result ≡ Equal → key ≡ node.now.key }
-{
-    key.cmp(&node.key)
-}
-
-/// What comes before the place of a node, and the rest.
-fn split<T: Placed>(tree: Tree<T>, at: &Node<T>) -> (Tree<T>, Tree<T>)
-    requires ordered { IsOrdered T.is_key T.place_cmp tree }
-    requires keyed { T.is_key at.now.key at.now.item }
-    ensures before { (y : T) → Has result.0 y ↔ (Has tree y × (T.place_cmp y at.now.item ≡ Less)) }
-    ensures after { (y : T) → Has result.1 y ↔ (Has tree y × ¬ (T.place_cmp y at.now.item ≡ Less)) }
-    ensures ordered_before { IsOrdered T.is_key T.place_cmp result.0 }
-    ensures ordered_after { IsOrdered T.is_key T.place_cmp result.1 }
-    ensures many { count result.0 + count result.1 ≡ count tree }
+/// Whether a number is there.
+pub(crate) fn has(tree: &Tree, key: u128) -> bool
+    requires { IsOrdered tree.now }
+    ensures { IsTrue result ↔ HasKey tree.now key }
 {
     match tree {
-        Tree::Leaf => (Tree::Leaf, Tree::Leaf),
-        Tree::Fork(mut node) => {
-            if is_before(&node, at) {
-                let right = mem::replace(&mut node.right, Tree::Leaf);
-                let (middle, last) = split(right, at);
-                node.right = middle;
-                (Tree::Fork(node), last)
+        Tree::Leaf => false,
+        Tree::Fork(top) => {
+            if is_below(top, key) {
+                return has(&top.left, key);
+            }
+            if is_above(top, key) {
+                return has(&top.right, key);
+            }
+            top.run.has(key)
+        }
+    }
+}
+
+// Whether the number is less than those of the node.
+#[inline]
+#[tactic(auto, unfolding(crate::specs::Runs::Precedes))]
+fn is_below(node: &Node, key: u128) -> bool
+    requires filled { IsFilled node.now.run }
+    requires behind { IsBehind node.now.left node.now.run }
+    requires ahead { IsAhead node.now.run node.now.right }
+    ensures here { IsTrue result → (k : ℕ) → Holds node.now.run k → Precedes key k }
+    ensures right { IsTrue result → (k : ℕ) → HasKey node.now.right k → Precedes key k }
+    ensures absent_here { IsTrue result → ¬ Holds node.now.run key }
+    ensures absent_right { IsTrue result → ¬ HasKey node.now.right key }
+    ensures left { result ≡ false → (k : ℕ) → HasKey node.now.left k → Precedes k key }
+    ensures absent_left { result ≡ false → ¬ HasKey node.now.left key }
+{
+    key < node.run.first()
+}
+
+// Whether the number is greater than those of the node.
+#[inline]
+#[tactic(auto, unfolding(crate::specs::Runs::Precedes))]
+fn is_above(node: &Node, key: u128) -> bool
+    requires filled { IsFilled node.now.run }
+    requires behind { IsBehind node.now.left node.now.run }
+    requires ahead { IsAhead node.now.run node.now.right }
+    ensures here { IsTrue result → (k : ℕ) → Holds node.now.run k → Precedes k key }
+    ensures left { IsTrue result → (k : ℕ) → HasKey node.now.left k → Precedes k key }
+    ensures absent_here { IsTrue result → ¬ Holds node.now.run key }
+    ensures absent_left { IsTrue result → ¬ HasKey node.now.left key }
+    ensures right { result ≡ false → (k : ℕ) → HasKey node.now.right k → Precedes key k }
+    ensures absent_right { result ≡ false → ¬ HasKey node.now.right key }
+{
+    node.run.last() < key
+}
+
+/// Adds a number, and takes one node out of the pool at most.
+pub(crate) fn add(tree: &mut Tree, key: u128, pool: &mut Pool)
+    requires ordered { IsOrdered tree.old }
+    requires absent { ¬ HasKey tree.old key }
+    requires spare { 0 < vec_len pool.old.boxes }
+    ensures keys { (k : ℕ) → HasKey tree.new k ↔ ((k ≡ key) ⊎ HasKey tree.old k) }
+    ensures ordered { IsOrdered tree.new }
+    ensures many { count tree.new ≡ count tree.old + 1 }
+    ensures used { vec_len pool.old.boxes ≤ vec_len pool.new.boxes + 1 }
+{
+    match tree {
+        Tree::Leaf => *tree = alone(key, pool),
+        Tree::Fork(top) => {
+            if goes_left(top, key) {
+                add(&mut top.left, key, pool);
+                lift_left(tree);
+            } else if goes_right(top, key) {
+                add(&mut top.right, key, pool);
+                lift_right(tree);
             } else {
-                let left = mem::replace(&mut node.left, Tree::Leaf);
-                let (first, middle) = split(left, at);
-                node.left = middle;
-                (first, Tree::Fork(node))
+                add_here(top, key, pool);
+                lift_right(tree);
             }
         }
     }
 }
 
-/// Puts a node at the place of its item.
-pub(crate) fn put<T: Placed>(tree: &mut Tree<T>, mut node: Box<Node<T>>)
-    requires ordered { IsOrdered T.is_key T.place_cmp tree.old }
-    requires keyed { T.is_key node.value.key node.value.item }
-    requires free { (y : T) → Has tree.old y → ¬ (T.place_cmp y node.value.item ≡ Equal) }
-    ensures items { (y : T) → Has tree.new y ↔ ((y ≡ node.value.item) ⊎ Has tree.old y) }
-    ensures ordered { IsOrdered T.is_key T.place_cmp tree.new }
-    ensures many { count tree.new ≡ count tree.old + 1 }
+// A tree of one number.
+fn alone(key: u128, pool: &mut Pool) -> Tree
+    requires spare { 0 < vec_len pool.old.boxes }
+    ensures keys { (k : ℕ) → HasKey result k ↔ (k ≡ key) }
+    ensures ordered { IsOrdered result }
+    ensures many { count result ≡ 1 }
+    ensures used { vec_len pool.old.boxes ≡ vec_len pool.new.boxes + 1 }
+{
+    let mut node = pool.take();
+    node.left = Tree::Leaf;
+    node.right = Tree::Leaf;
+    node.run.hold(key);
+    Tree::Fork(node)
+}
+
+// Whether a number has to be added to the left of a node.
+#[inline]
+fn goes_left(node: &Node, key: u128) -> bool
+    requires filled { IsFilled node.now.run }
+    requires behind { IsBehind node.now.left node.now.run }
+    requires ahead { IsAhead node.now.run node.now.right }
+    ensures here { IsTrue result → (k : ℕ) → Holds node.now.run k → Precedes key k }
+    ensures right { IsTrue result → (k : ℕ) → HasKey node.now.right k → Precedes key k }
+    ensures left { result ≡ false → (k : ℕ) → HasKey node.now.left k → Precedes k key }
+{
+    match node.left {
+        Tree::Leaf => false,
+        Tree::Fork(_) => is_below(node, key),
+    }
+}
+
+// Whether a number has to be added to the right of a node.
+#[inline]
+fn goes_right(node: &Node, key: u128) -> bool
+    requires filled { IsFilled node.now.run }
+    requires behind { IsBehind node.now.left node.now.run }
+    requires ahead { IsAhead node.now.run node.now.right }
+    ensures here { IsTrue result → (k : ℕ) → Holds node.now.run k → Precedes k key }
+    ensures left { IsTrue result → (k : ℕ) → HasKey node.now.left k → Precedes k key }
+    ensures right { result ≡ false → (k : ℕ) → HasKey node.now.right k → Precedes key k }
+{
+    match node.right {
+        Tree::Leaf => false,
+        Tree::Fork(_) => is_above(node, key),
+    }
+}
+
+// Adds a number to the run of a node. Where that is full, its upper half goes to the right.
+fn add_here(node: &mut Node, key: u128, pool: &mut Pool)
+    requires run { IsFilled node.old.run }
+    requires absent { ¬ Holds node.old.run key }
+    requires ahead { IsAhead node.old.run node.old.right }
+    requires below { (k : ℕ) → HasKey node.old.right k → Precedes key k }
+    requires ordered { IsOrdered node.old.right }
+    requires spare { 0 < vec_len pool.old.boxes }
+    ensures keys { (k : ℕ) → (Holds node.new.run k ⊎ HasKey node.new.right k) ↔ ((k ≡ key) ⊎ (Holds node.old.run k ⊎ HasKey node.old.right k)) }
+    ensures run { IsFilled node.new.run }
+    ensures ahead { IsAhead node.new.run node.new.right }
+    ensures ordered { IsOrdered node.new.right }
+    ensures left { node.new.left ≡ node.old.left }
+    ensures many { count node.new.right + size node.new.run ≡ count node.old.right + size node.old.run + 1 }
+    ensures used { vec_len pool.old.boxes ≤ vec_len pool.new.boxes + 1 }
+{
+    if node.run.len() < LONGEST {
+        node.run.insert(key);
+        return;
+    }
+    let mut next = pool.take();
+    part(&mut node.run, key, &mut next.run);
+    put_first(&mut node.right, next);
+}
+
+// Parts the numbers of a full run and one more: the greater ones go to another run.
+fn part(run: &mut Run, key: u128, next: &mut Run)
+    requires run { IsFilled run.old }
+    requires full { size run.old ≡ 32 }
+    requires absent { ¬ Holds run.old key }
+    ensures keys { (k : ℕ) → (Holds run.new k ⊎ Holds next.new k) ↔ ((k ≡ key) ⊎ Holds run.old k) }
+    ensures low { IsFilled run.new }
+    ensures high { IsFilled next.new }
+    ensures apart { (k m : ℕ) → Holds run.new k → Holds next.new m → Precedes k m }
+    ensures many { size run.new + size next.new ≡ size run.old + 1 }
+{
+    run.give_half(next);
+    if is_before(key, next) {
+        run.insert(key);
+    } else {
+        next.insert(key);
+    }
+}
+
+// Whether the number is less than those of a run.
+#[inline]
+#[tactic(auto, unfolding(crate::specs::Runs::Precedes))]
+fn is_before(key: u128, run: &Run) -> bool
+    requires { IsFilled run.now }
+    ensures less { IsTrue result → (k : ℕ) → Holds run.now k → Precedes key k }
+    ensures other { result ≡ false → (k : ℕ) → ((m : ℕ) → Holds run.now m → Precedes k m) → Precedes k key }
+{
+    key < run.first()
+}
+
+// Puts a node before the others.
+fn put_first(tree: &mut Tree, mut node: Box<Node>)
+    requires ordered { IsOrdered tree.old }
+    requires run { IsFilled node.value.run }
+    requires ahead { IsAhead node.value.run tree.old }
+    ensures keys { (k : ℕ) → HasKey tree.new k ↔ (Holds node.value.run k ⊎ HasKey tree.old k) }
+    ensures ordered { IsOrdered tree.new }
+    ensures many { count tree.new ≡ count tree.old + size node.value.run }
 {
     match tree {
-        Tree::Fork(top) if top.priority >= node.priority => {
-            if is_before(&node, top) {
-                put(&mut top.left, node);
-            } else {
-                put(&mut top.right, node);
-            }
-        }
+        Tree::Fork(top) if top.priority >= node.priority => put_first(&mut top.left, node),
         _ => {
-            let (left, right) = split(mem::replace(tree, Tree::Leaf), &node);
-            node.left = left;
-            node.right = right;
+            node.left = Tree::Leaf;
+            node.right = mem::replace(tree, Tree::Leaf);
             *tree = Tree::Fork(node);
         }
     }
 }
 
-/// The items of two trees, of which the first comes before the second.
-fn join<T: Placed>(left: Tree<T>, right: Tree<T>) -> Tree<T>
-    requires ordered_left { IsOrdered T.is_key T.place_cmp left }
-    requires ordered_right { IsOrdered T.is_key T.place_cmp right }
-    requires apart { (x y : T) → Has left x → Has right y → T.place_cmp x y ≡ Less }
-    ensures items { (y : T) → Has result y ↔ (Has left y ⊎ Has right y) }
-    ensures ordered { IsOrdered T.is_key T.place_cmp result }
+// Whether the top of a tree has a higher priority.
+#[inline]
+fn is_higher(tree: &Tree, priority: u64) -> bool {
+    match tree {
+        Tree::Leaf => false,
+        Tree::Fork(top) => top.priority > priority,
+    }
+}
+
+// Lifts the node on the left to the top, where its priority is higher.
+fn lift_left(tree: &mut Tree)
+    ensures keys { (k : ℕ) → HasKey tree.new k ↔ HasKey tree.old k }
+    ensures ordered { IsOrdered tree.old → IsOrdered tree.new }
+    ensures many { count tree.new ≡ count tree.old }
+{
+    if let Tree::Fork(top) = tree {
+        if is_higher(&top.left, top.priority) {
+            *tree = turned_right(mem::replace(tree, Tree::Leaf));
+        }
+    }
+}
+
+// Lifts the node on the right to the top, where its priority is higher.
+fn lift_right(tree: &mut Tree)
+    ensures keys { (k : ℕ) → HasKey tree.new k ↔ HasKey tree.old k }
+    ensures ordered { IsOrdered tree.old → IsOrdered tree.new }
+    ensures many { count tree.new ≡ count tree.old }
+{
+    if let Tree::Fork(top) = tree {
+        if is_higher(&top.right, top.priority) {
+            *tree = turned_left(mem::replace(tree, Tree::Leaf));
+        }
+    }
+}
+
+// The tree with the node on the left as its top.
+fn turned_right(tree: Tree) -> Tree
+    ensures keys { (k : ℕ) → HasKey result k ↔ HasKey tree k }
+    ensures ordered { IsOrdered tree → IsOrdered result }
+    ensures many { count result ≡ count tree }
+{
+    match tree {
+        Tree::Leaf => Tree::Leaf,
+        Tree::Fork(mut top) => match mem::replace(&mut top.left, Tree::Leaf) {
+            Tree::Leaf => Tree::Fork(top),
+            Tree::Fork(mut low) => {
+                top.left = mem::replace(&mut low.right, Tree::Leaf);
+                low.right = Tree::Fork(top);
+                Tree::Fork(low)
+            }
+        },
+    }
+}
+
+// The tree with the node on the right as its top.
+fn turned_left(tree: Tree) -> Tree
+    ensures keys { (k : ℕ) → HasKey result k ↔ HasKey tree k }
+    ensures ordered { IsOrdered tree → IsOrdered result }
+    ensures many { count result ≡ count tree }
+{
+    match tree {
+        Tree::Leaf => Tree::Leaf,
+        Tree::Fork(mut top) => match mem::replace(&mut top.right, Tree::Leaf) {
+            Tree::Leaf => Tree::Fork(top),
+            Tree::Fork(mut high) => {
+                top.right = mem::replace(&mut high.left, Tree::Leaf);
+                high.left = Tree::Fork(top);
+                Tree::Fork(high)
+            }
+        },
+    }
+}
+
+// The numbers of two trees, of which the first comes before the second.
+fn join(left: Tree, right: Tree) -> Tree
+    requires ordered_left { IsOrdered left }
+    requires ordered_right { IsOrdered right }
+    requires apart { IsApart left right }
+    ensures keys { (k : ℕ) → HasKey result k ↔ (HasKey left k ⊎ HasKey right k) }
+    ensures ordered { IsOrdered result }
     ensures many { count result ≡ count left + count right }
 {
     match left {
@@ -154,65 +328,70 @@ fn join<T: Placed>(left: Tree<T>, right: Tree<T>) -> Tree<T>
     }
 }
 
-/// Takes out the node with the key.
-pub(crate) fn take<T: Placed>(tree: &mut Tree<T>, key: u128) -> Option<Box<Node<T>>>
-    requires { IsOrdered T.is_key T.place_cmp tree.old }
-    ensures found { MatchOption result ((y : T) → Has tree.old y → ¬ T.is_key key y) (λ node. Has tree.old node.value.item × T.is_key key node.value.item) }
-    ensures kept { MatchOption result (tree.new ≡ tree.old) (λ node. (y : T) → Has tree.new y ↔ (Has tree.old y × ¬ T.is_key key y)) }
-    ensures ordered { IsOrdered T.is_key T.place_cmp tree.new }
-    ensures many { IfSome result (λ _. count tree.new + 1 ≡ count tree.old) }
+/// Takes a number out: whether it was there. A node that has none then goes to the pool.
+pub(crate) fn remove(tree: &mut Tree, key: u128, pool: &mut Pool) -> bool
+    requires { IsOrdered tree.old }
+    ensures found { IsTrue result ↔ HasKey tree.old key }
+    ensures keys { (k : ℕ) → HasKey tree.new k ↔ (HasKey tree.old k × ¬ (k ≡ key)) }
+    ensures ordered { IsOrdered tree.new }
+    ensures many { IsTrue result → count tree.new + 1 ≡ count tree.old }
+    ensures same { result ≡ false → count tree.new ≡ count tree.old }
+    ensures kept { vec_len pool.old.boxes ≤ vec_len pool.new.boxes }
 {
     match tree {
-        Tree::Leaf => None,
-        Tree::Fork(top) => match against(key, top) {
-            Ordering::Less => take(&mut top.left, key),
-            Ordering::Greater => take(&mut top.right, key),
-            Ordering::Equal => {
-                let left = mem::replace(&mut top.left, Tree::Leaf);
-                let right = mem::replace(&mut top.right, Tree::Leaf);
-                match mem::replace(tree, join(left, right)) {
-                    Tree::Leaf => None,
-                    Tree::Fork(node) => Some(node),
-                }
+        Tree::Leaf => false,
+        Tree::Fork(top) => {
+            if is_below(top, key) {
+                return remove(&mut top.left, key, pool);
             }
-        },
+            if is_above(top, key) {
+                return remove(&mut top.right, key, pool);
+            }
+            if top.run.is_alone(key) {
+                unhook(tree, pool);
+                return true;
+            }
+            top.run.remove(key)
+        }
     }
 }
 
-/// The item with the key.
-pub(crate) fn find<T: Placed>(tree: &Tree<T>, key: u128) -> Option<&T>
-    requires { IsOrdered T.is_key T.place_cmp tree.now }
-    ensures { MatchOption result ((y : T) → Has tree.now y → ¬ T.is_key key y) (λ item. Has tree.now item.now × T.is_key key item.now) }
+// Takes the node at the top out, which goes to the pool.
+fn unhook(tree: &mut Tree, pool: &mut Pool)
+    requires { IsOrdered tree.old }
+    ensures keys { (k : ℕ) → HasKey tree.new k ↔ IsUnder tree.old k }
+    ensures ordered { IsOrdered tree.new }
+    ensures many { count tree.new ≡ count_under tree.old }
+    ensures kept { vec_len pool.old.boxes ≤ vec_len pool.new.boxes }
 {
-    match tree {
-        Tree::Leaf => None,
-        Tree::Fork(top) => match against(key, top) {
-            Ordering::Less => find(&top.left, key),
-            Ordering::Greater => find(&top.right, key),
-            Ordering::Equal => Some(&top.item),
-        },
+    if let Tree::Fork(top) = tree {
+        let left = mem::replace(&mut top.left, Tree::Leaf);
+        let right = mem::replace(&mut top.right, Tree::Leaf);
+        if let Tree::Fork(node) = mem::replace(tree, join(left, right)) {
+            pool.give(node);
+        }
     }
 }
 
-/// How many items there are, or the greatest number where there are more.
-pub(crate) fn count<T>(tree: &Tree<T>) -> usize
+/// How many numbers there are, or the greatest number where there are more.
+pub(crate) fn count(tree: &Tree) -> usize
     ensures { result ≡ min (count tree.now) (2 ^ 64 - 1) }
 {
     match tree {
         Tree::Leaf => 0,
         Tree::Fork(top) => count(&top.left)
             .saturating_add(count(&top.right))
-            .saturating_add(1),
+            .saturating_add(top.run.len()),
     }
 }
 
-/// A tree of the same items, in nodes of the pool.
-pub(crate) fn copy<T: Placed + Copy>(tree: &Tree<T>, pool: &mut Pool<T>) -> Tree<T>
-    requires { count tree.now ≤ vec_len pool.old.boxes }
-    ensures items { (y : T) → Has result y ↔ Has tree.now y }
-    ensures ordered { IsOrdered T.is_key T.place_cmp tree.now → IsOrdered T.is_key T.place_cmp result }
+/// A tree of the same numbers, in nodes of the pool.
+pub(crate) fn copy(tree: &Tree, pool: &mut Pool) -> Tree
+    requires { nodes tree.now ≤ vec_len pool.old.boxes }
+    ensures keys { (k : ℕ) → HasKey result k ↔ HasKey tree.now k }
+    ensures ordered { IsOrdered tree.now → IsOrdered result }
     ensures many { count result ≡ count tree.now }
-    ensures used { vec_len pool.new.boxes + count tree.now ≡ vec_len pool.old.boxes }
+    ensures used { vec_len pool.new.boxes + nodes tree.now ≡ vec_len pool.old.boxes }
 {
     match tree {
         Tree::Leaf => Tree::Leaf,
@@ -220,8 +399,7 @@ pub(crate) fn copy<T: Placed + Copy>(tree: &Tree<T>, pool: &mut Pool<T>) -> Tree
             let mut node = pool.take();
             node.left = copy(&top.left, pool);
             node.right = copy(&top.right, pool);
-            node.item = top.item;
-            node.key = top.key;
+            node.run.hold_all(&top.run);
             node.priority = top.priority;
             Tree::Fork(node)
         }

@@ -1,6 +1,6 @@
 use Rattle.std.proofs.Common.{◌≡◌, ◌⊎◌, ◌↔◌, ap, subst}
 use Rattle.kb_label.specs.Names.{Name}
-use Rattle.mkb_pick.specs.Trees.{Has}
+use Rattle.mkb_pick.specs.Tasks.{Has}
 use Rattle.mkb_pick.specs.Queues.{IsAt, Shows}
 use Rattle.mkb_pick.specs.declared.queue.Entry.{Entry}
 use Rattle.mkb_pick.proofs.Viewed.{still_seen, come_seen, jobs_come_seen, seated}

@@ -1,5 +1,5 @@
 use Rattle.std.proofs.Common.{ap}
-use Rattle.mkb_pick.specs.Trees.{Has}
+use Rattle.mkb_pick.specs.Tasks.{Has}
 use Rattle.mkb_pick.specs.Queues.{Shows}
 use Rattle.mkb_pick.proofs.Viewed.{gone_seen, jobs_gone_seen, seated}
 use Rattle.mkb_pick.proofs.Replaced.{with_gone}

@@ -20,4 +20,4 @@ returns-clause-tasks c =
     let d : Entry = c.index_mut.result.now in
     let e : Entry = c.add.new.self in
     let is = replaced c.args.self.now c.seek.new.self c.args.name.now c.in-Some.place d e c.requires.queue c.seek.ensures.names c.seek.ensures.entries c.in-Some.ensures.place c.index_mut.ensures.value in
-    task_added c.args.self.now (changed c.seek.new.self c.in-Some.place e) c.args.name.now d e is c.args.node.value.item c.add.ensures.tasks
+    task_added c.args.self.now (changed c.seek.new.self c.in-Some.place e) c.args.name.now d e is c.args.task.now c.add.ensures.tasks

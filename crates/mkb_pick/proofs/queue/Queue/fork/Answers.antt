@@ -1,6 +1,6 @@
 use Rattle.std.proofs.Common.{◌≡◌, ◌∙◌, ◌↔◌, ◌⊎◌, sym, subst, false, true}
 use Rattle.kb_label.specs.Names.{Name, child}
-use Rattle.mkb_pick.specs.Trees.{Has}
+use Rattle.mkb_pick.specs.Tasks.{Has}
 use Rattle.mkb_pick.specs.Queues.{IsQueue, IsAt, Shows}
 use Rattle.mkb_pick.specs.declared.queue.Entry.{Entry}
 use Rattle.mkb_pick.specs.declared.queue.Queue.{Queue}

@@ -1,6 +1,6 @@
 use Rattle.std.proofs.Common.{sym, refl}
 use Rattle.mkb_pick.specs.declared.queue.Entry.{Entry}
-use Rattle.mkb_pick.specs.Trees.{Has}
+use Rattle.mkb_pick.specs.Tasks.{Has}
 use Rattle.mkb_pick.specs.declared.task.Task.{Task}
 use Rattle.mkb_pick.proofs.Replaced.{found_with, none_with}
 use Rattle.mkb_pick.proofs.queue.Queue.is_idle.Goals as goal

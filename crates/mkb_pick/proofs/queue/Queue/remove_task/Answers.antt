@@ -1,4 +1,4 @@
-use Rattle.mkb_pick.specs.Trees.{Has}
+use Rattle.mkb_pick.specs.Tasks.{Has}
 use Rattle.mkb_pick.specs.Queues.{Shows}
 use Rattle.mkb_pick.specs.declared.queue.Entry.{Entry}
 use Rattle.mkb_pick.proofs.Replaced.{changed, replaced, seats_stay, task_removed, found_with, with_same, task_lacked}
